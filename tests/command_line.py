@@ -1,0 +1,133 @@
+"""The command-line cases: what ./arbiter writes and how it ends, for given arguments and standard input.
+
+Proofs speak of readers and writers; these cases show the program itself on real files, pipes and devices.
+The last line is 'N passed, M failed'.
+"""
+import os
+import subprocess
+import sys
+import time
+
+TOP = os.path.dirname(os.path.dirname(os.path.abspath(__file__)))
+ARBITER = [f"{TOP}/arbiter"]
+SECONDS = 60
+
+TWO_GROUPS = b"mkdir a\nmkdir b\ndemand a 20\ndemand b 20\ntotal\n"
+TWO_GROUPS_SAID = b"ok\nok\nok\nok\ntotal 20\nlimit 20 .\ndemand 0\n"
+
+
+def same(wanted):
+    """What is written is exactly this text."""
+    return lambda said: said == wanted
+
+
+def holds(part):
+    """What is written is a text of clap's that has this part."""
+    return lambda said: part in said
+
+
+NOTHING = same(b"")
+
+# name, arguments, standard input, standard output, standard error, exit status
+CASES = [
+    ("two groups", ["run"], TWO_GROUPS, same(TWO_GROUPS_SAID), NOTHING, 0),
+    ("no script", ["run"], b"", NOTHING, NOTHING, 0),
+    ("total alone", ["run"], b"total\n", same(b"total 0\ndemand 0\n"), NOTHING, 0),
+    ("two processors", ["run", "--processors", "2"], b"mkdir a\ndemand a 100\ntotal\n", same(b"ok\nok\ntotal 40\nlimit 40 .\ndemand 0\n"), NOTHING, 0),
+    ("all three options", ["run", "--processors", "4", "--period", "10000", "--slice", "1000"], b"mkdir a\ndemand a 100\ntotal\n", same(b"ok\nok\ntotal 40\nlimit 40 .\ndemand 0\n"), NOTHING, 0),
+    ("a refused line, and the script goes on", ["run"], b"frob\nmkdir a\nmkdir a\ntotal", same(b"error 80 BadCommand\nok\nerror 21 Exists\ntotal 0\ndemand 0\n"), NOTHING, 0),
+    ("no processors", ["run", "--processors", "0"], TWO_GROUPS, NOTHING, same(b"error 1 BadProcessors\n"), 2),
+    ("short period", ["run", "--period", "999"], TWO_GROUPS, NOTHING, same(b"error 2 BadPeriod\n"), 2),
+    ("slice that does not divide", ["run", "--slice", "3000"], TWO_GROUPS, NOTHING, same(b"error 3 BadSlice\n"), 2),
+    ("unknown option", ["run", "--frob"], b"", NOTHING, holds(b"--frob"), 2),
+    ("number with a letter", ["run", "--slice", "1k"], b"", NOTHING, holds(b"1k"), 2),
+    ("number above 32 bits", ["run", "--processors", "4294967296"], b"", NOTHING, holds(b"4294967296"), 2),
+    ("no words", [], b"", NOTHING, holds(b"Usage"), 2),
+    ("unknown command", ["frob"], b"", NOTHING, holds(b"frob"), 2),
+    ("help", ["--help"], b"", holds(b"Usage"), NOTHING, 0),
+    ("help of run", ["run", "--help"], b"", holds(b"--processors"), NOTHING, 0),
+    ("version", ["--version"], b"", holds(b"arbiter"), NOTHING, 0),
+]
+
+
+def run(arguments, **how):
+    return subprocess.run([*ARBITER, *arguments], stdout=how.pop("stdout", subprocess.PIPE), stderr=subprocess.PIPE, timeout=SECONDS, **how)
+
+
+def told(name, ended, out, err, status):
+    """Returns what is wrong with a run, or nothing."""
+    wrong = []
+    if ended.returncode != status:
+        wrong.append(f"status {ended.returncode} and not {status}")
+    if ended.stdout is not None and not out(ended.stdout):
+        wrong.append(f"standard output {ended.stdout[:300]!r}")
+    if not err(ended.stderr):
+        wrong.append(f"standard error {ended.stderr[:300]!r}")
+    return f"{name}: {'; '.join(wrong)}" if wrong else None
+
+
+def case(row):
+    name, arguments, given, out, err, status = row
+    return told(name, run(arguments, input=given), out, err, status)
+
+
+def full_device():
+    """A device that takes no byte: a write fault."""
+    with open("/dev/full", "wb") as device:
+        ended = run(["run"], input=TWO_GROUPS, stdout=device)
+    return told("a full device", ended, NOTHING, same(b"arbiter: write fault\n"), 1)
+
+
+def folder_as_input():
+    """A folder opens and cannot be read: a read fault, with nothing written."""
+    folder = os.open(TOP, os.O_RDONLY)
+    try:
+        ended = run(["run"], stdin=folder)
+    finally:
+        os.close(folder)
+    return told("a folder as standard input", ended, NOTHING, same(b"arbiter: read fault\n"), 1)
+
+
+def line_by_line():
+    """A program that talks over pipes gets the answer to each line before it writes the next."""
+    with subprocess.Popen([*ARBITER, "run"], stdin=subprocess.PIPE, stdout=subprocess.PIPE) as talk:
+        for line, answer in [(b"mkdir a\n", b"ok\n"), (b"demand a 7\n", b"ok\n"), (b"frob\n", b"error 80 BadCommand\n")]:
+            talk.stdin.write(line)
+            talk.stdin.flush()
+            said = talk.stdout.readline()
+            if said != answer:
+                talk.kill()
+                return f"line by line: {said!r} for {line!r}"
+        talk.stdin.close()
+        rest = talk.stdout.read()
+    return None if rest == b"" and talk.wait() == 0 else f"line by line: {rest!r} at the end"
+
+
+def many_lines():
+    """The greatest tree, made and asked for in one script: the time is printed and no condition of the case."""
+    names = [f"g{number}" for number in range(4095)]
+    script = "".join([*(f"mkdir {name}\n" for name in names), *(f"demand {name} 20\n" for name in names), "total\n"])
+    began = time.monotonic()
+    ended = run(["run"], input=script.encode())
+    print(f"  {2 * len(names) + 1} lines in {time.monotonic() - began:.2f} seconds")
+    return told("many lines", ended, same(b"ok\n" * (2 * len(names)) + b"total 20\nlimit 20 .\ndemand 0\n"), NOTHING, 0)
+
+
+def main():
+    rows = [(row[0], lambda row=row: case(row)) for row in CASES]
+    rows += [(it.__name__, it) for it in (full_device, folder_as_input, line_by_line, many_lines)]
+    failed = 0
+    for name, check in rows:
+        try:
+            wrong = check()
+        except (OSError, subprocess.SubprocessError) as error:
+            wrong = f"{name}: {error}"
+        if wrong:
+            print(f"FAILED: {wrong}")
+            failed += 1
+    print(f"{len(rows) - failed} passed, {failed} failed")
+    return 1 if failed else 0
+
+
+if __name__ == "__main__":
+    sys.exit(main())
