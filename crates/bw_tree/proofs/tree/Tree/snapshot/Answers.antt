@@ -1,0 +1,15 @@
+use Rattle.std.proofs.Common.{◌≡◌, sym, ap, ◌∙◌}
+use Rattle.bw_model.specs.Refusal.{refusal}
+use Rattle.bw_tree.specs.Groups.{TreeState}
+use Rattle.bw_tree.specs.Tree.{root_group}
+use Rattle.bw_tree.specs.Snapshot.{rows_of, row_of}
+use Rattle.bw_tree.proofs.SnapshotLemmas.{rows_valid, only_memory}
+use Rattle.bw_tree.proofs.tree.Tree.snapshot.Goals as goal
+
+pub memory_fault-requires : goal.memory_fault-requires
+memory_fault-requires c =
+    let t : TreeState = record { groups = c.self.inside.groups.entries; next = c.self.inside.next_id } in
+    let slice_us = c.slice_us.result in
+    let valid = rows_valid t c.self.invariant slice_us (0, root_group) (row_of t.groups slice_us root_group) in
+    let same : rows_of t.groups slice_us ≡ c.in_ok-rows.rows.items = ap (λ (s : TreeState). rows_of s.groups slice_us) c.self.view_is ∙ sym c.in_ok-rows.ensures in
+    only_memory (refusal c.in_ok-rows.rows.items) c.in-Err.fault (sym (ap refusal same) ∙ valid) c.in-Err.ensures.err
