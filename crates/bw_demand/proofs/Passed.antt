@@ -1,0 +1,241 @@
+use Rattle.std.proofs.Common.{◌≡◌, ℕ, zero, suc, ◌+◌, ◌*◌, ◌<◌, ◌≤◌, List, [], ◌∷◌, Bool, true, false, cond, Option, None, Some, length, get_or, set, replicate, ltb, refl, ap, sym, ◌∙◌, arith, inl, inr}
+use Rattle.std.specs.Prelude.{sum_by, slice_index, map, min}
+use Rattle.std.specs.Option.{option_map_or}
+use Rattle.std.proofs.lemmas.Bool.{cases_Bool, cases_eq}
+use Rattle.std.proofs.lemmas.List.{get_or-set_same, get_or-set_other, length-replicate, length-map}
+use Rattle.std.proofs.Math.ListN.{length-set}
+use Rattle.bw_model.specs.declared.row.Row.{Row}
+use Rattle.bw_model.specs.declared.limits.TheConstants.{MAX_DEMAND, MAX_GROUPS}
+use Rattle.bw_model.specs.Groups.{Groups, IsTree, IsInstance, parent_of, is_child, children_of, is_leaf, limit_of, demand_of}
+use Rattle.bw_model.specs.Demand.{want_of}
+use Rattle.bw_model.proofs.Sums.{sum_below, sum_below-zero, sum_below-ap}
+use Rattle.bw_model.proofs.Under.{parent_lt}
+use Rattle.bw_model.proofs.Totals.{sum_by-children, is_child_no, is_child_from_parent}
+use Rattle.bw_model.proofs.Optimum.{no_children}
+use Rattle.bw_model.proofs.Reach.{capped, capped-IsMost}
+use Rattle.bw_demand.specs.Demands.{IsGathered}
+
+-- one term changed
+pub sum_below-changed : (n i : ℕ) (f h : ℕ → ℕ) → i < n → ((k : ℕ) → k < n → (k ≡ i → ⊥) → h k ≡ f k) →
+    sum_below n h + f i ≡ sum_below n f + h i
+sum_below-changed zero i f h below e = absurd (omega arith)
+sum_below-changed (suc n) i f h below e = elim (cases_eq n i) [
+  | inl same ↦
+      let front : sum_below n h ≡ sum_below n f = sum_below-ap n h f (λ k lt. e k (omega arith) (λ eq. omega arith)) in
+      rw (← same) (omega (arith, front))
+  | inr other ↦
+      let front : sum_below n h + f i ≡ sum_below n f + h i = sum_below-changed n i f h (omega (arith, other)) (λ k lt. e k (omega arith)) in
+      let last : h n ≡ f n = e n (omega arith) other in
+      omega (arith, front, last)
+]
+
+-- a term is at most the sum
+pub sum_below-term : (n i : ℕ) (f : ℕ → ℕ) → i < n → f i ≤ sum_below n f
+sum_below-term zero i f below = absurd (omega arith)
+sum_below-term (suc n) i f below = elim (cases_eq i n) [
+  | inl same ↦ rw same (omega arith)
+  | inr other ↦ let front : f i ≤ sum_below n f = sum_below-term n i f (omega (arith, other)) in omega (arith, front)
+]
+
+pub sum_below-bound : (n : ℕ) (f : ℕ → ℕ) → ((k : ℕ) → k < n → f k ≤ MAX_DEMAND) → sum_below n f ≤ MAX_DEMAND * n
+sum_below-bound zero f h = omega arith
+sum_below-bound (suc n) f h =
+    let front : sum_below n f ≤ MAX_DEMAND * n = sum_below-bound n f (λ k lt. h k (omega arith)) in
+    let last : f n ≤ MAX_DEMAND = h n (omega arith) in
+    omega (arith, front, last)
+
+-- the groups from g on have their mosts, and each want has those of its children
+pub record IsGathering (groups : Groups) (g : ℕ) (want most : List ℕ) (tight : List Bool) : Type 0 where
+  pub wants_each : length want ≡ length groups.rows
+  pub mosts_each : length most ≡ length groups.rows
+  pub flags_each : length tight ≡ length groups.rows
+  pub unseen : (c : ℕ) → c < g → get_or most c 0 ≡ 0
+  pub sums : (r : ℕ) → r < length groups.rows →
+      get_or want r 0 ≡ demand_of groups.rows r + sum_by (slice_index most) (children_of groups.rows r)
+  pub cut : (c : ℕ) → g ≤ c → c < length groups.rows → get_or most c 0 ≡ capped (limit_of groups c) (get_or want c 0)
+  pub flags : (c : ℕ) → g ≤ c → c < length groups.rows →
+      get_or tight c false ≡ option_map_or (λ limit. ltb limit (get_or want c 0)) (limit_of groups c) false
+  pub small : sum_below g (slice_index want) ≤ MAX_DEMAND * MAX_GROUPS
+
+zeros : (n k : ℕ) → ◌≡◌ {A = ℕ} (get_or (replicate n 0) k 0) 0
+zeros zero k = refl
+zeros (suc n) zero = refl
+zeros (suc n) (suc k) = zeros n k
+
+demand_at : (rows : List Row) (r : ℕ) → get_or (map (λ (row : Row). row.demand) rows) r 0 ≡ demand_of rows r
+demand_at [] r = refl
+demand_at (row ∷ rows) zero = refl
+demand_at (row ∷ rows) (suc r) = demand_at rows r
+
+zero_if : (b : Bool) (x : ℕ) → x ≡ 0 → ◌≡◌ {A = ℕ} (cond b x 0) 0
+zero_if true x e = e
+zero_if false x e = refl
+
+-- before the last row
+pub nothing_gathered : (groups : Groups) → IsInstance groups → (n : ℕ) → n ≡ length groups.rows →
+    (want most : List ℕ) (tight : List Bool) → want ≡ map (λ (row : Row). row.demand) groups.rows →
+    most ≡ replicate n 0 → tight ≡ replicate n false → IsGathering groups n want most tight
+nothing_gathered groups valid n en want most tight ew em et = record {
+  wants_each = ap length ew ∙ length-map groups.rows (λ (row : Row). row.demand);
+  mosts_each = ap length em ∙ length-replicate n 0 ∙ en;
+  flags_each = ap length et ∙ length-replicate n false ∙ en;
+  unseen = λ c _. none c;
+  sums = λ r below.
+      let all : sum_by (slice_index most) (children_of groups.rows r) ≡ 0 =
+      sum_by-children groups.rows (slice_index most) r
+      ∙ sum_below-zero (length groups.rows) (λ c. cond (is_child groups.rows r c) (get_or most c 0) 0) (λ c _. zero_if (is_child groups.rows r c) (get_or most c 0) (none c)) in
+      omega (arith, all, at r);
+  cut = λ c le below. absurd (omega arith);
+  flags = λ c le below. absurd (omega arith);
+  small =
+      let s : sum_below n (slice_index want) ≤ MAX_DEMAND * n = sum_below-bound n (slice_index want) (λ k lt.
+      let d : demand_of groups.rows k ≤ MAX_DEMAND = valid.demands k (omega arith) in omega (arith, d, at k)) in
+      let f = valid.few in
+      omega (arith, s, f, en);
+}
+  where
+    none : (c : ℕ) → ◌≡◌ {A = ℕ} (get_or most c 0) 0
+    none c = ap (λ (xs : List ℕ). get_or xs c 0) em ∙ zeros n c
+
+    at : (r : ℕ) → get_or want r 0 ≡ demand_of groups.rows r
+    at r = ap (λ (xs : List ℕ). get_or xs r 0) ew ∙ demand_at groups.rows r
+
+capped_le : (o : Option ℕ) (want : ℕ) → capped o want ≤ want
+capped_le None want = omega arith
+capped_le (Some limit) want = omega arith
+
+-- one row more
+module _ (groups : Groups) (tree : IsTree groups.rows) (g : ℕ) (below : g < length groups.rows) (want most : List ℕ) (tight : List Bool)
+    (so_far : IsGathering groups (g + 1) want most tight) (given : ℕ) (is_given : given ≡ capped (limit_of groups g) (get_or want g 0)) where
+  given_le : given ≤ get_or want g 0
+  given_le = rw is_given (capped_le (limit_of groups g) (get_or want g 0))
+
+  small_before : sum_below g (slice_index want) + get_or want g 0 ≤ MAX_DEMAND * MAX_GROUPS
+  small_before = let s : sum_below (g + 1) (slice_index want) ≤ MAX_DEMAND * MAX_GROUPS = so_far.small in
+      let e : g + 1 ≡ suc g = omega arith in
+      let t : sum_below (suc g) (slice_index want) ≤ MAX_DEMAND * MAX_GROUPS = rw e at s in
+      omega (arith, t)
+
+  -- the sum at the parent fits
+  pub sum_fits : (p : ℕ) → p < g → get_or want p 0 + given ≤ MAX_DEMAND * MAX_GROUPS
+  sum_fits p lt =
+      let t : get_or want p 0 ≤ sum_below g (slice_index want) = sum_below-term g p (slice_index want) lt in
+      omega (arith, t, small_before, given_le)
+
+  children_sum : (r : ℕ) → sum_by (slice_index (set most g given)) (children_of groups.rows r)
+      ≡ sum_by (slice_index most) (children_of groups.rows r) + cond (is_child groups.rows r g) given 0
+  children_sum r =
+      let f : ℕ → ℕ = λ c. cond (is_child groups.rows r c) (get_or most c 0) 0 in
+      let h : ℕ → ℕ = λ c. cond (is_child groups.rows r c) (get_or (set most g given) c 0) 0 in
+      let change : sum_below (length groups.rows) h + f g ≡ sum_below (length groups.rows) f + h g =
+      sum_below-changed (length groups.rows) g f h below
+      (λ k _ other. ap (λ (x : ℕ). cond (is_child groups.rows r k) x 0) (get_or-set_other most g k given 0 other)) in
+      let old : f g ≡ 0 = zero_if (is_child groups.rows r g) (get_or most g 0) (so_far.unseen g (omega arith)) in
+      let new : h g ≡ cond (is_child groups.rows r g) given 0 =
+      ap (λ (x : ℕ). cond (is_child groups.rows r g) x 0) (get_or-set_same most g given 0 (omega (arith, so_far.mosts_each))) in
+      rw (sum_by-children groups.rows (slice_index (set most g given)) r, sum_by-children groups.rows (slice_index most) r)
+      (omega (arith, change, old, new))
+
+  -- by what the wants become
+  step : (after : List ℕ) (flag : Bool) → length after ≡ length groups.rows →
+      ((r : ℕ) → r < length groups.rows → get_or after r 0 ≡ get_or want r 0 + cond (is_child groups.rows r g) given 0) →
+      flag ≡ option_map_or (λ limit. ltb limit (get_or want g 0)) (limit_of groups g) false →
+      sum_below g (slice_index after) ≤ MAX_DEMAND * MAX_GROUPS →
+      IsGathering groups g after (set most g given) (set tight g flag)
+  step after flag long added is_flag small = record {
+    wants_each = long;
+    mosts_each = length-set most g given ∙ so_far.mosts_each;
+    flags_each = length-set tight g flag ∙ so_far.flags_each;
+    unseen = λ c lt. get_or-set_other most g c given 0 (λ e. omega arith) ∙ so_far.unseen c (omega arith);
+    sums = λ r lt. omega (arith, added r lt, so_far.sums r lt, children_sum r);
+    cut = λ c le lt. elim (cases_eq c g) [
+      | inl same ↦ rw same (get_or-set_same most g given 0 (omega (arith, so_far.mosts_each)) ∙ is_given ∙ ap (capped (limit_of groups g)) (sym (kept g (omega arith) below)))
+      | inr other ↦ get_or-set_other most g c given 0 other ∙ so_far.cut c (omega (arith, other)) lt ∙ ap (capped (limit_of groups c)) (sym (kept c le lt))
+    ];
+    flags = λ c le lt. elim (cases_eq c g) [
+      | inl same ↦ rw same (get_or-set_same tight g flag false (omega (arith, so_far.flags_each)) ∙ is_flag ∙ flag_ap g (sym (kept g (omega arith) below)))
+      | inr other ↦ get_or-set_other tight g c flag false other ∙ so_far.flags c (omega (arith, other)) lt ∙ flag_ap c (sym (kept c le lt))
+    ];
+    small = small;
+  }
+    where
+      kept : (c : ℕ) → g ≤ c → c < length groups.rows → get_or after c 0 ≡ get_or want c 0
+      kept c le lt =
+          let no' : is_child groups.rows c g ≡ false = is_child_no groups.rows c g (λ e. let up : c < g = parent_lt groups.rows tree g c e in omega arith) in
+          added c lt ∙ rw no' (omega arith)
+
+      flag_ap : {x y : ℕ} → (c : ℕ) → x ≡ y →
+          option_map_or (λ limit. ltb limit x) (limit_of groups c) false ≡ option_map_or (λ limit. ltb limit y) (limit_of groups c) false
+      flag_ap {x} {y} c e = ap (λ (w : ℕ). option_map_or (λ limit. ltb limit w) (limit_of groups c) false) e
+
+  -- a row with a parent
+  pub gathered_child : (p v : ℕ) (flag : Bool) → parent_of groups.rows g ≡ Some p → v ≡ get_or want p 0 + given →
+      flag ≡ option_map_or (λ limit. ltb limit (get_or want g 0)) (limit_of groups g) false →
+      IsGathering groups g (set want p v) (set most g given) (set tight g flag)
+  gathered_child p v flag e is_v is_flag =
+      let up : p < g = parent_lt groups.rows tree g p e in
+      let inside : p < length want = omega (arith, so_far.wants_each) in
+      let here : get_or (set want p v) p 0 ≡ v = get_or-set_same want p v 0 inside in
+      step (set want p v) flag (length-set want p v ∙ so_far.wants_each)
+      (λ r lt. elim (cases_eq r p) [
+        | inl same ↦ rw (same, is_child_from_parent groups.rows p g e) (here ∙ is_v)
+        | inr other ↦
+            let no' : is_child groups.rows r g ≡ false = is_child_no groups.rows r g (λ f. other (same_parent r p (sym f ∙ e))) in
+            rw no' (get_or-set_other want p r v 0 other ∙ omega arith)
+      ])
+      is_flag
+      (let change : sum_below g (slice_index (set want p v)) + get_or want p 0 ≡ sum_below g (slice_index want) + get_or (set want p v) p 0 =
+      sum_below-changed g p (slice_index want) (slice_index (set want p v)) up (λ k _ other. get_or-set_other want p k v 0 other) in
+      omega (arith, change, here, is_v, small_before, given_le))
+    where
+      same_parent : (r p : ℕ) → Some r ≡ Some p → r ≡ p
+      same_parent r p f = cc
+
+  -- the root
+  pub gathered_root : (flag : Bool) → parent_of groups.rows g ≡ None →
+      flag ≡ option_map_or (λ limit. ltb limit (get_or want g 0)) (limit_of groups g) false →
+      IsGathering groups g want (set most g given) (set tight g flag)
+  gathered_root flag e is_flag =
+      step want flag so_far.wants_each
+      (λ r _. let no' : is_child groups.rows r g ≡ false = is_child_no groups.rows r g (λ f. some_none r (sym f ∙ e)) in rw no' (omega arith))
+      is_flag
+      (omega (arith, small_before))
+    where
+      some_none : (r : ℕ) → Some r ≡ None → ⊥
+      some_none r f = cc
+
+-- after the root
+pub all_gathered : (groups : Groups) → IsInstance groups → (want most : List ℕ) (tight : List Bool) → IsGathering groups 0 want most tight →
+    IsGathered groups (record { want = want; most = most; tight = tight })
+all_gathered groups valid want most tight done = record {
+  wants_each = done.wants_each;
+  flags_each = done.flags_each;
+  mosts = record { one_each = done.mosts_each; each = capped-IsMost groups valid.tree most rule };
+  wants = wants;
+  flags = λ g below. done.flags g (omega arith) below ∙ ap (λ (w : ℕ). option_map_or (λ limit. ltb limit w) (limit_of groups g) false) (wants g below);
+}
+  where
+    wants : (g : ℕ) → g < length groups.rows → get_or want g 0 ≡ want_of groups most g
+    wants g below = done.sums g below ∙ elim (cases_Bool (is_leaf groups.rows g)) [
+      | inl leaf ↦ rw (leaf, no_children groups.rows g leaf) (omega arith)
+      | inr inner ↦ let idle : demand_of groups.rows g ≡ 0 = valid.inner_idle g below inner in rw inner (omega (arith, idle))
+    ]
+
+    rule : (g : ℕ) → g < length groups.rows → get_or most g 0 ≡ capped (limit_of groups g) (want_of groups most g)
+    rule g below = done.cut g (omega arith) below ∙ ap (capped (limit_of groups g)) (wants g below)
+
+-- a row whose parent is no number has none
+pub no_parent : (o : Option ℕ) → ((x : ℕ) → o ≡ Some x → ⊥) → o ≡ None
+no_parent None h = refl
+no_parent (Some x) h = absurd (h x refl)
+
+-- the same rule, as the program says it
+pub cut-capped : (o : Option ℕ) (want : ℕ) → option_map_or (min want) o want ≡ capped o want
+cut-capped None want = refl
+cut-capped (Some limit) want = refl
+
+-- the default is not read within a list
+pub get_or_within : (xs : List ℕ) (i d : ℕ) → i < length xs → get_or xs i d ≡ get_or xs i 0
+get_or_within [] i d h = absurd (omega arith)
+get_or_within (x ∷ xs) zero d h = refl
+get_or_within (x ∷ xs) (suc i) d h = get_or_within xs i d (omega arith)

@@ -1,0 +1,69 @@
+//! Wants and greatest amounts, from the last row up.
+ghost use Rattle.std.specs.Prelude.{◌≡◌, ◌<◌, false, nat_lt, min, map, length, IfOk};
+ghost use Rattle.std.specs.Option.{option_map_or};
+ghost use Rattle.bw_model.specs.Groups.{limit_of};
+ghost use Rattle.bw_demand.specs.Demands.{demands_of, IsGathered};
+
+use crate::gathered::Gathered;
+use bw_model::{Instance, Row};
+use std::alloc::{AllocError, Global};
+
+// The limit of a row, and the capacity at the root.
+fn limit_at(instance: &Instance, g: u32) -> Option<u64>
+    requires { g < length instance.now.rows }
+    ensures { result ≡ limit_of instance.now g }
+{
+    if g == 0 {
+        Some(instance.shape().capacity())
+    } else {
+        instance.row(g).limit
+    }
+}
+
+// What a limit leaves of a want.
+fn cut_at(limit: Option<u64>, want: u64) -> u64
+    ensures { result ≡ option_map_or (min want) limit want }
+{
+    match limit {
+        None => want,
+        Some(limit) => want.min(limit),
+    }
+}
+
+fn is_below(limit: Option<u64>, want: u64) -> bool
+    ensures { result ≡ option_map_or (λ l. nat_lt l want) limit false }
+{
+    match limit {
+        None => false,
+        Some(limit) => limit < want,
+    }
+}
+
+fn demands_of(alloc: Global, rows: &[Row]) -> Result<Vec<u64>, AllocError>
+    ensures { IfOk result (λ demands. demands.items ≡ map (λ row. row.demand) rows.now) }
+{
+    rows.iter().map(|row| row.demand).collect(alloc)
+}
+
+/// What each group wants and can be given, and which are tight. Time grows as the number of rows.
+/// Refused for want of memory alone.
+pub fn gather(alloc: Global, instance: &Instance) -> Result<Gathered, AllocError>
+    ensures { IfOk result (λ gathered. IsGathered instance.now (demands_of gathered)) }
+{
+    let rows = instance.rows();
+    // a child comes after its parent, so each want is whole when its row is met
+    let mut want = demands_of(alloc, rows)?;
+    let mut most = vec![in alloc; 0u64; rows.len()]?;
+    let mut tight = vec![in alloc; false; rows.len()]?;
+    for g in (0..rows.len()).rev() {
+        let wanted = want[g];
+        let limit = limit_at(instance, g as u32);
+        let given = cut_at(limit, wanted);
+        most[g] = given;
+        tight[g] = is_below(limit, wanted);
+        if let Some(parent) = rows[g].parent {
+            want[parent as usize] += given;
+        }
+    }
+    Ok(Gathered { want, most, tight })
+}
