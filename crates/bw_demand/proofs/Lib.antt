@@ -1,3 +1,4 @@
 pub mod Covered
 pub mod Passed
 pub mod Outside
+pub mod Joining

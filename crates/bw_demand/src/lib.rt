@@ -3,10 +3,12 @@
 
 mod gathered;
 mod gathering;
+mod laws;
 mod limits;
 mod listed;
 
 pub use gathered::Gathered;
 pub use gathering::gather;
+pub use laws::{allocations_join, amounts_are_reached, bounds_hold, most_is_the_want_cut};
 pub use limits::limiting;
 pub use listed::Limiting;

@@ -33,7 +33,7 @@ module _ (groups : Groups) (tree : IsTree groups.rows) where
       let after : g < c = parent_lt groups.rows tree c g e in
       most_within-enough n m c here (omega arith) (omega arith)))
 
-  mosts : List ℕ
+  pub mosts : List ℕ
   mosts = map (most_within (length groups.rows)) (range_with_len 0 (length groups.rows))
 
   mosts_at : (g : ℕ) → g < length groups.rows → get_or mosts g 0 ≡ most_within (length groups.rows) g
@@ -50,7 +50,7 @@ module _ (groups : Groups) (tree : IsTree groups.rows) where
   unfolding most_within
   most_within-more n g = refl
 
-  mosts-capped : (g : ℕ) → g < length groups.rows → get_or mosts g 0 ≡ capped (limit_of groups g) (want_of groups mosts g)
+  pub mosts-capped : (g : ℕ) → g < length groups.rows → get_or mosts g 0 ≡ capped (limit_of groups g) (want_of groups mosts g)
   mosts-capped g below =
       mosts_at g below
       ∙ most_within-enough (length groups.rows) (suc (length groups.rows)) g below (omega arith) (omega arith)

@@ -1,0 +1,5 @@
+use Rattle.bw_demand.proofs.Joining.{parts-IsJoined}
+use Rattle.bw_demand.proofs.laws.allocations_join.Goals as goal
+
+pub returns : goal.returns
+returns c = parts-IsJoined

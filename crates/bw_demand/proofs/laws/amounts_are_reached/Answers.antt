@@ -1,0 +1,5 @@
+use Rattle.bw_demand.proofs.Joining.{amount-IsReached}
+use Rattle.bw_demand.proofs.laws.amounts_are_reached.Goals as goal
+
+pub returns : goal.returns
+returns c = amount-IsReached
