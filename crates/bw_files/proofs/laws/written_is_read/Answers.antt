@@ -1,0 +1,14 @@
+use Rattle.bw_files.proofs.Again.{weight_written, weight_again, max_written, max_again}
+use Rattle.bw_files.proofs.laws.written_is_read.Goals as goal
+
+pub returns-clause-weight : goal.returns-clause-weight
+returns-clause-weight c = weight_written
+
+pub returns-clause-weight_again : goal.returns-clause-weight_again
+returns-clause-weight_again c = weight_again
+
+pub returns-clause-max : goal.returns-clause-max
+returns-clause-max c = max_written
+
+pub returns-clause-max_again : goal.returns-clause-max_again
+returns-clause-max_again c = max_again

@@ -1,0 +1,14 @@
+//! The texts of a group's files.
+#![tactic(auto)]
+
+mod fault;
+mod laws;
+mod ranges;
+mod reading;
+mod writing;
+
+pub use fault::FileFault;
+pub use laws::written_is_read;
+pub use ranges::{check_period, check_quota, check_weight};
+pub use reading::{MaxWrite, read_max, read_weight};
+pub use writing::{write_max, write_stat, write_weight};

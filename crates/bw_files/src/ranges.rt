@@ -1,0 +1,45 @@
+//! The ranges of what a group's files set.
+ghost use Rattle.std.specs.Prelude.{◌≡◌, ◌≤◌, Some, IfOk};
+ghost use Rattle.bw_model.specs.Quota.{IsValid};
+ghost use Rattle.bw_files.specs.Reading.{weight_in, quota_in, period_in};
+
+use crate::fault::FileFault;
+use bw_model::Quota;
+use bw_model::limits::{
+    MAX_PERIOD_US, MAX_QUOTA_US, MAX_WEIGHT, MIN_PERIOD_US, MIN_QUOTA_US, MIN_WEIGHT,
+};
+
+/// The weight, or `WeightOutOfRange` unless it is 1 to 10000.
+pub fn check_weight(n: u64) -> Result<u64, FileFault>
+    ensures value { result ≡ weight_in n }
+    ensures range { IfOk result (λ w. (MIN_WEIGHT ≤ w) × (w ≤ MAX_WEIGHT)) }
+{
+    if n < MIN_WEIGHT || n > MAX_WEIGHT {
+        return Err(FileFault::WeightOutOfRange);
+    }
+    Ok(n)
+}
+
+/// The quota of so many microseconds, or `QuotaTooSmall` below 1000, or `QuotaTooLarge` above 10^15.
+pub fn check_quota(us: u64) -> Result<Quota, FileFault>
+    ensures value { result ≡ quota_in (Some us) }
+    ensures valid { IfOk result IsValid }
+{
+    if us < MIN_QUOTA_US {
+        return Err(FileFault::QuotaTooSmall);
+    }
+    if us > MAX_QUOTA_US {
+        return Err(FileFault::QuotaTooLarge);
+    }
+    Ok(Quota::Micros(us))
+}
+
+/// The period of so many microseconds, or `PeriodOutOfRange` unless it is 1000 to 1000000.
+pub fn check_period(us: u64) -> Result<u64, FileFault>
+    ensures { result ≡ period_in us }
+{
+    if us < MIN_PERIOD_US || us > MAX_PERIOD_US {
+        return Err(FileFault::PeriodOutOfRange);
+    }
+    Ok(us)
+}

@@ -1,0 +1,49 @@
+//! Words between white bytes, and the parts round a byte.
+ghost use Rattle.std.specs.Prelude.{◌≡◌, ℕ, ◌≤◌, ◌<◌, ◌==◌, ◌∷◌, [], not, length, slice_index, MatchOption};
+ghost use Rattle.std.specs.List.{slice_split};
+ghost use Rattle.bw_text.specs.Words.{is_white, words};
+
+fn is_white(b: u8) -> bool
+    ensures { result ≡ is_white b }
+{
+    b == b' ' || b == b'\t' || b == b'\n'
+}
+
+// How many bytes at the front are white, or how many are not.
+fn run_len(text: &[u8], white: bool) -> usize
+    ensures bound { result ≤ length text.now }
+    ensures run { (k : ℕ) → k < result → is_white (slice_index text.now k) ≡ white }
+    ensures end { result < length text.now → is_white (slice_index text.now result) ≡ not white }
+{
+    for (i, b) in text.iter().enumerate() {
+        if is_white(*b) != white {
+            return i;
+        }
+    }
+    text.len()
+}
+
+/// The first word of a text between spaces, tabs and newlines, and what stands after it.
+pub fn next_word(text: &[u8]) -> Option<(&[u8], &[u8])>
+    ensures { MatchOption result (words text.now ≡ []) (λ p. words text.now ≡ p.0.now ∷ words p.1.now) }
+{
+    let (_, text) = text.split_at(run_len(text, true));
+    let (word, rest) = text.split_at(run_len(text, false));
+    if word.is_empty() {
+        None
+    } else {
+        Some((word, rest))
+    }
+}
+
+/// What stands before the first such byte of a text, and what after it.
+pub fn split_once(text: &[u8], byte: u8) -> Option<(&[u8], &[u8])>
+    ensures { MatchOption result (slice_split (λ b. b == byte) text.now ≡ text.now ∷ []) (λ p. slice_split (λ b. b == byte) text.now ≡ p.0.now ∷ slice_split (λ b. b == byte) p.1.now) }
+{
+    for (i, b) in text.iter().enumerate() {
+        if *b == byte {
+            return Some((&text[..i], &text[i + 1..]));
+        }
+    }
+    None
+}
