@@ -110,10 +110,6 @@ module _ (groups : Groups) (valid : IsInstance groups) (d : Demands) (known : Is
       let f = valid.few in
       omega (arith, s, f, so_far.added)
 
-  pub row_small : (g : ℕ) → g < length groups.rows →
-      cond (is_leaf groups.rows g && not (is_tight groups d.most g || has_tight_above groups d.most g)) (demand_of groups.rows g) 0 ≤ MAX_DEMAND
-  row_small g below = unfold outside in outside_le g below
-
   pub all_listed : (g : ℕ) (covered : List Bool) (list : List ℕ) (rest : ℕ) → g ≡ length groups.rows → IsListing groups d g covered list rest →
       (list ≡ limiting_groups groups d.most) × (rest ≡ demand_outside groups.rows list)
       × IsGreatestTotal groups (sum_by (λ h. unwrap_or (limit_of groups h) 0) list + rest)

@@ -1,5 +1,5 @@
 //! The groups that limit an instance, from the root down.
-ghost use Rattle.std.specs.Prelude.{◌≡◌, ℕ, ◌<◌, ◌+◌, ◌&&◌, ◌||◌, Some, false, not, length, slice_index_or, sum_by, unwrap_or, IfOk, if◌then◌else◌};
+ghost use Rattle.std.specs.Prelude.{◌≡◌, ℕ, ◌<◌, ◌≤◌, ◌+◌, ◌&&◌, ◌||◌, Some, false, not, length, slice_index_or, sum_by, unwrap_or, IfOk, if◌then◌else◌};
 ghost use Rattle.std.specs.Option.{option_map_or};
 ghost use Rattle.bw_model.specs.Allocation.{IsGreatestTotal};
 ghost use Rattle.bw_model.specs.Demand.{limiting_groups, demand_outside};
@@ -37,7 +37,8 @@ fn is_covered(tight: bool, above: bool) -> bool
 
 // What a row adds to the demands outside.
 fn demand_if_outside(leaf: bool, covered: bool, demand: u64) -> u64
-    ensures { result ≡ (if leaf && not covered then demand else 0) }
+    ensures value { result ≡ (if leaf && not covered then demand else 0) }
+    ensures bound { result ≤ demand }
 {
     if leaf && !covered { demand } else { 0 }
 }

@@ -6,7 +6,7 @@ use Rattle.bw_model.specs.Groups.{parent_of, is_leaf, demand_of}
 use Rattle.bw_model.specs.Demand.{is_tight, has_tight_above}
 use Rattle.bw_model.proofs.Under.{parent_lt}
 use Rattle.bw_demand.specs.Demands.{demands_of}
-use Rattle.bw_demand.proofs.Outside.{nothing_listed, above_by_parent, listed_more, rest_small, row_small, all_listed, flag_within}
+use Rattle.bw_demand.proofs.Outside.{nothing_listed, above_by_parent, listed_more, rest_small, all_listed, flag_within}
 use Rattle.bw_demand.proofs.limits.limiting.Goals as goal
 use Rattle.bw_demand.proofs.limits.limiting.Goals.{then-is_limiting+in_ok-push, else-is_limiting}
 
@@ -27,24 +27,11 @@ pub overflow_add-rest : goal.overflow_add-rest
 overflow_add-rest c =
     let long : length c.rows-rows.result.now ≡ length c.args.instance.now.rows = ap (length {A = Row}) c.rows-rows.ensures.rows in
     let below : c.loop-g.g < length c.args.instance.now.rows = omega (arith, c.loop-g-test.true, long) in
-    let tight : c.index-tight.result.now ≡ is_tight c.args.instance.now c.args.gathered.now.most.items c.loop-g.g =
-    c.index-tight.ensures ∙ flag_within c.args.gathered.now.tight.items c.loop-g.g c.index-tight.result.now false (omega (arith, below, c.requires.gathered.flags_each))
-    ∙ c.requires.gathered.flags c.loop-g.g below in
-    let above : c.is_parent_covered-above.result ≡ has_tight_above c.args.instance.now c.args.gathered.now.most.items c.loop-g.g =
-    above_by_parent c.args.instance.now c.rows-rows.ensures.valid (demands_of c.args.gathered.now) c.requires.gathered
-    c.loop-g.g c.loop-g.covered.items c.loop-g.groups.items c.loop-g.rest c.loop-g.invariant c.is_parent_covered-above.result
-    (c.is_parent_covered-above.ensures ∙ rw (c.as_slice.ensures.value, c.rows-rows.ensures.rows) refl) in
-    let here : c.is_covered-here.result ≡ (is_tight c.args.instance.now c.args.gathered.now.most.items c.loop-g.g || has_tight_above c.args.instance.now c.args.gathered.now.most.items c.loop-g.g) =
-    c.is_covered-here.ensures ∙ rw (tight, above) refl in
-    let more : c.demand_if_outside-rest.result
-    ≡ cond (is_leaf c.args.instance.now.rows c.loop-g.g && not (is_tight c.args.instance.now c.args.gathered.now.most.items c.loop-g.g || has_tight_above c.args.instance.now c.args.gathered.now.most.items c.loop-g.g)) (demand_of c.args.instance.now.rows c.loop-g.g) 0 =
-    c.demand_if_outside-rest.ensures ∙ rw (c.is_leaf.ensures, here, c.rows-rows.ensures.rows) refl in
-    let one : c.loop-g.rest ≤ MAX_DEMAND * MAX_GROUPS =
+    let so_far : c.loop-g.rest ≤ MAX_DEMAND * MAX_GROUPS =
     rest_small c.args.instance.now c.rows-rows.ensures.valid (demands_of c.args.gathered.now) c.requires.gathered
     c.loop-g.g c.loop-g.covered.items c.loop-g.groups.items c.loop-g.rest below c.loop-g.invariant in
-    let two : c.demand_if_outside-rest.result ≤ MAX_DEMAND = rw more
-    (row_small c.args.instance.now c.rows-rows.ensures.valid (demands_of c.args.gathered.now) c.requires.gathered c.loop-g.g below) in
-    omega (arith, one, two)
+    let more : demand_of c.rows-rows.result.now c.loop-g.g ≤ MAX_DEMAND = rw c.rows-rows.ensures.rows (c.rows-rows.ensures.valid.demands c.loop-g.g below) in
+    omega (arith, so_far, more, c.demand_if_outside-rest.ensures.bound)
 
 pub loop-g-preserved : goal.loop-g-preserved
 loop-g-preserved c =
@@ -61,7 +48,7 @@ loop-g-preserved c =
     c.is_covered-here.ensures ∙ rw (tight, above) refl in
     let more : c.demand_if_outside-rest.result
     ≡ cond (is_leaf c.args.instance.now.rows c.loop-g.g && not (is_tight c.args.instance.now c.args.gathered.now.most.items c.loop-g.g || has_tight_above c.args.instance.now c.args.gathered.now.most.items c.loop-g.g)) (demand_of c.args.instance.now.rows c.loop-g.g) 0 =
-    c.demand_if_outside-rest.ensures ∙ rw (c.is_leaf.ensures, here, c.rows-rows.ensures.rows) refl in
+    c.demand_if_outside-rest.ensures.value ∙ rw (c.is_leaf.ensures, here, c.rows-rows.ensures.rows) refl in
     let limits : c.is_limiting.result ≡ (is_tight c.args.instance.now c.args.gathered.now.most.items c.loop-g.g && not (has_tight_above c.args.instance.now c.args.gathered.now.most.items c.loop-g.g)) =
     c.is_limiting.ensures ∙ rw (tight, above) refl in
     let list : c.if-is_limiting.groups.items ≡ c.loop-g.groups.items ++ cond c.is_limiting.result (c.loop-g.g ∷ []) [] =
