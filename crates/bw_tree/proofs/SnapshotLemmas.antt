@@ -9,6 +9,7 @@ use Rattle.std.specs.List.{list_any, list_all, enumerate_from}
 use Rattle.std.specs.Map.{keys_of, values_of}
 use Rattle.bw_model.specs.declared.row.Row.{Row}
 use Rattle.bw_model.specs.Quota.{slices_of}
+use Rattle.bw_model.specs.declared.limits.TheConstants.{MAX_GROUPS, MIN_WEIGHT, MAX_WEIGHT, MAX_DEMAND, MAX_DEPTH, MAX_PATH}
 use Rattle.bw_model.specs.Groups.{no_row, depth_of, IsTree as IsTreeOfRows, parent_of as parent_row}
 use Rattle.bw_model.specs.Refusal.{is_earlier, are_earlier, depths_of, is_root_limited, refusal, demand_above, IsRefused}
 use Rattle.bw_model.proofs.Instances.{earlier-IsTree}
@@ -158,33 +159,33 @@ module _ (t : TreeState) (ok : IsTree t) (s : ℕ) (d : ℕ × GroupFields) (r :
           ap is_some (above_more t.groups m (get_or t.groups i d).0 (Some p) read) ∙ ap (λ k. is_some (above t.groups m k)) (sym h.key)
           ∙ rest h.place (omega (arith, h.before, within)) (omega (arith, le, one))
 
-  pub rows_shallow : list_any (λ depth. ltb 32 depth) (depths_of (rows_of t.groups s)) ≡ false
-  rows_shallow = no_place (λ depth. ltb 32 depth) (depths_of (rows_of t.groups s)) 0 (λ k lt.
+  pub rows_shallow : list_any (λ depth. ltb MAX_DEPTH depth) (depths_of (rows_of t.groups s)) ≡ false
+  rows_shallow = no_place (λ depth. ltb MAX_DEPTH depth) (depths_of (rows_of t.groups s)) 0 (λ k lt.
       let inside : k < length (rows_of t.groups s) = omega (arith, lt, length-map-range_with_len (depth_of (rows_of t.groups s)) 0 (length (rows_of t.groups s))) in
       let within : k < length t.groups = omega (arith, inside, length_rows t.groups s) in
-      ap (ltb 32) (get_or-map-range_with_len (depth_of (rows_of t.groups s)) 0 (length (rows_of t.groups s)) k k 0 inside (zero-add k))
-      ∙ low k within (cases_lt 32 (depth_of (rows_of t.groups s) k)))
+      ap (ltb MAX_DEPTH) (get_or-map-range_with_len (depth_of (rows_of t.groups s)) 0 (length (rows_of t.groups s)) k k 0 inside (zero-add k))
+      ∙ low k within (cases_lt MAX_DEPTH (depth_of (rows_of t.groups s) k)))
     where
-      low : (k : ℕ) → k < length t.groups → (32 < depth_of (rows_of t.groups s) k) ⊎ (depth_of (rows_of t.groups s) k ≤ 32) → ltb 32 (depth_of (rows_of t.groups s) k) ≡ false
+      low : (k : ℕ) → k < length t.groups → (MAX_DEPTH < depth_of (rows_of t.groups s) k) ⊎ (depth_of (rows_of t.groups s) k ≤ MAX_DEPTH) → ltb MAX_DEPTH (depth_of (rows_of t.groups s) k) ≡ false
       low k within (inl deep) =
           let there : has_group t.groups (get_or t.groups k d).0 ≡ true = ap is_some (found_at t.groups k d ok.rising within) in
-          let wrong : true ≡ false = sym (levels 33 k within (omega (arith, deep))) ∙ ap is_some (ok.shallow (get_or t.groups k d).0 there) in
+          let wrong : true ≡ false = sym (levels MAX_PATH k within (omega (arith, deep))) ∙ ap is_some (ok.shallow (get_or t.groups k d).0 there) in
           absurd (cc)
-      low k within (inr fine) = le-ltb 32 _ fine
+      low k within (inr fine) = le-ltb MAX_DEPTH _ fine
 
-  pub rows_weighted : list_any (λ (q : Row). ltb q.weight 1 || ltb 10000 q.weight) (rows_of t.groups s) ≡ false
-  rows_weighted = no_place (λ (q : Row). ltb q.weight 1 || ltb 10000 q.weight) (rows_of t.groups s) r (λ i lt.
+  pub rows_weighted : list_any (λ (q : Row). ltb q.weight MIN_WEIGHT || ltb MAX_WEIGHT q.weight) (rows_of t.groups s) ≡ false
+  rows_weighted = no_place (λ (q : Row). ltb q.weight MIN_WEIGHT || ltb MAX_WEIGHT q.weight) (rows_of t.groups s) r (λ i lt.
       let within : i < length t.groups = omega (arith, lt, length_rows t.groups s) in
       let sound = ok.sound (get_or t.groups i d).0 (get_or t.groups i d).1 (found_at t.groups i d ok.rising within) in
-      ap (λ (q : Row). ltb q.weight 1 || ltb 10000 q.weight) (row_at t.groups s i d r within)
-      ∙ ap (λ b. b || ltb 10000 (get_or t.groups i d).1.weight) (le-ltb (get_or t.groups i d).1.weight 1 sound.some_weight)
-      ∙ le-ltb 10000 (get_or t.groups i d).1.weight sound.weight)
+      ap (λ (q : Row). ltb q.weight MIN_WEIGHT || ltb MAX_WEIGHT q.weight) (row_at t.groups s i d r within)
+      ∙ ap (λ b. b || ltb MAX_WEIGHT (get_or t.groups i d).1.weight) (le-ltb (get_or t.groups i d).1.weight MIN_WEIGHT sound.some_weight)
+      ∙ le-ltb MAX_WEIGHT (get_or t.groups i d).1.weight sound.weight)
 
-  pub rows_small : list_any (λ (q : Row). ltb 1000000 q.demand) (rows_of t.groups s) ≡ false
-  rows_small = no_place (λ (q : Row). ltb 1000000 q.demand) (rows_of t.groups s) r (λ i lt.
+  pub rows_small : list_any (λ (q : Row). ltb MAX_DEMAND q.demand) (rows_of t.groups s) ≡ false
+  rows_small = no_place (λ (q : Row). ltb MAX_DEMAND q.demand) (rows_of t.groups s) r (λ i lt.
       let within : i < length t.groups = omega (arith, lt, length_rows t.groups s) in
       let sound = ok.sound (get_or t.groups i d).0 (get_or t.groups i d).1 (found_at t.groups i d ok.rising within) in
-      ap (λ (q : Row). ltb 1000000 q.demand) (row_at t.groups s i d r within) ∙ le-ltb 1000000 (get_or t.groups i d).1.demand sound.demand)
+      ap (λ (q : Row). ltb MAX_DEMAND q.demand) (row_at t.groups s i d r within) ∙ le-ltb MAX_DEMAND (get_or t.groups i d).1.demand sound.demand)
 
   -- a parent has no demand
   pub parent_idle : (i : ℕ) → i < length t.groups → demand_above (rows_of t.groups s) (place_of t.groups (get_or t.groups i d).1.parent) ≡ 0
@@ -238,7 +239,7 @@ module _ (t : TreeState) (ok : IsTree t) (s : ℕ) (d : ℕ × GroupFields) (r :
   pub rows_valid : refusal (rows_of t.groups s) ≡ None
   rows_valid =
       let root = root_first in
-      clear _ _ _ (le-ltb 4096 (length (rows_of t.groups s)) (omega (arith, ok.count, length_rows t.groups s)))
+      clear _ _ _ (le-ltb MAX_GROUPS (length (rows_of t.groups s)) (omega (arith, ok.count, length_rows t.groups s)))
       (clear _ _ _ (ap (λ b. b || not (are_earlier (rows_of t.groups s))) (ne_eqb (length (rows_of t.groups s)) 0 (λ e. omega (arith, e, root.some, length_rows t.groups s))) ∙ ap not rows_earlier)
       (clear _ _ _ rows_weighted
       (clear _ _ _ rows_shallow

@@ -1,13 +1,14 @@
-//! The tree of groups.
+//! The tree of groups: each call is an exact change of the list of groups, or a refusal that changes nothing.
 #![tactic(auto)]
 
 mod child_index;
 mod fault;
 mod group;
+mod laws;
+pub mod limits;
 mod tree;
 
-pub use child_index::ChildIndex;
 pub use fault::TreeFault;
 pub use group::{Group, GroupId};
+pub use laws::paths_are_exact;
 pub use tree::Tree;
-

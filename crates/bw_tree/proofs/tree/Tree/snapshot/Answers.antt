@@ -10,6 +10,6 @@ pub memory_fault-requires : goal.memory_fault-requires
 memory_fault-requires c =
     let t : TreeState = record { groups = c.self.inside.groups.entries; next = c.self.inside.next_id } in
     let slice_us = c.slice_us.result in
-    let valid = rows_valid t c.self.invariant slice_us (0, root_group) (row_of t.groups slice_us root_group) in
+    let valid = rows_valid t c.self.invariant.tree slice_us (0, root_group) (row_of t.groups slice_us root_group) in
     let same : rows_of t.groups slice_us ≡ c.in_ok-rows.rows.items = ap (λ (s : TreeState). rows_of s.groups slice_us) c.self.view_is ∙ sym c.in_ok-rows.ensures in
     only_memory (refusal c.in_ok-rows.rows.items) c.in-Err.fault (sym (ap refusal same) ∙ valid) c.in-Err.ensures.err

@@ -1,0 +1,7 @@
+//! Tests that no clause replaces: worked values from outside, printed text, and memory that is refused.
+#![tactic(auto)]
+
+#[cfg(test)]
+mod model_cases;
+#[cfg(test)]
+mod tree_cases;

@@ -1,0 +1,200 @@
+//! Hosts, instances and marks, against worked values.
+use bw_model::{HostFault, HostShape, Instance, InstanceFault, Mark, Quota, Row};
+use std::alloc::{AllocError, Global};
+use std::process::Abort;
+use std::test::Fail;
+
+#[test]
+fn hosts(rt: HostRuntime) -> Result<(), Fail> {
+    let refused = [
+        ((0, 100_000, 5_000), HostFault::BadProcessors, 1u8, "BadProcessors"),
+        ((65, 100_000, 5_000), HostFault::BadProcessors, 1, "BadProcessors"),
+        ((0, 999, 999), HostFault::BadProcessors, 1, "BadProcessors"),
+        ((1, 999, 1_000), HostFault::BadPeriod, 2, "BadPeriod"),
+        ((1, 1_000_001, 1_000), HostFault::BadPeriod, 2, "BadPeriod"),
+        ((1, 100_000, 3_000), HostFault::BadSlice, 3, "BadSlice"),
+        ((1, 100_000, 999), HostFault::BadSlice, 3, "BadSlice"),
+        ((1, 1_000, 2_000), HostFault::BadSlice, 3, "BadSlice"),
+    ];
+    for ((processors, period_us, slice_us), fault, number, name) in refused {
+        assert!(rt; HostShape::new(processors, period_us, slice_us) == Err(fault));
+        assert_eq!(rt; fault.number(), number);
+        assert_eq!(rt; fault.name(), name);
+    }
+    let shapes = [
+        ((1, 100_000, 5_000), 20, 20),
+        ((64, 1_000_000, 1_000), 1_000, 64_000),
+        ((2, 1_000, 1_000), 1, 2),
+    ];
+    for ((processors, period_us, slice_us), per_processor, capacity) in shapes {
+        let shape = HostShape::new(processors, period_us, slice_us)?;
+        assert_eq!(rt; shape.per_processor(), per_processor);
+        assert_eq!(rt; shape.capacity(), capacity);
+    }
+    Ok(())
+}
+
+#[test]
+fn quotas(rt: HostRuntime) {
+    let cases = [
+        (Quota::Max, true, None),
+        (Quota::Micros(999), false, Some(0)),
+        (Quota::Micros(1_000), true, Some(0)),
+        (Quota::Micros(14_999), true, Some(2)),
+        (Quota::Micros(15_000), true, Some(3)),
+        (Quota::Micros(1_000_000_000_000_000), true, Some(200_000_000_000)),
+        (Quota::Micros(1_000_000_000_000_001), false, Some(200_000_000_000)),
+    ];
+    for (quota, valid, slices) in cases {
+        assert_eq!(rt; quota.is_valid(), valid);
+        assert_eq!(rt; quota.slices(5_000), slices);
+    }
+}
+
+/// A group of weight 100 that wants nothing.
+fn idle(parent: Option<u32>) -> Row {
+    Row {
+        parent,
+        weight: 100,
+        limit: None,
+        demand: 0,
+    }
+}
+
+fn listed(alloc: Global, rows: &[Row]) -> Result<Vec<Row>, AllocError> {
+    let mut list = Vec::new(alloc);
+    for row in rows {
+        list.push(*row)?;
+    }
+    Ok(list)
+}
+
+/// Makes an instance on one processor. A call that is refused memory is made again.
+fn made(alloc: Global, rows: &[Row]) -> Result<Instance, Fail> {
+    let shape = HostShape::new(1, 100_000, 5_000)?;
+    match Instance::new(alloc, listed(alloc, rows)?, shape) {
+        Err(InstanceFault::OutOfMemory) => Ok(Instance::new(alloc, listed(alloc, rows)?, shape)?),
+        other => Ok(other?),
+    }
+}
+
+/// Asserts why rows are refused.
+fn assert_refused(
+    rt: &impl Abort,
+    alloc: Global,
+    rows: &[Row],
+    fault: InstanceFault,
+    number: u8,
+    name: &str,
+) -> Result<(), Fail> {
+    let shape = HostShape::new(1, 100_000, 5_000)?;
+    let answer = match Instance::new(alloc, listed(alloc, rows)?, shape) {
+        Err(InstanceFault::OutOfMemory) => Instance::new(alloc, listed(alloc, rows)?, shape),
+        other => other,
+    };
+    match answer {
+        Err(answered) => assert!(rt; answered == fault, "{name}"),
+        Ok(_) => assert!(rt; false, "{name}"),
+    }
+    assert_eq!(rt; fault.number(), number);
+    assert_eq!(rt; fault.name(), name);
+    Ok(())
+}
+
+#[test]
+fn refused_rows(rt: HostRuntime) -> Result<(), Fail> {
+    let alloc = rt.alloc();
+    let root = idle(None);
+    let child = idle(Some(0));
+    let weightless = Row { weight: 0, ..child };
+    let heavy = Row { weight: 10_001, ..child };
+    let busy = Row { demand: 1, ..child };
+    let greedy = Row { demand: 1_000_001, ..child };
+    let limited_root = Row { limit: Some(20), ..root };
+    let below_first = idle(Some(1));
+    let cases: [(&[Row], InstanceFault, u8, &str); 11] = [
+        (&[], InstanceFault::BadParent, 5, "BadParent"),
+        (&[child], InstanceFault::BadParent, 5, "BadParent"),
+        (&[root, root], InstanceFault::BadParent, 5, "BadParent"),
+        (&[root, below_first], InstanceFault::BadParent, 5, "BadParent"),
+        (&[root, weightless, below_first], InstanceFault::BadWeight, 6, "BadWeight"),
+        (&[root, heavy], InstanceFault::BadWeight, 6, "BadWeight"),
+        (&[root, busy, below_first], InstanceFault::InnerDemand, 8, "InnerDemand"),
+        (&[root, greedy], InstanceFault::DemandTooLarge, 9, "DemandTooLarge"),
+        (&[limited_root, child], InstanceFault::RootLimited, 10, "RootLimited"),
+        // the least number that applies to any row
+        (&[limited_root, greedy, weightless], InstanceFault::BadWeight, 6, "BadWeight"),
+        (&[limited_root, greedy, below_first], InstanceFault::InnerDemand, 8, "InnerDemand"),
+    ];
+    for (rows, fault, number, name) in cases {
+        assert_refused(&rt, alloc, rows, fault, number, name)?;
+    }
+    Ok(())
+}
+
+#[test]
+fn long_and_deep_rows(rt: HostRuntime) -> Result<(), Fail> {
+    let alloc = rt.alloc();
+    let mut flat = listed(alloc, &[idle(None)])?;
+    for _ in 1..4096u32 {
+        flat.push(idle(Some(0)))?;
+    }
+    let instance = made(alloc, flat.as_slice())?;
+    assert_eq!(rt; instance.rows().len(), 4096);
+    flat.push(Row { weight: 0, ..idle(None) })?;
+    assert_refused(&rt, alloc, flat.as_slice(), InstanceFault::TooMany, 4, "TooMany")?;
+    let mut chain = listed(alloc, &[idle(None)])?;
+    for above in 0..32u32 {
+        chain.push(idle(Some(above)))?;
+    }
+    let instance = made(alloc, chain.as_slice())?;
+    assert!(rt; instance.rows().len() == 33);
+    assert_eq!(rt; instance.path_up(32).len(), 33);
+    chain.push(idle(Some(32)))?;
+    assert_refused(&rt, alloc, chain.as_slice(), InstanceFault::TooDeep, 7, "TooDeep")
+}
+
+#[test]
+fn readers(rt: HostRuntime) -> Result<(), Fail> {
+    let alloc = rt.alloc();
+    let busy = Row { demand: 20, limit: Some(10), ..idle(Some(1)) };
+    let instance = made(alloc, &[idle(None), idle(Some(0)), busy, idle(Some(0)), idle(Some(1))])?;
+    assert!(rt; instance.rows().len() == 5);
+    assert!(rt; instance.row(2) == busy);
+    assert!(rt; instance.shape().capacity() == 20);
+    let children: [&[u32]; 5] = [&[1, 3], &[2, 4], &[], &[], &[]];
+    let paths: [&[u32]; 5] = [&[0], &[1, 0], &[2, 1, 0], &[3, 0], &[4, 1, 0]];
+    for g in 0..5u32 {
+        assert_eq!(rt; instance.children(g), children[g as usize]);
+        assert_eq!(rt; instance.is_leaf(g), children[g as usize].is_empty());
+        assert_eq!(rt; instance.path_up(g).as_slice(), paths[g as usize]);
+    }
+    Ok(())
+}
+
+#[test]
+fn marks(rt: HostRuntime) {
+    assert!(rt; Mark::new(0, 1, 0).is_none());
+    assert!(rt; Mark::new(1, 0, 0).is_none());
+    let rising = [
+        ((5, 100, 0), (15, 300, 1)),
+        ((1, 2, 0), (2, 4, 0)),
+        ((1, 100, 0), (3, 300, 0)),
+        ((1, 3, 9), (1, 2, 0)),
+        ((u64::MAX, u64::MAX, 0), (u64::MAX, u64::MAX, 1)),
+        ((1, u64::MAX, 0), (u64::MAX, 1, 0)),
+    ];
+    for ((num, den, place), (other_num, other_den, other_place)) in rising {
+        let low = Mark::new(num, den, place);
+        let high = Mark::new(other_num, other_den, other_place);
+        match (low, high) {
+            (Some(low), Some(high)) => {
+                assert!(rt; low < high);
+                assert!(rt; high > low);
+                assert!(rt; low != high);
+                assert!(rt; low == low);
+            }
+            _ => assert!(rt; false),
+        }
+    }
+}

@@ -1,0 +1,24 @@
+use Rattle.std.proofs.Common.{◌≡◌, ◌⊎◌, inl, inr, ℕ, true, false, not, None, is_some, refl, sym, ap, ◌∙◌, eqb}
+use Rattle.std.proofs.lemmas.Map.Text.{btree_map_updates_text}
+use Rattle.bw_tree.specs.Children.{named}
+use Rattle.bw_tree.proofs.ChildIndexLemmas.{nested, written, listed_moved, listed_again, some_text, no_text}
+use Rattle.bw_tree.proofs.child_index.ChildIndex.remove_name.Goals as goal
+
+pub returns-in-Some-clause-children : goal.returns-in-Some-clause-children
+returns-in-Some-clause-children c =
+    let texts = btree_map_updates_text c.args.name.now c.in-Some.children.now c.remove-removed.new.self None c.remove-removed.ensures.updates in
+    let moves = written c.args.parent c.args.self.now.by_parent (c.get_mut.follows.lender c.remove-removed.new.self) c.in-Some.children.now c.remove-removed.new.self c.in-Some.ensures.value (c.get_mut.follows.holds c.remove-removed.new.self) in
+    nested c.args.parent c.args.name.now None c.args.self.now.by_parent (c.get_mut.follows.lender c.remove-removed.new.self) c.in-Some.children.now c.remove-removed.new.self
+    moves texts (λ n. ap (λ o. named o n) (sym c.in-Some.ensures.value))
+
+pub returns-in-Some-clause-listed : goal.returns-in-Some-clause-listed
+returns-in-Some-clause-listed c =
+    let moves = written c.args.parent c.args.self.now.by_parent (c.get_mut.follows.lender c.remove-removed.new.self) c.in-Some.children.now c.remove-removed.new.self c.in-Some.ensures.value (c.get_mut.follows.holds c.remove-removed.new.self) in
+    λ p. listed_moved c.args.parent c.args.self.now.by_parent (c.get_mut.follows.lender c.remove-removed.new.self) c.remove-removed.new.self moves p
+    ∙ listed_again c.args.parent c.args.self.now.by_parent (ap is_some (sym c.in-Some.ensures.value)) p
+
+pub returns-in-Some-clause-some_left : goal.returns-in-Some-clause-some_left
+returns-in-Some-clause-some_left c = ?
+
+pub returns-in-Some-clause-none_left : goal.returns-in-Some-clause-none_left
+returns-in-Some-clause-none_left c = ?

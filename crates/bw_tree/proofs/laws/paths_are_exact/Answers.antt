@@ -1,0 +1,5 @@
+use Rattle.bw_tree.proofs.WayLemmas.{inverse, names_unique}
+use Rattle.bw_tree.proofs.laws.paths_are_exact.Goals as goal
+
+pub returns : goal.returns
+returns c = record { inverse = inverse; names = names_unique }
