@@ -1,11 +1,11 @@
-use Rattle.std.proofs.Common.{◌≡◌, ℕ, suc, ◌+◌, ◌-◌, ◌*◌, ◌/◌, ◌%◌, ◌^◌, ◌<◌, ◌≤◌, List, length, get_or, refl, sym, ap, ◌∙◌, arith, inl, inr}
+use Rattle.std.proofs.Common.{◌≡◌, ℕ, suc, ◌+◌, ◌-◌, ◌*◌, ◌/◌, ◌%◌, ◌^◌, ◌<◌, ◌≤◌, List, [], ◌∷◌, length, get_or, refl, sym, ap, ◌∙◌, arith, inl, inr}
 use Rattle.std.specs.Prelude.{sum, take, min}
 use Rattle.std.proofs.lemmas.Grind.{div_ceil_times}
 use Rattle.std.proofs.lemmas.Bool.{cases_lt}
 use Rattle.std.proofs.lemmas.List.Sums.{sum_by_more, sum_by-take-le}
 use Rattle.std.proofs.Math.Nat.{mul-le-mul_left, pow-suc}
 use Rattle.bw_model.specs.Split.{IsBestSplit}
-use Rattle.bw_model.proofs.Sums.{sum_below, sum_below-le}
+use Rattle.bw_model.proofs.Sums.{sum_below, sum_below-le, sum-cons}
 use Rattle.bw_model.proofs.Pairwise.{pairwise-IsBestSplit}
 use Rattle.bw_split.proofs.Takes.{taken-ge, taken-mono, each_takes, sum_below-more}
 use Rattle.bw_model.specs.declared.limits.TheConstants.{MAX_CAPACITY}
@@ -37,6 +37,29 @@ all-IsBestSplit amount weights most e positive whole =
     pairwise-IsBestSplit weights most most (sym e) (λ k below. positive k (omega (arith, e, below))) amount
     (record { lengths = refl; whole = whole; within = λ k _. omega arith })
     (record { above = λ j i j_in i_in room some. absurd (omega arith) })
+
+-- One child alone is given all.
+pub one-IsBestSplit : (amount : ℕ) (weights most : List ℕ) → length weights ≡ 1 → length most ≡ length weights →
+    0 < get_or weights 0 0 → amount ≤ sum most → IsBestSplit amount weights most (amount ∷ [])
+one-IsBestSplit amount weights [] one each positive enough = absurd (omega (arith, one, each))
+one-IsBestSplit amount weights (m ∷ n ∷ others) one each positive enough = absurd (omega (arith, one, each))
+one-IsBestSplit amount weights (m ∷ []) one each positive enough =
+    let within : amount ≤ m = omega (arith, sum-cons m [], enough) in
+    pairwise-IsBestSplit weights (m ∷ []) (amount ∷ []) one
+    (λ k below. let first : k ≡ 0 = omega arith in rw first positive) amount
+    (record {
+      lengths = refl;
+      whole = omega (arith, sum-cons amount []);
+      within = λ k below. let first : k ≡ 0 = omega arith in rw first within;
+    })
+    (record {
+      above = λ j i j_in i_in room some.
+          let first_j : j ≡ 0 = omega arith in
+          let first_i : i ≡ 0 = omega arith in
+          let given : 0 < amount = rw first_i at some in
+          let next : 2 * amount + 1 ≡ 2 * amount - 1 + 2 = omega (arith, given) in
+          rw (first_j, first_i) (inl (rw next (omega (arith, positive))));
+    })
 
 -- the numbers up to a place that is past the bound
 pub past_bound : (xs : List ℕ) (i left bound : ℕ) → i < length xs → left + sum (take i xs) ≡ bound → left < get_or xs i 0 → sum xs ≤ bound → ⊥

@@ -1,4 +1,4 @@
-use Rattle.std.specs.Prelude.{◌≡◌, ℕ, ◌<◌, ◌≤◌, List, length, sum, slice_index}
+use Rattle.std.specs.Prelude.{◌≡◌, ◌⊎◌, ℕ, ◌<◌, ◌≤◌, List, length, sum, slice_index}
 use Rattle.bw_model.specs.declared.limits.TheConstants.{MIN_WEIGHT, MAX_WEIGHT, MAX_CAPACITY}
 use Rattle.bw_split.specs.declared.limits.TheConstants.{MAX_CHILDREN}
 
@@ -9,3 +9,7 @@ pub record CanSplit (amount : ℕ) (weights most : List ℕ) : Type 0 where
   pub weights_in_range : (k : ℕ) → k < length weights → (MIN_WEIGHT ≤ slice_index weights k) × (slice_index weights k ≤ MAX_WEIGHT)
   pub enough : amount ≤ sum most
   pub small : amount ≤ MAX_CAPACITY
+
+-- nothing to split, all that the children can take, or one child alone
+abbrev pub NeedsNoSearch : ℕ → List ℕ → List ℕ → Type 0
+NeedsNoSearch amount weights most = (amount ≡ 0) ⊎ ((amount ≡ sum most) ⊎ (length weights ≡ 1))

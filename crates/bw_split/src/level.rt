@@ -1,7 +1,7 @@
 //! The split by a level of cost: a search for the level in rounds, then what is left, one slice each.
 ghost use Rattle.std.specs.Prelude.{◌≡◌, ◌+◌, ◌<◌, ◌≤◌, ℕ, length, slice_index, sum, EachIndex, IfOk};
 ghost use Rattle.bw_model.specs.Split.{IsBestSplit};
-ghost use Rattle.bw_split.specs.Conditions.{CanSplit};
+ghost use Rattle.bw_split.specs.Conditions.{CanSplit, NeedsNoSearch};
 ghost use Rattle.bw_split.specs.Levels.{taken, taken_by_all};
 
 use crate::Work;
@@ -61,6 +61,7 @@ fn upper_level(amount: u64, weights: &[u64], most: &[u64]) -> u64
     for weight in weights {
         whole += *weight;
     }
+    // Three times the share of a weight of one, in units of 1 / 65536.
     let ratio = if whole > 0 {
         3 * amount * 65536 / whole
     } else {
@@ -71,6 +72,7 @@ fn upper_level(amount: u64, weights: &[u64], most: &[u64]) -> u64
     for i in 0..weights.len() {
         let part = (weights[i] * ratio / 65536 + 1).min(most[i]).min(amount);
         sum += part;
+        // The last mark of the part is `(mark - STEPS) / weight`: the level is raised to it where it is below.
         let mark = 2 * part * STEPS;
         if mark > level * weights[i] + STEPS {
             level = (mark - STEPS).div_ceil(weights[i]);
@@ -95,6 +97,7 @@ fn find_level(amount: u64, weights: &[u64], most: &[u64], work: &mut Work) -> Fo
     ensures rounds { work.new.rounds ≤ work.old.rounds + MAX_ROUNDS }
     ensures picks { work.new.picks ≡ work.old.picks }
     ensures counted { work.old.rounds ≤ work.new.rounds }
+    ensures no_search { amount ≡ 0 → work.new.rounds ≡ work.old.rounds }
 {
     let mut level = 0;
     let mut rest = amount;
@@ -119,7 +122,8 @@ fn find_level(amount: u64, weights: &[u64], most: &[u64], work: &mut Work) -> Fo
 }
 
 /// What [`split`] answers, with a count of its work: a round for each level that was tested on all children, at most
-/// [`MAX_ROUNDS`] of them, and a pick for each slice that was given after the search, at most one a child.
+/// [`MAX_ROUNDS`] of them, and a pick for each slice that was given after the search, at most one a child. An amount
+/// of 0, an only child, and an amount equal to the sum of the maxima cost no round.
 pub fn split_counted(
     alloc: Global,
     amount: u64,
@@ -132,9 +136,13 @@ pub fn split_counted(
     ensures rounds { work.new.rounds ≤ work.old.rounds + MAX_ROUNDS }
     ensures picks { work.new.picks ≤ work.old.picks + length weights.now }
     ensures counted { (work.old.rounds ≤ work.new.rounds) × (work.old.picks ≤ work.new.picks) }
+    ensures no_search { NeedsNoSearch amount weights.now most.now → work.new.rounds ≡ work.old.rounds }
 {
     if fits_in(most, amount) {
         return most.to_vec(alloc);
+    }
+    if weights.len() == 1 {
+        return [amount].to_vec(alloc);
     }
     let found = find_level(amount, weights, most, work);
     let mut rest = found.rest;

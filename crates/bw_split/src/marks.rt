@@ -1,3 +1,4 @@
+//! The split by marks: the plain program, one slice at a time.
 ghost use Rattle.std.specs.Prelude.{IfOk};
 ghost use Rattle.bw_model.specs.Split.{IsBestSplit};
 ghost use Rattle.bw_split.specs.Conditions.{CanSplit};
@@ -7,7 +8,8 @@ use std::alloc::{AllocError, Global};
 use std::cmp::Reverse;
 use std::collections::BinaryHeap;
 
-/// The same split, by the least next mark at each slice.
+/// What [`split`](crate::split) answers, by the plain program: each slice goes to the child with the least next mark,
+/// and that child's next mark goes back while it is below its maximum. It is refused for want of memory alone.
 pub fn split_by_marks(
     alloc: Global,
     amount: u64,

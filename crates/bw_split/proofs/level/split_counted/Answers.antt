@@ -1,11 +1,27 @@
-use Rattle.std.proofs.Common.{◌≡◌, ◌≤◌, ◌-◌, ℕ, length, arith, subst, rules}
+use Rattle.std.proofs.Common.{◌≡◌, ◌≤◌, ◌-◌, ℕ, [], ◌∷◌, length, arith, inl, inr, subst, ◌∙◌, rules}
 use Rattle.std.specs.Prelude.{sum, IfOk}
 use Rattle.std.proofs.lemmas.Result.{IfOk-weaker}
 use Rattle.bw_model.specs.Split.{IsBestSplit}
-use Rattle.bw_split.proofs.Picks.{IsGiven, given-kept, given-pick, given-IsBestSplit}
-use Rattle.bw_split.proofs.Search.{all-IsBestSplit}
+use Rattle.bw_split.proofs.Picks.{IsGiven, given-none, given-kept, given-pick, given-IsBestSplit}
+use Rattle.bw_split.proofs.Search.{all-IsBestSplit, one-IsBestSplit}
 use Rattle.bw_split.proofs.level.split_counted.Goals as goal
 use Rattle.bw_split.proofs.level.split_counted.Goals.{then-rest-gt0+then-takes-part+in_ok-push, else-rest-gt0+in_ok-push-2, else-rest-gt0-via-then-rest-gt0+else-takes-part, else-rest-gt0-via-else-rest-gt0}
+
+pub loop-i-init : goal.loop-i-init
+loop-i-init c = record {
+  given = rw c.in_ok-parts.ensures.items
+      (given-none c.find_level-found.result.level c.find_level-found.result.rest c.args.weights.now c.args.most.now);
+  rounds = c.find_level-found.ensures.rounds;
+  picks = omega (arith, c.find_level-found.ensures.picks);
+  no_search = λ plain. elim plain [
+    | inl none ↦ c.find_level-found.ensures.no_search none
+    | inr other ↦ absurd (elim other [
+      | inl all ↦ let fits = c.if-fits_in.ensures.1 (omega (arith, all)) in let wrong : ⊥ = cc in wrong
+      | inr one ↦ c.if-weights-eq1.false one
+    ])
+  ];
+  counted = (c.find_level-found.ensures.counted, omega (arith, c.find_level-found.ensures.picks));
+}
 
 pub loop-i-preserved : goal.loop-i-preserved
 loop-i-preserved c =
@@ -19,6 +35,7 @@ loop-i-preserved c =
             (omega (arith, c.takes-part.ensures.taken, w.takes.ensures.taken, w.if-takes-part.true));
         rounds = omega (arith, w.with_one_more.ensures.rounds, inv.rounds);
         picks = omega (arith, w.with_one_more.ensures.picks, inv.picks);
+        no_search = λ plain. w.with_one_more.ensures.rounds ∙ inv.no_search plain;
         counted = (omega (arith, w.with_one_more.ensures.rounds, inv.counted.0), omega (arith, w.with_one_more.ensures.picks, inv.counted.1));
       })
       | else-rest-gt0+in_ok-push-2 w ↦ rw (w.rest-is, w.parts-is, w.work-is, w.in_ok-push-2.ensures.items) (record {
@@ -30,6 +47,7 @@ loop-i-preserved c =
             ]);
         rounds = inv.rounds;
         picks = omega (arith, inv.picks);
+        no_search = inv.no_search;
         counted = inv.counted;
       })
     ]
@@ -41,6 +59,13 @@ returns-then-fits_in-clause-best c =
     IfOk-weaker c.to_vec.result (λ v. v.items ≡ c.args.most.now) (λ parts. IsBestSplit c.args.amount c.args.weights.now c.args.most.now parts.items)
     (λ v is. rw is (all-IsBestSplit c.args.amount c.args.weights.now c.args.most.now c.requires.one_each
     (λ k below. (c.requires.weights_in_range k below).0) (omega (arith, whole, c.requires.enough)))) copied
+
+pub returns-then-weights-eq1-clause-best : goal.returns-then-weights-eq1-clause-best
+returns-then-weights-eq1-clause-best c =
+    let copied : IfOk c.to_vec-then-weights-eq1.result (λ v. v.items ≡ c.args.amount ∷ []) = search rules in
+    IfOk-weaker c.to_vec-then-weights-eq1.result (λ v. v.items ≡ c.args.amount ∷ []) (λ parts. IsBestSplit c.args.amount c.args.weights.now c.args.most.now parts.items)
+    (λ v is. rw is (one-IsBestSplit c.args.amount c.args.weights.now c.args.most.now c.if-weights-eq1.true c.requires.one_each
+    (c.requires.weights_in_range 0 (omega (arith, c.if-weights-eq1.true))).0 c.requires.enough)) copied
 
 pub returns-clause-best : goal.returns-clause-best
 returns-clause-best c =

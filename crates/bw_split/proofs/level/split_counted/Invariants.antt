@@ -1,4 +1,5 @@
-use Rattle.std.proofs.Common.{◌+◌, ◌≤◌}
+use Rattle.std.proofs.Common.{◌≡◌, ◌+◌, ◌≤◌}
+use Rattle.bw_split.specs.Conditions.{NeedsNoSearch}
 use Rattle.bw_split.proofs.Picks.{IsGiven}
 use Rattle.bw_split.proofs.level.split_counted.Given as goal
 use Rattle.bw_split.specs.declared.limits.TheConstants.{MAX_ROUNDS}
@@ -8,5 +9,6 @@ invariant-loop-i l = record {
   given : IsGiven l.found.level l.found.rest l.rest l.i l.weights l.most l.parts.items;
   rounds : l.work.rounds ≤ l.fn.work.rounds + MAX_ROUNDS;
   picks : l.work.picks ≤ l.fn.work.picks + l.i;
+  no_search : NeedsNoSearch l.amount l.weights l.most → l.work.rounds ≡ l.fn.work.rounds;
   counted : (l.fn.work.rounds ≤ l.work.rounds) × (l.fn.work.picks ≤ l.work.picks);
 }
