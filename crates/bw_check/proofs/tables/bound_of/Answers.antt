@@ -1,0 +1,55 @@
+use Rattle.std.proofs.Common.{◌≡◌, ℕ, ◌<◌, Bool, true, false, cond, Option, None, length, get_or, refl, ap, sym, ◌∙◌, arith}
+use Rattle.std.proofs.lemmas.List.{get_or_default}
+use Rattle.bw_model.specs.declared.row.Row.{Row}
+use Rattle.bw_model.specs.Groups.{Groups, is_leaf, limit_of, demand_of}
+use Rattle.bw_model.specs.Certificate.{Certified, certified_of, is_flagged}
+use Rattle.bw_check.specs.Counts.{bound_over}
+use Rattle.bw_check.proofs.tables.bound_of.Goals as goal
+use Rattle.bw_check.proofs.tables.bound_of.Goals.{then-index+in_default, else-index}
+
+no_limit : (b : Bool) (limit : Option ℕ) → limit ≡ None → cond b limit None ≡ None
+no_limit true limit e = e
+no_limit false limit e = refl
+
+no_flag : (b : Bool) (limit : Option ℕ) → b ≡ false → cond b limit None ≡ None
+no_flag b limit e = rw e refl
+
+module _ (groups : Groups) (certificate : Certified) (below g : ℕ)
+    (none : cond (is_flagged certificate g) (limit_of groups g) None ≡ None) where
+  at_leaf : is_leaf groups.rows g ≡ true → bound_over groups certificate below g ≡ demand_of groups.rows g
+  at_leaf leaf = rw (none, leaf) refl
+
+  at_inner : is_leaf groups.rows g ≡ false → bound_over groups certificate below g ≡ below
+  at_inner inner = rw (none, inner) refl
+
+pub returns-then-is_leaf-clause-value : goal.returns-then-is_leaf-clause-value
+returns-then-is_leaf-clause-value c =
+    let groups = c.args.instance.now in
+    let certificate = certified_of c.args.certificate.now in
+    let tight = c.args.certificate.now.tight.items in
+    let there : c.args.g < length tight = omega (arith, c.requires.within, c.requires.flags_each) in
+    let flag : c.index.result.now ≡ is_flagged certificate c.args.g =
+    c.index.ensures ∙ get_or_default tight c.args.g c.index.result.now false there in
+    let leaf : is_leaf groups.rows c.args.g ≡ true = sym c.is_leaf.ensures ∙ c.if-is_leaf.true in
+    let demand : c.from-then-is_leaf.result ≡ demand_of groups.rows c.args.g =
+    c.from-then-is_leaf.ensures ∙ ap (λ (row : Row). row.demand) c.row.ensures in
+    let none : cond (is_flagged certificate c.args.g) (limit_of groups c.args.g) None ≡ None = elim c.if-index.branch [
+      | then-index+in_default w ↦ no_limit (is_flagged certificate c.args.g) (limit_of groups c.args.g) (sym w.limit.ensures ∙ w.in_default.is)
+      | else-index w ↦ no_flag (is_flagged certificate c.args.g) (limit_of groups c.args.g) (sym flag ∙ w.if-index.false)
+    ] in
+    demand ∙ sym (at_leaf groups certificate c.args.below c.args.g none leaf)
+
+pub returns-else-is_leaf-clause-value : goal.returns-else-is_leaf-clause-value
+returns-else-is_leaf-clause-value c =
+    let groups = c.args.instance.now in
+    let certificate = certified_of c.args.certificate.now in
+    let tight = c.args.certificate.now.tight.items in
+    let there : c.args.g < length tight = omega (arith, c.requires.within, c.requires.flags_each) in
+    let flag : c.index.result.now ≡ is_flagged certificate c.args.g =
+    c.index.ensures ∙ get_or_default tight c.args.g c.index.result.now false there in
+    let inner : is_leaf groups.rows c.args.g ≡ false = sym c.is_leaf.ensures ∙ c.if-is_leaf.false in
+    let none : cond (is_flagged certificate c.args.g) (limit_of groups c.args.g) None ≡ None = elim c.if-index.branch [
+      | then-index+in_default w ↦ no_limit (is_flagged certificate c.args.g) (limit_of groups c.args.g) (sym w.limit.ensures ∙ w.in_default.is)
+      | else-index w ↦ no_flag (is_flagged certificate c.args.g) (limit_of groups c.args.g) (sym flag ∙ w.if-index.false)
+    ] in
+    sym (at_inner groups certificate c.args.below c.args.g none inner)

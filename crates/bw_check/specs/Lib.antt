@@ -1,0 +1,5 @@
+pub mod Counts
+pub mod Faults
+pub mod Levels
+pub mod Tables
+pub mod Verdict
