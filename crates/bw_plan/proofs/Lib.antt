@@ -1,0 +1,5 @@
+pub mod Cheapest
+pub mod Existence
+pub mod Easy
+pub mod Shares
+pub mod Backward

@@ -1,0 +1,5 @@
+use Rattle.bw_plan.proofs.Backward.{one_plan}
+use Rattle.bw_plan.proofs.laws.there_is_one_plan.Goals as goal
+
+pub returns : goal.returns
+returns c = one_plan

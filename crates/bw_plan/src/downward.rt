@@ -1,0 +1,33 @@
+//! The plan, from the root down.
+ghost use Rattle.std.specs.Prelude.{IfOk};
+ghost use Rattle.bw_model.specs.Plan.{IsPlan};
+
+use crate::amounts::Plan;
+use crate::sharing::share_out;
+use bw_demand::gather;
+use bw_model::Instance;
+use std::alloc::{AllocError, Global};
+
+/// The one plan of an instance: of all allocations within demands, limits and the capacity, the one with the
+/// greatest total that is best at every group. Each group's children are looked at once, so the time grows as
+/// gathering and the splits do. Refused for want of memory alone.
+pub fn plan(alloc: Global, instance: &Instance) -> Result<Plan, AllocError>
+    ensures { IfOk result (λ plan. IsPlan instance.now plan.amounts.items) }
+{
+    let gathered = gather(alloc, instance)?;
+    let count = instance.rows().len();
+    let mut amounts = vec![in alloc; 0u64; count]?;
+    amounts[0] = gathered.most[0];
+    for g in 0..count {
+        if !instance.is_leaf(g as u32) {
+            share_out(
+                alloc,
+                instance,
+                gathered.most.as_slice(),
+                g as u32,
+                &mut amounts,
+            )?;
+        }
+    }
+    Ok(Plan { amounts })
+}

@@ -1,0 +1,13 @@
+//! The plan of an instance: what each group gets in one period.
+#![tactic(auto)]
+
+mod amounts;
+mod downward;
+mod laws;
+mod sharing;
+mod siblings;
+
+pub use amounts::Plan;
+pub use downward::plan;
+pub use laws::there_is_one_plan;
+pub use siblings::{child_values, child_weights};

@@ -1,0 +1,49 @@
+//! The children of a group as lists, in order of creation.
+ghost use Rattle.std.specs.Prelude.{◌≡◌, ◌<◌, length, map, slice_index, All, IfOk};
+ghost use Rattle.bw_model.specs.Groups.{children_of, weight_of};
+ghost use Rattle.bw_model.specs.Plan.{child_weights};
+
+use bw_model::{Instance, Row};
+use std::alloc::{AllocError, Global};
+
+fn weights_of(alloc: Global, rows: &[Row], places: &[u32]) -> Result<Vec<u64>, AllocError>
+    requires { All (λ place. place < length rows.now) places.now }
+    ensures { IfOk result (λ weights. weights.items ≡ map (weight_of rows.now) places.now) }
+{
+    places
+        .iter()
+        .map(|place| rows[*place as usize].weight)
+        .collect(alloc)
+}
+
+fn values_at(alloc: Global, values: &[u64], places: &[u32]) -> Result<Vec<u64>, AllocError>
+    requires { All (λ place. place < length values.now) places.now }
+    ensures { IfOk result (λ picked. picked.items ≡ map (slice_index values.now) places.now) }
+{
+    places
+        .iter()
+        .map(|place| values[*place as usize])
+        .collect(alloc)
+}
+
+/// The weights of the children of a group.
+pub fn child_weights(alloc: Global, instance: &Instance, g: u32) -> Result<Vec<u64>, AllocError>
+    requires { g < length instance.now.rows }
+    ensures { IfOk result (λ weights. weights.items ≡ child_weights instance.now.rows g) }
+{
+    weights_of(alloc, instance.rows(), instance.children(g))
+}
+
+/// The values of the children of a group, of one value per row.
+pub fn child_values(
+    alloc: Global,
+    instance: &Instance,
+    values: &[u64],
+    g: u32,
+) -> Result<Vec<u64>, AllocError>
+    requires row { g < length instance.now.rows }
+    requires one_each { length values.now ≡ length instance.now.rows }
+    ensures { IfOk result (λ picked. picked.items ≡ map (slice_index values.now) (children_of instance.now.rows g)) }
+{
+    values_at(alloc, values, instance.children(g))
+}
