@@ -1,0 +1,24 @@
+use Rattle.std.proofs.Common.{Some, sym, ap, ◌∙◌, slice_get, arith, length-set}
+use Rattle.bw_pool.specs.Seats.{CoreState}
+use Rattle.bw_pool.specs.declared.seats.Phase.{Phase}
+use Rattle.bw_pool.specs.declared.seats.Phase.TheVariants.{Idle, Done}
+use Rattle.bw_pool.specs.declared.calls.PoolCall.{PoolCall}
+use Rattle.bw_pool.specs.declared.calls.PoolReply.{PoolReply}
+use Rattle.bw_pool.specs.Pool.{PoolState}
+use Rattle.bw_pool.specs.Schedules.{has_called, is_on_its_way}
+use Rattle.bw_pool.proofs.Places.{count_set}
+use Rattle.bw_pool.proofs.interleaving.Core.leave.Goals as goal
+
+pub invariant_of-self : goal.invariant_of-self
+invariant_of-self c =
+    let xs = c.self.inside.phases.items in
+    let x : Phase PoolCall = Done in
+    let y : Phase PoolCall = Idle in
+    let is = ap (λ (v : CoreState PoolState PoolCall PoolReply). slice_get v.phases c.args.seat) c.self.view_is ∙ (sym c.phase.ensures ∙ (c.in-Some-Done.is ∙ ap Some c.in-Some-Done.field-0-is)) in
+    let left = count_set (has_called {C = PoolCall}) xs c.args.seat x y is in
+    let way = count_set (is_on_its_way {C = PoolCall}) xs c.args.seat x y is in
+    record {
+      seats = omega (arith, length-set xs c.args.seat y, c.self.invariant.seats);
+      entries = omega (arith, left, c.self.invariant.entries);
+      on_the_way = omega (arith, way, c.self.invariant.on_the_way);
+    }

@@ -1,0 +1,26 @@
+use Rattle.std.proofs.Common.{ℕ, ◌-◌, slice_index, ◌∙◌, sym, ap, arith}
+use Rattle.bw_pool.specs.Pool.{least}
+use Rattle.bw_model.proofs.Paths.{way_from}
+use Rattle.bw_model.specs.Groups.{path_up}
+use Rattle.bw_pool.proofs.Trees.{least_all}
+use Rattle.bw_pool.proofs.Ways.{falls, on_the_way, least_goes}
+use Rattle.bw_pool.proofs.pool.least_left.Goals as goal
+
+pub loop-at-smaller : goal.loop-at-smaller
+loop-at-smaller c = falls c.args.rows.now c.requires.tree c.loop-at.at c.in-Some.group c.loop-at.invariant.on_the_way c.in-Some.is
+
+pub loop-at-preserved : goal.loop-at-preserved
+loop-at-preserved c = record {
+  on_the_way = on_the_way c.args.rows.now c.requires.tree c.loop-at.at c.in-Some.group c.loop-at.invariant.on_the_way c.in-Some.is;
+  the_rest =
+      least_goes c.args.rows.now c.requires.tree c.loop-at.at c.in-Some.group c.loop-at.invariant.on_the_way c.in-Some.is
+      (λ g. slice_index c.args.ceiling.now g - slice_index c.args.drawn.now g) c.loop-at.least c.min-least.result c.min-least.ensures
+      ∙ c.loop-at.invariant.the_rest;
+}
+
+pub returns-clause-room : goal.returns-clause-room
+returns-clause-room c =
+    let f : ℕ → ℕ = λ g. slice_index c.args.ceiling.now g - slice_index c.args.drawn.now g in
+    let end = ap (λ a. least f (way_from c.args.rows.now a) c.loop-at.least) c.in_default.is in
+    let e = sym end ∙ c.loop-at.invariant.the_rest in
+    least_all f (path_up c.args.rows.now c.args.leaf) c.args.bound c.loop-at.least (omega (arith, e))

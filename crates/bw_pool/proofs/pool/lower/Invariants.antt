@@ -1,0 +1,16 @@
+use Rattle.std.proofs.Common.{◌≡◌, ℕ, ◌<◌, ◌≤◌, length, slice_index, Some}
+use Rattle.std.specs.List.{AllByRecursion}
+use Rattle.bw_pool.specs.Pool.{lowered}
+use Rattle.bw_model.proofs.Paths.{reach, way_from}
+use Rattle.bw_pool.proofs.pool.lower.Given as goal
+
+abbrev pub invariant-loop-at : goal.invariant-loop-at
+invariant-loop-at l = record {
+  on_the_way : reach l.at ≤ length l.rows;
+  enough : AllByRecursion (λ g. l.n ≤ slice_index l.fn.drawn g) (way_from l.rows l.at);
+  untouched : (g : ℕ) → g < reach l.at → slice_index l.drawn g ≡ slice_index l.fn.drawn g;
+  the_rest : lowered (way_from l.rows l.at) l.n l.drawn ≡ lowered (way_from l.rows (Some l.leaf)) l.n l.fn.drawn;
+}
+
+abbrev pub decreases-loop-at : goal.decreases-loop-at
+decreases-loop-at l = reach l.at

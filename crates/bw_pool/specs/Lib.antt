@@ -1,0 +1,6 @@
+pub mod Pool
+pub mod Drained
+pub mod Pools
+pub mod Seats
+pub mod Schedules
+pub mod Cores

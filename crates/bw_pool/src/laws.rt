@@ -1,0 +1,43 @@
+//! Laws of the pool over every history, and of the core over every schedule: each is the contract of a function that does nothing.
+ghost use Rattle.std.specs.Prelude.{◌≡◌, ℕ, List, Bool};
+ghost use Rattle.bw_model.specs.declared.row.Row.{Row};
+ghost use Rattle.bw_model.specs.Groups.{IsTree};
+ghost use Rattle.bw_pool.specs.declared.seats.CoreEvent.{CoreEvent};
+ghost use Rattle.bw_pool.specs.Pool.{NeverPastThePlan, StaysSound, CutsNothing};
+ghost use Rattle.bw_pool.specs.Drained.{IsDrawnOut, DrainedWorkersDrawTheAmounts, DrainedWorkersDrawThePlan};
+ghost use Rattle.bw_pool.specs.Seats.{start, run, takes};
+ghost use Rattle.bw_pool.specs.Schedules.{IsOneThread};
+
+use bw_model::Machine;
+
+/// In every schedule, drained workers leave the amounts at the leaves that are used, and nothing at the others: any amounts of which
+/// each is its children's sum, and so a plan's.
+pub fn drained_workers()
+    ensures amounts { DrainedWorkersDrawTheAmounts }
+    ensures plan { DrainedWorkersDrawThePlan }
+{}
+
+/// There is one list of drawn amounts, so what drained workers leave does not depend on the schedule.
+pub fn one_drawn_list()
+    ensures { (uses : ℕ → Bool) (rows : List Row) (amounts one other : List ℕ) →
+        IsTree rows → IsDrawnOut uses rows amounts one → IsDrawnOut uses rows amounts other → one ≡ other }
+{}
+
+/// No group has drawn more than its ceiling, and no ceiling is above the one that it opened with.
+pub fn never_past_the_plan()
+    ensures { NeverPastThePlan }
+{}
+
+/// After every history, what the seats hold adds up to what is drawn, by leaf, by processor and by group. So a give-back takes no more
+/// from any of these than there is.
+pub fn holdings_add_up()
+    ensures stays { StaysSound }
+    ensures cuts { CutsNothing }
+{}
+
+/// After any list of events: at most one seat is inside or done, the history is legal and in ticket order, the machine is its replay,
+/// and each seat's own calls are those for which it took a ticket.
+pub fn every_schedule<M: Machine>()
+    ensures { (m : M) (seats : ℕ) (events : List (CoreEvent M.Call)) →
+        IsOneThread M.after M.answer m (takes M.after M.answer (start seats m) events) (run M.after M.answer (start seats m) events) }
+{}

@@ -1,0 +1,337 @@
+//! The pool as a machine.
+ghost use Rattle.std.specs.Prelude.{◌≡◌, ℕ, ◌-◌, ◌+◌, ◌<◌, ◌≤◌, ◌^◌, length, slice_index, slice_index_or, false, IfOk, None};
+ghost use Rattle.std.specs.List.{AllByRecursion};
+ghost use Rattle.bw_model.specs.Groups.{IsTree, path_up, is_leaf};
+ghost use Rattle.bw_model.specs.Host.{slices_per_processor};
+ghost use Rattle.bw_pool.specs.Pool.{PoolState, IsSound, gave_back, least, raised, lowered, first_with, new_pool, refusal, leaf_refusal, group_refusal, served, reply_to, held_by, after, answer};
+
+use crate::calls::{PoolCall, PoolReply, Refusal, Short};
+use bw_model::{Instance, Machine, Row};
+use std::alloc::{AllocError, Global};
+use std::marker::Model;
+
+/// How many slices of one period are drawn, up to which ceilings, and who holds them: the global pool of sched-bwc.rst, from which
+/// each processor draws. The number of a seat is that of its processor.
+#[derive(Drop)]
+pub struct SlicePool {
+    processors: u32,
+    per_processor: u64,
+    rows: Vec<Row>,
+    leaf: Vec<bool>,
+    drawn: Vec<u64>,
+    ceiling: Vec<u64>,
+    by_processor: Vec<u64>,
+    held: Vec<u64>,
+}
+
+impl Model for SlicePool {
+    ghost use Rattle.bw_pool.specs.Pool.{PoolState};
+
+    ghost Value = { PoolState };
+
+    ghost use Rattle.bw_pool.specs.Pools.{pool_of, IsPool};
+
+    ghost view = { pool_of };
+
+    ghost invariant = { IsPool };
+}
+
+/// The least of the bound and of what is left at the leaf and at each ancestor.
+fn least_left(rows: &[Row], drawn: &[u64], ceiling: &[u64], leaf: u32, bound: u64) -> u64
+    requires tree { IsTree rows.now }
+    requires row { leaf < length rows.now }
+    requires drawn { length drawn.now ≡ length rows.now }
+    requires ceiling { length ceiling.now ≡ length rows.now }
+    requires within { (g : ℕ) → slice_index drawn.now g ≤ slice_index ceiling.now g }
+    ensures value { result ≡ least (λ g. slice_index ceiling.now g - slice_index drawn.now g) (path_up rows.now leaf) bound }
+    ensures room { AllByRecursion (λ g. result ≤ slice_index ceiling.now g - slice_index drawn.now g) (path_up rows.now leaf) }
+{
+    let mut least = bound;
+    let mut at = Some(leaf);
+    while let Some(group) = at {
+        let row = group as usize;
+        least = least.min(ceiling[row] - drawn[row]);
+        at = rows[row].parent;
+    }
+    least
+}
+
+/// Adds n at the leaf and at each ancestor, where each has as much left.
+fn raise(rows: &[Row], ceiling: &[u64], drawn: &mut [u64], leaf: u32, n: u64)
+    requires tree { IsTree rows.now }
+    requires row { leaf < length rows.now }
+    requires one_each { length drawn.old ≡ length rows.now }
+    requires ceiling { length ceiling.now ≡ length rows.now }
+    requires within { (g : ℕ) → slice_index drawn.old g ≤ slice_index ceiling.now g }
+    requires room { AllByRecursion (λ g. n ≤ slice_index ceiling.now g - slice_index drawn.old g) (path_up rows.now leaf) }
+    ensures { drawn.new ≡ raised (path_up rows.now leaf) n drawn.old }
+{
+    let mut at = Some(leaf);
+    while let Some(group) = at {
+        let row = group as usize;
+        drawn[row] += n;
+        at = rows[row].parent;
+    }
+}
+
+/// Takes n away at the leaf and at each ancestor, where each has as much.
+fn lower(rows: &[Row], drawn: &mut [u64], leaf: u32, n: u64)
+    requires tree { IsTree rows.now }
+    requires row { leaf < length rows.now }
+    requires one_each { length drawn.old ≡ length rows.now }
+    requires enough { AllByRecursion (λ g. n ≤ slice_index drawn.old g) (path_up rows.now leaf) }
+    ensures { drawn.new ≡ lowered (path_up rows.now leaf) n drawn.old }
+{
+    let mut at = Some(leaf);
+    while let Some(group) = at {
+        let row = group as usize;
+        drawn[row] -= n;
+        at = rows[row].parent;
+    }
+}
+
+/// The group nearest the leaf that has exactly so much left, else the processor.
+fn nearest_with(rows: &[Row], drawn: &[u64], ceiling: &[u64], leaf: u32, got: u64) -> Short
+    requires tree { IsTree rows.now }
+    requires row { leaf < length rows.now }
+    requires drawn { length drawn.now ≡ length rows.now }
+    requires ceiling { length ceiling.now ≡ length rows.now }
+    requires within { (g : ℕ) → slice_index drawn.now g ≤ slice_index ceiling.now g }
+    ensures { result ≡ first_with (λ g. slice_index ceiling.now g - slice_index drawn.now g) got (path_up rows.now leaf) }
+{
+    let mut at = Some(leaf);
+    while let Some(group) = at {
+        let row = group as usize;
+        if ceiling[row] - drawn[row] == got {
+            return Short::Group(group);
+        }
+        at = rows[row].parent;
+    }
+    Short::Processor
+}
+
+/// Whether each row is a leaf.
+fn leaf_flags(alloc: Global, instance: &Instance, rows: u32) -> Result<Vec<bool>, AllocError>
+    requires { rows ≡ length instance.now.rows }
+    ensures len { IfOk result (λ v. length v.items ≡ rows) }
+    ensures flags { IfOk result (λ v. (g : ℕ) → g < rows → slice_index_or v.items g false ≡ is_leaf instance.now.rows g) }
+{
+    let mut flags = Vec::with_capacity(alloc, rows as usize)?;
+    for group in 0..rows {
+        flags.push(instance.is_leaf(group))?;
+    }
+    Ok(flags)
+}
+
+impl SlicePool {
+    /// A pool with nothing drawn or held, and the amounts, one for each row, as ceilings. It takes the room for all holdings, so no call
+    /// on it takes any. Refused for want of memory alone.
+    pub fn new(alloc: Global, instance: &Instance, amounts: &[u64]) -> Result<SlicePool, AllocError>
+        requires { length amounts.now ≡ length instance.now.rows }
+        ensures { IfOk result (λ pool. pool ≡ new_pool instance.now.shape.processors (slices_per_processor instance.now.shape) instance.now.rows amounts.now) }
+    {
+        let shape = instance.shape();
+        let processors = shape.processors() as u32;
+        let groups = instance.rows();
+        let count = groups.len();
+        let rows = Vec::from_slice(alloc, groups)?;
+        let leaf = leaf_flags(alloc, instance, count as u32)?;
+        let drawn = vec![in alloc; 0; count]?;
+        let ceiling = Vec::from_slice(alloc, amounts)?;
+        let by_processor = vec![in alloc; 0; processors as usize]?;
+        let held = vec![in alloc; 0; processors as usize * count]?;
+        Ok(SlicePool {
+            processors,
+            per_processor: shape.per_processor(),
+            rows,
+            leaf,
+            drawn,
+            ceiling,
+            by_processor,
+            held,
+        })
+    }
+
+    /// The slices drawn by each group, with those of the groups below it.
+    pub fn all_drawn(&self) -> &[u64]
+        ensures value { result.now ≡ self.now.drawn }
+        ensures sound { IsSound self.now }
+    {
+        self.drawn.as_slice()
+    }
+
+    /// The slices drawn by a group, with those of the groups below it.
+    pub fn drawn(&self, group: u32) -> u64
+        requires { group < length self.now.rows }
+        ensures { result ≡ slice_index self.now.drawn group }
+    {
+        self.drawn[group as usize]
+    }
+
+    /// The slices up to which a group may draw.
+    pub fn ceiling(&self, group: u32) -> u64
+        requires { group < length self.now.rows }
+        ensures { result ≡ slice_index self.now.ceiling group }
+    {
+        self.ceiling[group as usize]
+    }
+
+    /// The slices that the seat of a processor has drawn and not given back.
+    pub fn by_processor(&self, processor: u32) -> u64
+        requires { processor < self.now.processors }
+        ensures { result ≡ slice_index self.now.by_processor processor }
+    {
+        self.by_processor[processor as usize]
+    }
+
+    /// The slices that a seat holds of a leaf: 0 where there is no such seat or row.
+    pub fn held(&self, seat: u32, leaf: u32) -> u64
+        ensures { result ≡ held_by self.now seat leaf }
+    {
+        if seat < self.processors && (leaf as usize) < self.rows.len() {
+            self.held[seat as usize * self.rows.len() + leaf as usize]
+        } else {
+            0
+        }
+    }
+
+    fn group_refusal(&self, group: u32) -> Option<Refusal>
+        ensures { result ≡ group_refusal self.now group }
+    {
+        if (group as usize) < self.rows.len() {
+            None
+        } else {
+            Some(Refusal::NoGroup)
+        }
+    }
+
+    fn leaf_refusal(&self, leaf: u32, n: u64) -> Option<Refusal>
+        ensures { result ≡ leaf_refusal self.now leaf n }
+    {
+        if (leaf as usize) < self.rows.len() {
+            if self.leaf[leaf as usize] {
+                if n == 0 { Some(Refusal::ZeroAsk) } else { None }
+            } else {
+                Some(Refusal::NotLeaf)
+            }
+        } else {
+            Some(Refusal::NoGroup)
+        }
+    }
+
+    fn refusal(&self, seat: u32, call: &PoolCall) -> Option<Refusal>
+        ensures { result ≡ refusal self.now seat call.now }
+    {
+        match *call {
+            PoolCall::Draw { leaf, ask } => {
+                if seat < self.processors {
+                    self.leaf_refusal(leaf, ask)
+                } else {
+                    Some(Refusal::NoProcessor)
+                }
+            }
+            PoolCall::GiveBack { leaf, n } => self.leaf_refusal(leaf, n),
+            PoolCall::Lower { group, .. } => self.group_refusal(group),
+            PoolCall::Look { group } => self.group_refusal(group),
+        }
+    }
+
+    /// Draws as much as is asked and left, at the leaf, its ancestors, the processor and the seat's holding.
+    fn draw(&mut self, seat: u32, leaf: u32, ask: u64) -> PoolReply
+        requires { refusal self.old seat (PoolCall.Draw leaf ask) ≡ None }
+        ensures state { self.new ≡ served self.old seat (PoolCall.Draw leaf ask) }
+        ensures reply { result ≡ reply_to self.old seat (PoolCall.Draw leaf ask) }
+    {
+        let processor = seat as usize;
+        let bound = ask.min(self.per_processor - self.by_processor[processor]);
+        let got = least_left(&self.rows, &self.drawn, &self.ceiling, leaf, bound);
+        let short = if got == ask {
+            None
+        } else {
+            Some(nearest_with(&self.rows, &self.drawn, &self.ceiling, leaf, got))
+        };
+        raise(&self.rows, &self.ceiling, &mut self.drawn, leaf, got);
+        self.by_processor[processor] += got;
+        let place = processor * self.rows.len() + leaf as usize;
+        self.held[place] += got;
+        PoolReply::Granted { got, short }
+    }
+
+    /// Takes n back from the leaf, its ancestors, the processor and the seat's holding, each of which has as much.
+    fn take_back(&mut self, seat: u32, leaf: u32, n: u64)
+        requires may { leaf_refusal self.old leaf n ≡ None }
+        requires held { n ≤ held_by self.old seat leaf }
+        ensures { self.new ≡ gave_back self.old seat leaf n }
+    {
+        let processor = seat as usize;
+        lower(&self.rows, &mut self.drawn, leaf, n);
+        self.by_processor[processor] -= n;
+        let place = processor * self.rows.len() + leaf as usize;
+        self.held[place] -= n;
+    }
+
+    /// Takes n back, where the seat holds as much of the leaf.
+    fn give_back(&mut self, seat: u32, leaf: u32, n: u64) -> PoolReply
+        requires { refusal self.old seat (PoolCall.GiveBack leaf n) ≡ None }
+        ensures state { self.new ≡ served self.old seat (PoolCall.GiveBack leaf n) }
+        ensures reply { result ≡ reply_to self.old seat (PoolCall.GiveBack leaf n) }
+    {
+        let held = self.held(seat, leaf);
+        if n > held {
+            return PoolReply::NotHeld { held };
+        }
+        self.take_back(seat, leaf, n);
+        PoolReply::Returned
+    }
+
+    /// Lowers the ceiling of a group, not below what is drawn.
+    fn lower_ceiling(&mut self, group: u32, to: u64) -> PoolReply
+        requires { group_refusal self.old group ≡ None }
+        ensures state { (seat : ℕ) → self.new ≡ served self.old seat (PoolCall.Lower group to) }
+        ensures reply { (seat : ℕ) → result ≡ reply_to self.old seat (PoolCall.Lower group to) }
+    {
+        let row = group as usize;
+        let ceiling = self.ceiling[row].min(to.max(self.drawn[row]));
+        self.ceiling[row] = ceiling;
+        PoolReply::Lowered { ceiling }
+    }
+
+    fn look(&self, group: u32) -> PoolReply
+        requires { group_refusal self.now group ≡ None }
+        ensures { (seat : ℕ) → result ≡ reply_to self.now seat (PoolCall.Look group) }
+    {
+        PoolReply::Drawn {
+            n: self.drawn[group as usize],
+            ceiling: self.ceiling[group as usize],
+        }
+    }
+}
+
+impl Machine for SlicePool {
+    ghost use Rattle.bw_pool.specs.Pool.{after as pool_after, answer as pool_answer};
+    ghost use Rattle.std.proofs.Common.{rules};
+
+    type Call = PoolCall;
+
+    type Reply = PoolReply;
+
+    ghost after = { pool_after };
+
+    ghost answer = { pool_answer };
+
+    fn step(&mut self, seat: u32, call: &PoolCall) -> PoolReply {
+        if let Some(refusal) = self.refusal(seat, call) {
+            return PoolReply::Refused(refusal);
+        }
+        match *call {
+            PoolCall::Draw { leaf, ask } => self.draw(seat, leaf, ask),
+            PoolCall::GiveBack { leaf, n } => self.give_back(seat, leaf, n),
+            PoolCall::Lower { group, to } => self.lower_ceiling(group, to),
+            PoolCall::Look { group } => self.look(group),
+        }
+    }
+
+    ghost calls_agree = { Prim.search rules };
+
+    ghost replies_agree = { Prim.search rules };
+}
