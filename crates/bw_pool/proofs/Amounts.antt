@@ -1,12 +1,12 @@
 -- A plan's amounts add up, and drained workers leave one list of drawn amounts.
-use Rattle.std.proofs.Common.{◌≡◌, ℕ, zero, suc, ◌<◌, ◌≤◌, List, [], ◌∷◌, length, Bool, true, false, cond, get_or, refl, sym, ap, ◌∙◌, arith, zero-add}
+use Rattle.std.proofs.Common.{◌≡◌, ℕ, suc, ◌<◌, List, [], ◌∷◌, length, Bool, true, false, cond, get_or, refl, sym, ap, ◌∙◌, arith, zero-add}
 use Rattle.std.proofs.lemmas.List.FromFn.{get_or-map-range_with_len, length-map-range_with_len}
 use Rattle.bw_model.specs.declared.row.Row.{Row}
 use Rattle.bw_model.specs.Groups.{Groups, IsInstance, IsTree, is_leaf, is_child, sum_of_children}
 use Rattle.bw_model.specs.Host.{slices_per_processor, capacity_of}
 use Rattle.bw_model.specs.Allocation.{total}
-use Rattle.bw_model.specs.Plan.{IsPlan, totals}
-use Rattle.bw_model.proofs.Sums.{sum_below, sum_below-ap}
+use Rattle.bw_model.specs.Plan.{IsPlan}
+use Rattle.bw_model.proofs.Sums.{sum_below-ap}
 use Rattle.bw_model.proofs.ChildSums.{sum_of_children-below}
 use Rattle.bw_model.proofs.Totals.{sum_by-children, total-inner, parent_from_is_child}
 use Rattle.bw_model.proofs.Under.{from_the_last, parent_lt}

@@ -2,7 +2,7 @@
 use Rattle.std.proofs.Common.{◌≡◌, ℕ, zero, suc, ◌+◌, ◌-◌, ◌*◌, ◌<◌, ◌≤◌, ◌⊎◌, inl, inr, List, length, sum, replicate, Bool, true, false, None, Some, get_or, refl, sym, ap, ◌∙◌, arith}
 use Rattle.std.proofs.lemmas.Bool.{cases_lt}
 use Rattle.bw_model.specs.declared.row.Row.{Row}
-use Rattle.bw_model.specs.Groups.{IsTree, parent_of, is_leaf, sum_of_children}
+use Rattle.bw_model.specs.Groups.{IsTree, is_leaf, sum_of_children}
 use Rattle.bw_pool.specs.Pool.{PoolState}
 use Rattle.bw_pool.specs.Drained.{Worker, fresh, among, IsAtEnd, IsPlanned, IsDrawnOut}
 use Rattle.bw_model.proofs.ChildSums.{sum_of_children-left}

@@ -1,5 +1,5 @@
 -- The state that a Core stands for, and what its fields keep.
-use Rattle.std.specs.Prelude.{◌≡◌, ℕ, ◌+◌, ◌≤◌, length}
+use Rattle.std.specs.Prelude.{◌≡◌, ◌+◌, ◌≤◌, length}
 use Rattle.std.specs.List.{count_by}
 use Rattle.bw_pool.specs.Seats.{CoreState}
 use Rattle.bw_pool.specs.declared.seats.TheConstants.{MAX_SEATS}

@@ -1,6 +1,6 @@
 -- The interleaving core of a machine: many seats, each of which takes a ticket, enters, applies its call and leaves,
 -- in whatever order. `after` is the machine after a call by a seat, and `answer` is what it replies.
-use Rattle.std.specs.Prelude.{◌≡◌, ℕ, ◌+◌, ◌<◌, ◌==◌, List, [], ◌∷◌, ◌++◌, length, replicate, Bool, true, false, cond, Option, None, Some, slice_get, slice_set, if◌then◌else◌}
+use Rattle.std.specs.Prelude.{ℕ, ◌+◌, ◌==◌, List, [], ◌∷◌, ◌++◌, replicate, Bool, true, false, Option, None, Some, slice_get, slice_set, if◌then◌else◌}
 use Rattle.bw_model.specs.declared.history.Entry.{Entry}
 use Rattle.bw_pool.specs.declared.seats.Phase.{Phase}
 use Rattle.bw_pool.specs.declared.seats.Phase.TheVariants.{Idle, Waiting, Inside, Done}
