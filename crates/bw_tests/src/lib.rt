@@ -5,3 +5,8 @@
 mod model_cases;
 #[cfg(test)]
 mod tree_cases;
+//! Tests that cross crates.
+#![tactic(auto)]
+
+#[cfg(test)]
+mod shell_cases;

@@ -1,0 +1,9 @@
+mod RunWalk
+mod RunFaults
+mod NumberReads
+mod Named
+mod Plain
+mod Sound
+mod RunSound
+mod Refused
+mod JobSound

@@ -1,0 +1,96 @@
+//! `arbiter run` reads a script on standard input and writes the answer to each line.
+#![tactic(auto)]
+
+mod status;
+mod words;
+
+use bw_model::HostShape;
+use bw_shell::{RunFault, Watched, run, status_of_run};
+use status::status_of_words;
+use std::io;
+use std::io::BufWriter;
+use std::process::ExitCode;
+use words::{Job, WordsFault, read_words};
+
+// Words that cannot be read, or a host that is refused.
+const USAGE_STATUS: u8 = 2;
+
+// A certified text that is refused.
+const REFUSED_STATUS: u8 = 3;
+
+// Runs the script on standard input.
+fn run_script(rt: &HostRuntime, shape: HostShape) -> Result<(), RunFault> {
+    let Ok(output) = BufWriter::new(rt.alloc(), io::writer(rt)) else {
+        return Err(RunFault::Memory);
+    };
+    let mut reader = Watched::new(rt.reader());
+    let mut writer = Watched::new(output);
+    run(rt, &mut reader, &mut writer, shape)
+}
+
+// The end of a run or of another job that writes, with its fault on standard error.
+fn ended(rt: &HostRuntime, result: Result<(), RunFault>, status: u8) -> ExitCode {
+    match result {
+        Ok(()) => ExitCode::from(status),
+        Err(fault) => {
+            let _ = eprintln!(rt; "arbiter: {fault}");
+            ExitCode::from(status_of_run(&Err(fault)))
+        }
+    }
+}
+
+// `arbiter run`
+fn run_job(rt: &HostRuntime, processors: u32, period_us: u32, slice_us: u32) -> ExitCode {
+    match HostShape::new(
+        u64::from(processors),
+        u64::from(period_us),
+        u64::from(slice_us),
+    ) {
+        Ok(shape) => ended(rt, run_script(rt, shape), 0),
+        Err(fault) => {
+            let _ = eprintln!(rt; "error {} {}", fault.number(), fault.name());
+            ExitCode::from(USAGE_STATUS)
+        }
+    }
+}
+
+// `arbiter check`, which there is not yet.
+fn check_job(rt: &HostRuntime) -> ExitCode {
+    let printed = println!(rt; "error 80 BadCommand").map_err(|_| RunFault::Write);
+    ended(rt, printed, REFUSED_STATUS)
+}
+
+// The words name no job.
+fn no_job(rt: &HostRuntime, fault: WordsFault) -> ExitCode {
+    let status = status_of_words(&fault);
+    match fault {
+        WordsFault::Help(text) => {
+            let printed = print!(rt; "{text}").map_err(|_| RunFault::Write);
+            ended(rt, printed, status)
+        }
+        WordsFault::Usage(text) => {
+            let _ = eprint!(rt; "{text}");
+            ExitCode::from(status)
+        }
+        WordsFault::Memory => ended(rt, Err(RunFault::Memory), status),
+    }
+}
+
+fn main(rt: HostRuntime) -> ExitCode {
+    let Ok(args) = std::env::args(&rt) else {
+        let _ = eprintln!(rt; "arbiter: bad arguments");
+        return ExitCode::from(USAGE_STATUS);
+    };
+    let Ok(words) = args.skip(1).collect::<Vec<String>>(rt.alloc()) else {
+        return no_job(&rt, WordsFault::Memory);
+    };
+    match read_words(rt.alloc(), words.as_slice()) {
+        Ok(Job::Check) => check_job(&rt),
+        Ok(Job::Run {
+            processors,
+            period_us,
+            slice_us,
+        }) => run_job(&rt, processors, period_us, slice_us),
+        Err(fault) => no_job(&rt, fault),
+    }
+}

@@ -1,0 +1,16 @@
+//! Exit numbers.
+ghost use Rattle.std.specs.Prelude.{◌≡◌};
+ghost use Rattle.arbiter.specs.Status.{status_of_fault};
+
+use crate::words::WordsFault;
+
+/// The exit number where the words name no job: help was asked for, they are refused, or memory is wanting.
+pub fn status_of_words(fault: &WordsFault) -> u8
+    ensures { result ≡ status_of_fault fault.now }
+{
+    match fault {
+        WordsFault::Help(_) => 0,
+        WordsFault::Usage(_) => 2,
+        WordsFault::Memory => 1,
+    }
+}

@@ -1,0 +1,12 @@
+pub mod Known
+pub mod LineLemmas
+pub mod Scanning
+pub mod Quiet
+pub mod Kept
+pub mod Running
+pub mod Faults
+pub mod Refusals
+pub mod Words
+pub mod Paths
+pub mod Decimals
+pub mod Totals

@@ -1,0 +1,160 @@
+-- Reading byte by byte gives the transcript of the lines.
+use Rattle.std.proofs.Common.{◌≡◌, ◌<◌, ◌≤◌, ◌+◌, ℕ, List, [], ◌∷◌, ◌++◌, refl, sym, ◌∙◌, ap, subst, arith, append_assoc, append-nil, length-append, length, Some, None, inl, inr}
+use Rattle.std.proofs.lemmas.Bool.{cases_lt, lt-ltb, le-ltb}
+use Rattle.std.proofs.lemmas.Bool.Decides.{eqb_tells}
+use Rattle.bw_shell.specs.State.{State}
+use Rattle.bw_shell.specs.Script.{Outcome, IsAnswer, IsOutcome, outcome_of_kept, kept_of, spare_text}
+use Rattle.bw_shell.specs.Transcript.{Answers, IsTranscript}
+use Rattle.bw_shell.specs.Lines.{lines_of, whole_lines_of}
+use Rattle.bw_shell.specs.Scan.{Scan, TakesByte, TakesBytes, Finishes, kept_with, begin}
+use Rattle.bw_shell.proofs.LineLemmas.{NoNewline, last_line, NoNewline-push, lines_of-cut, whole_lines_of-cut, lines_of-newline, whole_lines_of-newline}
+
+-- ---- runs of bytes
+
+pub TakesBytes-append : (xs ys t u : List ℕ) (a b c : Scan) → TakesBytes a xs t b → TakesBytes b ys u c → TakesBytes a (xs ++ ys) (t ++ u) c
+unfolding TakesBytes
+TakesBytes-append [] ys t u a b c p q =
+    subst (λ l. TakesBytes a ys (l ++ u) c) (sym p.0) (subst (λ m. TakesBytes m ys u c) p.1 q)
+TakesBytes-append (x ∷ xs) ys t u a b c p q =
+    (p.0, p.1 ++ u, p.2, p.3, TakesBytes-append xs ys p.1 u p.2 b c p.4 q, ap (λ l. l ++ u) p.5 ∙ append_assoc p.0 p.1 u)
+
+pub TakesBytes-nil : (a : Scan) → TakesBytes a [] [] a
+unfolding TakesBytes
+TakesBytes-nil a = (refl, refl)
+
+pub TakesBytes-one : (a b : Scan) (x : ℕ) (t : List ℕ) → TakesByte a x t b → TakesBytes a (x ∷ []) t b
+unfolding TakesBytes
+TakesBytes-one a b x t p = (t, [], b, p, (refl, refl), sym (append-nil t))
+
+-- each byte can be taken, since an answer may always be want of memory
+TakesByte-total : (a : Scan) (x : ℕ) → (t : List ℕ) × (b : Scan) × TakesByte a x t b
+TakesByte-total a x =
+    let o : Outcome = outcome_of_kept a.state a.kept in
+    elim (eqb_tells x 10) [
+      | inl h ↦ (spare_text o, record { state = a.state; kept = Some [] }, record { newline = λ e. record { answer = inr (refl, refl); empty = refl }; other = λ ne. absurd (ne h.1) })
+      | inr h ↦ ([], record a { kept = kept_with a.kept x }, record { newline = λ e. absurd (h.1 e); other = λ ne. (refl, refl) })
+    ]
+
+pub TakesBytes-total : (xs : List ℕ) (a : Scan) → (t : List ℕ) × (b : Scan) × TakesBytes a xs t b
+unfolding TakesBytes
+TakesBytes-total [] a = ([], a, (refl, refl))
+TakesBytes-total (x ∷ xs) a =
+    let one = TakesByte-total a x in
+    let more = TakesBytes-total xs one.1 in
+    (one.0 ++ more.0, more.1, (one.0, more.0, one.1, one.2, more.2, refl))
+
+-- ---- runs of lines
+
+pub Answers-append : (xs ys : List (List ℕ)) (t u : List ℕ) (a b c : State) → Answers a xs t b → Answers b ys u c → Answers a (xs ++ ys) (t ++ u) c
+unfolding Answers
+Answers-append [] ys t u a b c p q =
+    subst (λ l. Answers a ys (l ++ u) c) (sym p.0) (subst (λ m. Answers m ys u c) p.1 q)
+Answers-append (x ∷ xs) ys t u a b c p q =
+    (p.0, p.1 ++ u, p.2, p.3, Answers-append xs ys p.1 u p.2 b c p.4 q, ap (λ l. l ++ u) p.5 ∙ append_assoc p.0 p.1 u)
+
+pub Answers-one : (s t : State) (line text : List ℕ) → IsAnswer s line text t → Answers s (line ∷ []) text t
+unfolding Answers
+Answers-one s t line text p = (text, [], t, p, (refl, refl), sym (append-nil text))
+
+-- ---- what is kept of a line
+
+kept_of-long : (line : List ℕ) → 65536 < length line → kept_of line ≡ None
+kept_of-long line h = rw (lt-ltb 65536 (length line) h) refl
+
+kept_of-short : (line : List ℕ) → length line ≤ 65536 → kept_of line ≡ Some line
+kept_of-short line h = rw (le-ltb 65536 (length line) h) refl
+
+kept_with-kept_of : (cur : List ℕ) (x : ℕ) → kept_with (kept_of cur) x ≡ kept_of (cur ++ x ∷ [])
+kept_with-kept_of cur x =
+    let len : length (cur ++ x ∷ []) ≡ length cur + 1 = length-append cur (x ∷ []) in
+    elim (cases_lt 65536 (length cur)) [
+      | inl h ↦ ap (λ k. kept_with k x) (kept_of-long cur h) ∙ sym (kept_of-long (cur ++ x ∷ []) (omega (arith, len)))
+      | inr h ↦ ap (λ k. kept_with k x) (kept_of-short cur h) ∙ elim (cases_lt (length cur) 65536) [
+        | inl lt ↦ rw (lt-ltb (length cur) 65536 lt) (sym (kept_of-short (cur ++ x ∷ []) (omega (arith, len))))
+        | inr ge ↦ rw (le-ltb (length cur) 65536 ge) (sym (kept_of-long (cur ++ x ∷ []) (omega (arith, len))))
+      ]
+    ]
+
+kept_of-cons : (x : ℕ) (xs : List ℕ) → kept_of (x ∷ xs) ≡ Some [] → ⊥
+kept_of-cons x xs e = elim (cases_lt 65536 (length (x ∷ xs))) [
+  | inl h ↦ let bad = sym (kept_of-long (x ∷ xs) h) ∙ e in cc
+  | inr h ↦ let bad = sym (kept_of-short (x ∷ xs) h) ∙ e in cc
+]
+
+-- ---- bytes and lines
+
+-- From s, behind a front of a line, these bytes print this text: the answers to the whole lines, with some of a last
+-- line kept.
+pub record Scanned (s : State) (cur xs text : List ℕ) (b : Scan) : Type 0 where
+  pub cut : List ℕ
+  pub kept : b.kept ≡ kept_of cut
+  pub whole : Answers s (whole_lines_of (cur ++ xs)) text b.state
+  pub all : lines_of (cur ++ xs) ≡ whole_lines_of (cur ++ xs) ++ last_line cut
+
+at : State → List ℕ → Scan
+at s cur = record { state = s; kept = kept_of cur }
+
+scanned : (xs : List ℕ) (s : State) (cur text : List ℕ) (b : Scan) → NoNewline cur → TakesBytes (at s cur) xs text b → Scanned s cur xs text b
+unfolding TakesBytes at Answers
+scanned [] s cur text b clean p =
+    let none : whole_lines_of (cur ++ []) ≡ [] = rw append-nil (whole_lines_of-cut cur clean) in
+    let all : lines_of (cur ++ []) ≡ last_line cur = rw append-nil (lines_of-cut cur clean) in
+    record {
+      cut = cur;
+      kept = ap (λ (m : Scan). m.kept) p.1;
+      whole = rw none (p.0, ap (λ (m : Scan). m.state) p.1);
+      all = rw (all, none) refl;
+    }
+scanned (x ∷ xs) s cur text b clean p = elim (eqb_tells x 10) [
+  | inl h ↦
+      let step = p.3.newline h.1 in
+      let more : TakesBytes (at p.2.state []) xs p.1 b =
+      subst (λ k. TakesBytes (record { state = p.2.state; kept = k }) xs p.1 b) step.empty p.4 in
+      let next = scanned xs p.2.state [] p.1 b tt more in
+      let whole : whole_lines_of (cur ++ x ∷ xs) ≡ cur ∷ whole_lines_of xs = rw h.1 (whole_lines_of-newline cur xs clean) in
+      let all : lines_of (cur ++ x ∷ xs) ≡ cur ∷ lines_of xs = rw h.1 (lines_of-newline cur xs clean) in
+      record {
+        cut = next.cut;
+        kept = next.kept;
+        whole = rw whole (p.0, p.1, p.2.state, step.answer, next.whole, p.5);
+        all = rw (all, whole) (ap (λ l. cur ∷ l) next.all);
+      }
+  | inr h ↦
+      let step = p.3.other h.1 in
+      let here : p.2 ≡ at s (cur ++ x ∷ []) = step.1 ∙ ap (λ k. record { state = s; kept = k }) (kept_with-kept_of cur x) in
+      let more : TakesBytes (at s (cur ++ x ∷ [])) xs p.1 b = subst (λ m. TakesBytes m xs p.1 b) here p.4 in
+      let next = scanned xs s (cur ++ x ∷ []) p.1 b (NoNewline-push cur x clean h.0) more in
+      let same : text ≡ p.1 = p.5 ∙ ap (λ l. l ++ p.1) step.0 in
+      let moved : (cur ++ x ∷ []) ++ xs ≡ cur ++ x ∷ xs = append_assoc cur (x ∷ []) xs in
+      record {
+        cut = next.cut;
+        kept = next.kept;
+        whole = subst (λ l. Answers s (whole_lines_of l) text b.state) moved (subst (λ l. Answers s (whole_lines_of ((cur ++ x ∷ []) ++ xs)) l b.state) (sym same) next.whole);
+        all = subst (λ l. lines_of l ≡ whole_lines_of l ++ last_line next.cut) moved next.all;
+      }
+]
+
+from_begin : (s : State) (xs text : List ℕ) (b : Scan) → TakesBytes (begin s) xs text b → Scanned s [] xs text b
+unfolding at
+from_begin s xs text b p = scanned xs s [] text b tt p
+
+-- what was printed is the transcript of the whole lines
+pub whole_transcript : (s : State) (xs text : List ℕ) (b : Scan) → TakesBytes (begin s) xs text b → IsTranscript s (whole_lines_of xs) text
+whole_transcript s xs text b p = (b.state, (from_begin s xs text b p).whole)
+
+last_answer : (cut : List ℕ) (b : Scan) (text : List ℕ) → b.kept ≡ kept_of cut → Finishes b text → (t : State) × Answers b.state (last_line cut) text t
+unfolding Answers
+last_answer [] b text k f = (b.state, (f.none k, refl))
+last_answer (x ∷ xs) b text k f =
+    let ends = f.last (λ e. kept_of-cons x xs (sym k ∙ e)) in
+    (ends.0, Answers-one b.state ends.0 (x ∷ xs) text (subst (λ o. IsOutcome b.state (outcome_of_kept b.state o) text ends.0) k ends.1))
+
+-- at the end it is the transcript of all lines
+pub all_transcript : (s : State) (xs text last : List ℕ) (b : Scan) → TakesBytes (begin s) xs text b → Finishes b last → IsTranscript s (lines_of xs) (text ++ last)
+all_transcript s xs text last b p f =
+    let whole = from_begin s xs text b p in
+    let end = last_answer whole.cut b last whole.kept f in (
+      end.0,
+      subst (λ l. Answers s l (text ++ last) end.0) (sym whole.all)
+          (Answers-append (whole_lines_of xs) (last_line whole.cut) text last s b.state end.0 whole.whole end.1),
+    )

@@ -1,0 +1,13 @@
+pub mod State
+pub mod Fault
+pub mod Watched
+pub mod Lines
+pub mod Word
+pub mod Path
+pub mod Total
+pub mod Script
+pub mod Commands
+pub mod Transcript
+pub mod Scan
+pub mod Stream
+pub mod Session

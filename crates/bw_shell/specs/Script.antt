@@ -1,0 +1,120 @@
+-- What a line of a script means: the text that it prints, and the state after it.
+use Rattle.std.specs.Prelude.{ℕ, ◌≡◌, ◌⊎◌, List, [], ◌∷◌, ◌++◌, Bool, true, false, ◌==◌, ◌&&◌, not, nat_lt, if◌then◌else◌, codes, length, Result, Ok, Err, Option, Some, None}
+use Rattle.std.specs.Str.{bytes_eq, is_utf8}
+use Rattle.bw_text.specs.Number.{number_of}
+use Rattle.bw_tree.specs.Groups.{TreeState, find_path}
+use Rattle.bw_tree.specs.Tree.{mkdir_refusal, with_group, demand_refusal, with_setting, set_demand}
+use Rattle.bw_tree.specs.declared.fault.TreeFault.{TreeFault}
+use Rattle.bw_tree.specs.declared.fault.TreeFault.TheVariants as tree_fault
+use Rattle.bw_shell.specs.State.{State}
+use Rattle.bw_shell.specs.Path.{parent_path, last_name}
+use Rattle.bw_shell.specs.Total.{IsTotal}
+use Rattle.bw_shell.specs.Word.{first_word, after_word}
+use Rattle.bw_shell.specs.Fault.{error_line}
+use Rattle.bw_shell.specs.declared.fault.ScriptFault.{ScriptFault}
+use Rattle.bw_shell.specs.declared.fault.ScriptFault.TheVariants as fault
+
+-- a line with more bytes is not kept
+abbrev pub line_bytes : ℕ
+line_bytes = 65536
+
+-- What a line does: nothing at all, or it prints a text and leaves a state, or it prints the total.
+pub data Outcome : Type 0 where
+  Silent : Outcome
+  Prints : (text : List ℕ) (after : State) → Outcome
+  Total : Outcome
+
+abbrev pub refused : State → ScriptFault → Outcome
+refused s f = Prints (error_line f) s
+
+-- ---- the commands
+
+-- a call on the tree: its refusal, or `ok` and the tree that it makes
+abbrev pub call_outcome : State → Option TreeFault → TreeState → Outcome
+call_outcome s (Some f) tree = refused s (fault.Tree f)
+call_outcome s None tree = Prints (codes "ok" ++ 10 ∷ []) (record { shape = s.shape; tree = tree })
+
+abbrev pub mkdir_at : State → List ℕ → Option ℕ → Outcome
+mkdir_at s name None = refused s (fault.Tree tree_fault.NotFound)
+mkdir_at s name (Some parent) = call_outcome s (mkdir_refusal s.tree parent name) (with_group s.tree parent name)
+
+-- `mkdir P`
+unfoldable pub mkdir_outcome : State → List ℕ → Outcome
+mkdir_outcome s path = mkdir_at s (last_name path) (find_path s.tree.groups (parent_path path))
+
+abbrev pub demand_at : State → ℕ → Option ℕ → Outcome
+demand_at s demand None = refused s (fault.Tree tree_fault.NotFound)
+demand_at s demand (Some id) = call_outcome s (demand_refusal s.tree id demand) (with_setting (set_demand demand) s.tree id)
+
+-- `demand P N`, where N spells this number
+unfoldable pub demand_outcome : State → List ℕ → Option ℕ → Outcome
+demand_outcome s path None = refused s fault.BadNumber
+demand_outcome s path (Some demand) = demand_at s demand (find_path s.tree.groups path)
+
+-- ---- lines
+
+abbrev pub is_empty : List ℕ → Bool
+is_empty [] = true
+is_empty (b ∷ bs) = false
+
+-- no word, or one that begins with `#`
+abbrev pub is_silent : List ℕ → Bool
+is_silent [] = true
+is_silent (b ∷ bs) = b == 35
+
+-- the command with its words, at most four
+unfoldable pub outcome_of_words : State → List ℕ → List ℕ → List ℕ → List ℕ → Outcome
+outcome_of_words s verb first second third =
+    (if is_silent verb then Silent
+    else if bytes_eq verb (codes "mkdir") && (not (is_empty first) && is_empty second) then mkdir_outcome s first
+    else if bytes_eq verb (codes "demand") && (not (is_empty second) && is_empty third) then demand_outcome s first (number_of second)
+    else if bytes_eq verb (codes "total") && is_empty first then Total
+    else refused s fault.BadCommand)
+
+-- a line of text
+unfoldable pub outcome_of_text : State → List ℕ → Outcome
+outcome_of_text s line =
+    let a = after_word line in
+    let b = after_word a in
+    let c = after_word b in
+    outcome_of_words s (first_word line) (first_word a) (first_word b) (first_word c)
+
+-- what is kept of a line: nothing where it is too long
+abbrev pub kept_of : List ℕ → Option (List ℕ)
+kept_of line = (if nat_lt line_bytes (length line) then None else Some line)
+
+unfoldable pub outcome_of_kept : State → Option (List ℕ) → Outcome
+outcome_of_kept s None = refused s fault.LineTooLong
+outcome_of_kept s (Some line) = (if is_utf8 line then outcome_of_text s line else refused s fault.BadText)
+
+-- a line
+abbrev pub outcome_of : State → List ℕ → Outcome
+outcome_of s line = outcome_of_kept s (kept_of line)
+
+-- ---- answers
+
+-- From s the outcome is this text, with the state next after it.
+abbrev pub Gives : State → Outcome → List ℕ → State → Type 0
+Gives s Silent text next = (text ≡ []) × (next ≡ s)
+Gives s (Prints answer after) text next = (text ≡ answer) × (next ≡ after)
+Gives s Total text next = IsTotal s text × (next ≡ s)
+
+-- what may stand in place of an answer: want of memory, but nothing where nothing is printed
+abbrev pub spare_text : Outcome → List ℕ
+spare_text Silent = []
+spare_text (Prints answer after) = error_line fault.OutOfMemory
+spare_text Total = error_line fault.OutOfMemory
+
+-- From s the answer to a line may be this text, with the state next after it: what the line means, or, where it
+-- prints anything, want of memory with nothing changed.
+abbrev pub IsOutcome : State → Outcome → List ℕ → State → Type 0
+IsOutcome s outcome text next = Gives s outcome text next ⊎ ((text ≡ spare_text outcome) × (next ≡ s))
+
+abbrev pub IsAnswer : State → List ℕ → List ℕ → State → Type 0
+IsAnswer s line text next = IsOutcome s (outcome_of s line) text next
+
+-- What a call that forms the answer may do: at Ok the answer is in the buffer and the change is made; at Err nothing
+-- is changed, and the refusal is the line's, or memory is wanting.
+abbrev pub Performs : {U : Type 0} → State → Outcome → Result U ScriptFault → List ℕ → State → Type 0
+Performs s outcome (Ok u) text next = Gives s outcome text next
+Performs s outcome (Err f) text next = (next ≡ s) × IsOutcome s outcome (error_line f) s

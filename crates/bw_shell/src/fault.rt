@@ -1,0 +1,61 @@
+//! Why a line of a script is refused.
+ghost use Rattle.std.specs.Prelude.{◌≡◌, ◌≤◌, ◌<◌, length};
+ghost use Rattle.bw_shell.specs.Fault.{number_of, name_of};
+
+use bw_tree::TreeFault;
+use thiserror::Error;
+
+/// Why a line of a script is refused. A refused line changes nothing.
+#[derive(Clone, Copy, Debug, PartialEq, Eq, Error)]
+pub enum ScriptFault {
+    /// The number of `demand` is not `0`, nor decimal digits that begin with another one.
+    #[error("BadNumber")]
+    BadNumber,
+    /// The call on the tree was refused.
+    #[error("{0}")]
+    Tree(TreeFault),
+    /// A growth was refused.
+    #[error("OutOfMemory")]
+    OutOfMemory,
+    /// No such first word, or not with so many words.
+    #[error("BadCommand")]
+    BadCommand,
+    /// The line is not UTF-8.
+    #[error("BadText")]
+    BadText,
+    /// The line has more than 65536 bytes.
+    #[error("LineTooLong")]
+    LineTooLong,
+}
+
+impl ScriptFault {
+    /// The number that is printed.
+    pub fn number(self) -> u32
+        ensures value { result ≡ number_of self }
+        ensures small { result < 100 }
+    {
+        match self {
+            ScriptFault::BadNumber => 11,
+            ScriptFault::Tree(fault) => fault.number(),
+            ScriptFault::OutOfMemory => 71,
+            ScriptFault::BadCommand => 80,
+            ScriptFault::BadText => 81,
+            ScriptFault::LineTooLong => 82,
+        }
+    }
+
+    /// The name that is printed.
+    pub fn name(self) -> &'static str
+        ensures value { result.now ≡ name_of self }
+        ensures short { length result.now ≤ 20 }
+    {
+        match self {
+            ScriptFault::BadNumber => "BadNumber",
+            ScriptFault::Tree(fault) => fault.name(),
+            ScriptFault::OutOfMemory => "OutOfMemory",
+            ScriptFault::BadCommand => "BadCommand",
+            ScriptFault::BadText => "BadText",
+            ScriptFault::LineTooLong => "LineTooLong",
+        }
+    }
+}

@@ -1,0 +1,131 @@
+//! A whole script.
+ghost use Rattle.std.specs.Prelude.{◌≡◌, ◌≢◌, ◌||◌, ◌⊎◌, ◌<◌, ◌+◌, ◌-◌, ◌^◌, ℕ, List, min, length, true, false, OnOk, IfOk, IfErr, IsErrOf, vec_len};
+ghost use Rattle.std.specs.Io.KnownBytes.{Appends, Consumes, IsAtEnd, Keeps};
+ghost use Rattle.bw_shell.specs.State.{start};
+ghost use Rattle.bw_shell.specs.Lines.{lines_of, whole_lines_of};
+ghost use Rattle.bw_shell.specs.Scan.{Scan, TakesBytes};
+ghost use Rattle.bw_shell.specs.Session.{scan_of};
+ghost use Rattle.bw_shell.specs.Stream.{AppendsFront, Transcribes, TranscribesFront};
+ghost use Rattle.bw_shell.specs.Watched.{inner_of, has_failed, has_stalled, read_calls, IsFresh, IsQuiet};
+
+use crate::session::Session;
+use crate::watched::Watched;
+use bw_model::HostShape;
+use std::alloc::{AllocError, Global};
+use std::io::{Read, Write};
+use thiserror::Error;
+
+/// More read calls than this are not made.
+pub const READ_CALLS: u64 = 4294967296;
+
+// How many bytes one read asks for.
+const PIECE_BYTES: usize = 65536;
+
+#[derive(Clone, Copy, Debug, PartialEq, Eq, Error)]
+pub enum RunFault {
+    #[error("read fault")]
+    Read,
+    #[error("write fault")]
+    Write,
+    #[error("out of memory")]
+    Memory,
+}
+
+// The room for one read.
+fn piece_room(alloc: Global) -> Result<Vec<u8>, AllocError>
+    ensures { IfOk result (λ v. vec_len v ≡ PIECE_BYTES) }
+{
+    vec![in alloc; 0u8; PIECE_BYTES]
+}
+
+// One read, and the bytes that it gave. `false` is the end of the script.
+fn read_some<R: Read, W: Write>(
+    session: &mut Session,
+    piece: &mut [u8],
+    reader: &mut Watched<R>,
+    writer: &mut Watched<W>,
+) -> Result<bool, RunFault>
+    requires room { 0 < length piece.old }
+    requires reader { IsQuiet reader.old }
+    requires writer { IsQuiet writer.old }
+    ensures reads { read_calls reader.new ≡ min (read_calls reader.old + 1) (2 ^ 64 - 1) }
+    ensures ok { OnOk result ((input text : List ℕ)
+        × TakesBytes (scan_of session.old) input text (scan_of session.new)
+        × Consumes (R.remaining (inner_of reader.old)) (R.remaining (inner_of reader.new)) input
+        × Appends (W.contents (inner_of writer.old)) (W.contents (inner_of writer.new)) text) }
+    ensures reader_quiet { OnOk result (IsQuiet reader.new) }
+    ensures writer_quiet { OnOk result (IsQuiet writer.new) }
+    ensures end { IfOk result (λ more. more ≡ false → IsAtEnd (R.remaining (inner_of reader.new))) }
+    ensures read { IsErrOf result RunFault.Read → Keeps (R.remaining (inner_of reader.old)) (R.remaining (inner_of reader.new)) }
+    ensures read_when { IsErrOf result RunFault.Read → has_failed reader.new ≡ true }
+    ensures read_writes { IsErrOf result RunFault.Read → writer.new ≡ writer.old }
+    ensures write { IsErrOf result RunFault.Write → (input text : List ℕ) × (t : Scan)
+        × TakesBytes (scan_of session.old) input text t
+        × Consumes (R.remaining (inner_of reader.old)) (R.remaining (inner_of reader.new)) input
+        × AppendsFront (W.contents (inner_of writer.old)) (W.contents (inner_of writer.new)) text }
+    ensures write_when { IsErrOf result RunFault.Write → (has_failed writer.new || has_stalled writer.new) ≡ true }
+    ensures memory { IfErr result (λ f. f ≢ RunFault.Memory) }
+{
+    match reader.read(piece) {
+        Err(_) => Err(RunFault::Read),
+        Ok(0) => Ok(false),
+        Ok(n) => match session.feed(piece.split_at(n).0, writer) {
+            Ok(()) => Ok(true),
+            Err(fault) => Err(fault),
+        },
+    }
+}
+
+/// Reads a script to its end, and writes the answer to each line. All room is taken before the first read.
+pub fn run<A: AllocGlobal, R: Read, W: Write>(
+    rt: &A,
+    reader: &mut Watched<R>,
+    writer: &mut Watched<W>,
+    shape: HostShape,
+) -> Result<(), RunFault>
+    requires reader { IsFresh reader.old }
+    requires writer { IsFresh writer.old }
+
+    // All that the reader held was read, and what was written is the transcript of its lines.
+    ensures ok { OnOk result (Transcribes (start shape) lines_of
+        (R.remaining (inner_of reader.old)) (R.remaining (inner_of reader.new))
+        (W.contents (inner_of writer.old)) (W.contents (inner_of writer.new))) }
+    ensures end { OnOk result (IsAtEnd (R.remaining (inner_of reader.new))) }
+    ensures reader_quiet { OnOk result (IsQuiet reader.new) }
+    ensures writer_quiet { OnOk result (IsQuiet writer.new) }
+
+    // After a read fault it is the transcript of the whole lines read.
+    ensures read { IsErrOf result RunFault.Read → Transcribes (start shape) whole_lines_of
+        (R.remaining (inner_of reader.old)) (R.remaining (inner_of reader.new))
+        (W.contents (inner_of writer.old)) (W.contents (inner_of writer.new)) }
+    ensures read_when { IsErrOf result RunFault.Read → (has_failed reader.new ≡ true) ⊎ (read_calls reader.new ≡ READ_CALLS) }
+
+    // After a write fault it is a front of that, or at the end a front of the transcript of all lines.
+    ensures write { IsErrOf result RunFault.Write →
+        (TranscribesFront (start shape) whole_lines_of
+        (R.remaining (inner_of reader.old)) (R.remaining (inner_of reader.new))
+        (W.contents (inner_of writer.old)) (W.contents (inner_of writer.new)))
+        ⊎ ((TranscribesFront (start shape) lines_of
+        (R.remaining (inner_of reader.old)) (R.remaining (inner_of reader.new))
+        (W.contents (inner_of writer.old)) (W.contents (inner_of writer.new)))
+        × IsAtEnd (R.remaining (inner_of reader.new))) }
+    ensures write_when { IsErrOf result RunFault.Write → (has_failed writer.new || has_stalled writer.new) ≡ true }
+
+    // Memory is wanted before the first read alone.
+    ensures memory { IsErrOf result RunFault.Memory → (reader.new ≡ reader.old) × (writer.new ≡ writer.old) }
+{
+    let Ok(mut session) = Session::new(rt.alloc(), shape) else {
+        return Err(RunFault::Memory);
+    };
+    let Ok(mut piece) = piece_room(rt.alloc()) else {
+        return Err(RunFault::Memory);
+    };
+    for turn in 0..READ_CALLS {
+        match read_some(&mut session, &mut piece, reader, writer) {
+            Ok(true) => {}
+            Ok(false) => return session.finish(writer),
+            Err(fault) => return Err(fault),
+        }
+    }
+    Err(RunFault::Read)
+}

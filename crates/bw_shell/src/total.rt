@@ -1,0 +1,186 @@
+//! The answer to `total`.
+ghost use Rattle.std.specs.Prelude.{◌≡◌, ◌≤◌, ◌<◌, ◌++◌, ◌∷◌, [], ℕ, List, Some, codes, length, unwrap_or, slice_index, string_bytes, OnOk, IfOk};
+ghost use Rattle.std.specs.Fmt.{decimal};
+ghost use Rattle.std.specs.Map.{keys_of};
+ghost use Rattle.std.specs.Vec.{vec_capacity};
+ghost use Rattle.bw_model.specs.Groups.{limit_of};
+ghost use Rattle.bw_model.specs.Demand.{limited_total};
+ghost use Rattle.bw_demand.specs.Demands.{demands_of, IsGathered};
+ghost use Rattle.bw_tree.specs.Groups.{find_path};
+ghost use Rattle.bw_shell.specs.Total.{IsTotal, IsPathOf, ArePathsOf, number_line, limit_line, limit_lines};
+
+use bw_demand::{Gathered, gather, limiting};
+use bw_model::{HostShape, Instance};
+use bw_tree::{GroupId, Tree};
+use std::alloc::{AllocError, Global};
+
+/// Appends the answer to `total`: the greatest total, a line for each limiting group in order of
+/// creation, and the demands outside them, in slices of one period. It fails for want of memory alone.
+pub fn put_total(
+    alloc: Global,
+    tree: &Tree,
+    shape: HostShape,
+    answer: &mut Vec<u8>,
+) -> Result<(), AllocError>
+    ensures ok { OnOk result ((text : List ℕ) × IsTotal (record { shape = shape; tree = tree.now }) text × (answer.new.items ≡ answer.old.items ++ text)) }
+    ensures room { vec_capacity answer.old ≤ vec_capacity answer.new }
+{
+    let Ok((instance, ids)) = tree.snapshot(shape) else {
+        return Err(AllocError);
+    };
+    let gathered = gather(alloc, &instance)?;
+    let limits = limiting(alloc, &instance, &gathered)?;
+    let total = total_of(&instance, &gathered);
+    put_number_line(alloc, b"total ", total, answer)?;
+    put_limits(
+        alloc,
+        tree,
+        &instance,
+        ids.as_slice(),
+        limits.groups.as_slice(),
+        answer,
+    )?;
+    put_number_line(alloc, b"demand ", limits.rest, answer)?;
+    Ok(())
+}
+
+// The greatest total: the most of the root.
+fn total_of(instance: &Instance, gathered: &Gathered) -> u64
+    requires { IsGathered instance.now (demands_of gathered.now) }
+    ensures { result ≡ limited_total instance.now gathered.now.most.items }
+{
+    // its contract says that there is a root
+    let _rows = instance.rows();
+    gathered.most[0]
+}
+
+// Appends a line for each of these rows.
+fn put_limits(
+    alloc: Global,
+    tree: &Tree,
+    instance: &Instance,
+    ids: &[GroupId],
+    groups: &[u32],
+    answer: &mut Vec<u8>,
+) -> Result<(), AllocError>
+    requires ids { ids.now ≡ keys_of tree.now.groups }
+    requires each { length ids.now ≡ length instance.now.rows }
+    requires within { (k : ℕ) → k < length groups.now → slice_index groups.now k < length instance.now.rows }
+    ensures ok { OnOk result ((paths : List (List ℕ)) × ArePathsOf tree.now groups.now paths
+        × (answer.new.items ≡ answer.old.items ++ limit_lines instance.now groups.now paths)) }
+    ensures room { vec_capacity answer.old ≤ vec_capacity answer.new }
+{
+    for g in groups {
+        put_limit(alloc, tree, instance, ids, *g, answer)?;
+    }
+    Ok(())
+}
+
+// Appends the line of one row.
+fn put_limit(
+    alloc: Global,
+    tree: &Tree,
+    instance: &Instance,
+    ids: &[GroupId],
+    g: u32,
+    answer: &mut Vec<u8>,
+) -> Result<(), AllocError>
+    requires ids { ids.now ≡ keys_of tree.now.groups }
+    requires each { length ids.now ≡ length instance.now.rows }
+    requires within { g < length instance.now.rows }
+    ensures ok { OnOk result ((path : List ℕ) × IsPathOf tree.now g path
+        × (answer.new.items ≡ answer.old.items ++ limit_line instance.now g path)) }
+    ensures room { vec_capacity answer.old ≤ vec_capacity answer.new }
+{
+    let path = path_of(alloc, tree, ids[g as usize])?;
+    put_number(alloc, b"limit ", limit_at(instance, g), answer)?;
+    put_path(path.as_str(), answer)?;
+    Ok(())
+}
+
+// The limit of a row, the capacity at the root.
+fn limit_at(instance: &Instance, g: u32) -> u64
+    requires { g < length instance.now.rows }
+    ensures { result ≡ unwrap_or (limit_of instance.now g) 0 }
+{
+    if g == 0 {
+        instance.shape().capacity()
+    } else {
+        instance.row(g).limit.unwrap_or(0)
+    }
+}
+
+// Appends a word and a number.
+fn put_number(
+    alloc: Global,
+    word: &[u8],
+    number: u64,
+    answer: &mut Vec<u8>,
+) -> Result<(), AllocError>
+    ensures ok { OnOk result (answer.new.items ≡ answer.old.items ++ (word.now ++ decimal number)) }
+    ensures room { vec_capacity answer.old ≤ vec_capacity answer.new }
+{
+    let text = number.to_string(alloc)?;
+    answer.extend_from_slice(word)?;
+    answer.extend_from_slice(text.as_bytes())?;
+    Ok(())
+}
+
+// Appends a blank, a path and a newline.
+fn put_path(path: &str, answer: &mut Vec<u8>) -> Result<(), AllocError>
+    ensures ok { OnOk result (answer.new.items ≡ answer.old.items ++ (codes " " ++ path.now ++ 10 ∷ [])) }
+    ensures room { vec_capacity answer.old ≤ vec_capacity answer.new }
+{
+    answer.extend_from_slice(b" ")?;
+    answer.extend_from_slice(path.as_bytes())?;
+    answer.extend_from_slice(b"\n")?;
+    Ok(())
+}
+
+// Appends a word and a number on a line of their own.
+fn put_number_line(
+    alloc: Global,
+    word: &[u8],
+    number: u64,
+    answer: &mut Vec<u8>,
+) -> Result<(), AllocError>
+    ensures ok { OnOk result (answer.new.items ≡ answer.old.items ++ number_line word.now number) }
+    ensures room { vec_capacity answer.old ≤ vec_capacity answer.new }
+{
+    put_number(alloc, word, number, answer)?;
+    answer.extend_from_slice(b"\n")?;
+    Ok(())
+}
+
+// The path of a group.
+fn path_of(alloc: Global, tree: &Tree, id: GroupId) -> Result<String, AllocError>
+    ensures { IfOk result (λ path. find_path tree.now.groups (string_bytes path) ≡ Some id) }
+{
+    let path = names_up(alloc, tree, id)?;
+    match tree.find(path.as_str()) {
+        Ok(found) if found == id => Ok(path),
+        _ => Err(AllocError),
+    }
+}
+
+// The names from the root down to a group.
+fn names_up(alloc: Global, tree: &Tree, id: GroupId) -> Result<String, AllocError> {
+    let mut path = String::from_str(alloc, ".")?;
+    let mut at = id;
+    for level in 0..33u32 {
+        let Some(group) = tree.group(at) else {
+            return Ok(path);
+        };
+        let Some(parent) = group.parent else {
+            return Ok(path);
+        };
+        let name = group.name.as_str();
+        path = if level == 0 {
+            String::from_str(alloc, name)?
+        } else {
+            format!(in alloc; "{name}/{path}")?
+        };
+        at = parent;
+    }
+    Ok(path)
+}

@@ -1,0 +1,115 @@
+// A reader or a writer that remembers how its calls went.
+ghost use Rattle.std.specs.Prelude.{◌≡◌, ◌+◌, ◌-◌, ◌^◌, ◌||◌, ℕ, min, length, false, is_err};
+ghost use Rattle.std.specs.Io.{ReadsAtMost, WritesAtMost};
+ghost use Rattle.std.specs.Io.KnownBytes.{Keeps, ReadConsumes, WriteAppends};
+
+use std::io::{Read, Result, Write};
+
+/// Passes each read, write and flush on to what it holds, and remembers whether one failed,
+/// whether a write of some bytes took none, and how many reads there were.
+#[derive(Drop)]
+pub struct Watched<T> {
+    inner: T,
+    failed: bool,
+    stalled: bool,
+    reads: u64,
+}
+
+impl<T> Watched<T> {
+    ghost use Rattle.bw_shell.specs.Watched.{inner_of, has_failed, has_stalled, read_calls, IsFresh};
+
+    pub fn new(inner: T) -> Watched<T>
+        ensures inner { inner_of result ≡ inner }
+        ensures fresh { IsFresh result }
+    {
+        Watched {
+            inner,
+            failed: false,
+            stalled: false,
+            reads: 0,
+        }
+    }
+
+    /// Whether a read, a write or a flush has failed.
+    pub fn failed(&self) -> bool
+        ensures { result ≡ has_failed self.now }
+    {
+        self.failed
+    }
+
+    /// Whether a write of at least one byte took none.
+    pub fn stalled(&self) -> bool
+        ensures { result ≡ has_stalled self.now }
+    {
+        self.stalled
+    }
+
+    /// How many reads there were. It stays at `u64::MAX` once it is there.
+    pub fn reads(&self) -> u64
+        ensures { result ≡ read_calls self.now }
+    {
+        self.reads
+    }
+}
+
+impl<T: Read> Read for Watched<T> {
+    ghost use Rattle.std.specs.Prelude.{◌≡◌, ◌+◌, ◌-◌, ◌^◌, ◌||◌, min, is_err};
+    ghost use Rattle.std.specs.Io.{ReadsAtMost};
+    ghost use Rattle.std.specs.Io.KnownBytes.{ReadConsumes};
+    ghost use Rattle.bw_shell.specs.Watched.{inner_of, has_failed, has_stalled, read_calls};
+
+    ghost remaining = { λ w. T.remaining (inner_of w) };
+
+    fn read(&mut self, buf: &mut [u8]) -> Result<usize>
+        ensures bound { ReadsAtMost result buf.new }
+        ensures bytes { ReadConsumes (T.remaining (inner_of self.old)) (T.remaining (inner_of self.new)) result buf.new }
+        ensures failed { has_failed self.new ≡ (has_failed self.old || is_err result) }
+        ensures stalled { has_stalled self.new ≡ has_stalled self.old }
+        ensures reads { read_calls self.new ≡ min (read_calls self.old + 1) (2 ^ 64 - 1) }
+    {
+        self.reads = self.reads.saturating_add(1);
+        let result = self.inner.read(buf);
+        if result.is_err() {
+            self.failed = true;
+        }
+        result
+    }
+}
+
+impl<T: Write> Write for Watched<T> {
+    ghost use Rattle.std.specs.Prelude.{◌≡◌, ◌||◌, is_err};
+    ghost use Rattle.std.specs.Io.{WritesAtMost};
+    ghost use Rattle.std.specs.Io.KnownBytes.{Keeps, WriteAppends};
+    ghost use Rattle.bw_shell.specs.Watched.{inner_of, has_failed, has_stalled, read_calls, takes_none};
+
+    ghost contents = { λ w. T.contents (inner_of w) };
+
+    fn write(&mut self, buf: &[u8]) -> Result<usize>
+        ensures bound { WritesAtMost result buf.now }
+        ensures bytes { WriteAppends (T.contents (inner_of self.old)) (T.contents (inner_of self.new)) result buf.now }
+        ensures failed { has_failed self.new ≡ (has_failed self.old || is_err result) }
+        ensures stalled { has_stalled self.new ≡ (has_stalled self.old || takes_none buf.now result) }
+        ensures reads { read_calls self.new ≡ read_calls self.old }
+    {
+        let result = self.inner.write(buf);
+        match &result {
+            Ok(0) if !buf.is_empty() => self.stalled = true,
+            Ok(_) => {}
+            Err(_) => self.failed = true,
+        }
+        result
+    }
+
+    fn flush(&mut self) -> Result<()>
+        ensures bytes { Keeps (T.contents (inner_of self.old)) (T.contents (inner_of self.new)) }
+        ensures failed { has_failed self.new ≡ (has_failed self.old || is_err result) }
+        ensures stalled { has_stalled self.new ≡ has_stalled self.old }
+        ensures reads { read_calls self.new ≡ read_calls self.old }
+    {
+        let result = self.inner.flush();
+        if result.is_err() {
+            self.failed = true;
+        }
+        result
+    }
+}
