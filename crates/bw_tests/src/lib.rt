@@ -10,3 +10,6 @@ mod tree_cases;
 
 #[cfg(test)]
 mod shell_cases;
+mod check_cases;
+#[cfg(test)]
+mod check_search;
