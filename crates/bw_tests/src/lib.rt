@@ -13,3 +13,7 @@ mod shell_cases;
 mod check_cases;
 #[cfg(test)]
 mod check_search;
+#[cfg(test)]
+mod model_cases;
+#[cfg(test)]
+mod tree_cases;
