@@ -16,4 +16,6 @@ mod check_search;
 #[cfg(test)]
 mod model_cases;
 #[cfg(test)]
+mod stat_cases;
+#[cfg(test)]
 mod tree_cases;

@@ -1,0 +1,5 @@
+use Rattle.bw_stat.proofs.BookLemmas.{one_each}
+use Rattle.bw_stat.proofs.laws.has_one_each.Goals as goal
+
+pub returns : goal.returns
+returns c = one_each

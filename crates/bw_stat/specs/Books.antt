@@ -1,0 +1,72 @@
+-- What one call does to the counters of the groups.
+use Rattle.std.specs.Prelude.{ℕ, ◌+◌, ◌*◌, ◌-◌, ◌^◌, min, Bool, nat_lt, nat_eq, List, [], ◌∷◌, Option, Some, None, if◌then◌else◌}
+use Rattle.std.specs.Map.{lookup, remove_entry}
+use Rattle.indexmap.specs.IndexMap.{insert_entry}
+use Rattle.bw_model.specs.declared.row.Row.{Row}
+use Rattle.bw_model.specs.declared.stat.Stat.{Stat}
+
+-- what one period adds for one group
+pub record Share : Type 0 where
+  pub usage_usec : ℕ
+  pub is_throttled : Bool
+  pub withheld_usec : ℕ
+
+-- the slices that a group wanted above its limit; nothing is counted for the root, which has no parent
+abbrev pub short : Option ℕ → Option ℕ → ℕ → ℕ
+short None limit want = 0
+short (Some parent) None want = 0
+short (Some parent) (Some limit) want = want - limit
+
+abbrev pub share_of : ℕ → Row → ℕ → ℕ → Share
+share_of slice_us row want drawn = record {
+  usage_usec = drawn * slice_us;
+  is_throttled = nat_lt 0 (short row.parent row.limit want);
+  withheld_usec = short row.parent row.limit want * slice_us;
+}
+
+-- what a period adds for each group: its rows, with the ids, the wants and the drawn slices of the same groups
+abbrev pub shares_of : ℕ → List Row → List ℕ → List ℕ → List ℕ → List (ℕ × Share)
+shares_of slice_us [] ids wants drawn = []
+shares_of slice_us (row ∷ rows) [] wants drawn = []
+shares_of slice_us (row ∷ rows) (id ∷ ids) [] drawn = []
+shares_of slice_us (row ∷ rows) (id ∷ ids) (w ∷ ws) [] = []
+shares_of slice_us (row ∷ rows) (id ∷ ids) (w ∷ ws) (d ∷ ds) = (id, share_of slice_us row w d) ∷ shares_of slice_us rows ids ws ds
+
+-- the counters kept for a group
+abbrev pub stat_at : List (ℕ × Stat) → ℕ → Option Stat
+stat_at books id = lookup (nat_eq id) books
+
+abbrev pub zeros : Stat
+zeros = record { usage_usec = 0; nr_periods = 0; nr_throttled = 0; throttled_usec = 0 }
+
+abbrev pub or_zeros : Option Stat → Stat
+or_zeros None = zeros
+or_zeros (Some s) = s
+
+-- a counter stops at its greatest value
+abbrev pub cut : ℕ → ℕ
+cut n = min n (2 ^ 64 - 1)
+
+abbrev pub one_if : Bool → ℕ
+one_if b = if b then 1 else 0
+
+abbrev pub added : Stat → Share → Stat
+added s share = record {
+  usage_usec = cut (s.usage_usec + share.usage_usec);
+  nr_periods = cut (s.nr_periods + 1);
+  nr_throttled = cut (s.nr_throttled + one_if share.is_throttled);
+  throttled_usec = cut (s.throttled_usec + share.withheld_usec);
+}
+
+-- one group's share is booked
+abbrev pub with_share : List (ℕ × Stat) → ℕ → Share → List (ℕ × Stat)
+with_share books id share = insert_entry nat_eq books id (added (or_zeros (stat_at books id)) share)
+
+-- one period is booked
+abbrev pub booked : List (ℕ × Stat) → List (ℕ × Share) → List (ℕ × Stat)
+booked books [] = books
+booked books (e ∷ es) = booked (with_share books e.0 e.1) es
+
+-- one group is forgotten
+abbrev pub forgotten : List (ℕ × Stat) → ℕ → List (ℕ × Stat)
+forgotten books id = remove_entry (nat_eq id) books

@@ -1,0 +1,164 @@
+//! What was counted for each group.
+ghost use Rattle.std.specs.Prelude.{◌≡◌, ◌+◌, ◌*◌, ◌<◌, ◌≤◌, [], ◌∷◌, ℕ, List, length, OnOk, OnErr, IfOk, nat_eq};
+ghost use Rattle.std.specs.Option.{option_copied};
+ghost use Rattle.std.specs.List.{IsDistinct};
+ghost use Rattle.indexmap.specs.IndexMap.{spare};
+ghost use Rattle.bw_stat.specs.Books.{short, cut, one_if, added, share_of, shares_of, stat_at, or_zeros, with_share, booked, forgotten};
+
+use bw_demand::Gathered;
+use bw_model::{Instance, Row, Stat};
+use indexmap::IndexMap;
+use std::alloc::{AllocError, Global};
+use std::marker::Model;
+
+/// The counters of each group that was booked and not forgotten.
+#[derive(Debug, Drop)]
+pub struct Books {
+    stats: IndexMap<u64, Stat>,
+}
+
+impl Model for Books {
+    ghost use Rattle.std.specs.Prelude.{List, ℕ};
+    ghost use Rattle.bw_model.specs.declared.stat.Stat.{Stat};
+
+    ghost Value = { List (ℕ × Stat) };
+
+    ghost view = { λ b. b.stats.entries };
+}
+
+impl Books {
+    /// Books with no group.
+    pub fn new(alloc: Global) -> Books
+        ensures { result ≡ [] }
+    {
+        Books {
+            stats: IndexMap::new(alloc),
+        }
+    }
+
+    /// The counters of a group, in microseconds and periods, where it was booked and not forgotten.
+    pub fn of(&self, id: u64) -> Option<Stat>
+        ensures { result ≡ stat_at self.now id }
+    {
+        self.stats.get(&id).copied()
+    }
+
+    /// Counts one period for each group of an instance: the ids of its rows, what they wanted and what
+    /// they drew, both in slices. `Err` is want of memory alone, and the books are then as before.
+    ///
+    /// A group other than the root is throttled where its limit is below its want (sched-bwc.rst, Statistics).
+    pub fn book(
+        &mut self,
+        instance: &Instance,
+        ids: &[u64],
+        gathered: &Gathered,
+        drawn: &[u64],
+    ) -> Result<(), AllocError>
+        requires ids { length ids.now ≡ length instance.now.rows }
+        requires wants { length gathered.now.want.items ≡ length instance.now.rows }
+        requires drawn { length drawn.now ≡ length instance.now.rows }
+        requires distinct { IsDistinct nat_eq ids.now }
+        ensures booked { OnOk result (self.new ≡ booked self.old (shares_of instance.now.shape.slice_us instance.now.rows ids.now gathered.now.want.items drawn.now)) }
+        ensures err { OnErr result (self.new ≡ self.old) }
+    {
+        let slice_us = instance.shape().slice_us();
+        let rows = instance.rows();
+        self.stats.reserve(rows.len())?;
+        book_rows(
+            &mut self.stats,
+            slice_us,
+            rows,
+            ids,
+            gathered.want.as_slice(),
+            drawn,
+        );
+        Ok(())
+    }
+
+    /// Takes a group's counters out, without taking memory.
+    pub fn forget(&mut self, id: u64)
+        ensures { self.new ≡ forgotten self.old id }
+    {
+        let _removed = self.stats.shift_remove(&id);
+    }
+}
+
+// Counts a period for each row. The room for new groups is there.
+fn book_rows(
+    stats: &mut IndexMap<u64, Stat>,
+    slice_us: u64,
+    rows: &[Row],
+    ids: &[u64],
+    wants: &[u64],
+    drawn: &[u64],
+)
+    requires room { length rows.now ≤ spare stats.old }
+    requires ids { length ids.now ≡ length rows.now }
+    requires wants { length wants.now ≡ length rows.now }
+    requires drawn { length drawn.now ≡ length rows.now }
+    ensures { stats.new.entries ≡ booked stats.old.entries (shares_of slice_us rows.now ids.now wants.now drawn.now) }
+{
+    for i in 0..rows.len() {
+        book_row(stats, ids[i], slice_us, &rows[i], wants[i], drawn[i]);
+    }
+}
+
+fn book_row(
+    stats: &mut IndexMap<u64, Stat>,
+    id: u64,
+    slice_us: u64,
+    row: &Row,
+    want: u64,
+    drawn: u64,
+)
+    requires { 0 < spare stats.old }
+    ensures entries { stats.new.entries ≡ with_share stats.old.entries id (share_of slice_us row.now want drawn) }
+    ensures room { spare stats.old ≤ spare stats.new + 1 }
+{
+    let stat = or_zeros(stats.get(&id).copied());
+    let stat = added(stat, slice_us, row, want, drawn);
+    let _old = stats.insert(id, stat).unwrap();
+}
+
+fn or_zeros(stat: Option<Stat>) -> Stat
+    ensures { result ≡ or_zeros stat }
+{
+    match stat {
+        None => Stat {
+            usage_usec: 0,
+            nr_periods: 0,
+            nr_throttled: 0,
+            throttled_usec: 0,
+        },
+        Some(stat) => stat,
+    }
+}
+
+// The slices that a group wanted above its limit. Nothing is counted for the root.
+fn short(row: &Row, want: u64) -> u64
+    ensures { result ≡ short row.now.parent row.now.limit want }
+{
+    match (row.parent, row.limit) {
+        (Some(_), Some(limit)) => want.saturating_sub(limit),
+        _ => 0,
+    }
+}
+
+// A counter with some slices more, in microseconds.
+fn more(counter: u64, slices: u64, slice_us: u64) -> u64
+    ensures { result ≡ cut (counter + slices * slice_us) }
+{
+    counter.saturating_add(slices.saturating_mul(slice_us))
+}
+
+fn added(stat: Stat, slice_us: u64, row: &Row, want: u64, drawn: u64) -> Stat
+    ensures { result ≡ added stat (share_of slice_us row.now want drawn) }
+{
+    let short = short(row, want);
+    Stat {
+        usage_usec: more(stat.usage_usec, drawn, slice_us),
+        nr_periods: stat.nr_periods.saturating_add(1),
+        nr_throttled: stat.nr_throttled.saturating_add(u64::from(short > 0)),
+        throttled_usec: more(stat.throttled_usec, short, slice_us),
+    }
+}

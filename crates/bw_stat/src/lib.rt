@@ -1,0 +1,10 @@
+//! The counters of the groups over the booked periods, and the report of them.
+#![tactic(auto)]
+
+mod books;
+mod laws;
+mod report;
+
+pub use books::Books;
+pub use laws::{counters_are_sums, has_one_each};
+pub use report::{report_head, report_line};
