@@ -1,0 +1,232 @@
+-- What a write leaves of the texts of all files.
+use Rattle.std.proofs.Common.{◌≡◌, ◌≢◌, ◌⊎◌, inl, inr, ℕ, Bool, true, false, not, cond, eqb, List, [], ◌∷◌, Option, Some, None, is_some, Result, Ok, Err, refl, sym, ap, subst, ◌∙◌, length, arith}
+use Rattle.std.specs.List.{slice_split}
+use Rattle.std.specs.Prelude.{codes}
+use Rattle.std.specs.Str.{bytes_eq}
+use Rattle.std.specs.Map.{set_value}
+use Rattle.std.proofs.lemmas.Bool.{ne_eqb}
+use Rattle.std.proofs.lemmas.Bool.Decides.{eqb_tells}
+use Rattle.std.proofs.lemmas.Slice.Eq.{bytes_eq-Decides}
+use Rattle.bw_text.specs.Words.{words}
+use Rattle.bw_tree.specs.Groups.{GroupFields, TreeState, group_at, has_group, child_of, onward, walk, find_path}
+use Rattle.bw_tree.specs.Tree.{changed, changed_at, with_setting, set_weight, set_quota}
+use Rattle.bw_tree.proofs.SetLemmas.{look_set_other, look_set_same, child_set}
+use Rattle.bw_files.specs.declared.fault.FileFault.{FileFault}
+use Rattle.bw_files.specs.declared.reading.MaxWrite.{MaxWrite}
+use Rattle.bw_files.specs.Reading.{weight_of, max_of}
+use Rattle.bw_files.specs.Writing.{weight_text, max_text}
+use Rattle.bw_hierarchy.specs.declared.fault.Fault.{Fault}
+use Rattle.bw_hierarchy.specs.declared.fault.Fault.TheVariants.{Tree, File, NoSuchFile, PeriodDiffers}
+use Rattle.bw_tree.specs.declared.fault.TreeFault.TheVariants.{NotFound}
+use Rattle.bw_hierarchy.specs.Calls.{from_file, and_then, found, found_at, same_period}
+use Rattle.bw_hierarchy.specs.Files.{weight_file, max_file, text_of, read_of, weight_write, period_of, max_write, write_at, write_of}
+
+-- a setting leaves the place of a group: its parent and its name
+pub record IsSetting (f : GroupFields → GroupFields) : Type 0 where
+  pub same_parent : (g : GroupFields) → (f g).parent ≡ g.parent
+  pub same_name : (g : GroupFields) → (f g).name ≡ g.name
+
+weight_IsSetting : (w : ℕ) → IsSetting (set_weight w)
+weight_IsSetting w = record { same_parent = λ g. refl; same_name = λ g. refl }
+
+module _ (f : GroupFields → GroupFields) (setting : IsSetting f) (gs : List (ℕ × GroupFields)) (id : ℕ) (g : GroupFields) (at : group_at gs id ≡ Some g) where
+  abbrev after : List (ℕ × GroupFields)
+  after = set_value (eqb id) gs (f g)
+
+  changed-after : changed_at f gs id ≡ after
+  changed-after = ap (changed f gs id) at
+
+  onward-same : (names : List (List ℕ)) → ((k : ℕ) → walk after k names ≡ walk gs k names) → (o : Option ℕ) → onward (λ k. walk after k names) o ≡ onward (λ k. walk gs k names) o
+  onward-same names same None = refl
+  onward-same names same (Some k) = same k
+
+  walk-same : (names : List (List ℕ)) (k : ℕ) → walk after k names ≡ walk gs k names
+  walk-same [] k = refl
+  walk-same (name ∷ names) k =
+      ap (onward (λ j. walk after j names)) (child_set id (f g) g (setting.same_parent g) (setting.same_name g) gs k name at)
+      ∙ onward-same names (walk-same names) (child_of gs k name)
+
+  -- each path leads where it led
+  pub find_path-same : (path : List ℕ) → find_path (changed_at f gs id) path ≡ find_path gs path
+  find_path-same path =
+      ap (λ (es : List (ℕ × GroupFields)). find_path es path) changed-after
+      ∙ ap (λ o. cond (bytes_eq path (codes ".")) (Some 0) o) (walk-same (slice_split (λ b. eqb b 47) path) 0)
+
+  pub group-set : group_at (changed_at f gs id) id ≡ Some (f g)
+  group-set = ap (λ (es : List (ℕ × GroupFields)). group_at es id) changed-after ∙ look_set_same id (f g) gs g at
+
+  pub group-other : (q : ℕ) → eqb q id ≡ false → group_at (changed_at f gs id) q ≡ group_at gs q
+  group-other q apart = ap (λ (es : List (ℕ × GroupFields)). group_at es q) changed-after ∙ look_set_other id (f g) gs q apart
+
+-- ---- what a write that is not refused did
+
+found_parts : (o : Option ℕ) (f : ℕ → Result TreeState Fault) (u : TreeState) → and_then (found o) f ≡ Ok u → (id : ℕ) × (o ≡ Some id) × (f id ≡ Ok u)
+found_parts None f u e = absurd cc
+found_parts (Some id) f u e = (id, refl, e)
+
+guard_parts : {A : Type 0} (b : Bool) (fault : Fault) (r : Result A Fault) (x : A) → cond b (Err fault) r ≡ Ok x → (b ≡ false) × (r ≡ Ok x)
+guard_parts true fault r x e = absurd cc
+guard_parts false fault r x e = (refl, e)
+
+file_parts : {A B : Type 0} (r : Result A FileFault) (f : A → Result B Fault) (y : B) → and_then (from_file r) f ≡ Ok y → (x : A) × (r ≡ Ok x) × (f x ≡ Ok y)
+file_parts (Ok x) f y e = (x, refl, e)
+file_parts (Err fault) f y e = absurd cc
+
+step_parts : {A B : Type 0} (r : Result A Fault) (f : A → Result B Fault) (y : B) → and_then r f ≡ Ok y → (x : A) × (r ≡ Ok x) × (f x ≡ Ok y)
+step_parts (Ok x) f y e = (x, refl, e)
+step_parts (Err fault) f y e = absurd cc
+
+abbrev done : TreeState → Result TreeState Fault
+done t = Ok t
+
+done_is : (t u : TreeState) → done t ≡ done u → t ≡ u
+done_is t u e = cc
+
+there_parts : (o : Option GroupFields) → not (is_some o) ≡ false → (g : GroupFields) × (o ≡ Some g)
+there_parts None e = absurd cc
+there_parts (Some g) e = (g, refl)
+
+-- the weight, or the limit
+branches : (b c : Bool) (x y : Result TreeState Fault) (u : TreeState) → cond b x (cond c y (Err NoSuchFile)) ≡ Ok u
+    → ((b ≡ true) × (x ≡ Ok u)) ⊎ ((b ≡ false) × (c ≡ true) × (y ≡ Ok u))
+branches true c x y u e = inl (refl, e)
+branches false true x y u e = inr (refl, refl, e)
+branches false false x y u e = absurd cc
+
+-- a group that is not the root has one value more or less
+pub record IsWrite (t u : TreeState) (path : List ℕ) (f : GroupFields → GroupFields) (id : ℕ) (g : GroupFields) : Type 0 where
+  pub leads : find_path t.groups path ≡ Some id
+  pub there : group_at t.groups id ≡ Some g
+  pub inner : eqb id 0 ≡ false
+  pub is : with_setting f t id ≡ u
+
+pub record IsWeightWrite (t u : TreeState) (path file text : List ℕ) : Type 0 where
+  pub id : ℕ
+  pub g : GroupFields
+  pub w : ℕ
+  pub file_is : file ≡ weight_file
+  pub value : weight_of (words text) ≡ Ok w
+  pub write : IsWrite t u path (set_weight w) id g
+
+pub record IsMaxWrite (t u : TreeState) (path file text : List ℕ) : Type 0 where
+  pub id : ℕ
+  pub g : GroupFields
+  pub m : MaxWrite
+  pub file_is : file ≡ max_file
+  pub value : max_of (words text) ≡ Ok m
+  pub write : IsWrite t u path (set_quota m.quota) id g
+
+file_is : (file name : List ℕ) → bytes_eq file name ≡ true → file ≡ name
+file_is file name e = (bytes_eq-Decides file name).0 e
+
+pub write_parts : (t u : TreeState) (period_us : ℕ) (path file text : List ℕ) → write_of t period_us path file text ≡ Ok u
+    → IsWeightWrite t u path file text ⊎ IsMaxWrite t u path file text
+write_parts t u period_us path file text e =
+    let a = found_parts (find_path t.groups path) (λ id. write_at t period_us id file text) u e in
+    let b = guard_parts (not (has_group t.groups a.0)) (Tree NotFound) _ u a.2 in
+    let there = there_parts (group_at t.groups a.0) b.0 in
+    let c = guard_parts (eqb a.0 0) NoSuchFile _ u b.1 in
+    elim (branches (bytes_eq file weight_file) (bytes_eq file max_file) (weight_write t a.0 text) (max_write t period_us a.0 text) u c.1) [
+      | inl d ↦
+          let p = file_parts (weight_of (words text)) (λ w. Ok (with_setting (set_weight w) t a.0)) u d.1 in
+          inl (record { id = a.0; g = there.0; w = p.0; file_is = file_is file weight_file d.0; value = p.1; write = record { leads = a.1; there = there.1; inner = c.0; is = done_is (with_setting (set_weight p.0) t a.0) u p.2 } })
+      | inr d ↦
+          let p = file_parts (max_of (words text)) (λ (m : MaxWrite). and_then (same_period period_us (period_of period_us m.period)) (λ _. Ok (with_setting (set_quota m.quota) t a.0))) u d.2 in
+          let q = step_parts (same_period period_us (period_of period_us p.0.period)) (λ _. Ok (with_setting (set_quota p.0.quota) t a.0)) u p.2 in
+          inr (record { id = a.0; g = there.0; m = p.0; file_is = file_is file max_file d.1; value = p.1; write = record { leads = a.1; there = there.1; inner = c.0; is = done_is (with_setting (set_quota p.0.quota) t a.0) u q.2 } })
+    ]
+
+-- ---- what is read after it
+
+module _ (t u : TreeState) (path : List ℕ) (f : GroupFields → GroupFields) (setting : IsSetting f) (id : ℕ) (g : GroupFields) (write : IsWrite t u path f id g) (period_us : ℕ) where
+  read-here : (file : List ℕ) → read_of u period_us path file ≡ text_of period_us id file (Some (f g))
+  read-here file =
+      subst (λ (v : TreeState). read_of v period_us path file ≡ text_of period_us id file (Some (f g))) write.is
+      (ap (λ (o : Option ℕ). and_then (found o) (λ k. text_of period_us k file (group_at (changed_at f t.groups id) k))) (find_path-same f setting t.groups id g write.there path ∙ write.leads)
+      ∙ ap (text_of period_us id file) (group-set f setting t.groups id g write.there))
+
+  read-before : (file : List ℕ) → read_of t period_us path file ≡ text_of period_us id file (Some g)
+  read-before file =
+      ap (λ (o : Option ℕ). and_then (found o) (λ k. text_of period_us k file (group_at t.groups k))) write.leads ∙ ap (text_of period_us id file) write.there
+
+  read-elsewhere : (path' file : List ℕ) → find_path t.groups path' ≢ find_path t.groups path → read_of u period_us path' file ≡ read_of t period_us path' file
+  read-elsewhere path' file apart =
+      subst (λ (v : TreeState). read_of v period_us path' file ≡ read_of t period_us path' file) write.is
+      (ap (λ (o : Option ℕ). and_then (found o) (λ k. text_of period_us k file (group_at (changed_at f t.groups id) k))) (find_path-same f setting t.groups id g write.there path')
+      ∙ by (find_path t.groups path') refl)
+    where
+      by : (o : Option ℕ) → find_path t.groups path' ≡ o
+          → and_then (found o) (λ k. text_of period_us k file (group_at (changed_at f t.groups id) k)) ≡ and_then (found o) (λ k. text_of period_us k file (group_at t.groups k))
+      by None e = refl
+      by (Some k) e =
+          ap (text_of period_us k file) (group-other f setting t.groups id g write.there k (ne_eqb k id (λ same. apart (e ∙ ap (λ j. Some j) same ∙ sym write.leads))))
+
+text_weight : (period_us id n : ℕ) (g : GroupFields) → eqb id 0 ≡ false → text_of period_us id weight_file (Some (set_weight n g)) ≡ Ok (weight_text n)
+text_weight period_us id n g inner = rw inner refl
+
+text_max : (period_us id : ℕ) (m : MaxWrite) (g : GroupFields) → eqb id 0 ≡ false → text_of period_us id max_file (Some (set_quota m.quota g)) ≡ Ok (max_text m.quota period_us)
+text_max period_us id m g inner = rw inner refl
+
+text_but_weight : (period_us id n : ℕ) (g : GroupFields) (file : List ℕ) → bytes_eq file weight_file ≡ false → text_of period_us id file (Some (set_weight n g)) ≡ text_of period_us id file (Some g)
+text_but_weight period_us id n g file other = rw other refl
+
+text_but_max : (period_us id : ℕ) (m : MaxWrite) (g : GroupFields) (file : List ℕ) → bytes_eq file max_file ≡ false → text_of period_us id file (Some (set_quota m.quota g)) ≡ text_of period_us id file (Some g)
+text_but_max period_us id m g file other = rw other refl
+
+other_file : (file name : List ℕ) → file ≢ name → bytes_eq file name ≡ false
+other_file file name apart = by (bytes_eq file name) refl
+  where
+    by : (b : Bool) → bytes_eq file name ≡ b → b ≡ false
+    by true e = absurd (apart (file_is file name e))
+    by false e = refl
+
+quota_IsSetting : (m : MaxWrite) → IsSetting (set_quota m.quota)
+quota_IsSetting m = record { same_parent = λ g. refl; same_name = λ g. refl }
+
+ok_is : {A : Type 0} (x y : A) (r : Result A FileFault) → r ≡ Ok x → r ≡ Ok y → x ≡ y
+ok_is x y (Ok z) e f = cc
+ok_is x y (Err z) e f = absurd cc
+
+pub weight_read : (t u : TreeState) (period_us : ℕ) (path text : List ℕ) (n : ℕ) → write_of t period_us path weight_file text ≡ Ok u → weight_of (words text) ≡ Ok n
+    → read_of u period_us path weight_file ≡ Ok (weight_text n)
+weight_read t u period_us path text n e value =
+    elim (write_parts t u period_us path weight_file text e) [
+      | inl d ↦
+          read-here t u path (set_weight d.w) (weight_IsSetting d.w) d.id d.g d.write period_us weight_file
+          ∙ text_weight period_us d.id d.w d.g d.write.inner
+          ∙ ap (λ k. Ok (weight_text k)) (ok_is d.w n (weight_of (words text)) d.value value)
+      | inr d ↦ absurd (omega (arith, ap length d.file_is))
+    ]
+
+pub max_read : (t u : TreeState) (period_us : ℕ) (path text : List ℕ) (m : MaxWrite) → write_of t period_us path max_file text ≡ Ok u → max_of (words text) ≡ Ok m
+    → read_of u period_us path max_file ≡ Ok (max_text m.quota period_us)
+max_read t u period_us path text m e value =
+    elim (write_parts t u period_us path max_file text e) [
+      | inl d ↦ absurd (omega (arith, ap length d.file_is))
+      | inr d ↦
+          read-here t u path (set_quota d.m.quota) (quota_IsSetting d.m) d.id d.g d.write period_us max_file
+          ∙ text_max period_us d.id d.m d.g d.write.inner
+          ∙ ap (λ (k : MaxWrite). Ok (max_text k.quota period_us)) (ok_is d.m m (max_of (words text)) d.value value)
+    ]
+
+pub other_files_stay : (t u : TreeState) (period_us : ℕ) (path file text other : List ℕ) → write_of t period_us path file text ≡ Ok u → other ≢ file
+    → read_of u period_us path other ≡ read_of t period_us path other
+other_files_stay t u period_us path file text other e apart =
+    elim (write_parts t u period_us path file text e) [
+      | inl d ↦
+          read-here t u path (set_weight d.w) (weight_IsSetting d.w) d.id d.g d.write period_us other
+          ∙ text_but_weight period_us d.id d.w d.g other (other_file other weight_file (λ same. apart (same ∙ sym d.file_is)))
+          ∙ sym (read-before t u path (set_weight d.w) (weight_IsSetting d.w) d.id d.g d.write period_us other)
+      | inr d ↦
+          read-here t u path (set_quota d.m.quota) (quota_IsSetting d.m) d.id d.g d.write period_us other
+          ∙ text_but_max period_us d.id d.m d.g other (other_file other max_file (λ same. apart (same ∙ sym d.file_is)))
+          ∙ sym (read-before t u path (set_quota d.m.quota) (quota_IsSetting d.m) d.id d.g d.write period_us other)
+    ]
+
+pub other_groups_stay : (t u : TreeState) (period_us : ℕ) (path file text path' other : List ℕ) → write_of t period_us path file text ≡ Ok u → find_path t.groups path' ≢ find_path t.groups path
+    → read_of u period_us path' other ≡ read_of t period_us path' other
+other_groups_stay t u period_us path file text path' other e apart =
+    elim (write_parts t u period_us path file text e) [
+      | inl d ↦ read-elsewhere t u path (set_weight d.w) (weight_IsSetting d.w) d.id d.g d.write period_us path' other apart
+      | inr d ↦ read-elsewhere t u path (set_quota d.m.quota) (quota_IsSetting d.m) d.id d.g d.write period_us path' other apart
+    ]

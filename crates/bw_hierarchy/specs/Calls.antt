@@ -1,0 +1,99 @@
+-- What each call does to a tree, or its first refusal.
+use Rattle.std.specs.Prelude.{ℕ, zero, suc, ◌==◌, ◌||◌, not, nat_lt, if◌then◌else◌, List, Option, Some, None, Result, Ok, Err, ℤ, pos, negsuc}
+use Rattle.std.specs.Path.{rsplit_once}
+use Rattle.bw_model.specs.declared.quota.Quota.{Quota}
+use Rattle.bw_model.specs.declared.quota.Quota.TheVariants.{Max, Micros}
+use Rattle.bw_tree.specs.declared.fault.TreeFault.{TreeFault}
+use Rattle.bw_tree.specs.declared.fault.TreeFault.TheVariants.{NotFound, RootFixed}
+use Rattle.bw_tree.specs.Groups.{GroupFields, TreeState, group_at, find_path}
+use Rattle.bw_tree.specs.Tree.{mkdir_refusal, with_group, rmdir_refusal, without_group, setting_refusal, demand_refusal, with_setting, set_demand, set_weight, set_quota}
+use Rattle.bw_files.specs.declared.fault.FileFault.{FileFault}
+use Rattle.bw_files.specs.declared.fault.FileFault.TheVariants.{QuotaTooSmall}
+use Rattle.bw_files.specs.Reading.{weight_in, quota_in, period_in}
+use Rattle.bw_hierarchy.specs.declared.fault.Fault.{Fault}
+use Rattle.bw_hierarchy.specs.declared.fault.Fault.TheVariants.{Tree, File, PeriodDiffers}
+
+-- a value, unless the tree refuses
+abbrev pub unless : {A : Type 0} → Option TreeFault → A → Result A Fault
+unless (Some fault) x = Err (Tree fault)
+unless None x = Ok x
+
+-- a value, unless a text or its range is refused
+abbrev pub from_file : {A : Type 0} → Result A FileFault → Result A Fault
+from_file (Ok x) = Ok x
+from_file (Err fault) = Err (File fault)
+
+-- the next step, where the one before it was not refused
+abbrev pub and_then : {A B : Type 0} → Result A Fault → (A → Result B Fault) → Result B Fault
+and_then (Ok x) f = f x
+and_then (Err fault) f = Err fault
+
+-- a group that was looked for
+abbrev pub found : Option ℕ → Result ℕ Fault
+found None = Err (Tree NotFound)
+found (Some id) = Ok id
+
+-- the group at a path
+abbrev pub found_at : TreeState → List ℕ → Result ℕ Fault
+found_at t path = found (find_path t.groups path)
+
+-- a path splits at its last `/`; where it has none, the parent is the root
+abbrev pub mkdir_split : TreeState → Option (List ℕ × List ℕ) → List ℕ → Result (ℕ × TreeState) Fault
+mkdir_split t None path = unless (mkdir_refusal t 0 path) (t.next, with_group t 0 path)
+mkdir_split t (Some parts) path = and_then (found_at t parts.0) (λ parent. unless (mkdir_refusal t parent parts.1) (t.next, with_group t parent parts.1))
+
+-- the id of the new group, and the tree with it
+abbrev pub mkdir_of : TreeState → List ℕ → Result (ℕ × TreeState) Fault
+mkdir_of t path = mkdir_split t (rsplit_once 47 path) path
+
+-- one group's weight, by its id
+abbrev pub set_shares_of : TreeState → ℕ → ℕ → Result TreeState Fault
+set_shares_of t id n =
+    and_then (unless (setting_refusal t id) n) (λ n. and_then (from_file (weight_in n)) (λ w. Ok (with_setting (set_weight w) t id)))
+
+-- a quota of -1 is no limit, and other numbers below 1000 are too small
+abbrev pub quota_of_int : ℤ → Result Quota FileFault
+quota_of_int (pos n) = quota_in (Some n)
+quota_of_int (negsuc zero) = Ok Max
+quota_of_int (negsuc (suc n)) = Err QuotaTooSmall
+
+-- the number of a quota
+abbrev pub int_of_quota : Quota → ℤ
+int_of_quota Max = negsuc 0
+int_of_quota (Micros us) = pos us
+
+-- the quota that is asked for, where one is
+abbrev pub quota_given : Option ℤ → Quota → Result Quota FileFault
+quota_given None old = Ok old
+quota_given (Some quota) old = quota_of_int quota
+
+-- the period that is asked for, where one is
+abbrev pub period_given : ℕ → Option ℕ → Result ℕ FileFault
+period_given period_us None = Ok period_us
+period_given period_us (Some n) = period_in n
+
+-- the host's period is the only one
+abbrev pub same_period : ℕ → ℕ → Result ℕ Fault
+same_period period_us n = if n == period_us then Ok n else Err PeriodDiffers
+
+-- the quota of a group
+abbrev pub quota_at : Option GroupFields → Quota
+quota_at None = Max
+quota_at (Some g) = g.quota
+
+-- one group's quota, by its id; a value that is left out stays
+abbrev pub set_cfs_of : TreeState → ℕ → ℕ → Option ℤ → Option ℕ → Result TreeState Fault
+set_cfs_of t period_us id quota period =
+    and_then (unless (setting_refusal t id) id)
+    (λ id. and_then (from_file (quota_given quota (quota_at (group_at t.groups id))))
+    (λ q. and_then (from_file (period_given period_us period))
+    (λ p. and_then (same_period period_us p) (λ _. Ok (with_setting (set_quota q) t id)))))
+
+-- a value of a group that is not the root
+abbrev pub value_of : {A : Type 0} → (GroupFields → A) → ℕ → Option GroupFields → Result A Fault
+value_of f id None = Err (Tree NotFound)
+value_of f id (Some g) = if id == 0 then Err (Tree RootFixed) else Ok (f g)
+
+-- the same by its id
+abbrev pub value_at : {A : Type 0} → (GroupFields → A) → TreeState → ℕ → Result A Fault
+value_at f t id = value_of f id (group_at t.groups id)

@@ -1,0 +1,62 @@
+-- The files of a group.
+use Rattle.std.specs.Prelude.{ℕ, ◌==◌, not, if◌then◌else◌, List, codes, Option, Some, None, Result, Ok, Err}
+use Rattle.std.specs.Str.{bytes_eq}
+use Rattle.bw_text.specs.Words.{words}
+use Rattle.bw_tree.specs.Groups.{GroupFields, TreeState, group_at, has_group}
+use Rattle.bw_tree.specs.Tree.{with_setting, set_weight, set_quota}
+use Rattle.bw_tree.specs.declared.fault.TreeFault.TheVariants.{NotFound}
+use Rattle.bw_files.specs.Reading.{weight_of, max_of}
+use Rattle.bw_files.specs.Writing.{weight_text, max_text}
+use Rattle.bw_files.specs.declared.reading.MaxWrite.{MaxWrite}
+use Rattle.bw_hierarchy.specs.declared.fault.Fault.{Fault}
+use Rattle.bw_hierarchy.specs.declared.fault.Fault.TheVariants.{Tree, NoSuchFile}
+use Rattle.bw_hierarchy.specs.Calls.{from_file, and_then, found_at, same_period}
+
+-- the file of a group's weight
+abbrev pub weight_file : List ℕ
+weight_file = codes "cpu.weight"
+
+-- the file of a group's limit
+abbrev pub max_file : List ℕ
+max_file = codes "cpu.max"
+
+-- the text of a group's file; the root has none
+abbrev pub text_of : ℕ → ℕ → List ℕ → Option GroupFields → Result (List ℕ) Fault
+text_of period_us id file None = Err (Tree NotFound)
+text_of period_us id file (Some g) =
+    if id == 0 then Err NoSuchFile
+    else if bytes_eq file weight_file then Ok (weight_text g.weight)
+    else if bytes_eq file max_file then Ok (max_text g.quota period_us)
+    else Err NoSuchFile
+
+-- the text of a file of the group at a path
+abbrev pub read_of : TreeState → ℕ → List ℕ → List ℕ → Result (List ℕ) Fault
+read_of t period_us path file = and_then (found_at t path) (λ id. text_of period_us id file (group_at t.groups id))
+
+-- a text of `cpu.weight` sets the weight alone
+abbrev pub weight_write : TreeState → ℕ → List ℕ → Result TreeState Fault
+weight_write t id text = and_then (from_file (weight_of (words text))) (λ w. Ok (with_setting (set_weight w) t id))
+
+-- a period that is left out is the host's
+abbrev pub period_of : ℕ → Option ℕ → ℕ
+period_of period_us None = period_us
+period_of period_us (Some n) = n
+
+-- a text of `cpu.max` sets the limit alone
+abbrev pub max_write : TreeState → ℕ → ℕ → List ℕ → Result TreeState Fault
+max_write t period_us id text =
+    and_then (from_file (max_of (words text)))
+    (λ (m : MaxWrite). and_then (same_period period_us (period_of period_us m.period)) (λ _. Ok (with_setting (set_quota m.quota) t id)))
+
+-- what a text that is written into a group's file changes
+abbrev pub write_at : TreeState → ℕ → ℕ → List ℕ → List ℕ → Result TreeState Fault
+write_at t period_us id file text =
+    if not (has_group t.groups id) then Err (Tree NotFound)
+    else if id == 0 then Err NoSuchFile
+    else if bytes_eq file weight_file then weight_write t id text
+    else if bytes_eq file max_file then max_write t period_us id text
+    else Err NoSuchFile
+
+-- the same by the path of the group
+abbrev pub write_of : TreeState → ℕ → List ℕ → List ℕ → List ℕ → Result TreeState Fault
+write_of t period_us path file text = and_then (found_at t path) (λ id. write_at t period_us id file text)

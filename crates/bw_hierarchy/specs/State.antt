@@ -1,0 +1,31 @@
+-- A hierarchy: the host and its tree of groups.
+use Rattle.std.specs.Prelude.{ℕ, List, Result}
+use Rattle.bw_model.specs.Host.{Shape}
+use Rattle.bw_tree.specs.Groups.{TreeState}
+use Rattle.bw_tree.specs.Tree.{root_alone, rmdir_refusal, without_group, demand_refusal, with_setting, set_demand}
+use Rattle.bw_hierarchy.specs.declared.fault.Fault.{Fault}
+use Rattle.bw_hierarchy.specs.Calls.{and_then, found_at, unless}
+
+pub record HierarchyState : Type 0 where
+  pub shape : Shape
+  pub tree : TreeState
+
+-- the same host with another tree
+abbrev pub with_tree : HierarchyState → TreeState → HierarchyState
+with_tree h t = record { shape = h.shape; tree = t }
+
+-- the root alone
+abbrev pub new_hierarchy : Shape → HierarchyState
+new_hierarchy shape = record { shape = shape; tree = root_alone 1 }
+
+-- one group taken out, by its id
+abbrev pub delete_of : HierarchyState → ℕ → Result HierarchyState Fault
+delete_of h id = unless (rmdir_refusal h.tree id) (with_tree h (without_group h.tree id))
+
+-- one group taken out, by its path
+abbrev pub rmdir_of : HierarchyState → List ℕ → Result HierarchyState Fault
+rmdir_of h path = and_then (found_at h.tree path) (delete_of h)
+
+-- one group's demand in slices, by its path
+abbrev pub demand_set_of : HierarchyState → List ℕ → ℕ → Result HierarchyState Fault
+demand_set_of h path n = and_then (found_at h.tree path) (λ id. unless (demand_refusal h.tree id n) (with_tree h (with_setting (set_demand n) h.tree id)))

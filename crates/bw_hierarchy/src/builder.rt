@@ -1,0 +1,187 @@
+//! A group that is made with its settings at once.
+ghost use Rattle.std.specs.Prelude.{◌≡◌, ◌<◌, ◌∷◌, ◌++◌, ◌==◌, [], length, OnOk, OnErr, IfOk, IfErr, IfSome, MatchOption, Ok, Err, Some, None};
+ghost use Rattle.std.specs.List.{slice_split};
+ghost use Rattle.bw_tree.specs.Groups.{find_path};
+ghost use Rattle.bw_hierarchy.specs.Faults.{IsRefusal};
+ghost use Rattle.bw_hierarchy.specs.Builder.{prefixes, found_or_made, ensured, shares_step, cfs_step, built};
+ghost use Rattle.bw_hierarchy.specs.State.{with_tree};
+
+use crate::calls;
+use crate::cgroup::Cgroup;
+use crate::fault::Fault;
+use crate::hierarchy::Hierarchy;
+use bw_tree::{GroupId, Tree};
+use std::alloc::Global;
+
+/// A group to be made at a path.
+#[derive(Clone, Copy, Debug)]
+pub struct CgroupBuilder<'a> {
+    pub path: &'a str,
+    pub shares: Option<u64>,
+    pub quota: Option<i64>,
+    pub period: Option<u64>,
+}
+
+/// The processor settings of a group to be made.
+#[derive(Clone, Copy, Debug)]
+pub struct CpuResources<'a> {
+    pub builder: CgroupBuilder<'a>,
+}
+
+impl<'a> CgroupBuilder<'a> {
+    pub fn new(path: &'a str) -> CgroupBuilder<'a>
+        ensures path { result.path.now ≡ path.now }
+        ensures shares { result.shares ≡ None }
+        ensures quota { result.quota ≡ None }
+        ensures period { result.period ≡ None }
+    {
+        CgroupBuilder {
+            path,
+            shares: None,
+            quota: None,
+            period: None,
+        }
+    }
+
+    pub fn cpu(self) -> CpuResources<'a>
+        ensures { result.builder ≡ self.entry }
+    {
+        CpuResources { builder: self }
+    }
+
+    /// Makes each missing group of the path from the top down, then sets what was given, or changes nothing.
+    pub fn build(self, hierarchy: &mut Hierarchy) -> Result<Cgroup, Fault>
+        ensures made { IfOk result (λ g. built hierarchy.old.tree hierarchy.old.shape.period_us self.entry.path.now self.entry.shares self.entry.quota self.entry.period ≡ Ok (g.id, hierarchy.new.tree)) }
+        ensures rest { hierarchy.new ≡ with_tree hierarchy.old hierarchy.new.tree }
+        ensures refused { IfErr result (IsRefusal (built hierarchy.old.tree hierarchy.old.shape.period_us self.entry.path.now self.entry.shares self.entry.quota self.entry.period)) }
+        ensures err { OnErr result (hierarchy.new ≡ hierarchy.old) }
+    {
+        let id = hierarchy.build(self.path, self.shares, self.quota, self.period)?;
+        Ok(Cgroup { id })
+    }
+}
+
+impl<'a> CpuResources<'a> {
+    pub fn shares(self, shares: u64) -> CpuResources<'a>
+        ensures { result.builder ≡ record self.entry.builder { shares = Some shares } }
+    {
+        CpuResources {
+            builder: CgroupBuilder {
+                shares: Some(shares),
+                ..self.builder
+            },
+        }
+    }
+
+    pub fn quota(self, quota: i64) -> CpuResources<'a>
+        ensures { result.builder ≡ record self.entry.builder { quota = Some quota } }
+    {
+        CpuResources {
+            builder: CgroupBuilder {
+                quota: Some(quota),
+                ..self.builder
+            },
+        }
+    }
+
+    pub fn period(self, period: u64) -> CpuResources<'a>
+        ensures { result.builder ≡ record self.entry.builder { period = Some period } }
+    {
+        CpuResources {
+            builder: CgroupBuilder {
+                period: Some(period),
+                ..self.builder
+            },
+        }
+    }
+
+    pub fn done(self) -> CgroupBuilder<'a>
+        ensures { result ≡ self.entry.builder }
+    {
+        self.builder
+    }
+}
+
+// The first name of a path and what stands after it, where more names follow.
+fn split_front(path: &str) -> Option<(&str, &str)>
+    ensures parts { MatchOption result (slice_split (λ b. b == 47) path.now ≡ path.now ∷ []) (λ x. slice_split (λ b. b == 47) path.now ≡ x.0.now ∷ slice_split (λ b. b == 47) x.1.now) }
+    ensures shorter { IfSome result (λ x. length x.1.now < length path.now) }
+{
+    path.split_once('/')
+}
+
+// The group at a path, which is made where it is missing.
+fn find_or_make(tree: &mut Tree, path: &str) -> Result<GroupId, Fault>
+    ensures made { IfOk result (λ id. found_or_made tree.old path.now (find_path tree.old.groups path.now) ≡ Ok (id, tree.new)) }
+    ensures refused { IfErr result (IsRefusal (found_or_made tree.old path.now (find_path tree.old.groups path.now))) }
+{
+    match tree.find(path) {
+        Ok(id) => Ok(id),
+        Err(_) => calls::mkdir(tree, path),
+    }
+}
+
+// Each missing group of a path from the top down.
+fn ensure(tree: &mut Tree, alloc: Global, path: &str) -> Result<GroupId, Fault>
+    ensures made { IfOk result (λ id. ensured tree.old 0 (prefixes path.now) ≡ Ok (id, tree.new)) }
+    ensures refused { IfErr result (IsRefusal (ensured tree.old 0 (prefixes path.now))) }
+{
+    let mut prefix = String::new(alloc);
+    let mut rest = path;
+    while let Some((name, back)) = split_front(rest) {
+        prefix.push_str(name)?;
+        let _id = find_or_make(tree, prefix.as_str())?;
+        prefix.push_str("/")?;
+        rest = back;
+    }
+    prefix.push_str(rest)?;
+    find_or_make(tree, prefix.as_str())
+}
+
+fn set_shares(tree: &mut Tree, id: GroupId, shares: Option<u64>) -> Result<(), Fault>
+    ensures set { OnOk result (shares_step tree.old id shares ≡ Ok tree.new) }
+    ensures refused { IfErr result (λ e. shares_step tree.old id shares ≡ Err e) }
+{
+    match shares {
+        None => Ok(()),
+        Some(n) => calls::set_shares(tree, id, n),
+    }
+}
+
+fn set_cfs(
+    tree: &mut Tree,
+    period_us: u64,
+    id: GroupId,
+    quota: Option<i64>,
+    period: Option<u64>,
+) -> Result<(), Fault>
+    ensures set { OnOk result (cfs_step tree.old period_us id quota period ≡ Ok tree.new) }
+    ensures refused { IfErr result (λ e. cfs_step tree.old period_us id quota period ≡ Err e) }
+{
+    match quota {
+        None => match period {
+            None => Ok(()),
+            Some(n) => calls::set_cfs(tree, period_us, id, None, Some(n)),
+        },
+        Some(quota) => calls::set_cfs(tree, period_us, id, Some(quota), period),
+    }
+}
+
+/// All that a builder does to a tree. After a refusal the tree is of no use.
+pub(crate) fn build_tree(
+    tree: &mut Tree,
+    alloc: Global,
+    period_us: u64,
+    path: &str,
+    shares: Option<u64>,
+    quota: Option<i64>,
+    period: Option<u64>,
+) -> Result<GroupId, Fault>
+    ensures made { IfOk result (λ id. built tree.old period_us path.now shares quota period ≡ Ok (id, tree.new)) }
+    ensures refused { IfErr result (IsRefusal (built tree.old period_us path.now shares quota period)) }
+{
+    let id = ensure(tree, alloc, path)?;
+    set_shares(tree, id, shares)?;
+    set_cfs(tree, period_us, id, quota, period)?;
+    Ok(id)
+}

@@ -1,0 +1,194 @@
+//! The calls on a tree, by paths and by ids.
+ghost use Rattle.std.specs.Prelude.{◌≡◌, ◌≤◌, ◌∷◌, [], ◌<◌, length, OnOk, OnErr, IfOk, IfErr, IfSome, MatchOption, Ok, Err, Some, None, Option};
+ghost use Rattle.std.specs.Option.{option_map};
+ghost use Rattle.std.specs.List.{slice_split};
+ghost use Rattle.std.specs.Path.{rsplit_once};
+ghost use Rattle.bw_model.specs.Quota.{IsValid};
+ghost use Rattle.bw_tree.specs.Groups.{find_path, group_at, IsTree};
+ghost use Rattle.bw_tree.specs.Tree.{setting_refusal};
+ghost use Rattle.bw_hierarchy.specs.Faults.{IsRefusal};
+ghost use Rattle.bw_hierarchy.specs.Calls.{unless, found_at, mkdir_of, set_shares_of, quota_of_int, int_of_quota, quota_given, period_given, same_period, quota_at, set_cfs_of, value_at};
+
+use crate::fault::Fault;
+use bw_files::{FileFault, check_period, check_quota, check_weight};
+use bw_model::Quota;
+use bw_tree::{GroupId, Tree, TreeFault};
+
+pub(crate) fn find(tree: &Tree, path: &str) -> Result<GroupId, Fault>
+    ensures { result ≡ found_at tree.now path.now }
+{
+    Ok(tree.find(path)?)
+}
+
+// The path of the parent and the name.
+fn split_last(path: &str) -> Option<(&str, &str)>
+    ensures { option_map (λ x. (x.0.now, x.1.now)) result ≡ rsplit_once 47 path.now }
+{
+    path.rsplit_once('/')
+}
+
+/// Makes a group at a path.
+pub(crate) fn mkdir(tree: &mut Tree, path: &str) -> Result<GroupId, Fault>
+    ensures made { IfOk result (λ id. mkdir_of tree.old path.now ≡ Ok (id, tree.new)) }
+    ensures refused { IfErr result (IsRefusal (mkdir_of tree.old path.now)) }
+    ensures err { OnErr result (tree.new ≡ tree.old) }
+{
+    match split_last(path) {
+        None => Ok(tree.mkdir(0, path)?),
+        Some((front, name)) => {
+            let parent = find(tree, front)?;
+            Ok(tree.mkdir(parent, name)?)
+        }
+    }
+}
+
+// Whether a setting of this group may change: its own id where it may.
+fn settable(tree: &Tree, id: GroupId) -> Result<GroupId, Fault>
+    ensures { result ≡ unless (setting_refusal tree.now id) id }
+{
+    if tree.group(id).is_none() {
+        return Err(Fault::Tree(TreeFault::NotFound));
+    }
+    if id == 0 {
+        return Err(Fault::Tree(TreeFault::RootFixed));
+    }
+    Ok(id)
+}
+
+fn quota_of_int(quota: i64) -> Result<Quota, FileFault>
+    ensures value { result ≡ quota_of_int quota }
+    ensures valid { IfOk result (λ q. IsValid q) }
+{
+    if quota == -1 {
+        return Ok(Quota::Max);
+    }
+    if quota < 0 {
+        return Err(FileFault::QuotaTooSmall);
+    }
+    check_quota(quota as u64)
+}
+
+/// Sets a group's weight.
+pub(crate) fn set_shares(tree: &mut Tree, id: GroupId, n: u64) -> Result<(), Fault>
+    ensures set { OnOk result (set_shares_of tree.old id n ≡ Ok tree.new) }
+    ensures refused { IfErr result (λ e. set_shares_of tree.old id n ≡ Err e) }
+    ensures err { OnErr result (tree.new ≡ tree.old) }
+{
+    let id = settable(tree, id)?;
+    let weight = check_weight(n)?;
+    Ok(tree.set_weight(id, weight)?)
+}
+
+// The quota of a group, and none where there is no such group.
+fn quota_at(tree: &Tree, id: GroupId) -> Quota
+    ensures value { result ≡ quota_at (group_at tree.now.groups id) }
+    ensures valid { IsValid result }
+{
+    match tree.group(id) {
+        None => Quota::Max,
+        Some(group) => group.quota,
+    }
+}
+
+fn quota_given(quota: Option<i64>, old: Quota) -> Result<Quota, FileFault>
+    requires { IsValid old }
+    ensures value { result ≡ quota_given quota old }
+    ensures valid { IfOk result (λ q. IsValid q) }
+{
+    match quota {
+        None => Ok(old),
+        Some(quota) => quota_of_int(quota),
+    }
+}
+
+fn period_given(period_us: u64, period: Option<u64>) -> Result<u64, FileFault>
+    ensures { result ≡ period_given period_us period }
+{
+    match period {
+        None => Ok(period_us),
+        Some(n) => check_period(n),
+    }
+}
+
+pub(crate) fn same_period(period_us: u64, n: u64) -> Result<u64, Fault>
+    ensures { result ≡ same_period period_us n }
+{
+    if n == period_us {
+        Ok(n)
+    } else {
+        Err(Fault::PeriodDiffers)
+    }
+}
+
+/// Sets a group's quota. A value that is left out stays.
+pub(crate) fn set_cfs(
+    tree: &mut Tree,
+    period_us: u64,
+    id: GroupId,
+    quota: Option<i64>,
+    period: Option<u64>,
+) -> Result<(), Fault>
+    ensures set { OnOk result (set_cfs_of tree.old period_us id quota period ≡ Ok tree.new) }
+    ensures refused { IfErr result (λ e. set_cfs_of tree.old period_us id quota period ≡ Err e) }
+    ensures err { OnErr result (tree.new ≡ tree.old) }
+{
+    let id = settable(tree, id)?;
+    let old = quota_at(tree, id);
+    let quota = quota_given(quota, old)?;
+    let period = period_given(period_us, period)?;
+    let _period = same_period(period_us, period)?;
+    Ok(tree.set_limit(id, quota)?)
+}
+
+/// The weight of a group that is not the root.
+pub(crate) fn shares(tree: &Tree, id: GroupId) -> Result<u64, Fault>
+    ensures { result ≡ value_at (λ g. g.weight) tree.now id }
+{
+    let Some(group) = tree.group(id) else {
+        return Err(Fault::Tree(TreeFault::NotFound));
+    };
+    if id == 0 {
+        return Err(Fault::Tree(TreeFault::RootFixed));
+    }
+    Ok(group.weight)
+}
+
+/// The quota of a group that is not the root.
+pub(crate) fn quota(tree: &Tree, id: GroupId) -> Result<Quota, Fault>
+    ensures value { result ≡ value_at (λ g. g.quota) tree.now id }
+    ensures valid { IfOk result (λ q. IsValid q) }
+{
+    let Some(group) = tree.group(id) else {
+        return Err(Fault::Tree(TreeFault::NotFound));
+    };
+    if id == 0 {
+        return Err(Fault::Tree(TreeFault::RootFixed));
+    }
+    Ok(group.quota)
+}
+
+fn int_of_quota(quota: Quota) -> i64
+    requires { IsValid quota }
+    ensures { result ≡ int_of_quota quota }
+{
+    match quota {
+        Quota::Max => -1,
+        Quota::Micros(us) => us as i64,
+    }
+}
+
+/// The quota as a number, -1 for none.
+pub(crate) fn cfs_quota(tree: &Tree, id: GroupId) -> Result<i64, Fault>
+    ensures { result ≡ value_at (λ g. int_of_quota g.quota) tree.now id }
+{
+    let quota = quota(tree, id)?;
+    Ok(int_of_quota(quota))
+}
+
+/// The period, which is the host's.
+pub(crate) fn cfs_period(tree: &Tree, period_us: u64, id: GroupId) -> Result<u64, Fault>
+    ensures { result ≡ value_at (λ g. period_us) tree.now id }
+{
+    let _weight = shares(tree, id)?;
+    Ok(period_us)
+}

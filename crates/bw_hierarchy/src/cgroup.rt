@@ -1,0 +1,105 @@
+//! A group that was looked up, and its processor settings.
+ghost use Rattle.std.specs.Prelude.{◌≡◌, OnOk, OnErr, IfOk, IfErr, Ok, Err};
+ghost use Rattle.bw_hierarchy.specs.Calls.{set_shares_of, set_cfs_of, value_at, int_of_quota, found_at};
+ghost use Rattle.bw_hierarchy.specs.State.{with_tree, delete_of};
+
+use crate::fault::Fault;
+use crate::hierarchy::Hierarchy;
+use bw_tree::GroupId;
+
+/// A group of a hierarchy, by its id.
+#[derive(Debug, PartialEq, Eq, Drop)]
+pub struct Cgroup {
+    pub id: GroupId,
+}
+
+/// A group that was not removed, and why.
+#[derive(Debug, PartialEq, Eq, Drop)]
+pub struct KeptCgroup {
+    pub fault: Fault,
+    pub cgroup: Cgroup,
+}
+
+/// The processor settings of a group. The group may have been removed.
+#[derive(Clone, Copy, Debug, PartialEq, Eq)]
+pub struct CpuController {
+    pub id: GroupId,
+}
+
+impl Cgroup {
+    /// The group at a path.
+    pub fn load(hierarchy: &Hierarchy, path: &str) -> Result<Cgroup, Fault>
+        ensures found { IfOk result (λ g. found_at hierarchy.now.tree path.now ≡ Ok g.id) }
+        ensures refused { IfErr result (λ e. found_at hierarchy.now.tree path.now ≡ Err e) }
+    {
+        let id = hierarchy.find(path)?;
+        Ok(Cgroup { id })
+    }
+
+    pub fn cpu(&self) -> CpuController
+        ensures { result.id ≡ self.now.id }
+    {
+        CpuController { id: self.id }
+    }
+
+    /// Takes the group out. A refusal hands the group back.
+    pub fn delete(self, hierarchy: &mut Hierarchy) -> Result<(), KeptCgroup>
+        ensures removed { OnOk result (delete_of hierarchy.old self.id ≡ Ok hierarchy.new) }
+        ensures refused { IfErr result (λ k. delete_of hierarchy.old self.id ≡ Err k.fault) }
+        ensures kept { IfErr result (λ k. k.cgroup ≡ self) }
+        ensures err { OnErr result (hierarchy.new ≡ hierarchy.old) }
+    {
+        match hierarchy.delete(self.id) {
+            Ok(()) => Ok(()),
+            Err(fault) => Err(KeptCgroup {
+                fault,
+                cgroup: self,
+            }),
+        }
+    }
+}
+
+impl CpuController {
+    pub fn shares(&self, hierarchy: &Hierarchy) -> Result<u64, Fault>
+        ensures { result ≡ value_at (λ g. g.weight) hierarchy.now.tree self.now.id }
+    {
+        hierarchy.shares(self.id)
+    }
+
+    pub fn set_shares(&self, hierarchy: &mut Hierarchy, n: u64) -> Result<(), Fault>
+        ensures set { OnOk result (set_shares_of hierarchy.old.tree self.now.id n ≡ Ok hierarchy.new.tree) }
+        ensures rest { hierarchy.new ≡ with_tree hierarchy.old hierarchy.new.tree }
+        ensures refused { IfErr result (λ e. set_shares_of hierarchy.old.tree self.now.id n ≡ Err e) }
+        ensures err { OnErr result (hierarchy.new ≡ hierarchy.old) }
+    {
+        hierarchy.set_shares(self.id, n)
+    }
+
+    /// The quota in microseconds, -1 for no limit.
+    pub fn cfs_quota(&self, hierarchy: &Hierarchy) -> Result<i64, Fault>
+        ensures { result ≡ value_at (λ g. int_of_quota g.quota) hierarchy.now.tree self.now.id }
+    {
+        hierarchy.cfs_quota(self.id)
+    }
+
+    pub fn cfs_period(&self, hierarchy: &Hierarchy) -> Result<u64, Fault>
+        ensures { result ≡ value_at (λ g. hierarchy.now.shape.period_us) hierarchy.now.tree self.now.id }
+    {
+        hierarchy.cfs_period(self.id)
+    }
+
+    /// Sets the quota. A value that is left out stays.
+    pub fn set_cfs_quota_and_period(
+        &self,
+        hierarchy: &mut Hierarchy,
+        quota: Option<i64>,
+        period: Option<u64>,
+    ) -> Result<(), Fault>
+        ensures set { OnOk result (set_cfs_of hierarchy.old.tree hierarchy.old.shape.period_us self.now.id quota period ≡ Ok hierarchy.new.tree) }
+        ensures rest { hierarchy.new ≡ with_tree hierarchy.old hierarchy.new.tree }
+        ensures refused { IfErr result (λ e. set_cfs_of hierarchy.old.tree hierarchy.old.shape.period_us self.now.id quota period ≡ Err e) }
+        ensures err { OnErr result (hierarchy.new ≡ hierarchy.old) }
+    {
+        hierarchy.set_cfs(self.id, quota, period)
+    }
+}

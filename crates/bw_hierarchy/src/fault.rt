@@ -1,0 +1,81 @@
+//! Why a call is refused.
+ghost use Rattle.std.specs.Prelude.{◌≡◌};
+ghost use Rattle.bw_hierarchy.specs.Faults.{fault_number, fault_name};
+
+use bw_files::FileFault;
+use bw_tree::TreeFault;
+use std::alloc::AllocError;
+use thiserror::Error;
+
+/// Why a call is refused. A refused call changes nothing. Want of memory is the tree's `OutOfMemory`.
+#[derive(Clone, Copy, Debug, PartialEq, Eq, Error)]
+pub enum Fault {
+    #[error("{0}")]
+    Tree(TreeFault),
+    #[error("{0}")]
+    File(FileFault),
+    #[error("NoSuchFile")]
+    NoSuchFile,
+    #[error("PeriodDiffers")]
+    PeriodDiffers,
+}
+
+impl From<TreeFault> for Fault {
+    ghost use Rattle.std.specs.Prelude.{◌≡◌};
+    ghost use Rattle.bw_hierarchy.specs.declared.fault.Fault.TheVariants.{Tree};
+
+    ghost from_gives = { λ fault e. e ≡ Tree fault };
+
+    fn from(fault: TreeFault) -> Fault {
+        Fault::Tree(fault)
+    }
+}
+
+impl From<FileFault> for Fault {
+    ghost use Rattle.std.specs.Prelude.{◌≡◌};
+    ghost use Rattle.bw_hierarchy.specs.declared.fault.Fault.TheVariants.{File};
+
+    ghost from_gives = { λ fault e. e ≡ File fault };
+
+    fn from(fault: FileFault) -> Fault {
+        Fault::File(fault)
+    }
+}
+
+impl From<AllocError> for Fault {
+    ghost use Rattle.std.specs.Prelude.{◌≡◌};
+    ghost use Rattle.bw_tree.specs.declared.fault.TreeFault.TheVariants.{OutOfMemory};
+    ghost use Rattle.bw_hierarchy.specs.declared.fault.Fault.TheVariants.{Tree};
+
+    ghost from_gives = { λ _ e. e ≡ Tree OutOfMemory };
+
+    fn from(_: AllocError) -> Fault {
+        Fault::Tree(TreeFault::OutOfMemory)
+    }
+}
+
+impl Fault {
+    /// The number that is printed.
+    pub fn number(&self) -> u32
+        ensures { result ≡ fault_number self.now }
+    {
+        match self {
+            Fault::Tree(fault) => fault.number(),
+            Fault::File(fault) => u32::from(fault.number()),
+            Fault::NoSuchFile => 30,
+            Fault::PeriodDiffers => 32,
+        }
+    }
+
+    /// The name that is printed.
+    pub fn name(&self) -> &'static str
+        ensures { result.now ≡ fault_name self.now }
+    {
+        match self {
+            Fault::Tree(fault) => fault.name(),
+            Fault::File(fault) => fault.name(),
+            Fault::NoSuchFile => "NoSuchFile",
+            Fault::PeriodDiffers => "PeriodDiffers",
+        }
+    }
+}

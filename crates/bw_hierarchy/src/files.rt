@@ -1,0 +1,124 @@
+//! The files of a group.
+ghost use Rattle.std.specs.Prelude.{◌≡◌, OnOk, OnErr, IfOk, IfErr, Ok, Err, None, string_bytes};
+ghost use Rattle.bw_model.specs.Host.{IsHost};
+ghost use Rattle.bw_tree.specs.Groups.{group_at};
+ghost use Rattle.bw_tree.specs.Tree.{setting_refusal};
+ghost use Rattle.bw_hierarchy.specs.Faults.{IsRefusal};
+ghost use Rattle.bw_hierarchy.specs.Files.{text_of, read_of, period_of, weight_write, max_write, write_at, write_of};
+
+use crate::calls;
+use crate::fault::Fault;
+use bw_files::{read_max, read_weight, write_max, write_weight};
+use bw_model::HostShape;
+use bw_tree::{GroupId, Tree, TreeFault};
+use std::alloc::Global;
+
+// The text of a group's file.
+fn text(
+    alloc: Global,
+    shape: HostShape,
+    tree: &Tree,
+    id: GroupId,
+    file: &str,
+) -> Result<String, Fault>
+    ensures found { IfOk result (λ t. text_of shape.period_us id file.now (group_at tree.now.groups id) ≡ Ok (string_bytes t)) }
+    ensures refused { IfErr result (IsRefusal (text_of shape.period_us id file.now (group_at tree.now.groups id))) }
+{
+    let Some(group) = tree.group(id) else {
+        return Err(Fault::Tree(TreeFault::NotFound));
+    };
+    if id == 0 {
+        return Err(Fault::NoSuchFile);
+    }
+    if file == "cpu.weight" {
+        return Ok(write_weight(alloc, group.weight)?);
+    }
+    if file == "cpu.max" {
+        return Ok(write_max(alloc, group.quota, shape.period_us())?);
+    }
+    Err(Fault::NoSuchFile)
+}
+
+/// The text of the file at a path.
+pub(crate) fn read(
+    alloc: Global,
+    shape: HostShape,
+    tree: &Tree,
+    path: &str,
+    file: &str,
+) -> Result<String, Fault>
+    ensures found { IfOk result (λ t. read_of tree.now shape.period_us path.now file.now ≡ Ok (string_bytes t)) }
+    ensures refused { IfErr result (IsRefusal (read_of tree.now shape.period_us path.now file.now)) }
+{
+    let id = calls::find(tree, path)?;
+    text(alloc, shape, tree, id, file)
+}
+
+fn write_weight_at(tree: &mut Tree, id: GroupId, text: &[u8]) -> Result<(), Fault>
+    requires { setting_refusal tree.old id ≡ None }
+    ensures set { OnOk result (weight_write tree.old id text.now ≡ Ok tree.new) }
+    ensures refused { IfErr result (λ e. weight_write tree.old id text.now ≡ Err e) }
+    ensures err { OnErr result (tree.new ≡ tree.old) }
+{
+    let weight = read_weight(text)?;
+    Ok(tree.set_weight(id, weight)?)
+}
+
+fn period_of(period_us: u64, period: Option<u64>) -> u64
+    ensures { result ≡ period_of period_us period }
+{
+    period.unwrap_or(period_us)
+}
+
+fn write_max_at(tree: &mut Tree, period_us: u64, id: GroupId, text: &[u8]) -> Result<(), Fault>
+    requires { setting_refusal tree.old id ≡ None }
+    ensures set { OnOk result (max_write tree.old period_us id text.now ≡ Ok tree.new) }
+    ensures refused { IfErr result (λ e. max_write tree.old period_us id text.now ≡ Err e) }
+    ensures err { OnErr result (tree.new ≡ tree.old) }
+{
+    let wanted = read_max(text)?;
+    let _period = calls::same_period(period_us, period_of(period_us, wanted.period))?;
+    Ok(tree.set_limit(id, wanted.quota)?)
+}
+
+fn write_at(
+    tree: &mut Tree,
+    period_us: u64,
+    id: GroupId,
+    file: &str,
+    text: &[u8],
+) -> Result<(), Fault>
+    ensures set { OnOk result (write_at tree.old period_us id file.now text.now ≡ Ok tree.new) }
+    ensures refused { IfErr result (λ e. write_at tree.old period_us id file.now text.now ≡ Err e) }
+    ensures err { OnErr result (tree.new ≡ tree.old) }
+{
+    if tree.group(id).is_none() {
+        return Err(Fault::Tree(TreeFault::NotFound));
+    }
+    if id == 0 {
+        return Err(Fault::NoSuchFile);
+    }
+    if file == "cpu.weight" {
+        return write_weight_at(tree, id, text);
+    }
+    if file == "cpu.max" {
+        return write_max_at(tree, period_us, id, text);
+    }
+    Err(Fault::NoSuchFile)
+}
+
+/// Writes a text into the file at a path.
+pub(crate) fn write(
+    tree: &mut Tree,
+    period_us: u64,
+    path: &str,
+    file: &str,
+    text: &[u8],
+) -> Result<(), Fault>
+    ensures set { OnOk result (write_of tree.old period_us path.now file.now text.now ≡ Ok tree.new) }
+    ensures refused { IfErr result (λ e. write_of tree.old period_us path.now file.now text.now ≡ Err e) }
+    ensures err { OnErr result (tree.new ≡ tree.old) }
+{
+    let id = calls::find(tree, path)?;
+    write_at(tree, period_us, id, file, text)
+}

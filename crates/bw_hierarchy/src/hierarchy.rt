@@ -1,0 +1,205 @@
+//! The hierarchy of groups.
+ghost use Rattle.std.specs.Prelude.{◌≡◌, length, OnOk, OnErr, IfOk, IfErr, Ok, Err, string_bytes};
+ghost use Rattle.bw_tree.specs.Snapshot.{instance_of};
+ghost use Rattle.std.specs.Map.{keys_of};
+ghost use Rattle.bw_hierarchy.specs.Faults.{IsRefusal};
+ghost use Rattle.bw_hierarchy.specs.Calls.{mkdir_of, set_shares_of, set_cfs_of, value_at, int_of_quota, found_at};
+ghost use Rattle.bw_hierarchy.specs.Files.{read_of, write_of};
+ghost use Rattle.bw_hierarchy.specs.Builder.{built};
+ghost use Rattle.bw_hierarchy.specs.State.{with_tree, new_hierarchy, rmdir_of, delete_of, demand_set_of};
+
+use crate::builder::build_tree;
+use crate::cgroup::Cgroup;
+use crate::fault::Fault;
+use crate::{calls, files};
+use bw_model::{HostShape, Instance};
+use bw_tree::{GroupId, Tree, TreeFault};
+use std::alloc::Global;
+use std::marker::Model;
+
+/// A host and its tree of groups.
+#[derive(Debug, Drop)]
+pub struct Hierarchy {
+    alloc: Global,
+    shape: HostShape,
+    tree: Tree,
+}
+
+impl Model for Hierarchy {
+    ghost use Rattle.bw_hierarchy.specs.State.{HierarchyState};
+
+    ghost Value = { HierarchyState };
+
+    ghost view = { λ h. record { shape = h.shape; tree = h.tree } };
+}
+
+impl Hierarchy {
+    /// A hierarchy of the root alone. It fails for want of memory alone.
+    pub fn new(alloc: Global, shape: HostShape) -> Result<Hierarchy, Fault>
+        ensures made { IfOk result (λ h. h ≡ new_hierarchy shape) }
+        ensures err { IfErr result (λ e. e ≡ Fault.Tree TreeFault.OutOfMemory) }
+    {
+        let tree = Tree::with_next_id(alloc, 1)?;
+        Ok(Hierarchy { alloc, shape, tree })
+    }
+
+    /// The host.
+    pub fn shape(&self) -> HostShape
+        ensures { result ≡ self.now.shape }
+    {
+        self.shape
+    }
+
+    /// The tree of groups.
+    pub fn tree(&self) -> &Tree
+        ensures { result.now ≡ self.now.tree }
+    {
+        &self.tree
+    }
+
+    /// The root, whose settings are fixed.
+    pub fn root_control_group(&self) -> Cgroup
+        ensures { result.id ≡ 0 }
+    {
+        Cgroup { id: 0 }
+    }
+
+    /// The rows of all groups in order of creation, and their ids. It fails for want of memory alone.
+    pub fn snapshot(&self) -> Result<(Instance, Vec<GroupId>), Fault>
+        ensures rows { IfOk result (λ s. s.0 ≡ instance_of self.now.tree self.now.shape) }
+        ensures ids { IfOk result (λ s. s.1.items ≡ keys_of self.now.tree.groups) }
+        ensures err { IfErr result (λ e. e ≡ Fault.Tree TreeFault.OutOfMemory) }
+    {
+        Ok(self.tree.snapshot(self.shape)?)
+    }
+
+    /// Makes a group. The path splits at its last `/`; where it has none, the parent is the root.
+    pub fn mkdir(&mut self, path: &str) -> Result<GroupId, Fault>
+        ensures made { IfOk result (λ id. mkdir_of self.old.tree path.now ≡ Ok (id, self.new.tree)) }
+        ensures rest { self.new ≡ with_tree self.old self.new.tree }
+        ensures refused { IfErr result (IsRefusal (mkdir_of self.old.tree path.now)) }
+        ensures err { OnErr result (self.new ≡ self.old) }
+    {
+        calls::mkdir(&mut self.tree, path)
+    }
+
+    /// Takes a group out.
+    pub fn rmdir(&mut self, path: &str) -> Result<(), Fault>
+        ensures removed { OnOk result (rmdir_of self.old path.now ≡ Ok self.new) }
+        ensures refused { IfErr result (λ e. rmdir_of self.old path.now ≡ Err e) }
+        ensures err { OnErr result (self.new ≡ self.old) }
+    {
+        let id = calls::find(&self.tree, path)?;
+        self.delete(id)
+    }
+
+    pub(crate) fn delete(&mut self, id: GroupId) -> Result<(), Fault>
+        ensures removed { OnOk result (delete_of self.old id ≡ Ok self.new) }
+        ensures refused { IfErr result (λ e. delete_of self.old id ≡ Err e) }
+        ensures err { OnErr result (self.new ≡ self.old) }
+    {
+        Ok(self.tree.rmdir(id)?)
+    }
+
+    /// Sets a group's demand in slices.
+    pub fn set_demand(&mut self, path: &str, demand: u64) -> Result<(), Fault>
+        ensures set { OnOk result (demand_set_of self.old path.now demand ≡ Ok self.new) }
+        ensures refused { IfErr result (λ e. demand_set_of self.old path.now demand ≡ Err e) }
+        ensures err { OnErr result (self.new ≡ self.old) }
+    {
+        let id = calls::find(&self.tree, path)?;
+        Ok(self.tree.set_demand(id, demand)?)
+    }
+
+    /// The text of a group's file.
+    pub fn read_file(&self, path: &str, file: &str) -> Result<String, Fault>
+        ensures found { IfOk result (λ t. read_of self.now.tree self.now.shape.period_us path.now file.now ≡ Ok (string_bytes t)) }
+        ensures refused { IfErr result (IsRefusal (read_of self.now.tree self.now.shape.period_us path.now file.now)) }
+    {
+        files::read(self.alloc, self.shape, &self.tree, path, file)
+    }
+
+    /// Writes a text into a group's file, which changes the one value that the file names.
+    pub fn write_file(&mut self, path: &str, file: &str, text: &[u8]) -> Result<(), Fault>
+        ensures set { OnOk result (write_of self.old.tree self.old.shape.period_us path.now file.now text.now ≡ Ok self.new.tree) }
+        ensures rest { self.new ≡ with_tree self.old self.new.tree }
+        ensures refused { IfErr result (λ e. write_of self.old.tree self.old.shape.period_us path.now file.now text.now ≡ Err e) }
+        ensures err { OnErr result (self.new ≡ self.old) }
+    {
+        files::write(&mut self.tree, self.shape.period_us(), path, file, text)
+    }
+
+    pub(crate) fn find(&self, path: &str) -> Result<GroupId, Fault>
+        ensures { result ≡ found_at self.now.tree path.now }
+    {
+        calls::find(&self.tree, path)
+    }
+
+    pub(crate) fn shares(&self, id: GroupId) -> Result<u64, Fault>
+        ensures { result ≡ value_at (λ g. g.weight) self.now.tree id }
+    {
+        calls::shares(&self.tree, id)
+    }
+
+    pub(crate) fn cfs_quota(&self, id: GroupId) -> Result<i64, Fault>
+        ensures { result ≡ value_at (λ g. int_of_quota g.quota) self.now.tree id }
+    {
+        calls::cfs_quota(&self.tree, id)
+    }
+
+    pub(crate) fn cfs_period(&self, id: GroupId) -> Result<u64, Fault>
+        ensures { result ≡ value_at (λ g. self.now.shape.period_us) self.now.tree id }
+    {
+        calls::cfs_period(&self.tree, self.shape.period_us(), id)
+    }
+
+    pub(crate) fn set_shares(&mut self, id: GroupId, n: u64) -> Result<(), Fault>
+        ensures set { OnOk result (set_shares_of self.old.tree id n ≡ Ok self.new.tree) }
+        ensures rest { self.new ≡ with_tree self.old self.new.tree }
+        ensures refused { IfErr result (λ e. set_shares_of self.old.tree id n ≡ Err e) }
+        ensures err { OnErr result (self.new ≡ self.old) }
+    {
+        calls::set_shares(&mut self.tree, id, n)
+    }
+
+    pub(crate) fn set_cfs(
+        &mut self,
+        id: GroupId,
+        quota: Option<i64>,
+        period: Option<u64>,
+    ) -> Result<(), Fault>
+        ensures set { OnOk result (set_cfs_of self.old.tree self.old.shape.period_us id quota period ≡ Ok self.new.tree) }
+        ensures rest { self.new ≡ with_tree self.old self.new.tree }
+        ensures refused { IfErr result (λ e. set_cfs_of self.old.tree self.old.shape.period_us id quota period ≡ Err e) }
+        ensures err { OnErr result (self.new ≡ self.old) }
+    {
+        calls::set_cfs(&mut self.tree, self.shape.period_us(), id, quota, period)
+    }
+
+    // All that a builder does, or nothing.
+    pub(crate) fn build(
+        &mut self,
+        path: &str,
+        shares: Option<u64>,
+        quota: Option<i64>,
+        period: Option<u64>,
+    ) -> Result<GroupId, Fault>
+        ensures made { IfOk result (λ id. built self.old.tree self.old.shape.period_us path.now shares quota period ≡ Ok (id, self.new.tree)) }
+        ensures rest { self.new ≡ with_tree self.old self.new.tree }
+        ensures refused { IfErr result (IsRefusal (built self.old.tree self.old.shape.period_us path.now shares quota period)) }
+        ensures err { OnErr result (self.new ≡ self.old) }
+    {
+        let mut tree = self.tree.copy()?;
+        let id = build_tree(
+            &mut tree,
+            self.alloc,
+            self.shape.period_us(),
+            path,
+            shares,
+            quota,
+            period,
+        )?;
+        self.tree = tree;
+        Ok(id)
+    }
+}

@@ -1,0 +1,16 @@
+//! Groups by their paths, their files, and the calls of the controller and the builder.
+#![tactic(auto)]
+
+mod builder;
+mod calls;
+mod cgroup;
+mod fault;
+mod files;
+mod hierarchy;
+mod laws;
+
+pub use builder::{CgroupBuilder, CpuResources};
+pub use cgroup::{Cgroup, CpuController, KeptCgroup};
+pub use fault::Fault;
+pub use hierarchy::Hierarchy;
+pub use laws::write_changes_one_value;
