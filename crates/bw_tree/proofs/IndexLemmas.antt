@@ -258,9 +258,10 @@ tree_named t ok = all t.groups ok.rising (λ id g at. at)
   where
     all : (es : List (ℕ × GroupFields)) → AreRising es → ((id : ℕ) (g : GroupFields) → group_at es id ≡ Some g → group_at t.groups id ≡ Some g) → AreNamed t.groups es
     all [] up found = tt
-    all (e ∷ es) up found =
-        (λ p is. ok.named e.0 p e.1 (found e.0 e.1 (ap (λ b. cond b (Some e.1) (group_at es e.0)) (eq-eqb e.0 e.0 refl))) is,
-        all es up.1 (λ id g at. found id g (at_more e es id g up.0 at)))
+    all (e ∷ es) up found = (
+      λ p is. ok.named e.0 p e.1 (found e.0 e.1 (ap (λ b. cond b (Some e.1) (group_at es e.0)) (eq-eqb e.0 e.0 refl))) is,
+      all es up.1 (λ id g at. found id g (at_more e es id g up.0 at)),
+    )
 
 -- a clone of the groups is the groups
 pub same_entries : (xs ys : List (ℕ × GroupFields)) → AllZip (λ x y. (y.0 ≡ x.0) × (y.1 ≡ x.1)) xs ys → ys ≡ xs

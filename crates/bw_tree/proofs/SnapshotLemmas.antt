@@ -10,16 +10,18 @@ use Rattle.std.specs.Map.{keys_of, values_of}
 use Rattle.bw_model.specs.declared.row.Row.{Row}
 use Rattle.bw_model.specs.Quota.{slices_of}
 use Rattle.bw_model.specs.declared.limits.TheConstants.{MAX_GROUPS, MIN_WEIGHT, MAX_WEIGHT, MAX_DEMAND, MAX_DEPTH, MAX_PATH}
-use Rattle.bw_model.specs.Groups.{no_row, depth_of, IsTree as IsTreeOfRows, parent_of as parent_row}
+use Rattle.bw_model.specs.Groups.{no_row, IsInstance, depth_of, IsTree as IsTreeOfRows, parent_of as parent_row}
 use Rattle.bw_model.specs.Refusal.{is_earlier, are_earlier, depths_of, is_root_limited, refusal, demand_above, IsRefused}
-use Rattle.bw_model.proofs.Instances.{earlier-IsTree}
+use Rattle.bw_model.proofs.Instances.{earlier-IsTree, refused_none-IsInstance}
+use Rattle.bw_model.specs.Host.{Shape, IsHost}
 use Rattle.bw_model.proofs.Paths.{depth_of-top, depth_of-step, parent_at}
 use Rattle.std.proofs.lemmas.List.FromFn.{get_or-map-range_with_len, length-map-range_with_len}
 use Rattle.bw_model.specs.declared.quota.Quota.TheVariants.{Max}
 use Rattle.bw_model.specs.declared.instance_fault.InstanceFault.{InstanceFault}
 use Rattle.bw_model.specs.declared.instance_fault.InstanceFault.TheVariants.{TooMany, BadParent, BadWeight, TooDeep, InnerDemand, DemandTooLarge, RootLimited, OutOfMemory}
 use Rattle.bw_tree.specs.Groups.{GroupFields, TreeState, group_at, has_group, has_children, demand_at, demand_of, above, parent_of, IsTree, AllAfter, AreRising}
-use Rattle.bw_tree.specs.Snapshot.{place_of, row_of, rows_of}
+use Rattle.bw_tree.specs.Snapshot.{place_of, row_of, rows_of, instance_of}
+use Rattle.bw_tree.specs.Tree.{root_group}
 use Rattle.bw_tree.proofs.GroupLemmas.{above_more, above_here, some_of}
 use Rattle.bw_tree.proofs.RemoveLemmas.{children_found}
 
@@ -257,3 +259,8 @@ only_memory o InnerDemand none h = cc
 only_memory o DemandTooLarge none h = cc
 only_memory o RootLimited none h = cc
 only_memory o OutOfMemory none h = refl
+
+-- a snapshot is an instance
+pub snapshot_IsInstance : (t : TreeState) → IsTree t → (shape : Shape) → IsHost shape → IsInstance (instance_of t shape)
+snapshot_IsInstance t ok shape host =
+    refused_none-IsInstance (instance_of t shape) host (rows_valid t ok shape.slice_us (0, root_group) (row_of t.groups shape.slice_us root_group))

@@ -1,5 +1,5 @@
 -- The way from the root down to a group: the names on it find the group, and no other names do.
-use Rattle.std.proofs.Common.{◌≡◌, ◌⊎◌, inl, inr, ℕ, suc, zero, ◌+◌, ◌<◌, ◌≤◌, Bool, true, false, cond, ◌&&◌, not, List, [], ◌∷◌, ◌++◌, length, Option, Some, None, is_some, refl, sym, ap, subst, ◌∙◌, arith, eqb, append_assoc, count_by}
+use Rattle.std.proofs.Common.{◌≡◌, ◌≢◌, ◌⊎◌, inl, inr, ℕ, suc, zero, ◌+◌, ◌<◌, ◌≤◌, Bool, true, false, cond, ◌&&◌, not, List, [], ◌∷◌, ◌++◌, length, Option, Some, None, is_some, refl, sym, ap, subst, ◌∙◌, arith, eqb, append_assoc, count_by}
 use Rattle.std.specs.Prelude.{◌↔◌, codes}
 use Rattle.std.specs.List.{list_all, All, slice_split, join_with_byte}
 use Rattle.std.specs.Str.{bytes_eq}
@@ -164,6 +164,19 @@ module _ (t : TreeState) (ok : IsTree t) where
           let leads : Some 0 ≡ Some id = ap (walk t.groups 0) (sym is) ∙ names_lead (suc id) id (omega arith) there in
           let wrong : true ≡ false = sym (eq-eqb id 0 (sym (inside leads))) ∙ low in
           absurd (cc)
+
+  -- the names down to a child, joined
+  pub joined_below : (id p : ℕ) (g : GroupFields) → group_at t.groups id ≡ Some g → g.parent ≡ Some p → p ≢ 0 → join_with_byte 47 (names_to t.groups id) ≡ join_with_byte 47 (names_to t.groups p) ++ (47 ∷ g.name)
+  joined_below id p g at up low =
+      let some = some_names p (ok.parents id p g at up).1 (ne_eqb p 0 low) in
+      ap (join_with_byte 47) (names_step id p g at up ∙ ap (λ names. names ++ g.name ∷ []) some.2) ∙ join_push some.0 some.1 g.name
+      ∙ ap (λ names. join_with_byte 47 names ++ (47 ∷ g.name)) (sym some.2)
+
+  pub joined_first : (id p : ℕ) (g : GroupFields) → group_at t.groups id ≡ Some g → g.parent ≡ Some p → p ≡ 0 → join_with_byte 47 (names_to t.groups id) ≡ g.name
+  joined_first id p g at up top = ap (join_with_byte 47) (names_step id p g at up ∙ ap (λ names. names ++ g.name ∷ []) (names_top p p top))
+
+  pub joined_none : (id : ℕ) (g : GroupFields) → group_at t.groups id ≡ Some g → g.parent ≡ None → join_with_byte 47 (names_to t.groups id) ≡ []
+  joined_none id g at up = ap (join_with_byte 47) (names_top id id (ok.one_root id g at up))
 
   -- the path of a group finds it
   pub path_leads : (path : List ℕ) (id : ℕ) → path_at t.groups id ≡ Some path → find_path t.groups path ≡ Some id

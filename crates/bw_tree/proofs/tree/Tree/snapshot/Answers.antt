@@ -1,9 +1,10 @@
-use Rattle.std.proofs.Common.{◌≡◌, sym, ap, ◌∙◌}
+use Rattle.std.proofs.Common.{◌≡◌, sym, ap, subst, ◌∙◌}
 use Rattle.bw_model.specs.Refusal.{refusal}
 use Rattle.bw_tree.specs.Groups.{TreeState}
 use Rattle.bw_tree.specs.Tree.{root_group}
-use Rattle.bw_tree.specs.Snapshot.{rows_of, row_of}
-use Rattle.bw_tree.proofs.SnapshotLemmas.{rows_valid, only_memory}
+use Rattle.bw_tree.specs.Snapshot.{rows_of, row_of, instance_of}
+use Rattle.bw_model.specs.Groups.{IsInstance}
+use Rattle.bw_tree.proofs.SnapshotLemmas.{rows_valid, only_memory, snapshot_IsInstance}
 use Rattle.bw_tree.proofs.tree.Tree.snapshot.Goals as goal
 
 pub memory_fault-requires : goal.memory_fault-requires
@@ -13,3 +14,12 @@ memory_fault-requires c =
     let valid = rows_valid t c.self.invariant.tree slice_us (0, root_group) (row_of t.groups slice_us root_group) in
     let same : rows_of t.groups slice_us ≡ c.in_ok-rows.rows.items = ap (λ (s : TreeState). rows_of s.groups slice_us) c.self.view_is ∙ sym c.in_ok-rows.ensures in
     only_memory (refusal c.in_ok-rows.rows.items) c.in-Err.fault (sym (ap refusal same) ∙ valid) c.in-Err.ensures.err
+
+pub returns-in_err-rows-clause-valid : goal.returns-in_err-rows-clause-valid
+returns-in_err-rows-clause-valid c = subst (λ t. IsInstance (instance_of t c.args.shape)) c.self.view_is (snapshot_IsInstance _ c.self.invariant.tree c.args.shape c.slice_us.ensures.valid)
+
+pub returns-in_err-ids-clause-valid : goal.returns-in_err-ids-clause-valid
+returns-in_err-ids-clause-valid c = subst (λ t. IsInstance (instance_of t c.args.shape)) c.self.view_is (snapshot_IsInstance _ c.self.invariant.tree c.args.shape c.slice_us.ensures.valid)
+
+pub returns-in-Err-clause-valid : goal.returns-in-Err-clause-valid
+returns-in-Err-clause-valid c = subst (λ t. IsInstance (instance_of t c.args.shape)) c.self.view_is (snapshot_IsInstance _ c.self.invariant.tree c.args.shape c.slice_us.ensures.valid)
