@@ -1,14 +1,13 @@
 -- What the order of marks says of prices, and why amounts leave room for marks.
-use Rattle.std.proofs.Common.{◌≡◌, ℕ, zero, suc, ◌*◌, ◌/◌, ◌<◌, ◌≤◌, ◌⊎◌, ◌↔◌, List, true, false, length, get_or, refl, ap, sym, ◌∙◌, arith, inl, inr}
+use Rattle.std.proofs.Common.{◌≡◌, ℕ, zero, suc, ◌*◌, ◌<◌, ◌≤◌, ◌⊎◌, ◌↔◌, List, true, false, length, get_or, refl, ap, sym, ◌∙◌, arith, inl, inr}
 use Rattle.std.specs.Ordering.{nat_cmp, is_lt, is_le}
-use Rattle.std.specs.declared.cmp.Ordering.{Ordering}
 use Rattle.std.specs.declared.cmp.Ordering.TheVariants.{Less, Equal, Greater}
 use Rattle.std.proofs.lemmas.Bool.{cases_Bool, cases_lt, cases_order, lt-ltb, le-ltb, eq-eqb, ne_eqb}
 use Rattle.std.proofs.lemmas.List.{get_or_past}
 use Rattle.std.proofs.Math.Nat.{div-le_of_le-mul, mul-le-mul_left}
 use Rattle.bw_model.specs.declared.limits.TheConstants.{MAX_CAPACITY, MAX_PER_PROCESSOR, MIN_SLICE_US}
 use Rattle.bw_model.specs.declared.mark.Mark.{Mark}
-use Rattle.bw_model.specs.Groups.{Groups, IsInstance, parent_of, is_leaf}
+use Rattle.bw_model.specs.Groups.{Groups, IsInstance, is_leaf}
 use Rattle.bw_model.specs.Host.{Shape, IsHost, slices_per_processor, capacity_of}
 use Rattle.bw_model.specs.MarkOrder.{mark_cmp}
 use Rattle.bw_model.specs.Marks.{price_of, IsBelow, IsAtMost}
