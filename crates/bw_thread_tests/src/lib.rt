@@ -1,0 +1,7 @@
+//! Tests of what runs in threads.
+#![tactic(auto)]
+
+#[cfg(test)]
+mod counter;
+#[cfg(test)]
+mod lock_cases;
