@@ -104,4 +104,3 @@ module _ (s : Shape) (names : Names) (f : RefusesWords s) where
       shorts : (o : Option Text) → short_of word ≡ o → X
       shorts None e = strays X h (sym (ap (λ (q : Held × Step). step_fault s 1 q.0 q.1) (met_other idle h word dash is e)) ∙ parts.1)
       shorts (Some flags) e = chars_of flags (slice_get (chars flags) 0) e refl
-

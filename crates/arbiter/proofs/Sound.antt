@@ -167,11 +167,10 @@ module _ (s : Shape) (r : Reads s) (f : Refuses s) where
       sym (ap (λ a. option_map_or (λ x. use_fault s.args_override_self x (word ∷ []) after.rows) a []) found.2 ∙ ap (use_fault s.args_override_self (setting_rule name found.0) (word ∷ [])) at.rows) ∙ q.0 in
       let may = use_needs s.args_override_self name word found.0 g r.once fine in
       let number = (both (not (is_given name g)) (is_number word) may).1 in
-      let e = q.1 (valued s r after g name word found.0 at.rows found.2 at.numbers may) in
-      (
+      let e = q.1 (valued s r after g name word found.0 at.rows found.2 at.numbers may) in (
         e.0,
         ap (λ b. cond (not b && may_give g name word) (uses_after (g ++ (name, word) ∷ []) None rest) None) (bare number)
-        ∙ ap (λ b. cond b (uses_after (g ++ (name, word) ∷ []) None rest) None) may ∙ e.1,
+            ∙ ap (λ b. cond b (uses_after (g ++ (name, word) ∷ []) None rest) None) may ∙ e.1,
       )
 
   -- a word after an option that waits
@@ -250,23 +249,21 @@ module _ (s : Shape) (r : Reads s) (f : Refuses s) where
     idle_long n None true is e =
         let found = r.long n e in
         let p = split s [] f.words (state None h) _ word rest (turned s None h _ word _ _ (name_met s h word n found.0 dash is found.1) refl) passes settles in
-        let settled_now = (or_none _ [] (sym (name_turn s h word n found.0 dash is found.1) ∙ idle_turn)).0 in
-        (
+        let settled_now = (or_none _ [] (sym (name_turn s h word n found.0 dash is found.1) ∙ idle_turn)).0 in (
           settled_now,
           λ at.
-          let q = more (Some n) (record (settled s.rules h) { pending = Some (n, []) }) g skip p.1 p.2 (record { pending = refl; rows = at.rows; setting = e; numbers = at.numbers }) in
-          (q.0, named_by (Some (n, None)) is ∙ ap (λ b. cond b (uses_after g (Some n) rest) None) e ∙ q.1),
+              let q = more (Some n) (record (settled s.rules h) { pending = Some (n, []) }) g skip p.1 p.2 (record { pending = refl; rows = at.rows; setting = e; numbers = at.numbers }) in
+              (q.0, named_by (Some (n, None)) is ∙ ap (λ b. cond b (uses_after g (Some n) rest) None) e ∙ q.1),
         )
     idle_long n (Some v) true is e =
         let found = r.long n e in
         let p = split s [] f.words (state None h) _ word rest (turned s None h _ word _ _ (pair_met s h word n v found.0 dash is found.1) refl) passes settles in
-        let both_now = or_none (settle_fault s.rules s.args_override_self h) _ (or_none _ [] (sym (pair_turn s h word n v found.0 dash is found.1) ∙ idle_turn)).0 in
-        (
+        let both_now = or_none (settle_fault s.rules s.args_override_self h) _ (or_none _ [] (sym (pair_turn s h word n v found.0 dash is found.1) ∙ idle_turn)).0 in (
           both_now.0,
           λ at.
-          let may = use_needs s.args_override_self n v found.0 g r.once (sym (ap (use_fault s.args_override_self (setting_rule n found.0) (v ∷ [])) at.rows) ∙ both_now.1) in
-          let q = (more None (reacted s.rules (setting_rule n found.0) (v ∷ []) h) (g ++ (n, v) ∷ []) skip p.1 p.2).1 (paired s r h g n v found.0 at may).1 in
-          (q.0, named_by (Some (n, Some v)) is ∙ ap₂ (λ x y. cond (x && y) (uses_after (g ++ (n, v) ∷ []) None rest) None) e may ∙ q.1),
+              let may = use_needs s.args_override_self n v found.0 g r.once (sym (ap (use_fault s.args_override_self (setting_rule n found.0) (v ∷ [])) at.rows) ∙ both_now.1) in
+              let q = (more None (reacted s.rules (setting_rule n found.0) (v ∷ []) h) (g ++ (n, v) ∷ []) skip p.1 p.2).1 (paired s r h g n v found.0 at may).1 in
+              (q.0, named_by (Some (n, Some v)) is ∙ ap₂ (λ x y. cond (x && y) (uses_after (g ++ (n, v) ∷ []) None rest) None) e may ∙ q.1),
         )
 
     idle_word : (parts : Option (List ℕ × Option (List ℕ))) → long_of word ≡ parts → Idles h g (word ∷ rest)

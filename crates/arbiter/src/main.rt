@@ -29,8 +29,8 @@ fn run_script(rt: &HostRuntime, shape: HostShape) -> Result<(), RunFault> {
 }
 
 // The end of a run or of another job that writes, with its fault on standard error.
-fn ended(rt: &HostRuntime, result: Result<(), RunFault>, status: u8) -> ExitCode {
-    match result {
+fn ended(rt: &HostRuntime, outcome: Result<(), RunFault>, status: u8) -> ExitCode {
+    match outcome {
         Ok(()) => ExitCode::from(status),
         Err(fault) => {
             let _ = eprintln!(rt; "arbiter: {fault}");
@@ -86,11 +86,13 @@ fn main(rt: HostRuntime) -> ExitCode {
     };
     match read_words(rt.alloc(), words.as_slice()) {
         Ok(Job::Check) => check_job(&rt),
-        Ok(Job::Run {
-            processors,
-            period_us,
-            slice_us,
-        }) => run_job(&rt, processors, period_us, slice_us),
+        Ok(
+            Job::Run {
+                processors,
+                period_us,
+                slice_us,
+            },
+        ) => run_job(&rt, processors, period_us, slice_us),
         Err(fault) => no_job(&rt, fault),
     }
 }

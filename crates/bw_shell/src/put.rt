@@ -31,7 +31,10 @@ fn put_small(answer: &mut Vec<u8>, number: u32)
     if number < 10 {
         put(answer, &[b'0' + number as u8]);
     } else {
-        put(answer, &[b'0' + (number / 10) as u8, b'0' + (number % 10) as u8]);
+        put(
+            answer,
+            &[b'0' + (number / 10) as u8, b'0' + (number % 10) as u8],
+        );
     }
 }
 

@@ -119,7 +119,11 @@ impl Session {
     }
 
     // Takes bytes of the script.
-    fn take_bytes<W: Write>(&mut self, piece: &[u8], writer: &mut Watched<W>) -> Result<(), RunFault>
+    fn take_bytes<W: Write>(
+        &mut self,
+        piece: &[u8],
+        writer: &mut Watched<W>,
+    ) -> Result<(), RunFault>
         requires { IsQuiet writer.old }
         ensures ok { OnOk result ((text : List ℕ) × TakesBytes (scan_of self.old) piece.now text (scan_of self.new)
             × Appends (W.contents (inner_of writer.old)) (W.contents (inner_of writer.new)) text) }

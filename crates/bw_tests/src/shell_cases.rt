@@ -81,8 +81,7 @@ fn written(rt: &HostRuntime, script: &[u8]) -> Result<Vec<u8>, Fail> {
     let mut out = Vec::new(rt.alloc());
     let mut reader = Watched::new(script);
     let mut writer = Watched::new(&mut out);
-    let result = run(rt, &mut reader, &mut writer, host()?);
-    assert_eq!(rt; status_of_run(&result), 0);
+    run(rt, &mut reader, &mut writer, host()?)?;
     Ok(out)
 }
 
@@ -96,31 +95,69 @@ fn whole_lines(text: &[u8]) -> &[u8] {
 
 #[test]
 fn scripts_have_these_answers(rt: HostRuntime) -> Result<(), Fail> {
-    let ones = "1111111111111111111111111111111111111111111111111111111111111111111111111111111111111111111111111111";
+    let ones =
+        "1111111111111111111111111111111111111111111111111111111111111111111111111111111111111111111111111111";
     let large = format!(in rt.alloc(); "mkdir a\ndemand a {ones}\n")?;
     for (script, answers) in [
         (SCRIPT, ANSWERS),
         ("", ""),
         ("total\n", "total 0\ndemand 0\n"),
-        ("mkdir a\ndemand a 20\ntotal\n", "ok\nok\ntotal 20\ndemand 20\n"),
+        (
+            "mkdir a\ndemand a 20\ntotal\n",
+            "ok\nok\ntotal 20\ndemand 20\n",
+        ),
         ("\n \t\n# note\n#\n  #mkdir a\n", ""),
         ("mkdir a", "ok\n"),
         ("mkdir a\nmkdir a\n", "ok\nerror 21 Exists\n"),
-        ("mkdir a\nmkdir a/.\nmkdir .\nmkdir ./..\n", "ok\nerror 22 BadName\nerror 22 BadName\nerror 22 BadName\n"),
-        ("mkdir z/a\nmkdir /a\nmkdir /\n", "error 20 NotFound\nerror 20 NotFound\nerror 20 NotFound\n"),
-        ("mkdir ./a\ndemand ./a 1\nmkdir ./a\nmkdir a/\nmkdir a//b\n", "ok\nerror 20 NotFound\nerror 21 Exists\nerror 22 BadName\nerror 20 NotFound\n"),
-        ("mkdir a\ndemand a 1\nmkdir a/b\n", "ok\nok\nerror 25 ParentHasDemand\n"),
-        ("mkdir a\nmkdir a/b\ndemand a 1\ndemand a 1000001\ndemand a 0\n", "ok\nok\nerror 8 InnerDemand\nerror 9 DemandTooLarge\nok\n"),
-        ("frob\nread . cpu.stat\nmkdir\nmkdir a b\ntotal 1\ndemand a\ndemand a 1 2\n",
-         "error 80 BadCommand\nerror 80 BadCommand\nerror 80 BadCommand\nerror 80 BadCommand\nerror 80 BadCommand\nerror 80 BadCommand\nerror 80 BadCommand\n"),
-        ("mkdir a\ndemand a 007\ndemand zz 007\ndemand a x\ndemand a +1\n", "ok\nerror 11 BadNumber\nerror 11 BadNumber\nerror 11 BadNumber\nerror 11 BadNumber\n"),
-        ("mkdir a\ndemand a 1000001\ndemand a 18446744073709551616\ndemand zz 1000001\ndemand . 1\ndemand . 1000001\n",
-         "ok\nerror 9 DemandTooLarge\nerror 9 DemandTooLarge\nerror 20 NotFound\nerror 26 RootFixed\nerror 26 RootFixed\n"),
+        (
+            "mkdir a\nmkdir a/.\nmkdir .\nmkdir ./..\n",
+            "ok\nerror 22 BadName\nerror 22 BadName\nerror 22 BadName\n",
+        ),
+        (
+            "mkdir z/a\nmkdir /a\nmkdir /\n",
+            "error 20 NotFound\nerror 20 NotFound\nerror 20 NotFound\n",
+        ),
+        (
+            "mkdir ./a\ndemand ./a 1\nmkdir ./a\nmkdir a/\nmkdir a//b\n",
+            "ok\nerror 20 NotFound\nerror 21 Exists\nerror 22 BadName\nerror 20 NotFound\n",
+        ),
+        (
+            "mkdir a\ndemand a 1\nmkdir a/b\n",
+            "ok\nok\nerror 25 ParentHasDemand\n",
+        ),
+        (
+            "mkdir a\nmkdir a/b\ndemand a 1\ndemand a 1000001\ndemand a 0\n",
+            "ok\nok\nerror 8 InnerDemand\nerror 9 DemandTooLarge\nok\n",
+        ),
+        (
+            "frob\nread . cpu.stat\nmkdir\nmkdir a b\ntotal 1\ndemand a\ndemand a 1 2\n",
+            "error 80 BadCommand\nerror 80 BadCommand\nerror 80 BadCommand\nerror 80 BadCommand\nerror 80 BadCommand\nerror 80 BadCommand\nerror 80 BadCommand\n",
+        ),
+        (
+            "mkdir a\ndemand a 007\ndemand zz 007\ndemand a x\ndemand a +1\n",
+            "ok\nerror 11 BadNumber\nerror 11 BadNumber\nerror 11 BadNumber\nerror 11 BadNumber\n",
+        ),
+        (
+            "mkdir a\ndemand a 1000001\ndemand a 18446744073709551616\ndemand zz 1000001\ndemand . 1\ndemand . 1000001\n",
+            "ok\nerror 9 DemandTooLarge\nerror 9 DemandTooLarge\nerror 20 NotFound\nerror 26 RootFixed\nerror 26 RootFixed\n",
+        ),
         (large.as_str(), "ok\nerror 9 DemandTooLarge\n"),
-        ("mkdir\ta \n\t demand  a\t7\ntotal\t", "ok\nok\ntotal 7\ndemand 7\n"),
-        ("total\r\nmkdir a\r\nmkdir a\n", "error 80 BadCommand\nok\nok\n"),
-        ("mkdir a\0b\ntotal\0\n", "error 22 BadName\nerror 80 BadCommand\n"),
-        ("mkdir \u{e9}\nmkdir \u{e9}/b\ndemand \u{e9}/b 1000000\ntotal\n", "ok\nok\nok\ntotal 20\nlimit 20 .\ndemand 0\n"),
+        (
+            "mkdir\ta \n\t demand  a\t7\ntotal\t",
+            "ok\nok\ntotal 7\ndemand 7\n",
+        ),
+        (
+            "total\r\nmkdir a\r\nmkdir a\n",
+            "error 80 BadCommand\nok\nok\n",
+        ),
+        (
+            "mkdir a\0b\ntotal\0\n",
+            "error 22 BadName\nerror 80 BadCommand\n",
+        ),
+        (
+            "mkdir \u{e9}\nmkdir \u{e9}/b\ndemand \u{e9}/b 1000000\ntotal\n",
+            "ok\nok\nok\ntotal 20\nlimit 20 .\ndemand 0\n",
+        ),
     ] {
         let out = written(&rt, script.as_bytes())?;
         assert_eq!(rt; out.as_slice(), answers.as_bytes(), "at {script:?}");
@@ -131,7 +168,10 @@ fn scripts_have_these_answers(rt: HostRuntime) -> Result<(), Fail> {
 #[test]
 fn bad_text_and_long_lines(rt: HostRuntime) -> Result<(), Fail> {
     let out = written(&rt, b"mkdir \xff\n# \xff\ntotal\n")?;
-    assert_eq!(rt; out.as_slice(), b"error 81 BadText\nerror 81 BadText\ntotal 0\ndemand 0\n".as_slice());
+    assert_eq!(rt;
+        out.as_slice(),
+        b"error 81 BadText\nerror 81 BadText\ntotal 0\ndemand 0\n".as_slice()
+    );
     for (blanks, first, last) in [
         (65531, "total 0\ndemand 0\n", "total 0\ndemand 0\n"),
         (65532, "error 82 LineTooLong\n", "error 82 LineTooLong\n"),
@@ -162,7 +202,11 @@ fn a_reader_in_pieces_or_failing(rt: HostRuntime) -> Result<(), Fail> {
                 bytes: SCRIPT.as_bytes(),
                 most,
                 left: if left < whole { left } else { 1000 },
-                kind: if most == 1 { io::ErrorKind::Interrupted } else { io::ErrorKind::Other },
+                kind: if most == 1 {
+                    io::ErrorKind::Interrupted
+                } else {
+                    io::ErrorKind::Other
+                },
             });
             let mut writer = Watched::new(&mut out);
             let result = run(&rt, &mut reader, &mut writer, host()?);
@@ -174,6 +218,7 @@ fn a_reader_in_pieces_or_failing(rt: HostRuntime) -> Result<(), Fail> {
                 assert_eq!(rt; out.as_slice(), wanted.as_slice(), "at {left}");
             } else {
                 assert_eq!(rt; result, Ok(()), "at {most}");
+                assert_eq!(rt; status_of_run(&result), 0);
                 assert!(rt; !failed);
                 assert_eq!(rt; out.as_slice(), ANSWERS.as_bytes(), "at {most}");
             }

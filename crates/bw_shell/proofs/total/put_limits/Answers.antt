@@ -22,7 +22,7 @@ loop-g-preserved c =
         t.0 ++ s.0 ∷ [],
         rw (take_more gs i 0 lt) (ArePathsOf-push tree (take i gs) t.0 (get_or gs i 0) s.0 t.1 s.1),
         rw (take_more gs i 0 lt, limit_lines-push tree groups (take i gs) t.0 (get_or gs i 0) s.0 t.1)
-        (s.2 ∙ ap (λ l. l ++ line) t.2 ∙ append_assoc c.args.answer.now.items (limit_lines groups (take i gs) t.0) line),
+            (s.2 ∙ ap (λ l. l ++ line) t.2 ∙ append_assoc c.args.answer.now.items (limit_lines groups (take i gs) t.0) line),
       );
       room = omega (arith, c.loop-g.invariant.room, c.in_ok-put_limit.ensures.room);
     }

@@ -19,8 +19,7 @@ returns-in-Err-mkdir c =
     let f = c.in-Err-mkdir.fault in
     let found : find_path s.tree.groups (parent_path c.args.path.now) ≡ Some id = ap (find_path s.tree.groups) (sym c.split_path.ensures.parent) ∙ c.in-Ok.ensures.found in
     let is : mkdir_outcome s c.args.path.now ≡ call_outcome s (mkdir_refusal s.tree id name) (with_group s.tree id name) = ap (mkdir_at s name) found in
-    let refused : IsRefused (mkdir_refusal s.tree id name) f = subst (λ n. IsRefused (mkdir_refusal s.tree id n) f) c.split_path.ensures.name c.in-Err-mkdir.ensures.refused in
-    (
+    let refused : IsRefused (mkdir_refusal s.tree id name) f = subst (λ n. IsRefused (mkdir_refusal s.tree id n) f) c.split_path.ensures.name c.in-Err-mkdir.ensures.refused in (
       ap (λ (t : TreeState). record { shape = s.shape; tree = t }) c.in-Err-mkdir.ensures.err,
       subst (λ o. IsOutcome s o (error_line (fault.Tree f)) s) (sym is) (call_outcome-IsRefused s (with_group s.tree id name) (mkdir_refusal s.tree id name) f refused),
     )
