@@ -131,7 +131,7 @@ fn snapshots_and_copies(rt: HostRuntime) -> Result<(), Fail> {
         Err(_) => tree.snapshot(shape)?,
         Ok(snapshot) => snapshot,
     };
-    assert_eq!(rt; ids.as_slice(), &[0, 3, 4, 5]);
+    assert_eq!(rt; ids.as_slice(), [0, 3, 4, 5].as_slice());
     let wanted = [
         (None, 100, None, 0),
         (Some(0), 100, None, 0),
