@@ -1,0 +1,47 @@
+use Rattle.std.proofs.Common.{◌≡◌, ℕ, suc, ◌<◌, ◌≤◌, List, [], ◌∷◌, Bool, false, Option, None, Some, length, get_or, refl, ap, sym, ◌∙◌, arith, inl, inr}
+use Rattle.std.specs.Prelude.{sum, sum_by, slice_index, map, IfSome, IfNone}
+use Rattle.std.proofs.lemmas.List.{length-map}
+use Rattle.std.proofs.lemmas.List.Sums.{sum-map, get_or-le-sum_by}
+use Rattle.bw_model.specs.declared.row.Row.{Row}
+use Rattle.bw_model.specs.declared.mark.Mark.{Mark}
+use Rattle.bw_model.specs.Groups.{Groups, children_of, is_leaf}
+use Rattle.bw_model.specs.Marks.{price_of}
+use Rattle.bw_model.proofs.Moves.{IsGreatestLast}
+use Rattle.bw_model.specs.declared.limits.TheConstants.{MAX_CAPACITY}
+use Rattle.bw_model.specs.Plan.{child_weights}
+use Rattle.bw_model.proofs.Sums.{sum-cons}
+use Rattle.bw_model.proofs.Places.{child_at}
+use Rattle.bw_model.proofs.Optimum.{get_or-map}
+use Rattle.bw_cert.specs.Levels.{IsLevelAt}
+
+sum_none : (xs : List ℕ) → ((k : ℕ) → k < length xs → get_or xs k 0 ≡ 0) → ◌≡◌ {A = ℕ} (sum xs) 0
+sum_none [] h = refl
+sum_none (x ∷ xs) h =
+    let head : x ≡ 0 = h 0 (omega arith) in
+    let rest : sum xs ≡ 0 = sum_none xs (λ k below. h (suc k) (omega arith)) in
+    omega (arith, sum-cons x xs, head, rest)
+
+-- each part is small where each amount is
+pub small_parts : (rows : List Row) (g : ℕ) (amounts parts : List ℕ) → length amounts ≡ length rows → parts ≡ map (slice_index amounts) (children_of rows g) →
+    ((k : ℕ) → k < length amounts → get_or amounts k 0 ≤ MAX_CAPACITY) → (k : ℕ) → k < length parts → get_or parts k 0 ≤ MAX_CAPACITY
+small_parts rows g amounts parts long e small = rw e (λ k below.
+    let inside : k < length (children_of rows g) = omega (arith, below, length-map (children_of rows g) (slice_index amounts)) in
+    let c : get_or (children_of rows g) k 0 < length rows = (child_at rows g k inside).within in
+    rw (get_or-map (slice_index amounts) (children_of rows g) k inside) (small (get_or (children_of rows g) k 0) (omega (arith, c, long))))
+
+-- the greatest last mark of the children is the level
+pub to_level : (groups : Groups) (amounts : List ℕ) (g : ℕ) (parts ws : List ℕ) → is_leaf groups.rows g ≡ false →
+    get_or amounts g 0 ≡ sum_by (slice_index amounts) (children_of groups.rows g) →
+    parts ≡ map (slice_index amounts) (children_of groups.rows g) → ws ≡ child_weights groups.rows g → (o : Option Mark) →
+    IfSome o (λ mark. IsGreatestLast ws parts (price_of mark)) → IfNone o ((k : ℕ) → k < length parts → get_or parts k 0 ≡ 0) →
+    IsLevelAt groups amounts g o
+to_level groups amounts g parts ws inner whole ep ew None found none =
+    λ _. let zero' : sum parts ≡ 0 = sum_none parts none in
+    let s : sum parts ≡ sum_by (slice_index amounts) (children_of groups.rows g) = ap sum ep ∙ sum-map (slice_index amounts) (children_of groups.rows g) in
+    omega (arith, zero', s, whole)
+to_level groups amounts g parts ws inner whole ep ew (Some mark) found none =
+    let one : IsGreatestLast ws parts (price_of mark) = found in
+    let s : sum parts ≡ sum_by (slice_index amounts) (children_of groups.rows g) = ap sum ep ∙ sum-map (slice_index amounts) (children_of groups.rows g) in
+    let term : get_or parts one.of_one.0 0 ≤ sum parts = get_or-le-sum_by (λ n. n) parts one.of_one.0 0 one.of_one.1 in
+    let here : 0 < get_or parts one.of_one.0 0 = one.of_one.2 in
+    (inner, omega (arith, term, here, s, whole), rw (sym ep, sym ew) one)

@@ -1,0 +1,6 @@
+//! Certificates of plans.
+#![tactic(auto)]
+
+mod certifying;
+
+pub use certifying::certify;
