@@ -2,19 +2,17 @@
 #![tactic(auto)]
 
 #[cfg(test)]
-mod model_cases;
-#[cfg(test)]
-mod tree_cases;
-//! Tests that cross crates.
-#![tactic(auto)]
-
-#[cfg(test)]
-mod shell_cases;
 mod check_cases;
 #[cfg(test)]
 mod check_search;
 #[cfg(test)]
+mod demand_cases;
+#[cfg(test)]
 mod model_cases;
+#[cfg(test)]
+mod plan_cases;
+#[cfg(test)]
+mod shell_cases;
 #[cfg(test)]
 mod stat_cases;
 #[cfg(test)]
