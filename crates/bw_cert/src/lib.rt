@@ -1,6 +1,18 @@
-//! Certificates of plans.
+//! Certificates of plans: made for a plan, and carried as text with it.
 #![tactic(auto)]
 
 mod certifying;
+mod fault;
+mod fields;
+mod groups;
+mod laws;
+mod reading;
+mod words;
+mod writing;
 
 pub use certifying::certify;
+pub use fault::CertFault;
+pub use groups::Certified;
+pub use laws::spelled_is_read;
+pub use reading::read_certified;
+pub use writing::write_certified;

@@ -3,6 +3,7 @@ use Rattle.std.specs.Prelude.{ℕ, List, Result}
 use Rattle.bw_model.specs.Host.{Shape}
 use Rattle.bw_tree.specs.Groups.{TreeState}
 use Rattle.bw_tree.specs.Tree.{root_alone, rmdir_refusal, without_group, demand_refusal, with_setting, set_demand}
+use Rattle.bw_tree.specs.declared.limits.TheConstants.{FIRST_ID}
 use Rattle.bw_hierarchy.specs.declared.fault.Fault.{Fault}
 use Rattle.bw_hierarchy.specs.Calls.{and_then, found_at, unless}
 
@@ -16,7 +17,7 @@ with_tree h t = record { shape = h.shape; tree = t }
 
 -- the root alone
 abbrev pub new_hierarchy : Shape → HierarchyState
-new_hierarchy shape = record { shape = shape; tree = root_alone 1 }
+new_hierarchy shape = record { shape = shape; tree = root_alone FIRST_ID }
 
 -- one group taken out, by its id
 abbrev pub delete_of : HierarchyState → ℕ → Result HierarchyState Fault

@@ -13,7 +13,7 @@ use crate::hierarchy::Hierarchy;
 use bw_tree::{GroupId, Tree};
 use std::alloc::Global;
 
-/// A group to be made at a path.
+/// A group to be made at a path, with the settings that are given.
 #[derive(Clone, Copy, Debug)]
 pub struct CgroupBuilder<'a> {
     pub path: &'a str,
@@ -29,6 +29,7 @@ pub struct CpuResources<'a> {
 }
 
 impl<'a> CgroupBuilder<'a> {
+    /// A builder with no settings.
     pub fn new(path: &'a str) -> CgroupBuilder<'a>
         ensures path { result.path.now ≡ path.now }
         ensures shares { result.shares ≡ None }
@@ -43,13 +44,17 @@ impl<'a> CgroupBuilder<'a> {
         }
     }
 
+    /// Goes on to the processor settings.
     pub fn cpu(self) -> CpuResources<'a>
         ensures { result.builder ≡ self.entry }
     {
         CpuResources { builder: self }
     }
 
-    /// Makes each missing group of the path from the top down, then sets what was given, or changes nothing.
+    /// Makes each missing group of the path from the top down, then sets the shares where they are given,
+    /// then the quota and the period where one is given.
+    ///
+    /// Where one of these single calls is refused, the first refusal is answered and nothing is changed.
     pub fn build(self, hierarchy: &mut Hierarchy) -> Result<Cgroup, Fault>
         ensures made { IfOk result (λ g. built hierarchy.old.tree hierarchy.old.shape.period_us self.entry.path.now self.entry.shares self.entry.quota self.entry.period ≡ Ok (g.id, hierarchy.new.tree)) }
         ensures rest { hierarchy.new ≡ with_tree hierarchy.old hierarchy.new.tree }
@@ -62,6 +67,7 @@ impl<'a> CgroupBuilder<'a> {
 }
 
 impl<'a> CpuResources<'a> {
+    /// The weight, 1 to 10000.
     pub fn shares(self, shares: u64) -> CpuResources<'a>
         ensures { result.builder ≡ record self.entry.builder { shares = Some shares } }
     {
@@ -73,6 +79,7 @@ impl<'a> CpuResources<'a> {
         }
     }
 
+    /// The quota in microseconds, -1 for no limit.
     pub fn quota(self, quota: i64) -> CpuResources<'a>
         ensures { result.builder ≡ record self.entry.builder { quota = Some quota } }
     {
@@ -84,6 +91,7 @@ impl<'a> CpuResources<'a> {
         }
     }
 
+    /// The period in microseconds, which has to be the host's.
     pub fn period(self, period: u64) -> CpuResources<'a>
         ensures { result.builder ≡ record self.entry.builder { period = Some period } }
     {
@@ -95,6 +103,7 @@ impl<'a> CpuResources<'a> {
         }
     }
 
+    /// Goes back to the group.
     pub fn done(self) -> CgroupBuilder<'a>
         ensures { result ≡ self.entry.builder }
     {
@@ -138,6 +147,7 @@ fn ensure(tree: &mut Tree, alloc: Global, path: &str) -> Result<GroupId, Fault>
     find_or_make(tree, prefix.as_str())
 }
 
+// The shares, where they are given.
 fn set_shares(tree: &mut Tree, id: GroupId, shares: Option<u64>) -> Result<(), Fault>
     ensures set { OnOk result (shares_step tree.old id shares ≡ Ok tree.new) }
     ensures refused { IfErr result (λ e. shares_step tree.old id shares ≡ Err e) }
@@ -148,6 +158,7 @@ fn set_shares(tree: &mut Tree, id: GroupId, shares: Option<u64>) -> Result<(), F
     }
 }
 
+// The quota and the period, where one is given.
 fn set_cfs(
     tree: &mut Tree,
     period_us: u64,

@@ -20,14 +20,14 @@ pub struct KeptCgroup {
     pub cgroup: Cgroup,
 }
 
-/// The processor settings of a group. The group may have been removed.
+/// The processor settings of a group. Each call answers `NotFound` where the group was removed, and `RootFixed` on the root.
 #[derive(Clone, Copy, Debug, PartialEq, Eq)]
 pub struct CpuController {
     pub id: GroupId,
 }
 
 impl Cgroup {
-    /// The group at a path.
+    /// The group at a path, or `NotFound`.
     pub fn load(hierarchy: &Hierarchy, path: &str) -> Result<Cgroup, Fault>
         ensures found { IfOk result (λ g. found_at hierarchy.now.tree path.now ≡ Ok g.id) }
         ensures refused { IfErr result (λ e. found_at hierarchy.now.tree path.now ≡ Err e) }
@@ -36,13 +36,14 @@ impl Cgroup {
         Ok(Cgroup { id })
     }
 
+    /// Its processor settings.
     pub fn cpu(&self) -> CpuController
         ensures { result.id ≡ self.now.id }
     {
         CpuController { id: self.id }
     }
 
-    /// Takes the group out. A refusal hands the group back.
+    /// Takes the group out. A refusal hands the group back: `NotFound`, `RootFixed`, `HasChildren`, `HasDemand`.
     pub fn delete(self, hierarchy: &mut Hierarchy) -> Result<(), KeptCgroup>
         ensures removed { OnOk result (delete_of hierarchy.old self.id ≡ Ok hierarchy.new) }
         ensures refused { IfErr result (λ k. delete_of hierarchy.old self.id ≡ Err k.fault) }
@@ -60,12 +61,14 @@ impl Cgroup {
 }
 
 impl CpuController {
+    /// The weight, 1 to 10000.
     pub fn shares(&self, hierarchy: &Hierarchy) -> Result<u64, Fault>
         ensures { result ≡ value_at (λ g. g.weight) hierarchy.now.tree self.now.id }
     {
         hierarchy.shares(self.id)
     }
 
+    /// Sets the weight, or answers `WeightOutOfRange`.
     pub fn set_shares(&self, hierarchy: &mut Hierarchy, n: u64) -> Result<(), Fault>
         ensures set { OnOk result (set_shares_of hierarchy.old.tree self.now.id n ≡ Ok hierarchy.new.tree) }
         ensures rest { hierarchy.new ≡ with_tree hierarchy.old hierarchy.new.tree }
@@ -75,20 +78,23 @@ impl CpuController {
         hierarchy.set_shares(self.id, n)
     }
 
-    /// The quota in microseconds, -1 for no limit.
+    /// The quota in microseconds, -1 for no limit (sched-bwc.rst, "Management").
     pub fn cfs_quota(&self, hierarchy: &Hierarchy) -> Result<i64, Fault>
         ensures { result ≡ value_at (λ g. int_of_quota g.quota) hierarchy.now.tree self.now.id }
     {
         hierarchy.cfs_quota(self.id)
     }
 
+    /// The period in microseconds, which is the host's (sched-bwc.rst, "Management").
     pub fn cfs_period(&self, hierarchy: &Hierarchy) -> Result<u64, Fault>
         ensures { result ≡ value_at (λ g. hierarchy.now.shape.period_us) hierarchy.now.tree self.now.id }
     {
         hierarchy.cfs_period(self.id)
     }
 
-    /// Sets the quota. A value that is left out stays.
+    /// Sets the quota in microseconds, -1 for no limit. A value that is left out stays.
+    ///
+    /// Refusals in order: `QuotaTooSmall`, `QuotaTooLarge`, `PeriodOutOfRange`, `PeriodDiffers`.
     pub fn set_cfs_quota_and_period(
         &self,
         hierarchy: &mut Hierarchy,

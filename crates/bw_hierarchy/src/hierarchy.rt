@@ -1,5 +1,6 @@
 //! The hierarchy of groups.
 ghost use Rattle.std.specs.Prelude.{◌≡◌, length, OnOk, OnErr, IfOk, IfErr, Ok, Err, string_bytes};
+ghost use Rattle.bw_model.specs.Groups.{IsInstance};
 ghost use Rattle.bw_tree.specs.Snapshot.{instance_of};
 ghost use Rattle.std.specs.Map.{keys_of};
 ghost use Rattle.bw_hierarchy.specs.Faults.{IsRefusal};
@@ -39,7 +40,7 @@ impl Hierarchy {
         ensures made { IfOk result (λ h. h ≡ new_hierarchy shape) }
         ensures err { IfErr result (λ e. e ≡ Fault.Tree TreeFault.OutOfMemory) }
     {
-        let tree = Tree::with_next_id(alloc, 1)?;
+        let tree = Tree::new(alloc)?;
         Ok(Hierarchy { alloc, shape, tree })
     }
 
@@ -67,13 +68,14 @@ impl Hierarchy {
     /// The rows of all groups in order of creation, and their ids. It fails for want of memory alone.
     pub fn snapshot(&self) -> Result<(Instance, Vec<GroupId>), Fault>
         ensures rows { IfOk result (λ s. s.0 ≡ instance_of self.now.tree self.now.shape) }
+        ensures valid { IsInstance (instance_of self.now.tree self.now.shape) }
         ensures ids { IfOk result (λ s. s.1.items ≡ keys_of self.now.tree.groups) }
         ensures err { IfErr result (λ e. e ≡ Fault.Tree TreeFault.OutOfMemory) }
     {
         Ok(self.tree.snapshot(self.shape)?)
     }
 
-    /// Makes a group. The path splits at its last `/`; where it has none, the parent is the root.
+    /// Makes a group, and answers its id. The path splits at its last `/`; where it has none, the parent is the root.
     pub fn mkdir(&mut self, path: &str) -> Result<GroupId, Fault>
         ensures made { IfOk result (λ id. mkdir_of self.old.tree path.now ≡ Ok (id, self.new.tree)) }
         ensures rest { self.new ≡ with_tree self.old self.new.tree }
@@ -83,7 +85,7 @@ impl Hierarchy {
         calls::mkdir(&mut self.tree, path)
     }
 
-    /// Takes a group out.
+    /// Takes a group out: `NotFound`, `RootFixed`, `HasChildren`, `HasDemand`.
     pub fn rmdir(&mut self, path: &str) -> Result<(), Fault>
         ensures removed { OnOk result (rmdir_of self.old path.now ≡ Ok self.new) }
         ensures refused { IfErr result (λ e. rmdir_of self.old path.now ≡ Err e) }
@@ -101,7 +103,7 @@ impl Hierarchy {
         Ok(self.tree.rmdir(id)?)
     }
 
-    /// Sets a group's demand in slices.
+    /// Sets a group's demand in slices: `NotFound`, `RootFixed`, `DemandTooLarge`, `InnerDemand`.
     pub fn set_demand(&mut self, path: &str, demand: u64) -> Result<(), Fault>
         ensures set { OnOk result (demand_set_of self.old path.now demand ≡ Ok self.new) }
         ensures refused { IfErr result (λ e. demand_set_of self.old path.now demand ≡ Err e) }
@@ -111,7 +113,9 @@ impl Hierarchy {
         Ok(self.tree.set_demand(id, demand)?)
     }
 
-    /// The text of a group's file.
+    /// The text of a group's file (cgroup-v2.rst, "CPU Interface Files"): `cpu.weight` or `cpu.max`. The root has none.
+    ///
+    /// `NotFound` where there is no such group, else `NoSuchFile` where it has no such file.
     pub fn read_file(&self, path: &str, file: &str) -> Result<String, Fault>
         ensures found { IfOk result (λ t. read_of self.now.tree self.now.shape.period_us path.now file.now ≡ Ok (string_bytes t)) }
         ensures refused { IfErr result (IsRefusal (read_of self.now.tree self.now.shape.period_us path.now file.now)) }
@@ -120,6 +124,8 @@ impl Hierarchy {
     }
 
     /// Writes a text into a group's file, which changes the one value that the file names.
+    ///
+    /// Refusals in order: `NotFound`, `NoSuchFile`, those of the text, `PeriodDiffers`.
     pub fn write_file(&mut self, path: &str, file: &str, text: &[u8]) -> Result<(), Fault>
         ensures set { OnOk result (write_of self.old.tree self.old.shape.period_us path.now file.now text.now ≡ Ok self.new.tree) }
         ensures rest { self.new ≡ with_tree self.old self.new.tree }

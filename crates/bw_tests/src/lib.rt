@@ -7,6 +7,11 @@ mod check_cases;
 mod check_search;
 #[cfg(test)]
 mod demand_cases;
+mod cert_cases;
+#[cfg(test)]
+mod files_cases;
+#[cfg(test)]
+mod hierarchy_cases;
 #[cfg(test)]
 mod model_cases;
 #[cfg(test)]

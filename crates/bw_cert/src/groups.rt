@@ -1,0 +1,102 @@
+//! Groups of a certified text, line by line.
+ghost use Rattle.std.specs.Prelude.{◌≡◌};
+ghost use Rattle.bw_cert.specs.Spelling.{lines_of, words_of};
+ghost use Rattle.bw_cert.specs.Reading.{Gives, seen, line_at, group_of, groups_at, group_view, columns_view};
+
+use crate::fault::CertFault;
+use crate::fields::group_words;
+use crate::words::{flag, level, limit, number, parent};
+use bw_model::{Certificate, Instance, Mark, Row};
+use bw_text::split_once;
+use std::alloc::Global;
+
+/// An instance, an amount in slices for each of its groups, and a certificate of the amounts.
+#[derive(Debug, Drop)]
+pub struct Certified {
+    pub instance: Instance,
+    pub amounts: Vec<u64>,
+    pub certificate: Certificate,
+}
+
+// One group with all that its line says.
+#[derive(Clone, Copy)]
+struct GroupLine {
+    row: Row,
+    amount: u64,
+    flag: bool,
+    level: Option<Mark>,
+}
+
+/// What the groups' lines say, by column.
+#[derive(Drop)]
+pub(crate) struct Columns {
+    pub(crate) rows: Vec<Row>,
+    pub(crate) amounts: Vec<u64>,
+    pub(crate) tight: Vec<bool>,
+    pub(crate) levels: Vec<Option<Mark>>,
+}
+
+/// The first line, and what stands after it.
+pub(crate) fn first_line(text: &[u8]) -> Result<(&[u8], &[u8]), CertFault>
+    ensures { seen (λ p. (p.0.now, lines_of p.1.now)) result ≡ line_at (lines_of text.now) }
+{
+    match split_once(text, b'\n') {
+        None => Err(CertFault::CutShort),
+        Some((line, rest)) => Ok((line, rest)),
+    }
+}
+
+#[tactic(auto, unfolding(crate::specs::Reading::group_of))]
+fn group(line: &[u8]) -> Result<GroupLine, CertFault>
+    ensures { seen group_view result ≡ group_of (words_of line.now) }
+{
+    let Some(words) = group_words(line) else {
+        return Err(CertFault::BadLine);
+    };
+    let parent = parent(words.parent)?;
+    let weight = number(words.weight)?;
+    let limit = limit(words.limit)?;
+    let demand = number(words.demand)?;
+    let amount = number(words.amount)?;
+    let flag = flag(words.flag)?;
+    let level = level(words.level)?;
+    let row = Row {
+        parent,
+        weight,
+        limit,
+        demand,
+    };
+    Ok(GroupLine {
+        row,
+        amount,
+        flag,
+        level,
+    })
+}
+
+/// So many groups, and what stands after their lines.
+pub(crate) fn groups(alloc: Global, count: u64, text: &[u8]) -> Result<(Columns, &[u8]), CertFault>
+    ensures { Gives (λ p. (columns_view p.0, lines_of p.1.now)) result (groups_at count (lines_of text.now)) }
+{
+    let mut rows = Vec::new(alloc);
+    let mut amounts = Vec::new(alloc);
+    let mut tight = Vec::new(alloc);
+    let mut levels = Vec::new(alloc);
+    let mut rest = text;
+    for _ in 0..count {
+        let (line, after) = first_line(rest)?;
+        let next = group(line)?;
+        rows.push(next.row)?;
+        amounts.push(next.amount)?;
+        tight.push(next.flag)?;
+        levels.push(next.level)?;
+        rest = after;
+    }
+    let columns = Columns {
+        rows,
+        amounts,
+        tight,
+        levels,
+    };
+    Ok((columns, rest))
+}

@@ -1,0 +1,84 @@
+//! Certified texts read.
+ghost use Rattle.std.specs.Prelude.{◌≡◌, Ok, IfOk};
+ghost use Rattle.bw_cert.specs.Spelling.{Value, lines_of, words_of, spelling, IsValue};
+ghost use Rattle.bw_cert.specs.Reading.{Gives, head_of, host_in, certified_of, certified_view};
+
+use crate::fault::CertFault;
+use crate::fields::head_words;
+use crate::groups::{Certified, first_line, groups};
+use crate::words::number;
+use bw_model::limits::MAX_GROUPS;
+use bw_model::{Certificate, HostShape, Instance, InstanceFault};
+use std::alloc::Global;
+
+// The host, and how many groups follow.
+#[tactic(auto, unfolding(crate::specs::Reading::head_of))]
+fn head(line: &[u8]) -> Result<(HostShape, u64), CertFault>
+    ensures { result ≡ head_of (words_of line.now) }
+{
+    let Some(words) = head_words(line) else {
+        return Err(CertFault::BadLine);
+    };
+    if words.name != b"bw".as_slice() || words.version != b"1".as_slice() {
+        return Err(CertFault::BadField);
+    }
+    let processors = number(words.processors)?;
+    let period_us = number(words.period)?;
+    let slice_us = number(words.slice)?;
+    let count = number(words.groups)?;
+    let shape = host(processors, period_us, slice_us)?;
+    if count > MAX_GROUPS as u64 {
+        return Err(CertFault::Instance(InstanceFault::TooMany));
+    }
+    Ok((shape, count))
+}
+
+fn host(processors: u64, period_us: u64, slice_us: u64) -> Result<HostShape, CertFault>
+    ensures { result ≡ host_in processors period_us slice_us }
+{
+    match HostShape::new(processors, period_us, slice_us) {
+        Ok(shape) => Ok(shape),
+        Err(fault) => Err(CertFault::Host(fault)),
+    }
+}
+
+// All of the text.
+#[tactic(auto, unfolding(crate::specs::Reading::certified_of))]
+fn certified(alloc: Global, text: &[u8]) -> Result<Certified, CertFault>
+    ensures { Gives certified_view result (certified_of (lines_of text.now)) }
+{
+    let (line, rest) = first_line(text)?;
+    let (shape, count) = head(line)?;
+    let (columns, rest) = groups(alloc, count, rest)?;
+    if !rest.is_empty() {
+        return Err(CertFault::Trailing);
+    }
+    let instance = match Instance::new(alloc, columns.rows, shape) {
+        Ok(instance) => instance,
+        Err(InstanceFault::OutOfMemory) => return Err(CertFault::OutOfMemory),
+        Err(fault) => return Err(CertFault::Instance(fault)),
+    };
+    Ok(Certified {
+        instance,
+        amounts: columns.amounts,
+        certificate: Certificate {
+            tight: columns.tight,
+            levels: columns.levels,
+        },
+    })
+}
+
+/// What a text certifies, read in one pass over all of the text.
+///
+/// The first refusal that is met is answered, line by line: `CutShort`, `BadLine`, `BadField`; after the first line
+/// those of the host and then `TooMany`; after the last line `Trailing`, then those of the rows.
+pub fn read_certified(alloc: Global, text: &[u8]) -> Result<Certified, CertFault>
+    // What is read is spelled so.
+    ensures found { IfOk result (λ c. IsValue (certified_view c) × (text.now ≡ spelling (certified_view c))) }
+    // What is spelled so is read, unless memory runs out.
+    ensures only { (v : Value) → IsValue v → text.now ≡ spelling v → Gives certified_view result (Ok v) }
+    // Which fault it is.
+    ensures exact { Gives certified_view result (certified_of (lines_of text.now)) }
+{
+    certified(alloc, text)
+}

@@ -1,0 +1,263 @@
+//! Groups by their paths, their files, the builder and the controller, against worked values.
+//! A call that runs out of memory is made once more on the same hierarchy, which it has not changed,
+//! so that each case holds with any one of its allocations failing.
+use bw_hierarchy::{Cgroup, CgroupBuilder, Fault, Hierarchy};
+use bw_model::HostShape;
+use bw_tree::TreeFault;
+use std::alloc::Global;
+use std::process::Abort;
+use std::test::Fail;
+
+/// What a line of a script may ask of a group.
+#[derive(Clone, Copy)]
+enum Ask<'a> {
+    Mkdir,
+    Rmdir,
+    Demand(u64),
+    Write(&'a str, &'a [u8]),
+}
+
+fn is_memory(fault: Fault) -> bool {
+    fault == Fault::Tree(TreeFault::OutOfMemory)
+}
+
+/// The root of a host with one processor of 20 slices of 5000 microseconds.
+fn new_hierarchy(alloc: Global) -> Result<Hierarchy, Fail> {
+    let shape = HostShape::new(1, 100_000, 5000)?;
+    match Hierarchy::new(alloc, shape) {
+        Ok(hierarchy) => Ok(hierarchy),
+        Err(_) => Ok(Hierarchy::new(alloc, shape)?),
+    }
+}
+
+fn once(hierarchy: &mut Hierarchy, path: &str, ask: Ask) -> Result<(), Fault> {
+    match ask {
+        Ask::Mkdir => {
+            let _id = hierarchy.mkdir(path)?;
+            Ok(())
+        }
+        Ask::Rmdir => hierarchy.rmdir(path),
+        Ask::Demand(demand) => hierarchy.set_demand(path, demand),
+        Ask::Write(file, text) => hierarchy.write_file(path, file, text),
+    }
+}
+
+/// Asserts the number of the refusal, 0 for none.
+fn assert_answers(rt: &impl Abort, hierarchy: &mut Hierarchy, cases: &[(&str, Ask, u32)]) {
+    for (path, ask, wanted) in cases {
+        let mut answer = once(hierarchy, path, *ask);
+        if answer.is_err_and(is_memory) {
+            answer = once(hierarchy, path, *ask);
+        }
+        let number = match answer {
+            Ok(()) => 0,
+            Err(fault) => fault.number(),
+        };
+        assert_eq!(rt; number, *wanted, "{path}");
+    }
+}
+
+fn assert_reads(rt: &impl Abort, hierarchy: &Hierarchy, path: &str, file: &str, wanted: Result<&str, u32>) {
+    let answer = match hierarchy.read_file(path, file) {
+        Err(Fault::Tree(TreeFault::OutOfMemory)) => hierarchy.read_file(path, file),
+        other => other,
+    };
+    match answer {
+        Ok(text) => assert_eq!(rt; Ok(text.as_str()), wanted, "{path}"),
+        Err(fault) => assert_eq!(rt; Err(fault.number()), wanted, "{path}"),
+    }
+}
+
+/// The limit in slices of the last group.
+fn last_limit(hierarchy: &Hierarchy) -> Result<Option<u64>, Fault> {
+    let (instance, _ids) = match hierarchy.snapshot() {
+        Ok(pair) => pair,
+        Err(_) => hierarchy.snapshot()?,
+    };
+    match instance.rows().last() {
+        None => Ok(None),
+        Some(row) => Ok(row.limit),
+    }
+}
+
+#[test]
+fn paths(rt: HostRuntime) -> Result<(), Fail> {
+    let mut hierarchy = new_hierarchy(rt.alloc())?;
+    let cases = [
+        ("a", Ask::Mkdir, 0),
+        ("a/b", Ask::Mkdir, 0),
+        ("a", Ask::Rmdir, 23),
+        ("a/b", Ask::Demand(5), 0),
+        ("a/b", Ask::Rmdir, 24),
+        ("a/b/c", Ask::Mkdir, 25),
+        (".", Ask::Rmdir, 26),
+        ("z", Ask::Rmdir, 20),
+        ("a", Ask::Mkdir, 21),
+        ("a/.", Ask::Mkdir, 22),
+        ("a/", Ask::Mkdir, 22),
+        ("./.", Ask::Mkdir, 22),
+        ("./..", Ask::Mkdir, 22),
+        ("z/a", Ask::Mkdir, 20),
+        ("/a", Ask::Mkdir, 20),
+        ("/", Ask::Mkdir, 20),
+        ("a//b", Ask::Mkdir, 20),
+        ("./c", Ask::Mkdir, 0),
+        ("./c", Ask::Mkdir, 21),
+        ("./c", Ask::Demand(1), 20),
+        ("./c", Ask::Rmdir, 20),
+        ("./c/b", Ask::Mkdir, 20),
+        ("a", Ask::Demand(1), 8),
+        ("a", Ask::Demand(1_000_001), 9),
+        ("a", Ask::Demand(0), 0),
+        (".", Ask::Demand(1_000_001), 26),
+        ("z", Ask::Demand(1_000_001), 20),
+        ("a/b", Ask::Demand(0), 0),
+        ("a/b", Ask::Rmdir, 0),
+        ("a", Ask::Rmdir, 0),
+        ("c", Ask::Rmdir, 0),
+    ];
+    assert_answers(&rt, &mut hierarchy, &cases);
+    assert_eq!(rt; hierarchy.shape().capacity(), 20);
+    assert!(rt; hierarchy.tree().find("c").is_err());
+    Ok(())
+}
+
+#[test]
+fn files(rt: HostRuntime) -> Result<(), Fail> {
+    let mut hierarchy = new_hierarchy(rt.alloc())?;
+    assert_answers(&rt, &mut hierarchy, &[("a", Ask::Mkdir, 0)]);
+    let limits: [(&[u8], u32, &str, Option<u64>); 8] = [
+        (b"1000 100000", 0, "1000 100000\n", Some(0)),
+        (b"999", 13, "1000 100000\n", Some(0)),
+        (b"1000000000000000", 0, "1000000000000000 100000\n", Some(200_000_000_000)),
+        (b"1000000000000001", 14, "1000000000000000 100000\n", Some(200_000_000_000)),
+        (b"50000", 0, "50000 100000\n", Some(10)),
+        (b"50000 999", 15, "50000 100000\n", Some(10)),
+        (b"1 2 3", 16, "50000 100000\n", Some(10)),
+        (b"max", 0, "max 100000\n", None),
+    ];
+    for (text, wanted, after, slices) in limits {
+        assert_answers(&rt, &mut hierarchy, &[("a", Ask::Write("cpu.max", text), wanted)]);
+        assert_reads(&rt, &hierarchy, "a", "cpu.max", Ok(after));
+        assert_eq!(rt; last_limit(&hierarchy)?, slices);
+    }
+    let others = [
+        ("a", Ask::Write("cpu.max", b"50000 200000"), 32),
+        ("a", Ask::Write("cpu.weight", b"0"), 12),
+        ("a", Ask::Write("cpu.weight", b"10001"), 12),
+        ("a", Ask::Write("cpu.weight", b"0100"), 11),
+        ("a", Ask::Write("cpu.weight", b"max"), 11),
+        ("a", Ask::Write("cpu.weight", b""), 17),
+        ("a", Ask::Write("cpu.weight", b" 100\n"), 0),
+        ("a", Ask::Write("cpu.idle", b"1"), 30),
+        ("a", Ask::Write("cpu.stat", b"1"), 30),
+        ("a", Ask::Write("cpu.max.burst", b"1"), 30),
+        (".", Ask::Write("cpu.weight", b"1"), 30),
+        ("z", Ask::Write("cpu.idle", b""), 20),
+    ];
+    assert_answers(&rt, &mut hierarchy, &others);
+    assert_reads(&rt, &hierarchy, "a", "cpu.max", Ok("max 100000\n"));
+    assert_reads(&rt, &hierarchy, "a", "cpu.weight", Ok("100\n"));
+    assert_reads(&rt, &hierarchy, "a", "cpu.idle", Err(30));
+    assert_reads(&rt, &hierarchy, "a", "cpu.stat", Err(30));
+    assert_reads(&rt, &hierarchy, ".", "cpu.weight", Err(30));
+    assert_reads(&rt, &hierarchy, "z", "cpu.idle", Err(20));
+    Ok(())
+}
+
+/// The group that a builder makes, or the number of the refusal.
+fn built(
+    hierarchy: &mut Hierarchy,
+    path: &str,
+    shares: Option<u64>,
+    quota: Option<i64>,
+    period: Option<u64>,
+) -> Result<Cgroup, u32> {
+    let mut resources = CgroupBuilder::new(path).cpu();
+    if let Some(shares) = shares {
+        resources = resources.shares(shares);
+    }
+    if let Some(quota) = quota {
+        resources = resources.quota(quota);
+    }
+    if let Some(period) = period {
+        resources = resources.period(period);
+    }
+    let builder = resources.done();
+    let answer = match builder.build(hierarchy) {
+        Err(Fault::Tree(TreeFault::OutOfMemory)) => builder.build(hierarchy),
+        other => other,
+    };
+    answer.map_err(|fault| fault.number())
+}
+
+#[test]
+fn builders(rt: HostRuntime) -> Result<(), Fail> {
+    let mut hierarchy = new_hierarchy(rt.alloc())?;
+    assert!(rt; built(&mut hierarchy, "p/q", Some(300), Some(50_000), Some(100_000)).is_ok());
+    assert_reads(&rt, &hierarchy, "p", "cpu.weight", Ok("100\n"));
+    assert_reads(&rt, &hierarchy, "p", "cpu.max", Ok("max 100000\n"));
+    assert_reads(&rt, &hierarchy, "p/q", "cpu.weight", Ok("300\n"));
+    assert_reads(&rt, &hierarchy, "p/q", "cpu.max", Ok("50000 100000\n"));
+    assert!(rt; built(&mut hierarchy, "r/s", None, None, Some(200_000)) == Err(32));
+    assert_reads(&rt, &hierarchy, "r", "cpu.weight", Err(20));
+    assert!(rt; built(&mut hierarchy, "r", Some(0), None, None) == Err(12));
+    assert!(rt; built(&mut hierarchy, ".", Some(5), None, None) == Err(26));
+    assert!(rt; built(&mut hierarchy, "./x/y", None, None, None) == Err(20));
+    assert!(rt; built(&mut hierarchy, "t//u", None, None, None) == Err(22));
+    assert_reads(&rt, &hierarchy, "t", "cpu.weight", Err(20));
+    assert!(rt; built(&mut hierarchy, "p/q", None, Some(-1), None).is_ok());
+    assert_reads(&rt, &hierarchy, "p/q", "cpu.weight", Ok("300\n"));
+    assert_reads(&rt, &hierarchy, "p/q", "cpu.max", Ok("max 100000\n"));
+    match built(&mut hierarchy, ".", None, None, None) {
+        Ok(root) => assert_eq!(rt; root.id, hierarchy.root_control_group().id),
+        Err(number) => assert_eq!(rt; number, 0),
+    }
+    Ok(())
+}
+
+#[test]
+fn controllers(rt: HostRuntime) -> Result<(), Fail> {
+    let mut hierarchy = new_hierarchy(rt.alloc())?;
+    assert_answers(&rt, &mut hierarchy, &[("a", Ask::Mkdir, 0), ("a/b", Ask::Mkdir, 0)]);
+    let group = Cgroup::load(&hierarchy, "a/b")?;
+    let cpu = group.cpu();
+    let settings: [(Option<i64>, Option<u64>, u32, i64); 10] = [
+        (Some(50_000), None, 0, 50_000),
+        (Some(999), None, 13, 50_000),
+        (Some(-2), None, 13, 50_000),
+        (Some(i64::MIN), Some(999), 13, 50_000),
+        (Some(1_000_000_000_000_001), None, 14, 50_000),
+        (None, Some(999), 15, 50_000),
+        (None, Some(200_000), 32, 50_000),
+        (None, None, 0, 50_000),
+        (None, Some(100_000), 0, 50_000),
+        (Some(-1), None, 0, -1),
+    ];
+    for (quota, period, wanted, after) in settings {
+        let number = match cpu.set_cfs_quota_and_period(&mut hierarchy, quota, period) {
+            Ok(()) => 0,
+            Err(fault) => fault.number(),
+        };
+        assert_eq!(rt; number, wanted);
+        assert!(rt; cpu.cfs_quota(&hierarchy) == Ok(after));
+        assert!(rt; cpu.cfs_period(&hierarchy) == Ok(100_000));
+    }
+    assert_reads(&rt, &hierarchy, "a/b", "cpu.max", Ok("max 100000\n"));
+    assert!(rt; cpu.set_shares(&mut hierarchy, 300) == Ok(()));
+    assert!(rt; cpu.set_shares(&mut hierarchy, 10_001).map_err(|fault| fault.number()) == Err(12));
+    assert!(rt; cpu.shares(&hierarchy) == Ok(300));
+    let root = hierarchy.root_control_group().cpu();
+    let above = Cgroup::load(&hierarchy, "a")?;
+    assert!(rt; above.delete(&mut hierarchy).map_err(|kept| (kept.fault.number(), kept.cgroup.id)) == Err((23, 1)));
+    assert!(rt; group.delete(&mut hierarchy) == Ok(()));
+    for (removed, wanted) in [(cpu, 20), (root, 26)] {
+        assert!(rt; removed.shares(&hierarchy).map_err(|fault| fault.number()) == Err(wanted));
+        assert!(rt; removed.set_shares(&mut hierarchy, 0).map_err(|fault| fault.number()) == Err(wanted));
+        assert!(rt; removed.cfs_quota(&hierarchy).map_err(|fault| fault.number()) == Err(wanted));
+        assert!(rt; removed.cfs_period(&hierarchy).map_err(|fault| fault.number()) == Err(wanted));
+        assert!(rt; removed.set_cfs_quota_and_period(&mut hierarchy, None, None).map_err(|fault| fault.number()) == Err(wanted));
+    }
+    assert!(rt; Cgroup::load(&hierarchy, "a/b").map_err(|fault| fault.number()) == Err(20));
+    Ok(())
+}
