@@ -1,13 +1,14 @@
-//! Tests that no clause replaces: worked values from outside, printed text, and memory that is refused.
+//! Tests of what no clause says: worked values from outside, printed text, and memory that is refused.
 #![tactic(auto)]
 
+#[cfg(test)]
+mod cert_cases;
 #[cfg(test)]
 mod check_cases;
 #[cfg(test)]
 mod check_search;
 #[cfg(test)]
 mod demand_cases;
-mod cert_cases;
 #[cfg(test)]
 mod files_cases;
 #[cfg(test)]
