@@ -29,7 +29,7 @@ impl Commands {
     pub fn new(alloc: Global, shape: HostShape) -> Result<Commands, TreeFault>
         ensures { IfOk result (λ c. state_of c ≡ start shape) }
     {
-        let tree = Tree::with_next_id(alloc, 1)?;
+        let tree = Tree::new(alloc)?;
         Ok(Commands { shape, tree })
     }
 

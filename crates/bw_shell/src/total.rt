@@ -6,7 +6,6 @@ ghost use Rattle.std.specs.Vec.{vec_capacity};
 ghost use Rattle.bw_model.specs.Groups.{limit_of};
 ghost use Rattle.bw_model.specs.Demand.{limited_total};
 ghost use Rattle.bw_demand.specs.Demands.{demands_of, IsGathered};
-ghost use Rattle.bw_tree.specs.Groups.{find_path};
 ghost use Rattle.bw_shell.specs.Total.{IsTotal, IsPathOf, ArePathsOf, number_line, limit_line, limit_lines};
 
 use bw_demand::{Gathered, gather, limiting};
@@ -92,7 +91,9 @@ fn put_limit(
         × (answer.new.items ≡ answer.old.items ++ limit_line instance.now g path)) }
     ensures room { vec_capacity answer.old ≤ vec_capacity answer.new }
 {
-    let path = path_of(alloc, tree, ids[g as usize])?;
+    let Ok(path) = tree.path_of(ids[g as usize]) else {
+        return Err(AllocError);
+    };
     put_number(alloc, b"limit ", limit_at(instance, g), answer)?;
     put_path(path.as_str(), answer)?;
     Ok(())
@@ -150,37 +151,4 @@ fn put_number_line(
     put_number(alloc, word, number, answer)?;
     answer.extend_from_slice(b"\n")?;
     Ok(())
-}
-
-// The path of a group.
-fn path_of(alloc: Global, tree: &Tree, id: GroupId) -> Result<String, AllocError>
-    ensures { IfOk result (λ path. find_path tree.now.groups (string_bytes path) ≡ Some id) }
-{
-    let path = names_up(alloc, tree, id)?;
-    match tree.find(path.as_str()) {
-        Ok(found) if found == id => Ok(path),
-        _ => Err(AllocError),
-    }
-}
-
-// The names from the root down to a group.
-fn names_up(alloc: Global, tree: &Tree, id: GroupId) -> Result<String, AllocError> {
-    let mut path = String::from_str(alloc, ".")?;
-    let mut at = id;
-    for level in 0..33u32 {
-        let Some(group) = tree.group(at) else {
-            return Ok(path);
-        };
-        let Some(parent) = group.parent else {
-            return Ok(path);
-        };
-        let name = group.name.as_str();
-        path = if level == 0 {
-            String::from_str(alloc, name)?
-        } else {
-            format!(in alloc; "{name}/{path}")?
-        };
-        at = parent;
-    }
-    Ok(path)
 }
