@@ -1,24 +1,11 @@
 //! Wants and greatest amounts, from the last row up.
-ghost use Rattle.std.specs.Prelude.{◌≡◌, ◌<◌, false, nat_lt, min, map, length, IfOk};
+ghost use Rattle.std.specs.Prelude.{◌≡◌, false, nat_lt, min, map, IfOk};
 ghost use Rattle.std.specs.Option.{option_map_or};
-ghost use Rattle.bw_model.specs.Groups.{limit_of};
 ghost use Rattle.bw_demand.specs.Demands.{demands_of, IsGathered};
 
 use crate::gathered::Gathered;
 use bw_model::{Instance, Row};
 use std::alloc::{AllocError, Global};
-
-// The limit of a row, and the capacity at the root.
-fn limit_at(instance: &Instance, g: u32) -> Option<u64>
-    requires { g < length instance.now.rows }
-    ensures { result ≡ limit_of instance.now g }
-{
-    if g == 0 {
-        Some(instance.shape().capacity())
-    } else {
-        instance.row(g).limit
-    }
-}
 
 // What a limit leaves of a want.
 fn cut_at(limit: Option<u64>, want: u64) -> u64
@@ -57,7 +44,7 @@ pub fn gather(alloc: Global, instance: &Instance) -> Result<Gathered, AllocError
     let mut tight = vec![in alloc; false; rows.len()]?;
     for g in (0..rows.len()).rev() {
         let wanted = want[g];
-        let limit = limit_at(instance, g as u32);
+        let limit = instance.limit(g as u32);
         let given = cut_at(limit, wanted);
         most[g] = given;
         tight[g] = is_below(limit, wanted);

@@ -30,7 +30,7 @@ overflow_add-index_mut c =
     let wanted : c.index-wanted.result.now ≡ get_or c.loop-g.want.items (c.loop-g.g - 1) 0 =
     c.index-wanted.ensures ∙ get_or_within c.loop-g.want.items (c.loop-g.g - 1) c.index-wanted.result.now (omega (arith, so_far.wants_each)) in
     let given : c.cut_at-given.result ≡ capped (limit_of c.args.instance.now (c.loop-g.g - 1)) (get_or c.loop-g.want.items (c.loop-g.g - 1) 0) =
-    c.cut_at-given.ensures ∙ cut-capped c.limit_at-limit.result c.index-wanted.result.now ∙ rw (c.limit_at-limit.ensures, wanted) refl in
+    c.cut_at-given.ensures ∙ cut-capped c.limit-limit.result c.index-wanted.result.now ∙ rw (c.limit-limit.ensures, wanted) refl in
     let fits : get_or c.loop-g.want.items c.in-Some.parent 0 + c.cut_at-given.result ≤ 4096000000 =
     sum_fits c.args.instance.now c.rows-rows.ensures.valid.tree (c.loop-g.g - 1) (omega arith) c.loop-g.want.items c.loop-g.most.items c.loop-g.tight.items
     so_far c.cut_at-given.result given c.in-Some.parent up in
@@ -48,10 +48,10 @@ loop-g-preserved-in-Some c =
     let wanted : c.index-wanted.result.now ≡ get_or c.loop-g.want.items (c.loop-g.g - 1) 0 =
     c.index-wanted.ensures ∙ get_or_within c.loop-g.want.items (c.loop-g.g - 1) c.index-wanted.result.now (omega (arith, so_far.wants_each)) in
     let given : c.cut_at-given.result ≡ capped (limit_of c.args.instance.now (c.loop-g.g - 1)) (get_or c.loop-g.want.items (c.loop-g.g - 1) 0) =
-    c.cut_at-given.ensures ∙ cut-capped c.limit_at-limit.result c.index-wanted.result.now ∙ rw (c.limit_at-limit.ensures, wanted) refl in
+    c.cut_at-given.ensures ∙ cut-capped c.limit-limit.result c.index-wanted.result.now ∙ rw (c.limit-limit.ensures, wanted) refl in
     gathered_child c.args.instance.now c.rows-rows.ensures.valid.tree (c.loop-g.g - 1) (omega arith) c.loop-g.want.items c.loop-g.most.items c.loop-g.tight.items
     so_far c.cut_at-given.result given c.in-Some.parent (c.index_mut-in-Some.result.now + c.cut_at-given.result) c.is_below.result e (omega (arith, read))
-    (c.is_below.ensures ∙ rw (c.limit_at-limit.ensures, wanted) refl)
+    (c.is_below.ensures ∙ rw (c.limit-limit.ensures, wanted) refl)
 
 pub loop-g-preserved : goal.loop-g-preserved
 loop-g-preserved c =
@@ -62,10 +62,10 @@ loop-g-preserved c =
     let wanted : c.index-wanted.result.now ≡ get_or c.loop-g.want.items (c.loop-g.g - 1) 0 =
     c.index-wanted.ensures ∙ get_or_within c.loop-g.want.items (c.loop-g.g - 1) c.index-wanted.result.now (omega (arith, so_far.wants_each)) in
     let given : c.cut_at-given.result ≡ capped (limit_of c.args.instance.now (c.loop-g.g - 1)) (get_or c.loop-g.want.items (c.loop-g.g - 1) 0) =
-    c.cut_at-given.ensures ∙ cut-capped c.limit_at-limit.result c.index-wanted.result.now ∙ rw (c.limit_at-limit.ensures, wanted) refl in
+    c.cut_at-given.ensures ∙ cut-capped c.limit-limit.result c.index-wanted.result.now ∙ rw (c.limit-limit.ensures, wanted) refl in
     gathered_root c.args.instance.now c.rows-rows.ensures.valid.tree (c.loop-g.g - 1) (omega arith) c.loop-g.want.items c.loop-g.most.items c.loop-g.tight.items
     so_far c.cut_at-given.result given c.is_below.result (no_parent _ other)
-    (c.is_below.ensures ∙ rw (c.limit_at-limit.ensures, wanted) refl)
+    (c.is_below.ensures ∙ rw (c.limit-limit.ensures, wanted) refl)
 
 pub returns : goal.returns
 returns c =
