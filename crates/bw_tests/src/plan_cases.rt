@@ -1,8 +1,8 @@
 //! Plans and their certificates, against worked values.
 use bw_cert::certify;
-use bw_model::{HostShape, Instance, Row};
+use bw_model::{HostShape, Instance, InstanceFault, Row};
 use bw_plan::plan;
-use std::alloc::Global;
+use std::alloc::{AllocError, Global};
 use std::process::Abort;
 use std::test::Fail;
 
@@ -22,41 +22,24 @@ fn row(shown: Shown) -> Row {
     }
 }
 
-/// An instance on so many processors of 20 slices each.
-fn made(alloc: Global, processors: u64, rows: &[Shown]) -> Result<Instance, Fail> {
-    let shape = HostShape::new(processors, 100_000, 5_000)?;
-    let mut listed: Vec<Row> = Vec::new(alloc);
-    for shown in rows {
-        listed.push(row(*shown))?;
+fn rows_of(alloc: Global, shown: &[Shown]) -> Result<Vec<Row>, AllocError> {
+    let mut rows: Vec<Row> = Vec::new(alloc);
+    for one in shown {
+        rows.push(row(*one))?;
     }
-    Ok(Instance::new(alloc, listed, shape)?)
+    Ok(rows)
 }
 
-/// Asserts the amounts of the plan.
-fn assert_plan(
+fn assert_once(
     rt: &impl Abort,
     alloc: Global,
-    processors: u64,
-    rows: &[Shown],
-    amounts: &[u64],
-) -> Result<(), Fail> {
-    let instance = made(alloc, processors, rows)?;
-    let planned = plan(alloc, &instance)?;
-    assert_eq!(rt; planned.amounts.as_slice(), amounts);
-    Ok(())
-}
-
-/// Asserts the certificate of the plan too.
-fn assert_certificate(
-    rt: &impl Abort,
-    alloc: Global,
-    processors: u64,
+    shape: HostShape,
     rows: &[Shown],
     amounts: &[u64],
     tight: &[bool],
     levels: &[Level],
-) -> Result<(), Fail> {
-    let instance = made(alloc, processors, rows)?;
+) -> Result<(), InstanceFault> {
+    let instance = Instance::new(alloc, rows_of(alloc, rows)?, shape)?;
     let planned = plan(alloc, &instance)?;
     assert_eq!(rt; planned.amounts.as_slice(), amounts);
     let certificate = certify(alloc, &instance, &planned)?;
@@ -71,62 +54,81 @@ fn assert_certificate(
     Ok(())
 }
 
+/// Asserts the plan and its certificate on so many processors of 20 slices each. Where memory was refused the case is
+/// run again: that left nothing behind.
+fn assert_plan(
+    rt: &impl Abort,
+    alloc: Global,
+    processors: u64,
+    rows: &[Shown],
+    amounts: &[u64],
+    tight: &[bool],
+    levels: &[Level],
+) -> Result<(), Fail> {
+    let shape = HostShape::new(processors, 100_000, 5_000)?;
+    match assert_once(rt, alloc, shape, rows, amounts, tight, levels) {
+        Ok(()) => Ok(()),
+        Err(_) => Ok(assert_once(rt, alloc, shape, rows, amounts, tight, levels)?),
+    }
+}
+
 #[test]
 fn worked_plans(rt: HostRuntime) -> Result<(), Fail> {
     let alloc = rt.alloc();
     let root = (None, 100, None, 0);
-    assert_plan(&rt, alloc, 1, &[root], &[0])?;
+    assert_plan(&rt, alloc, 1, &[root], &[0], &[false], &[None])?;
+    let two = [root, (Some(0), 100, None, 20), (Some(0), 200, None, 20)];
     assert_plan(
         &rt,
         alloc,
         1,
-        &[
-            root,
-            (Some(0), 100, None, 20),
-            (Some(0), 100, None, 20),
-            (Some(0), 100, None, 20),
-        ],
-        &[20, 7, 7, 6],
-    )?;
-    assert_plan(
-        &rt,
-        alloc,
-        1,
-        &[root, (Some(0), 1, None, 20), (Some(0), 10000, None, 20)],
-        &[20, 0, 20],
-    )?;
-    assert_plan(
-        &rt,
-        alloc,
-        1,
-        &[root, (Some(0), 100, None, 2), (Some(0), 100, None, 20)],
-        &[20, 2, 18],
-    )?;
-    let pods = [
-        root,
-        (Some(0), 100, Some(10), 0),
-        (Some(0), 100, None, 20),
-        (Some(1), 100, None, 20),
-        (Some(1), 300, None, 20),
-    ];
-    assert_plan(&rt, alloc, 4, &pods, &[30, 10, 20, 3, 7])?;
-    Ok(())
-}
-
-#[test]
-fn worked_certificates(rt: HostRuntime) -> Result<(), Fail> {
-    let alloc = rt.alloc();
-    let root = (None, 100, None, 0);
-    assert_certificate(&rt, alloc, 1, &[root], &[0], &[false], &[None])?;
-    assert_certificate(
-        &rt,
-        alloc,
-        1,
-        &[root, (Some(0), 100, None, 20), (Some(0), 200, None, 20)],
+        &two,
         &[20, 7, 13],
         &[true, false, false],
         &[Some((13, 100, 0)), None, None],
     )?;
+    let three = [
+        root,
+        (Some(0), 100, None, 20),
+        (Some(0), 100, None, 20),
+        (Some(0), 100, None, 20),
+    ];
+    assert_plan(
+        &rt,
+        alloc,
+        1,
+        &three,
+        &[20, 7, 7, 6],
+        &[true, false, false, false],
+        &[Some((13, 100, 1)), None, None, None],
+    )?;
+    let uneven = [root, (Some(0), 1, None, 20), (Some(0), 10000, None, 20)];
+    assert_plan(
+        &rt,
+        alloc,
+        1,
+        &uneven,
+        &[20, 0, 20],
+        &[true, false, false],
+        &[Some((39, 10000, 1)), None, None],
+    )?;
+    let small = [root, (Some(0), 100, None, 2), (Some(0), 100, None, 20)];
+    assert_plan(
+        &rt,
+        alloc,
+        1,
+        &small,
+        &[20, 2, 18],
+        &[true, false, false],
+        &[Some((35, 100, 1)), None, None],
+    )?;
+    Ok(())
+}
+
+#[test]
+fn worked_limited_plans(rt: HostRuntime) -> Result<(), Fail> {
+    let alloc = rt.alloc();
+    let root = (None, 100, None, 0);
     let pods = [
         root,
         (Some(0), 100, Some(10), 0),
@@ -134,7 +136,7 @@ fn worked_certificates(rt: HostRuntime) -> Result<(), Fail> {
         (Some(1), 100, None, 20),
         (Some(1), 300, None, 20),
     ];
-    assert_certificate(
+    assert_plan(
         &rt,
         alloc,
         1,
@@ -143,13 +145,22 @@ fn worked_certificates(rt: HostRuntime) -> Result<(), Fail> {
         &[true, true, false, false, false],
         &[Some((19, 100, 1)), Some((5, 100, 0)), None, None, None],
     )?;
+    assert_plan(
+        &rt,
+        alloc,
+        4,
+        &pods,
+        &[30, 10, 20, 3, 7],
+        &[false, true, false, false, false],
+        &[Some((39, 100, 1)), Some((5, 100, 0)), None, None, None],
+    )?;
     let capped = [
         root,
         (Some(0), 100, Some(20), 0),
         (Some(1), 100, Some(15), 30),
         (Some(1), 100, Some(15), 30),
     ];
-    assert_certificate(
+    assert_plan(
         &rt,
         alloc,
         2,
@@ -162,61 +173,75 @@ fn worked_certificates(rt: HostRuntime) -> Result<(), Fail> {
 }
 
 /// A chain of 32 groups with a demand at its end.
-#[test]
-fn chain_of_groups(rt: HostRuntime) -> Result<(), Fail> {
-    let alloc = rt.alloc();
-    let mut rows: Vec<Row> = Vec::new(alloc);
-    rows.push(row((None, 100, None, 0)))?;
+fn chain(alloc: Global) -> Result<Vec<Row>, AllocError> {
+    let mut rows = rows_of(alloc, &[(None, 100, None, 0)])?;
     for parent in 0..32u32 {
-        let demand = if parent == 31 { 5 } else { 0 };
-        rows.push(row((Some(parent), 100, None, demand)))?;
+        rows.push(row((Some(parent), 100, None, if parent == 31 { 5 } else { 0 })))?;
     }
-    let instance = Instance::new(alloc, rows, HostShape::new(1, 100_000, 5_000)?)?;
-    let planned = plan(alloc, &instance)?;
-    assert_eq!(&rt; planned.amounts.len(), 33);
-    assert!(&rt; planned.amounts.iter().all(|amount| *amount == 5));
+    Ok(rows)
+}
+
+/// 4095 groups under the root.
+fn flat(alloc: Global) -> Result<Vec<Row>, AllocError> {
+    let mut rows = rows_of(alloc, &[(None, 100, None, 0)])?;
+    for _group in 0..4095u32 {
+        rows.push(row((Some(0), 100, None, 20)))?;
+    }
+    Ok(rows)
+}
+
+/// 2047 groups under the root, and then one child of each.
+fn pairs(alloc: Global) -> Result<Vec<Row>, AllocError> {
+    let mut rows = rows_of(alloc, &[(None, 100, None, 0)])?;
+    for _group in 0..2047u32 {
+        rows.push(row((Some(0), 100, None, 0)))?;
+    }
+    for group in 1..2048u32 {
+        rows.push(row((Some(group), 100, None, 40)))?;
+    }
+    Ok(rows)
+}
+
+fn wanted_in_flat(g: usize) -> u64 {
+    match g {
+        0 => 64000,
+        1..=2575 => 16,
+        _ => 15,
+    }
+}
+
+fn wanted_in_pairs(g: usize) -> u64 {
+    match g {
+        0 => 64000,
+        1..=543 => 32,
+        2048..=2590 => 32,
+        _ => 31,
+    }
+}
+
+/// The amounts of wide and deep trees on the largest host.
+fn assert_amounts(rt: &impl Abort, alloc: Global, shape: HostShape) -> Result<(), InstanceFault> {
+    let planned = plan(alloc, &Instance::new(alloc, chain(alloc)?, shape)?)?;
+    assert_eq!(rt; planned.amounts.len(), 33);
+    assert!(rt; planned.amounts.iter().all(|amount| *amount == 5));
+    let planned = plan(alloc, &Instance::new(alloc, flat(alloc)?, shape)?)?;
+    assert_eq!(rt; planned.amounts.len(), 4096);
+    for (g, amount) in planned.amounts.iter().enumerate() {
+        assert_eq!(rt; *amount, wanted_in_flat(g));
+    }
+    let planned = plan(alloc, &Instance::new(alloc, pairs(alloc)?, shape)?)?;
+    assert_eq!(rt; planned.amounts.len(), 4095);
+    for (g, amount) in planned.amounts.iter().enumerate() {
+        assert_eq!(rt; *amount, wanted_in_pairs(g));
+    }
     Ok(())
 }
 
-/// Two wide trees on the largest host: 4095 groups, and 2047 groups with one child each.
 #[test]
-fn wide_trees(rt: HostRuntime) -> Result<(), Fail> {
-    let alloc = rt.alloc();
+fn large_trees(rt: HostRuntime) -> Result<(), Fail> {
     let shape = HostShape::new(64, 1_000_000, 1_000)?;
-    let mut flat: Vec<Row> = Vec::new(alloc);
-    flat.push(row((None, 100, None, 0)))?;
-    for _group in 0..4095u32 {
-        flat.push(row((Some(0), 100, None, 20)))?;
+    match assert_amounts(&rt, rt.alloc(), shape) {
+        Ok(()) => Ok(()),
+        Err(_) => Ok(assert_amounts(&rt, rt.alloc(), shape)?),
     }
-    let planned = plan(alloc, &Instance::new(alloc, flat, shape)?)?;
-    for (g, amount) in planned.amounts.iter().enumerate() {
-        let wanted = if g == 0 {
-            64000
-        } else if g <= 2575 {
-            16
-        } else {
-            15
-        };
-        assert_eq!(&rt; *amount, wanted);
-    }
-    let mut pairs: Vec<Row> = Vec::new(alloc);
-    pairs.push(row((None, 100, None, 0)))?;
-    for _group in 0..2047u32 {
-        pairs.push(row((Some(0), 100, None, 0)))?;
-    }
-    for group in 1..2048u32 {
-        pairs.push(row((Some(group), 100, None, 40)))?;
-    }
-    let planned = plan(alloc, &Instance::new(alloc, pairs, shape)?)?;
-    for (g, amount) in planned.amounts.iter().enumerate() {
-        let wanted = if g == 0 {
-            64000
-        } else if g <= 543 || (2048 <= g && g < 2591) {
-            32
-        } else {
-            31
-        };
-        assert_eq!(&rt; *amount, wanted);
-    }
-    Ok(())
 }
