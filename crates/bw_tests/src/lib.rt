@@ -23,3 +23,8 @@ mod shell_cases;
 mod stat_cases;
 #[cfg(test)]
 mod tree_cases;
+//! Tests that no clause replaces: worked values from outside, printed text, and memory that is refused.
+#![tactic(auto)]
+
+#[cfg(test)]
+mod split_cases;
