@@ -258,7 +258,7 @@ pub first-lined : (n : ℕ) (weights most : List ℕ) (size : ℕ) (xs ys : List
     IsLined mark_in n weights most (replicate size 0) xs → n < size → 0 < get_or most n 0 →
     x.0.num ≡ 1 → x.0.den ≡ get_or weights n 0 → x.0.place ≡ n → IsLined mark_in (n + 1) weights most (replicate size 0) ys
 first-lined n weights most size xs ys x perm lined below room num den place =
-    let z : get_or (replicate size 0) x.0.place 0 ≡ 0 = zeros size x.0.place in
+    let z : ◌≡◌ {A = ℕ} (get_or (replicate size 0) x.0.place 0) 0 = zeros size x.0.place in
     lined-more mark_in n weights most (replicate size 0) xs ys x lined
     (record {
       within = omega (arith, place, below, length-replicate {A = ℕ} size 0);
