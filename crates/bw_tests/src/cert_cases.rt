@@ -33,13 +33,15 @@ fn number_of(alloc: Global, text: &[u8]) -> u8 {
 /// What is written of what was read.
 fn written(alloc: Global, certified: &Certified) -> Result<String, AllocError> {
     let count = certified.instance.rows().len();
-    let tight = certified.certificate.tight.len();
-    let levels = certified.certificate.levels.len();
-    if certified.amounts.len() != count || tight != count || levels != count {
-        return Err(AllocError);
-    }
     let amounts = certified.amounts.as_slice();
-    write_certified(alloc, &certified.instance, amounts, &certified.certificate)
+    if amounts.len() == count
+        && certified.certificate.tight.len() == count
+        && certified.certificate.levels.len() == count
+    {
+        write_certified(alloc, &certified.instance, amounts, &certified.certificate)
+    } else {
+        Err(AllocError)
+    }
 }
 
 #[test]
@@ -59,14 +61,20 @@ fn worked_texts(rt: HostRuntime) -> Result<(), Fail> {
     }
     let certified = read(alloc, POD_AND_JOB.as_bytes())?;
     assert_eq!(rt; certified.amounts.as_slice(), [20, 10, 3, 7, 10].as_slice());
-    assert_eq!(rt; certified.certificate.tight.as_slice(), [true, true, false, false, false].as_slice());
+    assert_eq!(rt;
+        certified.certificate.tight.as_slice(),
+        [true, true, false, false, false].as_slice()
+    );
     Ok(())
 }
 
 #[test]
 fn refusals(rt: HostRuntime) {
     let cases: [(&str, u8); 32] = [
-        ("bw 1 1 100000 5000 1\n- 100 max 0 0 0 -\n0 100 max 0 0 0 -\n", 43),
+        (
+            "bw 1 1 100000 5000 1\n- 100 max 0 0 0 -\n0 100 max 0 0 0 -\n",
+            43,
+        ),
         ("bw 1 1 100000 5000 1\n- 100 max 0 0 0 -\n\n", 43),
         ("bw 1 1 100000 5000 1\n- 0100 max 0 0 0 -\n", 41),
         ("bw 1 1 100000 5000 1\n-  100 max 0 0 0 -\n", 40),
@@ -79,8 +87,14 @@ fn refusals(rt: HostRuntime) {
         ("bw 1 1 100000 5000 1\n- 100 max 0 0 0 0/13@0\n", 41),
         ("bw 1 1 100000 5000 1\n- 100 max 0 0 0 1/1@4294967296\n", 41),
         ("bw 1 1 100000 5000 1\n- 100 max 0 0 0 1/1@4294967295\n", 0),
-        ("bw 1 1 100000 5000 1\n- 100 max 0 18446744073709551615 0 18446744073709551615/1@0\n", 0),
-        ("bw 1 1 100000 5000 1\n- 100 max 0 18446744073709551616 0 -\n", 41),
+        (
+            "bw 1 1 100000 5000 1\n- 100 max 0 18446744073709551615 0 18446744073709551615/1@0\n",
+            0,
+        ),
+        (
+            "bw 1 1 100000 5000 1\n- 100 max 0 18446744073709551616 0 -\n",
+            41,
+        ),
         ("bw 1 1 100000 5000 1\n- 100 max 0 0 2 -\n", 41),
         ("bw 1 1 100000 5000 1\n- 100 max 0 0 0 \u{e9}\n", 41),
         ("bw 2 1 100000 5000 1\n", 41),
@@ -97,7 +111,10 @@ fn refusals(rt: HostRuntime) {
         ("bw 1 1 100000 5000 1\n4294967295 100 max 0 0 0 -\n", 5),
         ("bw 1 1 100000 5000 1\n- 100 5 0 0 0 -\n", 10),
         ("bw 1 1 100000 5000 1\n- 100 max 1000001 0 0 -\n", 9),
-        ("bw 1 1 100000 5000 2\n- 100 max 1 0 0 -\n0 100 max 0 0 0 -\n", 8),
+        (
+            "bw 1 1 100000 5000 2\n- 100 max 1 0 0 -\n0 100 max 0 0 0 -\n",
+            8,
+        ),
     ];
     for (text, wanted) in cases {
         assert_eq!(rt; number_of(rt.alloc(), text.as_bytes()), wanted, "{text}");

@@ -5,7 +5,8 @@ use bw_model::{Quota, Stat};
 use std::alloc::{AllocError, Global};
 use std::test::Fail;
 
-const HUNDRED_NINES: &[u8] = b"9999999999999999999999999999999999999999999999999999999999999999999999999999999999999999999999999999";
+const HUNDRED_NINES: &[u8] =
+    b"9999999999999999999999999999999999999999999999999999999999999999999999999999999999999999999999999999";
 
 /// As many bytes of this kind as a line of a script may have.
 fn filled(alloc: Global, byte: u8) -> Result<Vec<u8>, AllocError> {
@@ -16,7 +17,10 @@ fn filled(alloc: Global, byte: u8) -> Result<Vec<u8>, AllocError> {
 }
 
 /// The second answer where memory ran out at the first.
-fn settled(first: Result<String, AllocError>, second: Result<String, AllocError>) -> Result<String, AllocError> {
+fn settled(
+    first: Result<String, AllocError>,
+    second: Result<String, AllocError>,
+) -> Result<String, AllocError> {
     match first {
         Ok(text) => Ok(text),
         Err(_) => second,
@@ -43,13 +47,28 @@ fn weights(rt: HostRuntime) -> Result<(), Fail> {
         assert_eq!(rt; read_weight(text).map_err(|fault| fault.number()), wanted);
     }
     let digits = filled(rt.alloc(), b'9')?;
-    assert_eq!(rt; read_weight(digits.as_slice()).map_err(|fault| fault.number()), Err(12));
+    assert_eq!(rt;
+        read_weight(digits.as_slice()).map_err(|fault| fault.number()),
+        Err(12)
+    );
     let zeros = filled(rt.alloc(), b'0')?;
-    assert_eq!(rt; read_weight(zeros.as_slice()).map_err(|fault| fault.number()), Err(11));
+    assert_eq!(rt;
+        read_weight(zeros.as_slice()).map_err(|fault| fault.number()),
+        Err(11)
+    );
     let blanks = filled(rt.alloc(), b' ')?;
-    assert_eq!(rt; read_weight(blanks.as_slice()).map_err(|fault| fault.number()), Err(17));
-    assert_eq!(rt; read_max(digits.as_slice()).map_err(|fault| fault.number()), Err(14));
-    assert_eq!(rt; read_max(blanks.as_slice()).map_err(|fault| fault.number()), Err(17));
+    assert_eq!(rt;
+        read_weight(blanks.as_slice()).map_err(|fault| fault.number()),
+        Err(17)
+    );
+    assert_eq!(rt;
+        read_max(digits.as_slice()).map_err(|fault| fault.number()),
+        Err(14)
+    );
+    assert_eq!(rt;
+        read_max(blanks.as_slice()).map_err(|fault| fault.number()),
+        Err(17)
+    );
     Ok(())
 }
 
@@ -62,7 +81,10 @@ fn limits(rt: HostRuntime) {
     let cases: [(&[u8], Result<MaxWrite, u8>); 18] = [
         (b"1000 100000", asked(Quota::Micros(1000), Some(100_000))),
         (b"999", Err(13)),
-        (b"1000000000000000", asked(Quota::Micros(1_000_000_000_000_000), None)),
+        (
+            b"1000000000000000",
+            asked(Quota::Micros(1_000_000_000_000_000), None),
+        ),
         (b"1000000000000001", Err(14)),
         (HUNDRED_NINES, Err(14)),
         (b"50000", asked(Quota::Micros(50_000), None)),
@@ -89,10 +111,16 @@ fn written_texts(rt: HostRuntime) -> Result<(), Fail> {
     let alloc = rt.alloc();
     let weight = settled(write_weight(alloc, 100), write_weight(alloc, 100))?;
     assert_eq!(rt; weight.as_str(), "100\n");
-    let none = settled(write_max(alloc, Quota::Max, 100_000), write_max(alloc, Quota::Max, 100_000))?;
+    let none = settled(
+        write_max(alloc, Quota::Max, 100_000),
+        write_max(alloc, Quota::Max, 100_000),
+    )?;
     assert_eq!(rt; none.as_str(), "max 100000\n");
     let quota = Quota::Micros(50_000);
-    let some = settled(write_max(alloc, quota, 100_000), write_max(alloc, quota, 100_000))?;
+    let some = settled(
+        write_max(alloc, quota, 100_000),
+        write_max(alloc, quota, 100_000),
+    )?;
     assert_eq!(rt; some.as_str(), "50000 100000\n");
     let stat = Stat {
         usage_usec: 50_000,
@@ -100,9 +128,18 @@ fn written_texts(rt: HostRuntime) -> Result<(), Fail> {
         nr_throttled: 1,
         throttled_usec: 150_000,
     };
-    let root = settled(write_stat(alloc, &stat, true), write_stat(alloc, &stat, true))?;
+    let root = settled(
+        write_stat(alloc, &stat, true),
+        write_stat(alloc, &stat, true),
+    )?;
     assert_eq!(rt; root.as_str(), "usage_usec 50000\n");
-    let group = settled(write_stat(alloc, &stat, false), write_stat(alloc, &stat, false))?;
-    assert_eq!(rt; group.as_str(), "usage_usec 50000\nnr_periods 1\nnr_throttled 1\nthrottled_usec 150000\n");
+    let group = settled(
+        write_stat(alloc, &stat, false),
+        write_stat(alloc, &stat, false),
+    )?;
+    assert_eq!(rt;
+        group.as_str(),
+        "usage_usec 50000\nnr_periods 1\nnr_throttled 1\nthrottled_usec 150000\n"
+    );
     Ok(())
 }

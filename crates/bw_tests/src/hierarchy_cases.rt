@@ -17,10 +17,6 @@ enum Ask<'a> {
     Write(&'a str, &'a [u8]),
 }
 
-fn is_memory(fault: Fault) -> bool {
-    fault == Fault::Tree(TreeFault::OutOfMemory)
-}
-
 /// The root of a host with one processor of 20 slices of 5000 microseconds.
 fn new_hierarchy(alloc: Global) -> Result<Hierarchy, Fail> {
     let shape = HostShape::new(1, 100_000, 5000)?;
@@ -45,10 +41,10 @@ fn once(hierarchy: &mut Hierarchy, path: &str, ask: Ask) -> Result<(), Fault> {
 /// Asserts the number of the refusal, 0 for none.
 fn assert_answers(rt: &impl Abort, hierarchy: &mut Hierarchy, cases: &[(&str, Ask, u32)]) {
     for (path, ask, wanted) in cases {
-        let mut answer = once(hierarchy, path, *ask);
-        if answer.is_err_and(is_memory) {
-            answer = once(hierarchy, path, *ask);
-        }
+        let answer = match once(hierarchy, path, *ask) {
+            Err(Fault::Tree(TreeFault::OutOfMemory)) => once(hierarchy, path, *ask),
+            other => other,
+        };
         let number = match answer {
             Ok(()) => 0,
             Err(fault) => fault.number(),
@@ -57,7 +53,13 @@ fn assert_answers(rt: &impl Abort, hierarchy: &mut Hierarchy, cases: &[(&str, As
     }
 }
 
-fn assert_reads(rt: &impl Abort, hierarchy: &Hierarchy, path: &str, file: &str, wanted: Result<&str, u32>) {
+fn assert_reads(
+    rt: &impl Abort,
+    hierarchy: &Hierarchy,
+    path: &str,
+    file: &str,
+    wanted: Result<&str, u32>,
+) {
     let answer = match hierarchy.read_file(path, file) {
         Err(Fault::Tree(TreeFault::OutOfMemory)) => hierarchy.read_file(path, file),
         other => other,
@@ -83,7 +85,7 @@ fn last_limit(hierarchy: &Hierarchy) -> Result<Option<u64>, Fault> {
 #[test]
 fn paths(rt: HostRuntime) -> Result<(), Fail> {
     let mut hierarchy = new_hierarchy(rt.alloc())?;
-    let cases = [
+    let cases: [(&str, Ask, u32); 31] = [
         ("a", Ask::Mkdir, 0),
         ("a/b", Ask::Mkdir, 0),
         ("a", Ask::Rmdir, 23),
@@ -129,19 +131,33 @@ fn files(rt: HostRuntime) -> Result<(), Fail> {
     let limits: [(&[u8], u32, &str, Option<u64>); 8] = [
         (b"1000 100000", 0, "1000 100000\n", Some(0)),
         (b"999", 13, "1000 100000\n", Some(0)),
-        (b"1000000000000000", 0, "1000000000000000 100000\n", Some(200_000_000_000)),
-        (b"1000000000000001", 14, "1000000000000000 100000\n", Some(200_000_000_000)),
+        (
+            b"1000000000000000",
+            0,
+            "1000000000000000 100000\n",
+            Some(200_000_000_000),
+        ),
+        (
+            b"1000000000000001",
+            14,
+            "1000000000000000 100000\n",
+            Some(200_000_000_000),
+        ),
         (b"50000", 0, "50000 100000\n", Some(10)),
         (b"50000 999", 15, "50000 100000\n", Some(10)),
         (b"1 2 3", 16, "50000 100000\n", Some(10)),
         (b"max", 0, "max 100000\n", None),
     ];
     for (text, wanted, after, slices) in limits {
-        assert_answers(&rt, &mut hierarchy, &[("a", Ask::Write("cpu.max", text), wanted)]);
+        assert_answers(
+            &rt,
+            &mut hierarchy,
+            &[("a", Ask::Write("cpu.max", text), wanted)],
+        );
         assert_reads(&rt, &hierarchy, "a", "cpu.max", Ok(after));
         assert_eq!(rt; last_limit(&hierarchy)?, slices);
     }
-    let others = [
+    let others: [(&str, Ask, u32); 12] = [
         ("a", Ask::Write("cpu.max", b"50000 200000"), 32),
         ("a", Ask::Write("cpu.weight", b"0"), 12),
         ("a", Ask::Write("cpu.weight", b"10001"), 12),
@@ -194,7 +210,16 @@ fn built(
 #[test]
 fn builders(rt: HostRuntime) -> Result<(), Fail> {
     let mut hierarchy = new_hierarchy(rt.alloc())?;
-    assert!(rt; built(&mut hierarchy, "p/q", Some(300), Some(50_000), Some(100_000)).is_ok());
+    assert!(rt;
+        built(
+            &mut hierarchy,
+            "p/q",
+            Some(300),
+            Some(50_000),
+            Some(100_000)
+        )
+        .is_ok()
+    );
     assert_reads(&rt, &hierarchy, "p", "cpu.weight", Ok("100\n"));
     assert_reads(&rt, &hierarchy, "p", "cpu.max", Ok("max 100000\n"));
     assert_reads(&rt, &hierarchy, "p/q", "cpu.weight", Ok("300\n"));
@@ -219,7 +244,11 @@ fn builders(rt: HostRuntime) -> Result<(), Fail> {
 #[test]
 fn controllers(rt: HostRuntime) -> Result<(), Fail> {
     let mut hierarchy = new_hierarchy(rt.alloc())?;
-    assert_answers(&rt, &mut hierarchy, &[("a", Ask::Mkdir, 0), ("a/b", Ask::Mkdir, 0)]);
+    assert_answers(
+        &rt,
+        &mut hierarchy,
+        &[("a", Ask::Mkdir, 0), ("a/b", Ask::Mkdir, 0)],
+    );
     let group = Cgroup::load(&hierarchy, "a/b")?;
     let cpu = group.cpu();
     let settings: [(Option<i64>, Option<u64>, u32, i64); 10] = [
@@ -245,18 +274,47 @@ fn controllers(rt: HostRuntime) -> Result<(), Fail> {
     }
     assert_reads(&rt, &hierarchy, "a/b", "cpu.max", Ok("max 100000\n"));
     assert!(rt; cpu.set_shares(&mut hierarchy, 300) == Ok(()));
-    assert!(rt; cpu.set_shares(&mut hierarchy, 10_001).map_err(|fault| fault.number()) == Err(12));
+    assert!(rt;
+        cpu.set_shares(&mut hierarchy, 10_001)
+            .map_err(|fault| fault.number())
+            == Err(12)
+    );
     assert!(rt; cpu.shares(&hierarchy) == Ok(300));
     let root = hierarchy.root_control_group().cpu();
     let above = Cgroup::load(&hierarchy, "a")?;
-    assert!(rt; above.delete(&mut hierarchy).map_err(|kept| (kept.fault.number(), kept.cgroup.id)) == Err((23, 1)));
+    assert!(rt;
+        above
+            .delete(&mut hierarchy)
+            .map_err(|kept| (kept.fault.number(), kept.cgroup.id))
+            == Err((23, 1))
+    );
     assert!(rt; group.delete(&mut hierarchy) == Ok(()));
     for (removed, wanted) in [(cpu, 20), (root, 26)] {
         assert!(rt; removed.shares(&hierarchy).map_err(|fault| fault.number()) == Err(wanted));
-        assert!(rt; removed.set_shares(&mut hierarchy, 0).map_err(|fault| fault.number()) == Err(wanted));
-        assert!(rt; removed.cfs_quota(&hierarchy).map_err(|fault| fault.number()) == Err(wanted));
-        assert!(rt; removed.cfs_period(&hierarchy).map_err(|fault| fault.number()) == Err(wanted));
-        assert!(rt; removed.set_cfs_quota_and_period(&mut hierarchy, None, None).map_err(|fault| fault.number()) == Err(wanted));
+        assert!(rt;
+            removed
+                .set_shares(&mut hierarchy, 0)
+                .map_err(|fault| fault.number())
+                == Err(wanted)
+        );
+        assert!(rt;
+            removed
+                .cfs_quota(&hierarchy)
+                .map_err(|fault| fault.number())
+                == Err(wanted)
+        );
+        assert!(rt;
+            removed
+                .cfs_period(&hierarchy)
+                .map_err(|fault| fault.number())
+                == Err(wanted)
+        );
+        assert!(rt;
+            removed
+                .set_cfs_quota_and_period(&mut hierarchy, None, None)
+                .map_err(|fault| fault.number())
+                == Err(wanted)
+        );
     }
     assert!(rt; Cgroup::load(&hierarchy, "a/b").map_err(|fault| fault.number()) == Err(20));
     Ok(())
