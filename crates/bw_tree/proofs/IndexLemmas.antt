@@ -1,8 +1,8 @@
 -- The index of children, after each change of the groups.
-use Rattle.std.proofs.Common.{◌≡◌, ◌≢◌, ◌⊎◌, inl, inr, ℕ, ◌<◌, Bool, true, false, cond, ◌||◌, ◌&&◌, List, [], ◌∷◌, ◌++◌, Option, Some, None, is_some, refl, sym, ap, subst, ◌∙◌, arith, eqb}
+use Rattle.std.proofs.Common.{◌≡◌, ◌≢◌, ℕ, ◌<◌, Bool, true, false, cond, ◌||◌, List, [], ◌∷◌, ◌++◌, Option, Some, None, is_some, refl, sym, ap, ◌∙◌, arith, eqb}
 use Rattle.std.proofs.lemmas.Bool.{and_parts, and_from, eq-eqb, ne_eqb, eqb-true}
 use Rattle.std.specs.List.{AllZip}
-use Rattle.std.specs.Map.{set_value, remove_entry}
+use Rattle.std.specs.Map.{remove_entry}
 use Rattle.std.specs.Str.{bytes_eq}
 use Rattle.std.specs.Cmp.Lexicographic.{bytes_decides}
 use Rattle.std.specs.BTreeMap.{BTreeMap, get}
@@ -11,7 +11,7 @@ use Rattle.std.specs.declared.string.String.{String}
 use Rattle.std.specs.declared.alloc.Global.{Global}
 use Rattle.bw_tree.specs.declared.child_index.ChildIndex.{ChildIndex}
 use Rattle.bw_tree.specs.Children.{named, child_at, is_listed, AnswersAs, AreNamed, IsIndexOf}
-use Rattle.bw_tree.specs.Groups.{GroupFields, TreeState, group_at, has_group, has_children, is_parent, is_child_named, child_of, IsTree, AllAfter, AreRising}
+use Rattle.bw_tree.specs.Groups.{GroupFields, TreeState, group_at, has_children, is_parent, is_child_named, child_of, IsTree, AllAfter, AreRising}
 use Rattle.bw_tree.specs.Tree.{changed, changed_at, new_group}
 use Rattle.bw_tree.proofs.GroupLemmas.{children_push, child_push, child_push_old, bytes_eq_same}
 use Rattle.bw_tree.proofs.SetLemmas.{child_set, children_set}

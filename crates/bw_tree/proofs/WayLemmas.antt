@@ -1,17 +1,17 @@
 -- The way from the root down to a group: the names on it find the group, and no other names do.
-use Rattle.std.proofs.Common.{◌≡◌, ◌≢◌, ◌⊎◌, inl, inr, ℕ, suc, zero, ◌+◌, ◌<◌, ◌≤◌, Bool, true, false, cond, ◌&&◌, not, List, [], ◌∷◌, ◌++◌, length, Option, Some, None, is_some, refl, sym, ap, subst, ◌∙◌, arith, eqb, append_assoc, count_by}
-use Rattle.std.specs.Prelude.{◌↔◌, codes}
+use Rattle.std.proofs.Common.{◌≡◌, ◌≢◌, ℕ, suc, zero, ◌<◌, ◌≤◌, Bool, true, false, cond, ◌&&◌, not, List, [], ◌∷◌, ◌++◌, length, Option, Some, None, is_some, refl, sym, ap, ◌∙◌, arith, eqb, append_assoc}
+use Rattle.std.specs.Prelude.{codes}
 use Rattle.std.specs.List.{list_all, All, slice_split, join_with_byte}
 use Rattle.std.specs.Str.{bytes_eq}
 use Rattle.std.specs.Cmp.Lexicographic.{bytes_decides}
-use Rattle.std.proofs.lemmas.Bool.{and_parts, and_from, eq-eqb, ne_eqb, eqb-true, eqb-false}
+use Rattle.std.proofs.lemmas.Bool.{and_parts, and_from, eq-eqb, ne_eqb, eqb-true}
 use Rattle.std.proofs.lemmas.List.{append-nil}
 use Rattle.std.proofs.lemmas.List.Sums.{AllPass-from_list_all}
 use Rattle.std.proofs.lemmas.List.Folds.{list_all-append}
 use Rattle.std.proofs.lemmas.List.Splits.{join_with_byte-slice_split, length-slice_split, slice_split_none, slice_split_at}
-use Rattle.bw_tree.specs.Groups.{GroupFields, TreeState, group_at, has_group, parent_of, child_of, onward, walk, find_path, is_name, is_name_byte, IsTree}
+use Rattle.bw_tree.specs.Groups.{GroupFields, TreeState, group_at, has_group, child_of, onward, walk, find_path, is_name, is_name_byte, IsTree}
 use Rattle.bw_tree.specs.Paths.{with_name, names_at, names_within, names_to, path_at, IsInverse, AreNamesUnique}
-use Rattle.bw_tree.proofs.GroupLemmas.{some_of, not_false, bytes_eq_same}
+use Rattle.bw_tree.proofs.GroupLemmas.{some_of}
 use Rattle.bw_tree.proofs.IndexLemmas.{child_found, named_is}
 
 inside : {A : Type 0} {a b : A} → Some a ≡ Some b → a ≡ b

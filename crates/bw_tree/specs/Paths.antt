@@ -1,7 +1,7 @@
 -- The path of a group.
 use Rattle.std.specs.Prelude.{◌≡◌, ◌↔◌, ℕ, suc, zero, ◌==◌, not, if◌then◌else◌, List, [], ◌∷◌, ◌++◌, Option, Some, None, codes}
 use Rattle.std.specs.List.{join_with_byte}
-use Rattle.bw_tree.specs.Groups.{GroupFields, TreeState, IsTree, group_at, has_group, find_path}
+use Rattle.bw_tree.specs.Groups.{GroupFields, group_at, has_group, find_path}
 
 -- the names down to the parent, and then the group's own; the root has none
 abbrev pub with_name : (ℕ → List (List ℕ)) → List ℕ → Option ℕ → List (List ℕ)

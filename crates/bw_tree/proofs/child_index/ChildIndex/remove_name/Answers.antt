@@ -1,4 +1,4 @@
-use Rattle.std.proofs.Common.{◌≡◌, ◌⊎◌, inl, inr, ℕ, true, false, not, None, is_some, refl, sym, ap, ◌∙◌, eqb}
+use Rattle.std.proofs.Common.{◌≡◌, true, false, not, None, is_some, sym, ap, ◌∙◌}
 use Rattle.std.proofs.lemmas.Map.Text.{btree_map_updates_text}
 use Rattle.bw_tree.specs.Children.{named}
 use Rattle.bw_tree.proofs.ChildIndexLemmas.{nested, written, listed_moved, listed_again, some_text, no_text, none_in, moved_here}

@@ -1,6 +1,6 @@
-use Rattle.std.proofs.Common.{◌≡◌, sym, ap, subst, ◌∙◌}
+use Rattle.std.proofs.Common.{sym, ap, subst, ◌∙◌}
 use Rattle.bw_tree.specs.Groups.{TreeState, IsTree}
-use Rattle.bw_tree.specs.Children.{AreNamed, IsIndexedTree}
+use Rattle.bw_tree.specs.Children.{AreNamed}
 use Rattle.bw_tree.proofs.IndexLemmas.{tree_named, same_entries}
 use Rattle.bw_tree.proofs.tree.Tree.copy.Goals as goal
 
