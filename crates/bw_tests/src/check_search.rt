@@ -137,10 +137,13 @@ fn greatest_last(
             if row.parent == Some(g) {
                 let num = amount.saturating_mul(2).saturating_sub(1);
                 if let Some(last) = Mark::new(num, row.weight, place) {
-                    level = match level {
-                        Some(mark) if last <= mark => Some(mark),
-                        _ => Some(last),
+                    let is_greater = match level {
+                        None => true,
+                        Some(mark) => mark < last,
                     };
+                    if is_greater {
+                        level = Some(last);
+                    }
                 }
                 place = place.saturating_add(1);
             }

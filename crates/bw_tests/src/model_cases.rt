@@ -7,8 +7,18 @@ use std::test::Fail;
 #[test]
 fn hosts(rt: HostRuntime) -> Result<(), Fail> {
     let refused = [
-        ((0, 100_000, 5_000), HostFault::BadProcessors, 1u8, "BadProcessors"),
-        ((65, 100_000, 5_000), HostFault::BadProcessors, 1, "BadProcessors"),
+        (
+            (0, 100_000, 5_000),
+            HostFault::BadProcessors,
+            1u8,
+            "BadProcessors",
+        ),
+        (
+            (65, 100_000, 5_000),
+            HostFault::BadProcessors,
+            1,
+            "BadProcessors",
+        ),
         ((0, 999, 999), HostFault::BadProcessors, 1, "BadProcessors"),
         ((1, 999, 1_000), HostFault::BadPeriod, 2, "BadPeriod"),
         ((1, 1_000_001, 1_000), HostFault::BadPeriod, 2, "BadPeriod"),
@@ -42,8 +52,16 @@ fn quotas(rt: HostRuntime) {
         (Quota::Micros(1_000), true, Some(0)),
         (Quota::Micros(14_999), true, Some(2)),
         (Quota::Micros(15_000), true, Some(3)),
-        (Quota::Micros(1_000_000_000_000_000), true, Some(200_000_000_000)),
-        (Quota::Micros(1_000_000_000_000_001), false, Some(200_000_000_000)),
+        (
+            Quota::Micros(1_000_000_000_000_000),
+            true,
+            Some(200_000_000_000),
+        ),
+        (
+            Quota::Micros(1_000_000_000_000_001),
+            false,
+            Some(200_000_000_000),
+        ),
     ];
     for (quota, valid, slices) in cases {
         assert_eq!(rt; quota.is_valid(), valid);
@@ -107,24 +125,68 @@ fn refused_rows(rt: HostRuntime) -> Result<(), Fail> {
     let root = idle(None);
     let child = idle(Some(0));
     let weightless = Row { weight: 0, ..child };
-    let heavy = Row { weight: 10_001, ..child };
+    let heavy = Row {
+        weight: 10_001,
+        ..child
+    };
     let busy = Row { demand: 1, ..child };
-    let greedy = Row { demand: 1_000_001, ..child };
-    let limited_root = Row { limit: Some(20), ..root };
+    let greedy = Row {
+        demand: 1_000_001,
+        ..child
+    };
+    let limited_root = Row {
+        limit: Some(20),
+        ..root
+    };
     let below_first = idle(Some(1));
     let cases: [(&[Row], InstanceFault, u8, &str); 11] = [
         (&[], InstanceFault::BadParent, 5, "BadParent"),
         (&[child], InstanceFault::BadParent, 5, "BadParent"),
         (&[root, root], InstanceFault::BadParent, 5, "BadParent"),
-        (&[root, below_first], InstanceFault::BadParent, 5, "BadParent"),
-        (&[root, weightless, below_first], InstanceFault::BadWeight, 6, "BadWeight"),
+        (
+            &[root, below_first],
+            InstanceFault::BadParent,
+            5,
+            "BadParent",
+        ),
+        (
+            &[root, weightless, below_first],
+            InstanceFault::BadWeight,
+            6,
+            "BadWeight",
+        ),
         (&[root, heavy], InstanceFault::BadWeight, 6, "BadWeight"),
-        (&[root, busy, below_first], InstanceFault::InnerDemand, 8, "InnerDemand"),
-        (&[root, greedy], InstanceFault::DemandTooLarge, 9, "DemandTooLarge"),
-        (&[limited_root, child], InstanceFault::RootLimited, 10, "RootLimited"),
+        (
+            &[root, busy, below_first],
+            InstanceFault::InnerDemand,
+            8,
+            "InnerDemand",
+        ),
+        (
+            &[root, greedy],
+            InstanceFault::DemandTooLarge,
+            9,
+            "DemandTooLarge",
+        ),
+        (
+            &[limited_root, child],
+            InstanceFault::RootLimited,
+            10,
+            "RootLimited",
+        ),
         // the least number that applies to any row
-        (&[limited_root, greedy, weightless], InstanceFault::BadWeight, 6, "BadWeight"),
-        (&[limited_root, greedy, below_first], InstanceFault::InnerDemand, 8, "InnerDemand"),
+        (
+            &[limited_root, greedy, weightless],
+            InstanceFault::BadWeight,
+            6,
+            "BadWeight",
+        ),
+        (
+            &[limited_root, greedy, below_first],
+            InstanceFault::InnerDemand,
+            8,
+            "InnerDemand",
+        ),
     ];
     for (rows, fault, number, name) in cases {
         assert_refused(&rt, alloc, rows, fault, number, name)?;
@@ -141,8 +203,18 @@ fn long_and_deep_rows(rt: HostRuntime) -> Result<(), Fail> {
     }
     let instance = made(alloc, flat.as_slice())?;
     assert_eq!(rt; instance.rows().len(), 4096);
-    flat.push(Row { weight: 0, ..idle(None) })?;
-    assert_refused(&rt, alloc, flat.as_slice(), InstanceFault::TooMany, 4, "TooMany")?;
+    flat.push(Row {
+        weight: 0,
+        ..idle(None)
+    })?;
+    assert_refused(
+        &rt,
+        alloc,
+        flat.as_slice(),
+        InstanceFault::TooMany,
+        4,
+        "TooMany",
+    )?;
     let mut chain = listed(alloc, &[idle(None)])?;
     for above in 0..32u32 {
         chain.push(idle(Some(above)))?;
@@ -151,14 +223,34 @@ fn long_and_deep_rows(rt: HostRuntime) -> Result<(), Fail> {
     assert!(rt; instance.rows().len() == 33);
     assert_eq!(rt; instance.path_up(32).len(), 33);
     chain.push(idle(Some(32)))?;
-    assert_refused(&rt, alloc, chain.as_slice(), InstanceFault::TooDeep, 7, "TooDeep")
+    assert_refused(
+        &rt,
+        alloc,
+        chain.as_slice(),
+        InstanceFault::TooDeep,
+        7,
+        "TooDeep",
+    )
 }
 
 #[test]
 fn readers(rt: HostRuntime) -> Result<(), Fail> {
     let alloc = rt.alloc();
-    let busy = Row { demand: 20, limit: Some(10), ..idle(Some(1)) };
-    let instance = made(alloc, &[idle(None), idle(Some(0)), busy, idle(Some(0)), idle(Some(1))])?;
+    let busy = Row {
+        demand: 20,
+        limit: Some(10),
+        ..idle(Some(1))
+    };
+    let instance = made(
+        alloc,
+        &[
+            idle(None),
+            idle(Some(0)),
+            busy,
+            idle(Some(0)),
+            idle(Some(1)),
+        ],
+    )?;
     assert!(rt; instance.rows().len() == 5);
     assert!(rt; instance.row(2) == busy);
     assert!(rt; instance.shape().capacity() == 20);
