@@ -18,13 +18,8 @@ struct Setting<'a> {
     amounts: &'a [u64],
 }
 
-/// Some calls from a new pool with their replies, and what is drawn of each group in the end.
-#[derive(Clone, Copy)]
-struct Case<'a> {
-    setting: Setting<'a>,
-    calls: &'a [(u32, PoolCall, PoolReply)],
-    drawn: &'a [u64],
-}
+/// A call of a seat, and the reply that it is to have.
+type Wanted = (u32, PoolCall, PoolReply);
 
 fn draw(leaf: u32, ask: u64) -> PoolCall {
     PoolCall::Draw { leaf, ask }
@@ -92,105 +87,134 @@ fn call_by_events(
     Ok(())
 }
 
-/// Asserts a case by steps and by the core.
-fn assert_case(rt: &impl Abort, alloc: Global, case: &Case) -> Result<(), AllocError> {
-    let mut pool = opened(rt, alloc, &case.setting)?;
-    let mut core = Core::new(alloc, opened(rt, alloc, &case.setting)?, 2)?;
-    for (seat, call, reply) in case.calls {
+/// Asserts the replies to calls from a new pool, and what is drawn of each group in the end, by steps and by the core.
+fn assert_replies(
+    rt: &impl Abort,
+    alloc: Global,
+    setting: &Setting,
+    calls: &[Wanted],
+    drawn: &[u64],
+) -> Result<(), AllocError> {
+    let mut pool = opened(rt, alloc, setting)?;
+    let mut core = Core::new(alloc, opened(rt, alloc, setting)?, 2)?;
+    for (seat, call, reply) in calls {
         assert_eq!(rt; step(&mut pool, *seat, call), *reply);
         call_by_events(rt, &mut core, *seat, *call)?;
     }
-    assert_eq!(rt; pool.all_drawn(), case.drawn);
-    assert_eq!(rt; core.pool().all_drawn(), case.drawn);
-    assert_eq!(rt; core.history().len(), case.calls.len());
-    for (entry, (seat, call, reply)) in core.history().iter().zip(case.calls) {
+    assert_eq!(rt; pool.all_drawn(), drawn);
+    assert_eq!(rt; core.pool().all_drawn(), drawn);
+    assert_eq!(rt; core.history().len(), calls.len());
+    for (entry, (seat, call, reply)) in core.history().iter().zip(calls) {
         assert!(rt; entry.seat == *seat && entry.call == *call && entry.reply == *reply);
     }
     Ok(())
 }
 
-/// Asserts cases, each once more where it was refused memory.
-fn assert_cases(rt: &impl Abort, alloc: Global, cases: &[Case]) -> Result<(), AllocError> {
-    for case in cases {
-        if assert_case(rt, alloc, case).is_err() {
-            assert_case(rt, alloc, case)?;
-        }
+/// The same, once more where memory was refused.
+fn assert_case(
+    rt: &impl Abort,
+    alloc: Global,
+    setting: &Setting,
+    calls: &[Wanted],
+    drawn: &[u64],
+) -> Result<(), AllocError> {
+    if assert_replies(rt, alloc, setting, calls, drawn).is_err() {
+        assert_replies(rt, alloc, setting, calls, drawn)?;
     }
     Ok(())
 }
 
+/// A leaf with 3 slices under the root.
+fn leaf_with_three(processors: u64) -> Setting<'static> {
+    Setting {
+        processors,
+        period_us: 100_000,
+        parents: &[None, Some(0)],
+        amounts: &[3, 3],
+    }
+}
+
 #[test]
-fn replies(rt: HostRuntime) -> Result<(), Fail> {
-    let leaf = [None, Some(0)];
-    let chain = [None, Some(0), Some(1)];
-    let cases = [
-        Case {
-            setting: Setting { processors: 2, period_us: 100_000, parents: &leaf, amounts: &[3, 3] },
-            calls: &[
-                (0, draw(1, 2), granted(2, None)),
-                (1, draw(1, 2), granted(1, Some(Short::Group(1)))),
-                (0, PoolCall::Look { group: 1 }, PoolReply::Drawn { n: 3, ceiling: 3 }),
-            ],
-            drawn: &[3, 3],
-        },
-        Case {
-            setting: Setting { processors: 2, period_us: 100_000, parents: &leaf, amounts: &[3, 3] },
-            calls: &[
-                (1, draw(1, 2), granted(2, None)),
-                (0, draw(1, 2), granted(1, Some(Short::Group(1)))),
-            ],
-            drawn: &[3, 3],
-        },
-        Case {
-            setting: Setting { processors: 1, period_us: 100_000, parents: &chain, amounts: &[3, 3, 3] },
-            calls: &[
-                (0, PoolCall::Lower { group: 1, to: 1 }, PoolReply::Lowered { ceiling: 1 }),
-                (0, draw(2, 2), granted(1, Some(Short::Group(1)))),
-                (0, PoolCall::Lower { group: 1, to: 0 }, PoolReply::Lowered { ceiling: 1 }),
-            ],
-            drawn: &[1, 1, 1],
-        },
-        Case {
-            setting: Setting { processors: 1, period_us: 100_000, parents: &leaf, amounts: &[3, 3] },
-            calls: &[
-                (0, draw(1, 2), granted(2, None)),
-                (0, give_back(1, 3), PoolReply::NotHeld { held: 2 }),
-                (0, PoolCall::Look { group: 1 }, PoolReply::Drawn { n: 2, ceiling: 3 }),
-                (0, give_back(1, 2), PoolReply::Returned),
-            ],
-            drawn: &[0, 0],
-        },
-        Case {
-            setting: Setting { processors: 1, period_us: 100_000, parents: &leaf, amounts: &[3, 3] },
-            calls: &[
-                (0, draw(0, 1), PoolReply::Refused(Refusal::NotLeaf)),
-                (0, draw(99, 1), PoolReply::Refused(Refusal::NoGroup)),
-                (0, draw(1, 0), PoolReply::Refused(Refusal::ZeroAsk)),
-                (1, draw(1, 1), PoolReply::Refused(Refusal::NoProcessor)),
-                (1, give_back(1, 1), PoolReply::NotHeld { held: 0 }),
-                (0, give_back(0, 0), PoolReply::Refused(Refusal::NotLeaf)),
-                (0, give_back(1, 0), PoolReply::Refused(Refusal::ZeroAsk)),
-                (1, draw(99, 0), PoolReply::Refused(Refusal::NoProcessor)),
-                (0, draw(99, 0), PoolReply::Refused(Refusal::NoGroup)),
-                (0, draw(0, 0), PoolReply::Refused(Refusal::NotLeaf)),
-                (1, PoolCall::Lower { group: 2, to: 0 }, PoolReply::Refused(Refusal::NoGroup)),
-                (1, PoolCall::Look { group: 2 }, PoolReply::Refused(Refusal::NoGroup)),
-            ],
-            drawn: &[0, 0],
-        },
-        Case {
-            setting: Setting { processors: 2, period_us: 5000, parents: &leaf, amounts: &[2, 2] },
-            calls: &[(0, draw(1, 2), granted(1, Some(Short::Processor)))],
-            drawn: &[1, 1],
-        },
+fn shared_leaf(rt: HostRuntime) -> Result<(), Fail> {
+    let setting = leaf_with_three(2);
+    let first = granted(2, None);
+    let second = granted(1, Some(Short::Group(1)));
+    let both = PoolReply::Drawn { n: 3, ceiling: 3 };
+    let calls = [
+        (0, draw(1, 2), first),
+        (1, draw(1, 2), second),
+        (0, PoolCall::Look { group: 1 }, both),
     ];
-    assert_cases(&rt, rt.alloc(), &cases)?;
+    assert_case(&rt, rt.alloc(), &setting, &calls, &[3, 3])?;
+    let calls = [(1, draw(1, 2), first), (0, draw(1, 2), second)];
+    assert_case(&rt, rt.alloc(), &setting, &calls, &[3, 3])?;
+    Ok(())
+}
+
+#[test]
+fn ceilings_and_holdings(rt: HostRuntime) -> Result<(), Fail> {
+    let chain = Setting {
+        processors: 1,
+        period_us: 100_000,
+        parents: &[None, Some(0), Some(1)],
+        amounts: &[3, 3, 3],
+    };
+    let lowered = PoolReply::Lowered { ceiling: 1 };
+    let calls = [
+        (0, PoolCall::Lower { group: 1, to: 1 }, lowered),
+        (0, draw(2, 2), granted(1, Some(Short::Group(1)))),
+        (0, PoolCall::Lower { group: 1, to: 0 }, lowered),
+    ];
+    assert_case(&rt, rt.alloc(), &chain, &calls, &[1, 1, 1])?;
+    let calls = [
+        (0, draw(1, 2), granted(2, None)),
+        (0, give_back(1, 3), PoolReply::NotHeld { held: 2 }),
+        (
+            0,
+            PoolCall::Look { group: 1 },
+            PoolReply::Drawn { n: 2, ceiling: 3 },
+        ),
+        (0, give_back(1, 2), PoolReply::Returned),
+    ];
+    assert_case(&rt, rt.alloc(), &leaf_with_three(1), &calls, &[0, 0])?;
+    let short = Setting {
+        processors: 2,
+        period_us: 5000,
+        parents: &[None, Some(0)],
+        amounts: &[2, 2],
+    };
+    let calls = [(0, draw(1, 2), granted(1, Some(Short::Processor)))];
+    assert_case(&rt, rt.alloc(), &short, &calls, &[1, 1])?;
+    Ok(())
+}
+
+#[test]
+fn refusals(rt: HostRuntime) -> Result<(), Fail> {
+    let no_processor = PoolReply::Refused(Refusal::NoProcessor);
+    let no_group = PoolReply::Refused(Refusal::NoGroup);
+    let not_leaf = PoolReply::Refused(Refusal::NotLeaf);
+    let zero_ask = PoolReply::Refused(Refusal::ZeroAsk);
+    let calls = [
+        (0, draw(0, 1), not_leaf),
+        (0, draw(99, 1), no_group),
+        (0, draw(1, 0), zero_ask),
+        (1, draw(1, 1), no_processor),
+        (1, give_back(1, 1), PoolReply::NotHeld { held: 0 }),
+        (0, give_back(0, 0), not_leaf),
+        (0, give_back(1, 0), zero_ask),
+        (1, draw(99, 0), no_processor),
+        (0, draw(99, 0), no_group),
+        (0, draw(0, 0), not_leaf),
+        (1, PoolCall::Lower { group: 2, to: 0 }, no_group),
+        (1, PoolCall::Look { group: 2 }, no_group),
+    ];
+    assert_case(&rt, rt.alloc(), &leaf_with_three(1), &calls, &[0, 0])?;
     Ok(())
 }
 
 /// Two seats that ask 2 of a leaf with 3, event by event. What is impossible changes nothing.
 fn assert_schedule(rt: &impl Abort, alloc: Global) -> Result<(), AllocError> {
-    let setting = Setting { processors: 2, period_us: 100_000, parents: &[None, Some(0)], amounts: &[3, 3] };
+    let setting = leaf_with_three(2);
     let call = draw(1, 2);
     let schedule = [
         (CoreEvent::Enter { seat: 0 }, false),
@@ -231,7 +255,10 @@ fn assert_played(rt: &impl Abort, core: &Core) {
     assert!(rt; core.next() == 2 && core.serving() == 2);
     let mut replies = core.history().iter().map(|entry| (entry.seat, entry.reply));
     assert_eq!(rt; replies.next(), Some((0, granted(2, None))));
-    assert_eq!(rt; replies.next(), Some((1, granted(1, Some(Short::Group(1))))));
+    assert_eq!(rt;
+        replies.next(),
+        Some((1, granted(1, Some(Short::Group(1)))))
+    );
     assert_eq!(rt; replies.next(), None);
     assert!(rt; core.pool().held(0, 1) == 2 && core.pool().held(1, 1) == 1);
 }

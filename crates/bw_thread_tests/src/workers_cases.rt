@@ -1,0 +1,412 @@
+//! Workers in threads of their own under gates, and the slice pool behind a lock.
+//! Where one allocation is refused a case is run once more, so that each holds with any one of its allocations failing.
+ghost use Rattle.std.specs.Prelude.{◌≡◌, ℕ, ◌==◌, not, true, None, IfOk};
+ghost use Rattle.bw_model.specs.Plan.{IsPlan};
+
+use bw_model::{Entry, HostShape, Instance, Row};
+use bw_plan::{Plan, plan};
+use bw_pool::{PoolCall, PoolReply, Short, SlicePool};
+use bw_ticket::{CallsSpent, Closed, Seat, TicketLock, close, open};
+use bw_workers::{Gate, NoGate, ServeFault, Served, serve};
+use crossbeam_utils::atomic::AtomicCell;
+use std::alloc::{AllocError, Global};
+use std::process::Abort;
+use std::sync::Wait;
+use std::test::Fail;
+use std::thread::{Threads, join};
+
+// How often a gate looks whether another worker has come to some point.
+const TURNS: u32 = 100_000_000;
+
+// A group below another one.
+fn group(parent: u32, weight: u64, limit: Option<u64>, demand: u64) -> Row {
+    Row {
+        parent: Some(parent),
+        weight,
+        limit,
+        demand,
+    }
+}
+
+// A host with 20 slices on each processor, the root over these groups, and their plan.
+fn planned(
+    rt: &impl Abort,
+    alloc: Global,
+    processors: u64,
+    groups: &[Row],
+) -> Result<(Instance, Plan), AllocError>
+    ensures { IfOk result (λ t. IsPlan t.0 t.1.amounts.items) }
+{
+    let Ok(shape) = HostShape::new(processors, 100_000, 5000) else {
+        panic!(rt; "no host")
+    };
+    let mut rows = Vec::new(alloc);
+    rows.push(Row {
+        parent: None,
+        weight: 100,
+        limit: None,
+        demand: 0,
+    })?;
+    for row in groups {
+        rows.push(*row)?;
+    }
+    let Ok(instance) = Instance::new(alloc, rows, shape) else {
+        return Err(AllocError);
+    };
+    let plan = plan(alloc, &instance)?;
+    Ok((instance, plan))
+}
+
+// On four processors pod, which has 10 slices, over x and y, and job.
+fn pod_and_job(rt: &impl Abort, alloc: Global) -> Result<(Instance, Plan), AllocError>
+    ensures { IfOk result (λ t. IsPlan t.0 t.1.amounts.items) }
+{
+    let groups = [
+        group(0, 100, Some(10), 0),
+        group(1, 100, None, 20),
+        group(1, 300, None, 20),
+        group(0, 100, None, 20),
+    ];
+    planned(rt, alloc, 4, &groups)
+}
+
+// Two groups with a demand of 20 each.
+fn two_groups(
+    rt: &impl Abort,
+    alloc: Global,
+    processors: u64,
+    weight: u64,
+) -> Result<(Instance, Plan), AllocError>
+    ensures { IfOk result (λ t. IsPlan t.0 t.1.amounts.items) }
+{
+    planned(
+        rt,
+        alloc,
+        processors,
+        &[group(0, 100, None, 20), group(0, weight, None, 20)],
+    )
+}
+
+// Serves the plan where memory and threads are there, and asserts what is drawn.
+fn served<G: Gate, R: Threads + Wait + Abort + Sync>(
+    rt: &R,
+    alloc: Global,
+    instance: &Instance,
+    plan: &Plan,
+    gate: &G,
+    drawn: &[u64],
+) -> Result<Served, AllocError>
+    requires { IsPlan instance.now plan.now.amounts.items }
+{
+    match serve(rt, alloc, instance, plan, gate) {
+        Ok(served) => {
+            assert_eq!(rt; served.drawn.as_slice(), drawn);
+            Ok(served)
+        }
+        Err(ServeFault::OutOfMemory) => Err(AllocError),
+        Err(ServeFault::NotStarted) => panic!(rt; "a thread was refused"),
+    }
+}
+
+// Uses all leaves but one.
+#[derive(Drop)]
+struct Without(u32);
+
+impl Gate for Without {
+    ghost used = { λ gate leaf. not (leaf == gate.0) };
+
+    fn before(&self, worker: u32, nth: u64) {
+        let _ = (worker, nth);
+    }
+
+    fn after(&self, worker: u32, nth: u64) {
+        let _ = (worker, nth);
+    }
+
+    fn uses(&self, leaf: u32) -> bool {
+        leaf != self.0
+    }
+}
+
+// Holds the first draw of one worker until a draw of another is answered.
+#[derive(Drop)]
+struct Holds {
+    held: u32,
+    other: u32,
+    nth: u64,
+    answered: AtomicCell<bool>,
+    came: AtomicCell<bool>,
+}
+
+fn held_first(held: u32, other: u32, nth: u64) -> Holds {
+    Holds {
+        held,
+        other,
+        nth,
+        answered: AtomicCell::new(false),
+        came: AtomicCell::new(false),
+    }
+}
+
+impl Gate for Holds {
+    ghost used = { λ gate leaf. true };
+
+    fn before(&self, worker: u32, nth: u64) {
+        if worker == self.held && nth == 0 {
+            for _ in 0..TURNS {
+                if self.answered.load() {
+                    self.came.store(true);
+                    return;
+                }
+            }
+        }
+    }
+
+    fn after(&self, worker: u32, nth: u64) {
+        if worker == self.other && nth == self.nth {
+            self.answered.store(true);
+        }
+    }
+
+    fn uses(&self, leaf: u32) -> bool {
+        let _ = leaf;
+        true
+    }
+}
+
+// Holds each worker's first draw until all four have begun theirs.
+#[derive(Drop)]
+struct Meet {
+    begun: AtomicCell<u32>,
+    met: AtomicCell<u32>,
+}
+
+impl Gate for Meet {
+    ghost used = { λ gate leaf. true };
+
+    fn before(&self, worker: u32, nth: u64) {
+        let _ = worker;
+        if nth == 0 {
+            self.begun.fetch_add(1);
+            for _ in 0..TURNS {
+                if self.begun.load() == 4 {
+                    self.met.fetch_add(1);
+                    return;
+                }
+            }
+        }
+    }
+
+    fn after(&self, worker: u32, nth: u64) {
+        let _ = (worker, nth);
+    }
+
+    fn uses(&self, leaf: u32) -> bool {
+        let _ = leaf;
+        true
+    }
+}
+
+// The seat of the first entry.
+fn first_caller(history: &[Entry<PoolCall, PoolReply>]) -> Option<u32> {
+    history.first().map(|entry| entry.seat)
+}
+
+fn serve_one_waits<R: Threads + Wait + Abort + Sync>(
+    rt: &R,
+    alloc: Global,
+    held: u32,
+    other: u32,
+) -> Result<(), AllocError> {
+    let (instance, plan) = two_groups(rt, alloc, 2, 200)?;
+    let gate = held_first(held, other, 0);
+    let served = served(rt, alloc, &instance, &plan, &gate, &[40, 20, 20])?;
+    assert!(rt; gate.came.load());
+    assert_eq!(rt; first_caller(&served.history), Some(other));
+    Ok(())
+}
+
+#[test]
+fn worker_zero_waits(rt: HostRuntime) -> Result<(), Fail> {
+    let alloc = rt.alloc();
+    if serve_one_waits(&rt, alloc, 0, 1).is_err() {
+        serve_one_waits(&rt, alloc, 0, 1)?;
+    }
+    Ok(())
+}
+
+#[test]
+fn worker_one_waits(rt: HostRuntime) -> Result<(), Fail> {
+    let alloc = rt.alloc();
+    if serve_one_waits(&rt, alloc, 1, 0).is_err() {
+        serve_one_waits(&rt, alloc, 1, 0)?;
+    }
+    Ok(())
+}
+
+fn serve_all_meet<R: Threads + Wait + Abort + Sync>(
+    rt: &R,
+    alloc: Global,
+) -> Result<(), AllocError> {
+    let (instance, plan) = pod_and_job(rt, alloc)?;
+    let gate = Meet {
+        begun: AtomicCell::new(0),
+        met: AtomicCell::new(0),
+    };
+    served(rt, alloc, &instance, &plan, &gate, &[30, 10, 3, 7, 20])?;
+    assert_eq!(rt; gate.met.load(), 4);
+    Ok(())
+}
+
+#[test]
+fn all_meet(rt: HostRuntime) -> Result<(), Fail> {
+    let alloc = rt.alloc();
+    if serve_all_meet(&rt, alloc).is_err() {
+        serve_all_meet(&rt, alloc)?;
+    }
+    Ok(())
+}
+
+// The same drawn amounts under gates of other kinds, and those of a gate that does not use job.
+fn serve_under_gates<R: Threads + Wait + Abort + Sync>(
+    rt: &R,
+    alloc: Global,
+) -> Result<(), AllocError> {
+    let (instance, plan) = pod_and_job(rt, alloc)?;
+    served(rt, alloc, &instance, &plan, &NoGate, &[30, 10, 3, 7, 20])?;
+    for (held, other, nth) in [(0, 1, 0), (1, 0, 0), (3, 2, 1)] {
+        let gate = held_first(held, other, nth);
+        served(rt, alloc, &instance, &plan, &gate, &[30, 10, 3, 7, 20])?;
+        assert!(rt; gate.came.load());
+    }
+    served(rt, alloc, &instance, &plan, &Without(4), &[10, 10, 3, 7, 0])?;
+    let (alone, nothing) = planned(rt, alloc, 4, &[])?;
+    served(rt, alloc, &alone, &nothing, &NoGate, &[0])?;
+    Ok(())
+}
+
+// One worker draws in row order, round and round.
+fn serve_in_row_order<R: Threads + Wait + Abort + Sync>(
+    rt: &R,
+    alloc: Global,
+) -> Result<(), AllocError> {
+    let (instance, plan) = two_groups(rt, alloc, 1, 100)?;
+    let served = served(rt, alloc, &instance, &plan, &NoGate, &[20, 10, 10])?;
+    let mut calls = served.history.iter().map(|entry| entry.call);
+    for leaf in [1, 2, 1, 2] {
+        assert_eq!(rt; calls.next(), Some(PoolCall::Draw { leaf, ask: 1 }));
+    }
+    Ok(())
+}
+
+#[test]
+fn gates(rt: HostRuntime) -> Result<(), Fail> {
+    let alloc = rt.alloc();
+    if serve_under_gates(&rt, alloc).is_err() {
+        serve_under_gates(&rt, alloc)?;
+    }
+    if serve_in_row_order(&rt, alloc).is_err() {
+        serve_in_row_order(&rt, alloc)?;
+    }
+    assert!(rt;
+        ServeFault::NotStarted.number() == 70 && ServeFault::NotStarted.name() == "NotStarted"
+    );
+    assert!(rt;
+        ServeFault::OutOfMemory.number() == 71 && ServeFault::OutOfMemory.name() == "OutOfMemory"
+    );
+    Ok(())
+}
+
+// A seat asks 2 of the leaf, and gives the reply with the seat.
+fn ask_two<R: Wait + Abort>(
+    rt: &R,
+    lock: &TicketLock<SlicePool>,
+    mut seat: Seat<SlicePool>,
+) -> (Seat<SlicePool>, PoolReply)
+    requires { (seat.lock_id ≡ lock.now.lock_id) × (seat.pending ≡ None) }
+    ensures { (result.0.lock_id ≡ lock.now.lock_id) × (result.0.pending ≡ None) }
+{
+    let Ok(answer) = seat.call(rt, lock, PoolCall::Draw { leaf: 1, ask: 2 }) else {
+        panic!(rt; "no call left")
+    };
+    (seat, answer.reply)
+}
+
+// Two threads ask 2 of a leaf that has 3: one gets 2 and the other 1, in one order or the other.
+fn draw_in_two<R: Threads + Wait + Abort + Sync>(rt: &R, alloc: Global) -> Result<(), AllocError> {
+    let (instance, plan) = planned(rt, alloc, 2, &[group(0, 100, None, 3)])?;
+    assert_eq!(rt; plan.amounts.as_slice(), [3, 3].as_slice());
+    let pool = SlicePool::new(alloc, &instance, &plan.amounts)?;
+    let Ok((lock, mut seats)) = open(alloc, pool, 2, 2) else {
+        return Err(AllocError);
+    };
+    let (Some(second), Some(first)) = (seats.pop(), seats.pop()) else {
+        panic!(rt; "no two seats")
+    };
+    let ((mut first, one), (second, other)) = join(
+        rt,
+        || ask_two(rt, &lock, first),
+        || ask_two(rt, &lock, second),
+    );
+    let whole = PoolReply::Granted {
+        got: 2,
+        short: None,
+    };
+    let rest = PoolReply::Granted {
+        got: 1,
+        short: Some(Short::Group(1)),
+    };
+    assert!(rt; one == whole && other == rest || one == rest && other == whole);
+    let look = PoolCall::Look { group: 1 };
+    let drawn = PoolReply::Drawn { n: 3, ceiling: 3 };
+    assert!(rt; matches!(first.call(rt, &lock, look), Ok(answer) if answer.reply == drawn));
+    assert!(rt; matches!(first.call(rt, &lock, look), Err(CallsSpent)));
+    let Ok(Closed { machine, history }) = close(lock, vec![in alloc; first, second]?) else {
+        panic!(rt; "not closed")
+    };
+    assert_eq!(rt; machine.all_drawn(), [3, 3].as_slice());
+    assert_eq!(rt; history.len(), 3);
+    Ok(())
+}
+
+// A seat draws 2 of a leaf that has 3 and gives back 3, which it does not hold. Its third call is refused.
+fn give_back_too_many<R: Wait + Abort>(rt: &R, alloc: Global) -> Result<(), AllocError> {
+    let (instance, plan) = planned(rt, alloc, 1, &[group(0, 100, None, 3)])?;
+    let pool = SlicePool::new(alloc, &instance, &plan.amounts)?;
+    let Ok((lock, mut seats)) = open(alloc, pool, 1, 2) else {
+        return Err(AllocError);
+    };
+    let Some(seat) = seats.pop() else {
+        panic!(rt; "no seat")
+    };
+    let (mut seat, reply) = ask_two(rt, &lock, seat);
+    assert_eq!(rt;
+        reply,
+        PoolReply::Granted {
+            got: 2,
+            short: None
+        }
+    );
+    let back = PoolCall::GiveBack { leaf: 1, n: 3 };
+    let not_held = PoolReply::NotHeld { held: 2 };
+    assert!(rt; matches!(seat.call(rt, &lock, back), Ok(answer) if answer.reply == not_held));
+    assert!(rt; matches!(seat.call(rt, &lock, back), Err(CallsSpent)));
+    let Ok(Closed { machine, history }) = close(lock, vec![in alloc; seat]?) else {
+        panic!(rt; "not closed")
+    };
+    assert_eq!(rt; machine.all_drawn(), [2, 2].as_slice());
+    assert_eq!(rt; history.len(), 2);
+    Ok(())
+}
+
+#[test]
+fn pool_behind_a_lock(rt: HostRuntime) -> Result<(), Fail> {
+    let alloc = rt.alloc();
+    if draw_in_two(&rt, alloc).is_err() {
+        draw_in_two(&rt, alloc)?;
+    }
+    if give_back_too_many(&rt, alloc).is_err() {
+        give_back_too_many(&rt, alloc)?;
+    }
+    Ok(())
+}

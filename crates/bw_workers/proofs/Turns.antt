@@ -1,0 +1,170 @@
+-- What a worker knows between two turns, and what a turn makes of it.
+use Rattle.bw_model.specs.declared.row.Row.{Row}
+use Rattle.std.proofs.Common.{◌≡◌, ◌≢◌, ℕ, zero, suc, ◌+◌, ◌-◌, ◌<◌, ◌≤◌, ◌⊎◌, ◌==◌, inl, inr, List, [], ◌∷◌, ◌++◌, length, take, drop, get_or, Bool, true, false, cond, ◌||◌, ◌&&◌, Option, None, Some, refl, sym, ap, ◌∙◌, subst, arith, eqb, ltb, append-nil, append_assoc}
+use Rattle.std.specs.Prelude.{nat_lt}
+use Rattle.std.proofs.lemmas.Bool.{and_parts, and_from, ltb-true, lt-ltb, eq-eqb, or_from, or_left, or_right, true≢false}
+use Rattle.std.proofs.lemmas.Bool.Decides.{eqb_tells}
+use Rattle.bw_model.specs.History.{entry}
+use Rattle.bw_model.specs.Groups.{is_leaf}
+use Rattle.bw_pool.specs.declared.calls.PoolCall.{PoolCall}
+use Rattle.bw_pool.specs.declared.calls.PoolCall.TheVariants.{Draw, GiveBack}
+use Rattle.bw_pool.specs.declared.calls.PoolReply.{PoolReply}
+use Rattle.bw_pool.specs.Drained.{PoolEntry, Worker, fresh, among, got_one, drawn_one, returned_one, MayCall, worker_after, IsAtEnd, Drains}
+use Rattle.bw_workers.specs.Working.{times, is_leaf_row, IsLeaves, PoolSeat, calls_of, Keeps, Leaves}
+
+pub record IsWorking (uses : ℕ → Bool) (tree : List Row) (slices : ℕ) (calls : List PoolEntry) (rows : List ℕ) (kept : ℕ) : Type 0 where
+  pub worker : Worker
+  pub has : worker.kept ≡ kept
+  pub none_owed : worker.owes ≡ None
+  pub goes_on : (rest : List PoolEntry) → Drains uses tree slices worker rest → Drains uses tree slices fresh (calls ++ rest)
+  pub once : (row : ℕ) → times row rows ≤ 1
+  pub still : (row : ℕ) → times row rows ≡ 1 → (row < length tree) × (is_leaf tree row ≡ true) × (among row worker.returned ≡ false)
+  pub closed : (row : ℕ) → row < length tree → is_leaf tree row ≡ true → times row rows ≡ 0 → (among row worker.short ≡ true) ⊎ (among row worker.returned ≡ true)
+
+one_if_le : (b : Bool) → cond {A = ℕ} b 1 0 ≤ 1
+one_if_le true = omega arith
+one_if_le false = omega arith
+
+one_if_true : (b : Bool) → cond {A = ℕ} b 1 0 ≡ 1 → b ≡ true
+one_if_true true h = refl
+one_if_true false h = absurd (omega arith)
+
+one_if_not : (b : Bool) → b ≡ true → cond {A = ℕ} b 1 0 ≡ 0 → ⊥
+one_if_not true e h = omega arith
+one_if_not false e h = true≢false (sym e)
+
+pub begins : (uses : ℕ → Bool) (tree : List Row) (slices : ℕ) (calls : List PoolEntry) (leaves : List ℕ) → calls ≡ [] → IsLeaves tree leaves → IsWorking uses tree slices calls leaves 0
+begins uses tree slices calls leaves e h = record {
+  worker = fresh;
+  has = refl;
+  none_owed = refl;
+  goes_on = λ rest d. subst (λ l. Drains uses tree slices fresh (l ++ rest)) (sym e) d;
+  once = λ row. subst (λ (n : ℕ). n ≤ 1) (sym (h row)) (one_if_le (is_leaf_row tree row));
+  still = λ row one. let b = and_parts (nat_lt row (length tree)) (is_leaf tree row) (one_if_true (is_leaf_row tree row) (sym (h row) ∙ one)) in (ltb-true row (length tree) b.0, b.1, refl);
+  closed = λ row lt leaf none. absurd (one_if_not (is_leaf_row tree row) (and_from (nat_lt row (length tree)) (is_leaf tree row) (lt-ltb row (length tree) lt) leaf) (sym (h row) ∙ none));
+}
+
+-- a list with one place less
+first_off : (a b : ℕ) → a + b ≡ b + a
+first_off a b = omega arith
+
+later_off : (a t t' c : ℕ) → t ≡ t' + c → a + t ≡ (a + t') + c
+later_off a t t' c h = omega arith
+
+without_suc : (xs : List ℕ) (at x d : ℕ) → at < length xs → times x xs ≡ times x (take at xs ++ drop (suc at) xs) + cond {A = ℕ} (get_or xs at d == x) 1 0
+without_suc [] at x d lt = absurd (omega arith)
+without_suc (y ∷ ys) zero x d lt = first_off (cond {A = ℕ} (y == x) 1 0) (times x ys)
+without_suc (y ∷ ys) (suc k) x d lt = later_off (cond {A = ℕ} (y == x) 1 0) (times x ys) (times x (take k ys ++ drop (suc k) ys)) (cond {A = ℕ} (get_or ys k d == x) 1 0) (without_suc ys k x d (omega arith))
+
+pub times_without : (xs : List ℕ) (at x d : ℕ) → at < length xs → times x xs ≡ times x (take at xs ++ drop (at + 1) xs) + cond {A = ℕ} (get_or xs at d == x) 1 0
+times_without xs at x d lt = let e : suc at ≡ at + 1 = omega arith in subst (λ (n : ℕ). times x xs ≡ times x (take at xs ++ drop n xs) + cond {A = ℕ} (get_or xs at d == x) 1 0) e (without_suc xs at x d lt)
+
+pub times_at : (xs : List ℕ) (at d : ℕ) → at < length xs → 1 ≤ times (get_or xs at d) xs
+times_at xs at d lt = let x = get_or xs at d in let h = times_without xs at x d lt in let one : cond {A = ℕ} (x == x) 1 0 ≡ 1 = ap (λ b. cond {A = ℕ} b 1 0) (eq-eqb x x refl) in omega (arith, h, one)
+
+-- the leaf that stands at a place of the list
+pub stands : (xs : List ℕ) (at x : ℕ) → at < length xs → x ≡ get_or xs at x → 1 ≤ times x xs
+stands xs at x lt e = subst (λ (y : ℕ). 1 ≤ times y xs) (sym e) (times_at xs at x lt)
+
+pub nothing : (xs : List ℕ) → length xs ≡ 0 → xs ≡ []
+nothing [] h = refl
+nothing (x ∷ xs) h = absurd (omega arith)
+
+-- rows that are left after the leaf went
+abbrev pub Without : ℕ → List ℕ → List ℕ → Type 0
+Without leaf rows rows' = (row : ℕ) → times row rows ≡ times row rows' + cond {A = ℕ} (leaf == row) 1 0
+
+pub goes : (xs xs' : List ℕ) (at x : ℕ) → at < length xs → x ≡ get_or xs at x → xs' ≡ take at xs ++ drop (at + 1) xs → Without x xs xs'
+goes xs xs' at x lt e is row = times_without xs at row x lt ∙ (λ i. times row (sym is i) + cond {A = ℕ} (sym e i == row) 1 0)
+
+more_le : (t t' c : ℕ) → t ≤ 1 → t ≡ t' + c → t' ≤ 1
+more_le t t' c h e = omega arith
+
+was_one : (t t' c : ℕ) → t ≤ 1 → t ≡ t' + c → t' ≡ 1 → (t ≡ 1) × (c ≡ 0)
+was_one t t' c h e one = (omega arith, omega arith)
+
+not_one : (b : Bool) → cond {A = ℕ} b 1 0 ≡ 0 → b ≡ false
+not_one true h = absurd (omega arith)
+not_one false h = refl
+
+not_self : (leaf row : ℕ) → (leaf == row) ≡ false → cond {A = ℕ} (leaf == row) 1 0 ≡ 0
+not_self leaf row e = ap (λ b. cond {A = ℕ} b 1 0) e
+
+module _ (uses : ℕ → Bool) (tree : List Row) (slices : ℕ) where
+  -- a draw of a leaf that is still asked comes next
+  drawn_next : (w : Worker) (number leaf : ℕ) (reply : PoolReply) (rest : List PoolEntry) → w.owes ≡ None → leaf < length tree → is_leaf tree leaf ≡ true → among leaf w.returned ≡ false
+      → Drains uses tree slices (drawn_one w leaf (uses leaf) (got_one reply)) rest → Drains uses tree slices w (entry number (Draw leaf 1) reply ∷ rest)
+  drawn_next w number leaf reply rest none lt is back d = (subst (λ o. MayCall tree w o (Draw leaf 1)) (sym none) (refl, lt, is, back), d)
+
+  pub keeps_slice : (calls calls' : List PoolEntry) (rows : List ℕ) (kept number leaf : ℕ) (reply : PoolReply) → IsWorking uses tree slices calls rows kept → 1 ≤ times leaf rows
+      → uses leaf ≡ true → got_one reply ≡ true → calls' ≡ calls ++ entry number (Draw leaf 1) reply ∷ [] → IsWorking uses tree slices calls' rows (kept + 1)
+  keeps_slice calls calls' rows kept number leaf reply w some used got e = let one = w.once leaf in let s = w.still leaf (omega arith) in record {
+    worker = drawn_one w.worker leaf true true;
+    has = ap (λ (n : ℕ). n + 1) w.has;
+    none_owed = refl;
+    goes_on = λ rest d. subst (Drains uses tree slices fresh) (sym (ap (λ l. l ++ rest) e ∙ append_assoc calls (entry number (Draw leaf 1) reply ∷ []) rest))
+        (w.goes_on (entry number (Draw leaf 1) reply ∷ rest) (drawn_next w.worker number leaf reply rest w.none_owed s.0 s.1 s.2
+        (subst (λ v. Drains uses tree slices v rest) (λ i. drawn_one w.worker leaf (sym used i) (sym got i)) d)));
+    once = w.once;
+    still = w.still;
+    closed = w.closed;
+  }
+
+  pub had_none : (calls calls' : List PoolEntry) (rows rows' : List ℕ) (kept number leaf : ℕ) (reply : PoolReply) → IsWorking uses tree slices calls rows kept → 1 ≤ times leaf rows → Without leaf rows rows'
+      → got_one reply ≡ false → calls' ≡ calls ++ entry number (Draw leaf 1) reply ∷ [] → IsWorking uses tree slices calls' rows' kept
+  had_none calls calls' rows rows' kept number leaf reply w some off got e = let one = w.once leaf in let s = w.still leaf (omega arith) in record {
+    worker = drawn_one w.worker leaf (uses leaf) false;
+    has = w.has;
+    none_owed = w.none_owed;
+    goes_on = λ rest d. subst (Drains uses tree slices fresh) (sym (ap (λ l. l ++ rest) e ∙ append_assoc calls (entry number (Draw leaf 1) reply ∷ []) rest))
+        (w.goes_on (entry number (Draw leaf 1) reply ∷ rest) (drawn_next w.worker number leaf reply rest w.none_owed s.0 s.1 s.2
+        (subst (λ v. Drains uses tree slices v rest) (λ i. drawn_one w.worker leaf (uses leaf) (sym got i)) d)));
+    once = λ row. more_le (times row rows) (times row rows') (cond {A = ℕ} (leaf == row) 1 0) (w.once row) (off row);
+    still = λ row is. w.still row (was_one (times row rows) (times row rows') (cond {A = ℕ} (leaf == row) 1 0) (w.once row) (off row) is).0;
+    closed = λ row lt is none. elim (eqb_tells leaf row) [
+      | inl h ↦ inl (or_left (leaf == row) (among row w.worker.short) h.0)
+      | inr h ↦ elim (w.closed row lt is (off row ∙ omega (arith, none, not_self leaf row h.0))) [
+        | inl a ↦ inl (or_right (leaf == row) (among row w.worker.short) a)
+        | inr a ↦ inr a
+      ]
+    ];
+  }
+
+  pub gave_back : (calls calls' : List PoolEntry) (rows rows' : List ℕ) (kept number leaf : ℕ) (reply back : PoolReply) → IsWorking uses tree slices calls rows kept → 1 ≤ times leaf rows → Without leaf rows rows'
+      → uses leaf ≡ false → got_one reply ≡ true → calls' ≡ calls ++ entry number (Draw leaf 1) reply ∷ entry number (GiveBack leaf 1) back ∷ [] → IsWorking uses tree slices calls' rows' kept
+  gave_back calls calls' rows rows' kept number leaf reply back w some off unused got e = let one = w.once leaf in let s = w.still leaf (omega arith) in record {
+    worker = returned_one (drawn_one w.worker leaf false true) leaf;
+    has = let h = w.has in omega arith;
+    none_owed = refl;
+    goes_on = λ rest d. subst (Drains uses tree slices fresh) (sym (ap (λ l. l ++ rest) e ∙ append_assoc calls (entry number (Draw leaf 1) reply ∷ entry number (GiveBack leaf 1) back ∷ []) rest))
+        (w.goes_on (entry number (Draw leaf 1) reply ∷ entry number (GiveBack leaf 1) back ∷ rest) (drawn_next w.worker number leaf reply (entry number (GiveBack leaf 1) back ∷ rest) w.none_owed s.0 s.1 s.2
+        (subst (λ v. Drains uses tree slices v (entry number (GiveBack leaf 1) back ∷ rest)) (λ i. drawn_one w.worker leaf (sym unused i) (sym got i)) ((refl, refl), d))));
+    once = λ row. more_le (times row rows) (times row rows') (cond {A = ℕ} (leaf == row) 1 0) (w.once row) (off row);
+    still = λ row is. let h = was_one (times row rows) (times row rows') (cond {A = ℕ} (leaf == row) 1 0) (w.once row) (off row) is in let a = w.still row h.0 in
+        (a.0, a.1, or_from (leaf == row) (among row w.worker.returned) (not_one (leaf == row) h.1) a.2);
+    closed = λ row lt is none. elim (eqb_tells leaf row) [
+      | inl h ↦ inr (or_left (leaf == row) (among row w.worker.returned) h.0)
+      | inr h ↦ elim (w.closed row lt is (off row ∙ omega (arith, none, not_self leaf row h.0))) [
+        | inl a ↦ inl a
+        | inr a ↦ inr (or_right (leaf == row) (among row w.worker.returned) a)
+      ]
+    ];
+  }
+
+  -- the same for a turn, as the seat shows it
+  pub kept_turn : (old new : PoolSeat) (rows : List ℕ) (kept leaf : ℕ) → IsWorking uses tree slices (calls_of old) rows kept → 1 ≤ times leaf rows → Keeps uses leaf old new
+      → IsWorking uses tree slices (calls_of new) rows (kept + 1)
+  kept_turn old new rows kept leaf w some k = keeps_slice (calls_of old) (calls_of new) rows kept old.number leaf k.reply w some k.used k.got k.calls
+
+  pub left_turn : (old new : PoolSeat) (rows rows' : List ℕ) (kept leaf : ℕ) → IsWorking uses tree slices (calls_of old) rows kept → 1 ≤ times leaf rows → Without leaf rows rows' → Leaves uses leaf old new
+      → IsWorking uses tree slices (calls_of new) rows' kept
+  left_turn old new rows rows' kept leaf w some off k = elim k.calls [
+    | inl h ↦ had_none (calls_of old) (calls_of new) rows rows' kept old.number leaf k.reply w some off h.0 h.1
+    | inr h ↦ gave_back (calls_of old) (calls_of new) rows rows' kept old.number leaf k.reply h.2 w some off h.0 h.1 h.3
+  ]
+
+  pub ends : (calls : List PoolEntry) (rows : List ℕ) (kept : ℕ) → IsWorking uses tree slices calls rows kept → (kept ≡ slices) ⊎ (rows ≡ []) → Drains uses tree slices fresh calls
+  ends calls rows kept w h = subst (Drains uses tree slices fresh) (append-nil calls) (w.goes_on [] (record { none_owed = w.none_owed; spent_or_no_leaf = why h })) where
+    why : (kept ≡ slices) ⊎ (rows ≡ []) → (w.worker.kept ≡ slices) ⊎ ((leaf : ℕ) → leaf < length tree → is_leaf tree leaf ≡ true → (among leaf w.worker.short ≡ true) ⊎ (among leaf w.worker.returned ≡ true))
+    why (inl e) = inl (w.has ∙ e)
+    why (inr e) = inr (λ leaf lt is. w.closed leaf lt is (ap (times leaf) e))

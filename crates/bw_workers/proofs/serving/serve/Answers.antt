@@ -1,0 +1,42 @@
+use Rattle.std.proofs.Common.{rules, ◌≡◌, ℕ, ◌+◌, ◌*◌, ◌<◌, length, sym, ap, ◌∙◌, subst}
+use Rattle.std.specs.List.{All}
+use Rattle.bw_model.specs.Host.{slices_per_processor}
+use Rattle.bw_model.specs.History.{IsLegal, replay}
+use Rattle.bw_pool.specs.Pool.{after, answer}
+use Rattle.bw_pool.specs.Drained.{opening, IsDrawnOut}
+use Rattle.bw_pool.proofs.Amounts.{drained_workers_draw_the_plan, plan_is_planned}
+use Rattle.bw_workers.proofs.Histories.{drained_history, seats_ready}
+use Rattle.bw_workers.proofs.serving.serve.Goals as goal
+
+pub in_threads-requires-clause-ready : goal.in_threads-requires-clause-ready
+in_threads-requires-clause-ready g c κs within =
+    seats_ready c.in-Ok.made.0.lock_id (slices_per_processor c.args.instance.now.shape + 2 * length c.deref-2.result.now) _ _ c.in-Ok.made.1.items
+    c.in-Ok.ensures.seats c.in-Ok.ensures.each.0 (search rules)
+
+pub returns-clause-drained : goal.returns-clause-drained
+returns-clause-drained g c =
+    let instance = c.args.instance.now in
+    let history = c.in-Ok-close.field-0.history.items in
+    let opened : c.in-Ok.made.0.seats ≡ instance.shape.processors = search rules in
+    let many : length c.in_ok-seats.seats.items ≡ instance.shape.processors = search rules in
+    drained_history (g.G.Gate.used c.args.gate.now) instance.shape.processors (slices_per_processor instance.shape) instance.rows c.in-Ok.made.0.lock_id
+    c.in_ok-seats.seats.items history many c.in_ok-seats.ensures.1 c.in-Ok-close.ensures.own
+    (subst (λ (n : ℕ). All (λ e. e.seat < n) history) opened c.in-Ok-close.ensures.callers)
+
+pub returns-clause-drawn : goal.returns-clause-drawn
+returns-clause-drawn g c =
+    let instance = c.args.instance.now in
+    let amounts = c.args.plan.now.amounts.items in
+    let history = c.in-Ok-close.field-0.history.items in
+    let legal : IsLegal after answer (opening instance amounts) history = search rules in
+    let replayed : c.in_ok-drawn.drawn.items ≡ (replay after (opening instance amounts) history).drawn = search rules in
+    subst (IsDrawnOut (g.G.Gate.used c.args.gate.now) instance.rows amounts) (sym replayed)
+    (drained_workers_draw_the_plan (g.G.Gate.used c.args.gate.now) instance amounts history c.rows-rows.ensures.valid c.requires legal (returns-clause-drained g c))
+
+pub new-requires : goal.new-requires
+new-requires g c =
+    let instance = c.args.instance.now in
+    let amounts = c.args.plan.now.amounts.items in
+    let lent : c.as_slice.result.now ≡ amounts = search rules in
+    let planned = plan_is_planned instance amounts c.rows-rows.ensures.valid c.requires in
+    ap length lent ∙ planned.one_each

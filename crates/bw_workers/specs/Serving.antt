@@ -1,0 +1,21 @@
+-- The seats of one lock, before and after its workers ran.
+use Rattle.std.specs.Prelude.{◌≡◌, ℕ, ◌<◌, ◌≤◌, List, [], length, Bool, None, slice_index_or}
+use Rattle.atomic_table.specs.Seated.{TableId}
+use Rattle.bw_model.specs.declared.row.Row.{Row}
+use Rattle.bw_workers.specs.Working.{PoolSeat, IsDrainedSeat}
+
+-- a seat with which no call was made, and that has so many calls left
+pub record IsReady (lock_id : TableId) (calls seat_number : ℕ) (seat : PoolSeat) : Type 0 where
+  pub lock : seat.lock_id ≡ lock_id
+  pub number : seat.number ≡ seat_number
+  pub idle : seat.pending ≡ None
+  pub own : seat.own ≡ []
+  pub left : calls ≤ seat.calls_left
+
+-- seat k has number k
+abbrev pub AreReady : TableId → ℕ → List PoolSeat → Type 0
+AreReady lock_id calls seats = (k : ℕ) (d : PoolSeat) → k < length seats → IsReady lock_id calls k (slice_index_or seats k d)
+
+-- seat k is handed back by a drained worker
+abbrev pub AreBack : (ℕ → Bool) → List Row → ℕ → TableId → List PoolSeat → Type 0
+AreBack uses rows per_processor lock_id seats = (k : ℕ) (d : PoolSeat) → k < length seats → IsDrainedSeat uses rows per_processor lock_id k (slice_index_or seats k d)

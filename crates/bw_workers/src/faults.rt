@@ -1,0 +1,44 @@
+//! Why a period is not served.
+ghost use Rattle.std.specs.Prelude.{◌≡◌};
+ghost use Rattle.bw_workers.specs.Faults.{serve_fault_number, serve_fault_name};
+
+use std::alloc::AllocError;
+use thiserror::Error;
+
+/// Why a period is not served. What the workers drew is lost then.
+#[derive(Clone, Copy, Debug, PartialEq, Eq, Error)]
+pub enum ServeFault {
+    /// A thread was refused. The others ran to their end.
+    #[error("NotStarted")]
+    NotStarted,
+    #[error("OutOfMemory")]
+    OutOfMemory,
+}
+
+impl ServeFault {
+    /// The number that is printed.
+    pub fn number(self) -> u8
+        ensures { result ≡ serve_fault_number self }
+    {
+        match self {
+            ServeFault::NotStarted => 70,
+            ServeFault::OutOfMemory => 71,
+        }
+    }
+
+    /// The name that is printed.
+    pub fn name(self) -> &'static str
+        ensures { result.now ≡ serve_fault_name self }
+    {
+        match self {
+            ServeFault::NotStarted => "NotStarted",
+            ServeFault::OutOfMemory => "OutOfMemory",
+        }
+    }
+}
+
+impl From<AllocError> for ServeFault {
+    fn from(_refused: AllocError) -> ServeFault {
+        ServeFault::OutOfMemory
+    }
+}
