@@ -2,7 +2,7 @@
 #![tactic(auto)]
 
 #[cfg(test)]
-mod cert_cases;
+mod c_cases.rt;
 #[cfg(test)]
 mod check_cases;
 #[cfg(test)]
@@ -18,13 +18,12 @@ mod model_cases;
 #[cfg(test)]
 mod plan_cases;
 #[cfg(test)]
+mod pool_cases;
+#[cfg(test)]
 mod shell_cases;
+#[cfg(test)]
+mod split_cases;
 #[cfg(test)]
 mod stat_cases;
 #[cfg(test)]
 mod tree_cases;
-//! Tests that no clause replaces: worked values from outside, printed text, and memory that is refused.
-#![tactic(auto)]
-
-#[cfg(test)]
-mod split_cases;

@@ -5,3 +5,5 @@
 mod counter;
 #[cfg(test)]
 mod lock_cases;
+#[cfg(test)]
+mod workers_cases;
