@@ -2,7 +2,7 @@
 #![tactic(auto)]
 
 #[cfg(test)]
-mod c_cases.rt;
+mod cert_cases;
 #[cfg(test)]
 mod check_cases;
 #[cfg(test)]
