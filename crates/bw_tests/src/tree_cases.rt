@@ -54,7 +54,9 @@ fn refusals(rt: HostRuntime) -> Result<(), Fail> {
     for (parent, name, fault) in not_made {
         assert!(rt; make(&mut tree, parent, name) == Err(fault), "{name}");
     }
-    for path in ["", "/", "/a", "a/", "a//b", "./a", "./.", "a/bc", "aa", "a/b/c", "b"] {
+    for path in [
+        "", "/", "/a", "a/", "a//b", "./a", "./.", "a/bc", "aa", "a/b/c", "b",
+    ] {
         assert!(rt; tree.find(path) == Err(TreeFault::NotFound), "{path}");
     }
     assert!(rt; tree.rmdir(9) == Err(TreeFault::NotFound));
