@@ -1,6 +1,6 @@
 -- The history of a lock whose seats are those of drained workers.
 use Rattle.bw_model.specs.declared.row.Row.{Row}
-use Rattle.std.proofs.Common.{◌≡◌, ◌≢◌, ℕ, zero, suc, ◌+◌, ◌<◌, ◌≤◌, ◌⊎◌, ◌==◌, inl, inr, List, [], ◌∷◌, ◌++◌, length, get_or, map, Bool, true, false, if◌then◌else◌, Option, None, Some, refl, sym, ap, ◌∙◌, subst, arith, ne_eqb}
+use Rattle.std.proofs.Common.{◌≡◌, ℕ, zero, suc, ◌+◌, ◌<◌, ◌≤◌, List, [], ◌∷◌, ◌++◌, length, get_or, map, Bool, true, false, if◌then◌else◌, Option, None, Some, refl, sym, ap, ◌∙◌, subst, arith, ne_eqb}
 use Rattle.std.specs.List.{All}
 use Rattle.std.proofs.lemmas.Bool.{true≢false}
 use Rattle.atomic_table.specs.Seated.{TableId}
@@ -9,9 +9,8 @@ use Rattle.bw_model.proofs.Histories.{own_entries}
 use Rattle.bw_ticket.specs.Holder.{fresh_seat, fresh_seats}
 use Rattle.bw_pool.specs.declared.calls.PoolCall.{PoolCall}
 use Rattle.bw_pool.specs.declared.calls.PoolCall.TheVariants.{Draw, GiveBack, Lower, Look}
-use Rattle.bw_pool.specs.declared.calls.PoolReply.{PoolReply}
 use Rattle.bw_pool.specs.Drained.{PoolEntry, Worker, fresh, is_look, without_looks, MayCall, worker_after, Drains, AreDrained}
-use Rattle.bw_workers.specs.Working.{PoolSeat, calls_of, IsDrainedSeat}
+use Rattle.bw_workers.specs.Working.{PoolSeat, calls_of}
 use Rattle.bw_workers.specs.Serving.{IsReady, AreReady, AreBack}
 
 -- a drained worker looks at nothing

@@ -1,15 +1,14 @@
 -- What a worker knows between two turns, and what a turn makes of it.
 use Rattle.bw_model.specs.declared.row.Row.{Row}
-use Rattle.std.proofs.Common.{◌≡◌, ◌≢◌, ℕ, zero, suc, ◌+◌, ◌-◌, ◌<◌, ◌≤◌, ◌⊎◌, ◌==◌, inl, inr, List, [], ◌∷◌, ◌++◌, length, take, drop, get_or, Bool, true, false, cond, ◌||◌, ◌&&◌, Option, None, Some, refl, sym, ap, ◌∙◌, subst, arith, eqb, ltb, append-nil, append_assoc}
+use Rattle.std.proofs.Common.{◌≡◌, ℕ, zero, suc, ◌+◌, ◌<◌, ◌≤◌, ◌⊎◌, ◌==◌, inl, inr, List, [], ◌∷◌, ◌++◌, length, take, drop, get_or, Bool, true, false, cond, None, refl, sym, ap, ◌∙◌, subst, arith, append-nil, append_assoc}
 use Rattle.std.specs.Prelude.{nat_lt}
 use Rattle.std.proofs.lemmas.Bool.{and_parts, and_from, ltb-true, lt-ltb, eq-eqb, or_from, or_left, or_right, true≢false}
 use Rattle.std.proofs.lemmas.Bool.Decides.{eqb_tells}
 use Rattle.bw_model.specs.History.{entry}
 use Rattle.bw_model.specs.Groups.{is_leaf}
-use Rattle.bw_pool.specs.declared.calls.PoolCall.{PoolCall}
 use Rattle.bw_pool.specs.declared.calls.PoolCall.TheVariants.{Draw, GiveBack}
 use Rattle.bw_pool.specs.declared.calls.PoolReply.{PoolReply}
-use Rattle.bw_pool.specs.Drained.{PoolEntry, Worker, fresh, among, got_one, drawn_one, returned_one, MayCall, worker_after, IsAtEnd, Drains}
+use Rattle.bw_pool.specs.Drained.{PoolEntry, Worker, fresh, among, got_one, drawn_one, returned_one, MayCall, Drains}
 use Rattle.bw_workers.specs.Working.{times, is_leaf_row, IsLeaves, PoolSeat, calls_of, Keeps, Leaves}
 
 pub record IsWorking (uses : ℕ → Bool) (tree : List Row) (slices : ℕ) (calls : List PoolEntry) (rows : List ℕ) (kept : ℕ) : Type 0 where

@@ -1,4 +1,4 @@
-use Rattle.std.proofs.Common.{rules, arith, ◌≡◌, ℕ, ◌+◌, ◌≤◌, List, [], ◌∷◌, ◌++◌, length, vec_capacity, Bool, true, false, sym, ap, ◌∙◌, subst, length-append}
+use Rattle.std.proofs.Common.{rules, arith, ◌≡◌, ◌+◌, [], ◌∷◌, ◌++◌, length, vec_capacity, sym, ap, subst, length-append}
 use Rattle.bw_workers.proofs.Rows.{AreLeavesTo, next_leaf, next_inner}
 use Rattle.bw_workers.proofs.serving.leaves_of.Goals.{then-is_leaf, else-is_leaf}
 use Rattle.bw_workers.proofs.serving.leaves_of.Goals as goal

@@ -1,7 +1,7 @@
 use Rattle.bw_model.specs.Host.{slices_per_processor}
-use Rattle.std.proofs.Common.{rules, arith, ◌≡◌, ℕ, ◌+◌, ◌*◌, ◌-◌, ◌<◌, ◌≤◌, ◌⊎◌, inl, inr, length, None, List, [], refl, sym, ap, ◌∙◌, subst}
+use Rattle.std.proofs.Common.{rules, arith, ◌≡◌, ℕ, ◌+◌, ◌<◌, inl, inr, length, List, refl, sym, ap, ◌∙◌, subst}
 use Rattle.std.proofs.lemmas.Bool.{MatchBool-at_true, MatchBool-at_false}
-use Rattle.bw_workers.specs.Working.{calls_of, Keeps, Leaves, times}
+use Rattle.bw_workers.specs.Working.{calls_of}
 use Rattle.bw_workers.proofs.Turns.{IsWorking, begins, kept_turn, left_turn, stands, goes, nothing, ends}
 use Rattle.bw_workers.proofs.worker.work.Goals.{then-at-len, else-at-len, then-take_turn, else-take_turn, then-loop-kept-test+else-not-is_empty, else-loop-kept-test}
 use Rattle.bw_workers.proofs.worker.work.Given as given

@@ -1,5 +1,5 @@
 use Rattle.bw_model.specs.Host.{slices_per_processor}
-use Rattle.std.proofs.Common.{rules, arith, ◌≡◌, ℕ, ◌+◌, ◌*◌, ◌<◌, ◌≤◌, length, List, [], ◌∷◌, ◌++◌, get_or, vec_items, vec_len, vec_capacity, refl, sym, ap, ◌∙◌, subst}
+use Rattle.std.proofs.Common.{rules, arith, ◌≡◌, ℕ, ◌+◌, ◌*◌, length, [], ◌∷◌, ◌++◌, get_or, vec_len, sym, ap, ◌∙◌, subst}
 use Rattle.std.specs.Vec.Iter.{into_iter_items, into_iter_len}
 use Rattle.bw_workers.specs.Serving.{IsReady}
 use Rattle.bw_workers.proofs.Histories.{each_pushed}
