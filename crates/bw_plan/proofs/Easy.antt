@@ -1,5 +1,5 @@
 -- Splits that need no search: of nothing, and for an only child.
-use Rattle.std.proofs.Common.{◌≡◌, ℕ, zero, suc, ◌+◌, ◌<◌, ◌≤◌, List, [], ◌∷◌, false, Some, length, get_or, set, refl, ap, sym, ◌∙◌, arith}
+use Rattle.std.proofs.Common.{◌≡◌, ℕ, zero, suc, ◌<◌, ◌≤◌, List, [], ◌∷◌, Some, length, get_or, set, refl, ap, sym, ◌∙◌, arith}
 use Rattle.std.specs.Prelude.{sum, sum_by, slice_index, map}
 use Rattle.std.proofs.lemmas.Bool.{both_ways}
 use Rattle.std.proofs.lemmas.Grind.{same_number_lists}
@@ -8,7 +8,7 @@ use Rattle.std.proofs.lemmas.List.Sums.{get_or-le-sum_by}
 use Rattle.std.proofs.Math.ListN.{length-set}
 use Rattle.bw_model.specs.Groups.{Groups, parent_of, is_child, children_of, sum_of_children}
 use Rattle.bw_model.specs.Plan.{child_weights}
-use Rattle.bw_model.specs.Split.{IsSplit, IsBestSplit}
+use Rattle.bw_model.specs.Split.{IsBestSplit}
 use Rattle.bw_model.proofs.Sums.{sum-cons}
 use Rattle.bw_model.proofs.Places.{child_at}
 use Rattle.bw_model.proofs.Optimum.{get_or-map, IsNoWorse-same}

@@ -3,10 +3,9 @@ use Rattle.std.specs.Prelude.{map, slice_index}
 use Rattle.std.proofs.lemmas.Bool.{both_ways}
 use Rattle.std.proofs.lemmas.List.{length-map}
 use Rattle.bw_model.specs.declared.row.Row.{Row}
-use Rattle.bw_model.specs.Groups.{is_child, children_of, sum_of_children}
+use Rattle.bw_model.specs.Groups.{is_child, children_of}
 use Rattle.bw_model.specs.Split.{IsBestSplit}
 use Rattle.bw_model.specs.Plan.{child_weights}
-use Rattle.bw_model.specs.declared.limits.TheConstants.{MAX_CAPACITY}
 use Rattle.bw_model.proofs.Places.{child_at}
 use Rattle.bw_model.proofs.Totals.{is_child_from_parent}
 use Rattle.bw_demand.proofs.Passed.{get_or_within}

@@ -1,4 +1,4 @@
-use Rattle.std.proofs.Common.{◌≡◌, ℕ, length, get_or, ◌∙◌, arith}
+use Rattle.std.proofs.Common.{◌≡◌, length, get_or, ◌∙◌, arith}
 use Rattle.bw_demand.proofs.Passed.{get_or_within}
 use Rattle.bw_plan.proofs.Easy.{shared-none, shared-one}
 use Rattle.bw_plan.proofs.sharing.share_out.Goals as goal
