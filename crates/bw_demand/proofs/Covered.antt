@@ -3,7 +3,7 @@ use Rattle.std.proofs.Common.{◌≡◌, ℕ, ◌+◌, ◌<◌, List, [], ◌∷
 use Rattle.std.specs.Prelude.{filter}
 use Rattle.std.specs.List.{list_any, range_with_len}
 use Rattle.std.proofs.lemmas.Bool.{cases_Bool, both_ways, eqb-true, eq-eqb, and_parts, and_from, false_from_ne_true}
-use Rattle.bw_model.specs.Groups.{Groups, IsTree, parent_of, is_leaf, is_under, path_up, limit_of, demand_of}
+use Rattle.bw_model.specs.Groups.{Groups, IsTree, parent_of, is_leaf, is_under, path_up, demand_of}
 use Rattle.bw_model.specs.Demand.{is_tight, has_tight_above, limiting_groups, demand_outside}
 use Rattle.bw_model.proofs.Sums.{sum_below, sum_below-ap, sum_by-filter_range}
 use Rattle.bw_model.proofs.Under.{strong, parent_lt, path_up-top, path_up-step, is_under-top, is_under-step}

@@ -1,11 +1,8 @@
 -- The laws over allocations, from those of the base crate.
-use Rattle.std.proofs.Common.{◌≡◌, ℕ, ◌+◌, ◌<◌, ◌≤◌, List, false, Some, length, get_or, replicate, refl, ap, sym, ◌∙◌, arith}
-use Rattle.std.specs.Prelude.{map}
-use Rattle.std.specs.List.{range_with_len}
-use Rattle.bw_model.specs.Groups.{Groups, IsInstance, is_child, is_leaf, parent_of, limit_of}
-use Rattle.bw_model.specs.Allocation.{total, IsWithinUnder, IsMost}
-use Rattle.bw_model.proofs.Under.{is_under_trans}
-use Rattle.bw_model.proofs.Totals.{is_child_from_parent, parent_from_is_child}
+use Rattle.std.proofs.Common.{◌≡◌, ℕ, ◌<◌, ◌≤◌, List, Some, length, get_or, arith}
+use Rattle.bw_model.specs.Groups.{Groups, IsInstance, parent_of}
+use Rattle.bw_model.specs.Allocation.{IsWithinUnder, IsMost}
+use Rattle.bw_model.proofs.Totals.{parent_from_is_child}
 use Rattle.bw_model.proofs.Reach.{reached, joined, joined_at, length-joined, joined_zero, total-joined}
 use Rattle.bw_model.proofs.Under.{is_under-self}
 use Rattle.bw_model.proofs.Mosts.{IsMost-unique, mosts, mosts-capped}

@@ -8,12 +8,11 @@ use Rattle.std.proofs.Math.ListN.{length-set}
 use Rattle.bw_model.specs.declared.limits.TheConstants.{MAX_DEMAND, MAX_GROUPS}
 use Rattle.bw_model.specs.Groups.{Groups, IsInstance, parent_of, is_leaf, limit_of, demand_of}
 use Rattle.bw_model.specs.Allocation.{IsGreatestTotal}
-use Rattle.bw_model.specs.Demand.{want_of, is_tight, has_tight_above, limiting_groups, demand_outside}
+use Rattle.bw_model.specs.Demand.{is_tight, has_tight_above, limiting_groups, demand_outside}
 use Rattle.bw_model.proofs.Sums.{sum_below}
 use Rattle.bw_model.proofs.Under.{parent_lt}
 use Rattle.bw_model.proofs.Limiting.{limited-IsGreatestTotal}
 use Rattle.bw_model.proofs.Mosts.{AreMosts-capped}
-use Rattle.bw_model.proofs.Reach.{capped}
 use Rattle.bw_demand.proofs.Covered.{above-child, above-top, demand_outside-is}
 use Rattle.bw_demand.specs.Demands.{Demands, IsGathered}
 use Rattle.bw_demand.proofs.Passed.{sum_below-bound}

@@ -1,7 +1,7 @@
-use Rattle.std.specs.Prelude.{◌≡◌, ℕ, ◌<◌, ◌≤◌, List, false, Some, length, min, slice_index}
+use Rattle.std.specs.Prelude.{◌≡◌, ℕ, ◌<◌, ◌≤◌, List, Some, length, min, slice_index}
 use Rattle.std.specs.Option.{option_map_or}
-use Rattle.bw_model.specs.Groups.{Groups, IsInstance, is_leaf, parent_of, limit_of}
-use Rattle.bw_model.specs.Allocation.{total, IsAllocation, IsWithin, IsWithinUnder, IsMost}
+use Rattle.bw_model.specs.Groups.{Groups, IsInstance, parent_of, limit_of}
+use Rattle.bw_model.specs.Allocation.{total, IsWithin, IsWithinUnder, IsMost}
 use Rattle.bw_model.specs.Certificate.{Certified, AreBounds}
 use Rattle.bw_model.specs.Demand.{AreMosts, want_of}
 
