@@ -5,7 +5,7 @@ use Rattle.std.specs.List.{range_with_len}
 use Rattle.bw_model.specs.Groups.{Groups}
 use Rattle.bw_model.specs.Demand.{limiting_groups}
 use Rattle.bw_tree.specs.Groups.{TreeState}
-use Rattle.bw_shell.specs.Total.{IsPathOf, ArePathsOf, limit_line, limit_lines}
+use Rattle.bw_shell.specs.GroupLines.{IsPathOf, ArePathsOf, group_lines}
 
 -- one row more
 pub ArePathsOf-push : (tree : TreeState) (gs : List ℕ) (paths : List (List ℕ)) (g : ℕ) (path : List ℕ) → ArePathsOf tree gs paths → IsPathOf tree g path → ArePathsOf tree (gs ++ g ∷ []) (paths ++ path ∷ [])
@@ -14,14 +14,14 @@ ArePathsOf-push tree [] (p ∷ ps) g path all one = absurd all
 ArePathsOf-push tree (h ∷ gs) [] g path all one = absurd all
 ArePathsOf-push tree (h ∷ gs) (p ∷ ps) g path all one = (all.0, ArePathsOf-push tree gs ps g path all.1 one)
 
-pub limit_lines-push : (tree : TreeState) (groups : Groups) (gs : List ℕ) (paths : List (List ℕ)) (g : ℕ) (path : List ℕ) → ArePathsOf tree gs paths
-    → limit_lines groups (gs ++ g ∷ []) (paths ++ path ∷ []) ≡ limit_lines groups gs paths ++ limit_line groups g path
-limit_lines-push tree groups [] [] g path all = append-nil (limit_line groups g path)
-limit_lines-push tree groups [] (p ∷ ps) g path all = absurd all
-limit_lines-push tree groups (h ∷ gs) [] g path all = absurd all
-limit_lines-push tree groups (h ∷ gs) (p ∷ ps) g path all =
-    ap (λ l. limit_line groups h p ++ l) (limit_lines-push tree groups gs ps g path all.1)
-    ∙ sym (append_assoc (limit_line groups h p) (limit_lines groups gs ps) (limit_line groups g path))
+pub group_lines-push : (line : ℕ → List ℕ → List ℕ) (tree : TreeState) (gs : List ℕ) (paths : List (List ℕ)) (g : ℕ) (path : List ℕ) → ArePathsOf tree gs paths
+    → group_lines line (gs ++ g ∷ []) (paths ++ path ∷ []) ≡ group_lines line gs paths ++ line g path
+group_lines-push line tree [] [] g path all = append-nil (line g path)
+group_lines-push line tree [] (p ∷ ps) g path all = absurd all
+group_lines-push line tree (h ∷ gs) [] g path all = absurd all
+group_lines-push line tree (h ∷ gs) (p ∷ ps) g path all =
+    ap (λ l. line h p ++ l) (group_lines-push line tree gs ps g path all.1)
+    ∙ sym (append_assoc (line h p) (group_lines line gs ps) (line g path))
 
 -- what is kept of a range is within it
 kept-lt : (p : ℕ → Bool) (a n : ℕ) (b : Bool) → ((k : ℕ) → k < length (filter p (range_with_len (a + 1) n)) → get_or (filter p (range_with_len (a + 1) n)) k 0 < a + 1 + n)

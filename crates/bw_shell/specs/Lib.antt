@@ -4,7 +4,9 @@ pub mod Watched
 pub mod Lines
 pub mod Word
 pub mod Path
+pub mod GroupLines
 pub mod Total
+pub mod Planned
 pub mod Script
 pub mod Commands
 pub mod Transcript

@@ -9,6 +9,7 @@ use Rattle.bw_tree.specs.declared.fault.TreeFault.TheVariants as tree_fault
 use Rattle.bw_shell.specs.State.{State}
 use Rattle.bw_shell.specs.Path.{parent_path, last_name}
 use Rattle.bw_shell.specs.Total.{IsTotal}
+use Rattle.bw_shell.specs.Planned.{IsPlanText}
 use Rattle.bw_shell.specs.Word.{first_word, after_word}
 use Rattle.bw_shell.specs.Fault.{error_line}
 use Rattle.bw_shell.specs.declared.fault.ScriptFault.{ScriptFault}
@@ -18,11 +19,12 @@ use Rattle.bw_shell.specs.declared.fault.ScriptFault.TheVariants as fault
 abbrev pub line_bytes : ℕ
 line_bytes = 65536
 
--- What a line does: nothing at all, or it prints a text and leaves a state, or it prints the total.
+-- What a line does: nothing at all, or it prints a text and leaves a state, or it prints the total or the plan.
 pub data Outcome : Type 0 where
   Silent : Outcome
   Prints : (text : List ℕ) (after : State) → Outcome
   Total : Outcome
+  Plan : Outcome
 
 abbrev pub refused : State → ScriptFault → Outcome
 refused s f = Prints (error_line f) s
@@ -69,6 +71,7 @@ outcome_of_words s verb first second third =
     else if bytes_eq verb (codes "mkdir") && (not (is_empty first) && is_empty second) then mkdir_outcome s first
     else if bytes_eq verb (codes "demand") && (not (is_empty second) && is_empty third) then demand_outcome s first (number_of second)
     else if bytes_eq verb (codes "total") && is_empty first then Total
+    else if bytes_eq verb (codes "plan") && is_empty first then Plan
     else refused s fault.BadCommand)
 
 -- a line of text
@@ -98,12 +101,14 @@ abbrev pub Gives : State → Outcome → List ℕ → State → Type 0
 Gives s Silent text next = (text ≡ []) × (next ≡ s)
 Gives s (Prints answer after) text next = (text ≡ answer) × (next ≡ after)
 Gives s Total text next = IsTotal s text × (next ≡ s)
+Gives s Plan text next = IsPlanText s text × (next ≡ s)
 
 -- what may stand in place of an answer: want of memory, but nothing where nothing is printed
 abbrev pub spare_text : Outcome → List ℕ
 spare_text Silent = []
 spare_text (Prints answer after) = error_line fault.OutOfMemory
 spare_text Total = error_line fault.OutOfMemory
+spare_text Plan = error_line fault.OutOfMemory
 
 -- From s the answer to a line may be this text, with the state next after it: what the line means, or, where it
 -- prints anything, want of memory with nothing changed.

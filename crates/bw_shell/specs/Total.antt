@@ -1,22 +1,11 @@
 -- The answer to `total`: the greatest total, the limits of the limiting groups, and the demands outside them.
-use Rattle.std.specs.Prelude.{◌≡◌, ℕ, ⊤, List, [], ◌∷◌, ◌++◌, Some, codes, unwrap_or, slice_index}
+use Rattle.std.specs.Prelude.{◌≡◌, ℕ, List, [], ◌∷◌, ◌++◌, codes, unwrap_or}
 use Rattle.std.specs.Fmt.{decimal}
-use Rattle.std.specs.Map.{keys_of}
 use Rattle.bw_model.specs.Groups.{Groups, limit_of}
 use Rattle.bw_model.specs.Demand.{AreMosts, limiting_groups, limited_total, demand_outside}
-use Rattle.bw_tree.specs.Groups.{TreeState, find_path}
 use Rattle.bw_tree.specs.Snapshot.{instance_of}
 use Rattle.bw_shell.specs.State.{State}
-
--- the group of a row is found at this path
-abbrev pub IsPathOf : TreeState → ℕ → List ℕ → Type 0
-IsPathOf tree g path = find_path tree.groups path ≡ Some (slice_index (keys_of tree.groups) g)
-
--- the groups of these rows are found at these paths, one each
-abbrev pub ArePathsOf : TreeState → List ℕ → List (List ℕ) → Type 0
-ArePathsOf tree [] [] = ⊤
-ArePathsOf tree (g ∷ gs) (path ∷ paths) = IsPathOf tree g path × ArePathsOf tree gs paths
-ArePathsOf tree gs paths = ⊥
+use Rattle.bw_shell.specs.GroupLines.{ArePathsOf, group_lines}
 
 -- a number behind a word, on a line
 abbrev pub number_line : List ℕ → ℕ → List ℕ
@@ -26,10 +15,9 @@ number_line word number = word ++ decimal number ++ 10 ∷ []
 abbrev pub limit_line : Groups → ℕ → List ℕ → List ℕ
 limit_line groups g path = codes "limit " ++ decimal (unwrap_or (limit_of groups g) 0) ++ codes " " ++ path ++ 10 ∷ []
 
+-- the lines of some limiting groups
 abbrev pub limit_lines : Groups → List ℕ → List (List ℕ) → List ℕ
-limit_lines groups [] paths = []
-limit_lines groups (g ∷ gs) [] = []
-limit_lines groups (g ∷ gs) (path ∷ paths) = limit_line groups g path ++ limit_lines groups gs paths
+limit_lines groups = group_lines (limit_line groups)
 
 -- the whole answer, by the most that each group can be given and the paths of the limiting groups
 abbrev pub total_text : Groups → List ℕ → List (List ℕ) → List ℕ

@@ -2,13 +2,14 @@
 ghost use Rattle.std.specs.Prelude.{◌≡◌, ◌≤◌, ◌++◌, [], ◌∷◌, codes, IfOk, vec_len};
 ghost use Rattle.std.specs.Vec.{vec_capacity};
 ghost use Rattle.bw_text.specs.Number.{number_of};
-ghost use Rattle.bw_shell.specs.Script.{outcome_of_text, outcome_of_words, mkdir_outcome, demand_outcome, Performs, Total};
+ghost use Rattle.bw_shell.specs.Script.{outcome_of_text, outcome_of_words, mkdir_outcome, demand_outcome, Performs, Total, Plan};
 ghost use Rattle.bw_shell.specs.State.{start};
 ghost use Rattle.bw_shell.specs.Commands.{state_of};
 ghost use Rattle.bw_shell.specs.declared.put.TheConstants.{REFUSAL_BYTES};
 
 use crate::fault::ScriptFault;
 use crate::path::split_path;
+use crate::planned::put_plan;
 use crate::put::{REFUSAL_BYTES, put};
 use crate::total::put_total;
 use crate::word::split_word;
@@ -82,6 +83,18 @@ impl Commands {
         }
     }
 
+    // `plan`
+    fn plan(&self, alloc: Global, answer: &mut Vec<u8>) -> Result<(), ScriptFault>
+        requires { answer.old.items ≡ [] }
+        ensures outcome { Performs (state_of self.now) Plan result answer.new.items (state_of self.now) }
+        ensures room { vec_capacity answer.old ≤ vec_capacity answer.new }
+    {
+        match put_plan(alloc, &self.tree, self.shape, answer) {
+            Ok(()) => Ok(()),
+            Err(_) => Err(ScriptFault::OutOfMemory),
+        }
+    }
+
     // Forms the whole answer to a command in an empty buffer, and then makes its change.
     #[tactic(auto, unfolding(crate::specs::Script::outcome_of_words))]
     fn perform(
@@ -111,6 +124,8 @@ impl Commands {
             self.demand(first, second)
         } else if verb == "total" && first.is_empty() {
             self.total(alloc, answer)
+        } else if verb == "plan" && first.is_empty() {
+            self.plan(alloc, answer)
         } else {
             Err(ScriptFault::BadCommand)
         }

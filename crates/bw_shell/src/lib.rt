@@ -5,7 +5,9 @@
 mod command;
 mod fault;
 mod path;
+mod planned;
 mod put;
+mod put_text;
 pub mod script;
 mod send;
 mod session;

@@ -6,8 +6,10 @@ ghost use Rattle.std.specs.Vec.{vec_capacity};
 ghost use Rattle.bw_model.specs.Groups.{limit_of};
 ghost use Rattle.bw_model.specs.Demand.{limited_total};
 ghost use Rattle.bw_demand.specs.Demands.{demands_of, IsGathered};
-ghost use Rattle.bw_shell.specs.Total.{IsTotal, IsPathOf, ArePathsOf, number_line, limit_line, limit_lines};
+ghost use Rattle.bw_shell.specs.GroupLines.{IsPathOf, ArePathsOf};
+ghost use Rattle.bw_shell.specs.Total.{IsTotal, number_line, limit_line, limit_lines};
 
+use crate::put_text::{put_number, put_path};
 use bw_demand::{Gathered, gather, limiting};
 use bw_model::{HostShape, Instance};
 use bw_tree::{GroupId, Tree};
@@ -109,33 +111,6 @@ fn limit_at(instance: &Instance, g: u32) -> u64
     } else {
         instance.row(g).limit.unwrap_or(0)
     }
-}
-
-// Appends a word and a number.
-fn put_number(
-    alloc: Global,
-    word: &[u8],
-    number: u64,
-    answer: &mut Vec<u8>,
-) -> Result<(), AllocError>
-    ensures ok { OnOk result (answer.new.items ≡ answer.old.items ++ (word.now ++ decimal number)) }
-    ensures room { vec_capacity answer.old ≤ vec_capacity answer.new }
-{
-    let text = number.to_string(alloc)?;
-    answer.extend_from_slice(word)?;
-    answer.extend_from_slice(text.as_bytes())?;
-    Ok(())
-}
-
-// Appends a blank, a path and a newline.
-fn put_path(path: &str, answer: &mut Vec<u8>) -> Result<(), AllocError>
-    ensures ok { OnOk result (answer.new.items ≡ answer.old.items ++ (codes " " ++ path.now ++ 10 ∷ [])) }
-    ensures room { vec_capacity answer.old ≤ vec_capacity answer.new }
-{
-    answer.extend_from_slice(b" ")?;
-    answer.extend_from_slice(path.as_bytes())?;
-    answer.extend_from_slice(b"\n")?;
-    Ok(())
 }
 
 // Appends a word and a number on a line of their own.

@@ -1,6 +1,7 @@
 use Rattle.std.proofs.Common.{◌≡◌, ◌≤◌, ◌++◌, ℕ, List, take}
 use Rattle.std.specs.Vec.{vec_capacity}
-use Rattle.bw_shell.specs.Total.{ArePathsOf, limit_lines}
+use Rattle.bw_shell.specs.GroupLines.{ArePathsOf}
+use Rattle.bw_shell.specs.Total.{limit_lines}
 use Rattle.bw_shell.proofs.total.put_limits.Given as goal
 
 abbrev pub invariant-loop-g : goal.invariant-loop-g
