@@ -4,6 +4,7 @@ use Rattle.std.specs.Prelude.{filter}
 use Rattle.std.specs.List.{range_with_len}
 use Rattle.bw_model.specs.Groups.{Groups}
 use Rattle.bw_model.specs.Demand.{limiting_groups}
+use Rattle.bw_model.proofs.Listing.{range_more}
 use Rattle.bw_tree.specs.Groups.{TreeState}
 use Rattle.bw_shell.specs.GroupLines.{IsPathOf, ArePathsOf, group_lines}
 
@@ -22,6 +23,10 @@ group_lines-push line tree (h ∷ gs) [] g path all = absurd all
 group_lines-push line tree (h ∷ gs) (p ∷ ps) g path all =
     ap (λ l. line h p ++ l) (group_lines-push line tree gs ps g path all.1)
     ∙ sym (append_assoc (line h p) (group_lines line gs ps) (line g path))
+
+-- the rows up to one and that one
+pub rows-more : (n : ℕ) → range_with_len 0 (n + 1) ≡ range_with_len 0 n ++ n ∷ []
+rows-more n = range_more 0 n ∙ (let same : 0 + n ≡ n = omega arith in ap (λ (k : ℕ). range_with_len 0 n ++ k ∷ []) same)
 
 -- what is kept of a range is within it
 kept-lt : (p : ℕ → Bool) (a n : ℕ) (b : Bool) → ((k : ℕ) → k < length (filter p (range_with_len (a + 1) n)) → get_or (filter p (range_with_len (a + 1) n)) k 0 < a + 1 + n)

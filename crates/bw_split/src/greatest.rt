@@ -1,7 +1,7 @@
 //! The level of a split: its greatest last mark.
 ghost use Rattle.std.specs.Prelude.{◌≡◌, ◌<◌, ◌≤◌, ℕ, length, slice_index, EachIndex, IfSome, IfNone};
 ghost use Rattle.bw_model.specs.Marks.{price_of};
-ghost use Rattle.bw_model.proofs.Moves.{IsGreatestLast};
+ghost use Rattle.bw_model.specs.Split.{IsGreatestLast};
 
 use crate::limits::MAX_CHILDREN;
 use bw_model::Mark;

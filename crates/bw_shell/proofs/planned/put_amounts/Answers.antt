@@ -1,9 +1,8 @@
 use Rattle.std.proofs.Common.{◌≡◌, ◌∙◌, ◌++◌, [], ◌∷◌, arith, sym, ap, append-nil, append_assoc}
 use Rattle.std.specs.List.{range_with_len}
-use Rattle.bw_model.proofs.Listing.{range_more}
 use Rattle.bw_shell.specs.GroupLines.{group_lines}
 use Rattle.bw_shell.specs.Planned.{amount_line}
-use Rattle.bw_shell.proofs.Totals.{ArePathsOf-push, group_lines-push}
+use Rattle.bw_shell.proofs.Totals.{ArePathsOf-push, group_lines-push, rows-more}
 use Rattle.bw_shell.proofs.planned.put_amounts.Goals as goal
 
 pub loop-g-init : goal.loop-g-init
@@ -20,8 +19,8 @@ loop-g-preserved c =
     record {
       taken = (
         t.0 ++ s.0 ∷ [],
-        rw (range_more 0 i) (ArePathsOf-push tree gs t.0 i s.0 t.1 s.1),
-        rw (range_more 0 i, group_lines-push line tree gs t.0 i s.0 t.1)
+        rw (rows-more i) (ArePathsOf-push tree gs t.0 i s.0 t.1 s.1),
+        rw (rows-more i, group_lines-push line tree gs t.0 i s.0 t.1)
             (s.2 ∙ ap (λ l. l ++ line i s.0) t.2 ∙ append_assoc c.args.answer.now.items (group_lines line gs t.0) (line i s.0)),
       );
       room = omega (arith, c.loop-g.invariant.room, c.in_ok-put_amount.ensures.room);
