@@ -17,7 +17,8 @@ use Rattle.bw_model.proofs.Optimum.{get_or-map}
 use Rattle.bw_model.proofs.Unique.{listed_child}
 use Rattle.bw_model.proofs.Planned.{tight-bound_at}
 use Rattle.bw_model.proofs.Reach.{capped, most_le_want, most_le_limit}
-use Rattle.bw_model.proofs.Moves.{IsGreatestLast, best-IsAtLevel}
+use Rattle.bw_model.specs.Split.{IsGreatestLast}
+use Rattle.bw_model.proofs.Moves.{best-IsAtLevel}
 use Rattle.bw_model.proofs.Mosts.{AreMosts-capped}
 use Rattle.bw_plan.proofs.Backward.{plan-IsPlanning}
 use Rattle.bw_plan.proofs.Shares.{IsPlanning, weights_in_range, at_most}

@@ -6,7 +6,7 @@ use Rattle.bw_model.specs.declared.row.Row.{Row}
 use Rattle.bw_model.specs.declared.mark.Mark.{Mark}
 use Rattle.bw_model.specs.Groups.{Groups, children_of, is_leaf}
 use Rattle.bw_model.specs.Marks.{price_of}
-use Rattle.bw_model.proofs.Moves.{IsGreatestLast}
+use Rattle.bw_model.specs.Split.{IsGreatestLast}
 use Rattle.bw_model.specs.declared.limits.TheConstants.{MAX_CAPACITY}
 use Rattle.bw_model.specs.Plan.{child_weights}
 use Rattle.bw_model.proofs.Sums.{sum-cons}

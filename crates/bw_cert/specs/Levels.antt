@@ -5,7 +5,7 @@ use Rattle.bw_model.specs.Marks.{price_of}
 use Rattle.bw_model.specs.Plan.{child_weights}
 use Rattle.bw_model.specs.Demand.{AreMosts, is_tight}
 use Rattle.bw_model.specs.Certificate.{Certified, is_flagged, level_at}
-use Rattle.bw_model.proofs.Moves.{IsGreatestLast}
+use Rattle.bw_model.specs.Split.{IsGreatestLast}
 
 -- the greatest last mark of the children at an inner group with an amount above 0, and none elsewhere
 abbrev pub IsLevelAt : Groups → List ℕ → ℕ → Option Mark → Type 0
