@@ -1,35 +1,55 @@
 -- Refusals are short: a number of at most two digits, and a name of at most 20 bytes.
 use Rattle.std.proofs.Common.{◌≡◌, ◌<◌, ◌≤◌, ℕ, length, arith}
-use Rattle.bw_tree.specs.Faults.{number_of, name_of}
-use Rattle.bw_tree.specs.declared.fault.TreeFault.{TreeFault}
 use Rattle.bw_tree.specs.declared.fault.TreeFault.TheVariants.{NotFound, Exists, BadName, HasChildren, HasDemand, ParentHasDemand, RootFixed, TreeFull, IdsSpent, TooDeep, InnerDemand, DemandTooLarge, OutOfMemory}
+use Rattle.bw_files.specs.declared.fault.FileFault.TheVariants.{BadNumber, WeightOutOfRange, QuotaTooSmall, QuotaTooLarge, PeriodOutOfRange, TooManyWords, Empty}
+use Rattle.bw_hierarchy.specs.Faults.{fault_number, fault_name}
+use Rattle.bw_hierarchy.specs.declared.fault.Fault.{Fault}
+use Rattle.bw_hierarchy.specs.declared.fault.Fault.TheVariants.{Tree, File, NoSuchFile, PeriodDiffers}
 
-pub number_of-lt : (fault : TreeFault) → number_of fault < 100
-number_of-lt NotFound = omega arith
-number_of-lt Exists = omega arith
-number_of-lt BadName = omega arith
-number_of-lt HasChildren = omega arith
-number_of-lt HasDemand = omega arith
-number_of-lt ParentHasDemand = omega arith
-number_of-lt RootFixed = omega arith
-number_of-lt TreeFull = omega arith
-number_of-lt IdsSpent = omega arith
-number_of-lt TooDeep = omega arith
-number_of-lt InnerDemand = omega arith
-number_of-lt DemandTooLarge = omega arith
-number_of-lt OutOfMemory = omega arith
+pub fault_number-lt : (fault : Fault) → fault_number fault < 100
+fault_number-lt (Tree NotFound) = omega arith
+fault_number-lt (Tree Exists) = omega arith
+fault_number-lt (Tree BadName) = omega arith
+fault_number-lt (Tree HasChildren) = omega arith
+fault_number-lt (Tree HasDemand) = omega arith
+fault_number-lt (Tree ParentHasDemand) = omega arith
+fault_number-lt (Tree RootFixed) = omega arith
+fault_number-lt (Tree TreeFull) = omega arith
+fault_number-lt (Tree IdsSpent) = omega arith
+fault_number-lt (Tree TooDeep) = omega arith
+fault_number-lt (Tree InnerDemand) = omega arith
+fault_number-lt (Tree DemandTooLarge) = omega arith
+fault_number-lt (Tree OutOfMemory) = omega arith
+fault_number-lt (File BadNumber) = omega arith
+fault_number-lt (File WeightOutOfRange) = omega arith
+fault_number-lt (File QuotaTooSmall) = omega arith
+fault_number-lt (File QuotaTooLarge) = omega arith
+fault_number-lt (File PeriodOutOfRange) = omega arith
+fault_number-lt (File TooManyWords) = omega arith
+fault_number-lt (File Empty) = omega arith
+fault_number-lt NoSuchFile = omega arith
+fault_number-lt PeriodDiffers = omega arith
 
-pub length-name_of-le : (fault : TreeFault) → length (name_of fault) ≤ 20
-length-name_of-le NotFound = omega arith
-length-name_of-le Exists = omega arith
-length-name_of-le BadName = omega arith
-length-name_of-le HasChildren = omega arith
-length-name_of-le HasDemand = omega arith
-length-name_of-le ParentHasDemand = omega arith
-length-name_of-le RootFixed = omega arith
-length-name_of-le TreeFull = omega arith
-length-name_of-le IdsSpent = omega arith
-length-name_of-le TooDeep = omega arith
-length-name_of-le InnerDemand = omega arith
-length-name_of-le DemandTooLarge = omega arith
-length-name_of-le OutOfMemory = omega arith
+pub length-fault_name-le : (fault : Fault) → length (fault_name fault) ≤ 20
+length-fault_name-le (Tree NotFound) = omega arith
+length-fault_name-le (Tree Exists) = omega arith
+length-fault_name-le (Tree BadName) = omega arith
+length-fault_name-le (Tree HasChildren) = omega arith
+length-fault_name-le (Tree HasDemand) = omega arith
+length-fault_name-le (Tree ParentHasDemand) = omega arith
+length-fault_name-le (Tree RootFixed) = omega arith
+length-fault_name-le (Tree TreeFull) = omega arith
+length-fault_name-le (Tree IdsSpent) = omega arith
+length-fault_name-le (Tree TooDeep) = omega arith
+length-fault_name-le (Tree InnerDemand) = omega arith
+length-fault_name-le (Tree DemandTooLarge) = omega arith
+length-fault_name-le (Tree OutOfMemory) = omega arith
+length-fault_name-le (File BadNumber) = omega arith
+length-fault_name-le (File WeightOutOfRange) = omega arith
+length-fault_name-le (File QuotaTooSmall) = omega arith
+length-fault_name-le (File QuotaTooLarge) = omega arith
+length-fault_name-le (File PeriodOutOfRange) = omega arith
+length-fault_name-le (File TooManyWords) = omega arith
+length-fault_name-le (File Empty) = omega arith
+length-fault_name-le NoSuchFile = omega arith
+length-fault_name-le PeriodDiffers = omega arith

@@ -7,6 +7,5 @@ pub mod Running
 pub mod Faults
 pub mod Refusals
 pub mod Words
-pub mod Paths
 pub mod Decimals
 pub mod Totals

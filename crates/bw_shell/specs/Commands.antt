@@ -3,4 +3,4 @@ use Rattle.bw_shell.specs.State.{State}
 use Rattle.bw_shell.specs.declared.command.Commands.{Commands}
 
 abbrev pub state_of : Commands → State
-state_of c = record { shape = c.shape; tree = c.tree }
+state_of c = c.hierarchy

@@ -1,13 +1,13 @@
 -- The numbers and names of the refusals of a line, and the line that prints one.
 use Rattle.std.specs.Prelude.{ℕ, List, [], ◌∷◌, ◌++◌, codes}
 use Rattle.std.specs.Fmt.{decimal}
-use Rattle.bw_tree.specs.Faults.{number_of as tree_number_of, name_of as tree_name_of}
+use Rattle.bw_hierarchy.specs.Faults.{fault_number, fault_name}
 use Rattle.bw_shell.specs.declared.fault.ScriptFault.{ScriptFault}
-use Rattle.bw_shell.specs.declared.fault.ScriptFault.TheVariants.{BadNumber, Tree, OutOfMemory, BadCommand, BadText, LineTooLong}
+use Rattle.bw_shell.specs.declared.fault.ScriptFault.TheVariants.{BadNumber, Call, OutOfMemory, BadCommand, BadText, LineTooLong}
 
 abbrev pub number_of : ScriptFault → ℕ
 number_of BadNumber = 11
-number_of (Tree fault) = tree_number_of fault
+number_of (Call fault) = fault_number fault
 number_of OutOfMemory = 71
 number_of BadCommand = 80
 number_of BadText = 81
@@ -15,7 +15,7 @@ number_of LineTooLong = 82
 
 abbrev pub name_of : ScriptFault → List ℕ
 name_of BadNumber = codes "BadNumber"
-name_of (Tree fault) = tree_name_of fault
+name_of (Call fault) = fault_name fault
 name_of OutOfMemory = codes "OutOfMemory"
 name_of BadCommand = codes "BadCommand"
 name_of BadText = codes "BadText"

@@ -3,7 +3,6 @@ pub mod Fault
 pub mod Watched
 pub mod Lines
 pub mod Word
-pub mod Path
 pub mod GroupLines
 pub mod Total
 pub mod Planned

@@ -2,12 +2,11 @@
 use Rattle.std.specs.Prelude.{ℕ, ◌≡◌, ◌⊎◌, List, [], ◌∷◌, ◌++◌, Bool, true, false, ◌==◌, ◌&&◌, not, nat_lt, if◌then◌else◌, codes, length, Result, Ok, Err, Option, Some, None}
 use Rattle.std.specs.Str.{bytes_eq, is_utf8}
 use Rattle.bw_text.specs.Number.{number_of}
-use Rattle.bw_tree.specs.Groups.{TreeState, find_path}
-use Rattle.bw_tree.specs.Tree.{mkdir_refusal, with_group, demand_refusal, with_setting, set_demand}
-use Rattle.bw_tree.specs.declared.fault.TreeFault.{TreeFault}
-use Rattle.bw_tree.specs.declared.fault.TreeFault.TheVariants as tree_fault
+use Rattle.bw_hierarchy.specs.State.{with_tree, rmdir_of, demand_set_of}
+use Rattle.bw_hierarchy.specs.Calls.{mkdir_of}
+use Rattle.bw_hierarchy.specs.Files.{read_of, write_of}
+use Rattle.bw_hierarchy.specs.declared.fault.Fault.{Fault}
 use Rattle.bw_shell.specs.State.{State}
-use Rattle.bw_shell.specs.Path.{parent_path, last_name}
 use Rattle.bw_shell.specs.Total.{IsTotal}
 use Rattle.bw_shell.specs.Planned.{IsPlanText}
 use Rattle.bw_shell.specs.Word.{first_word, after_word}
@@ -31,27 +30,35 @@ refused s f = Prints (error_line f) s
 
 -- ---- the commands
 
--- a call on the tree: its refusal, or `ok` and the tree that it makes
-abbrev pub call_outcome : State → Option TreeFault → TreeState → Outcome
-call_outcome s (Some f) tree = refused s (fault.Tree f)
-call_outcome s None tree = Prints (codes "ok" ++ 10 ∷ []) (record { shape = s.shape; tree = tree })
+-- a call on the hierarchy: its refusal, or the text that its value prints and the state that it leaves
+abbrev pub call_outcome : {A : Type 0} → State → (A → List ℕ) → (A → State) → Result A Fault → Outcome
+call_outcome s text after (Ok x) = Prints (text x) (after x)
+call_outcome s text after (Err f) = refused s (fault.Call f)
 
-abbrev pub mkdir_at : State → List ℕ → Option ℕ → Outcome
-mkdir_at s name None = refused s (fault.Tree tree_fault.NotFound)
-mkdir_at s name (Some parent) = call_outcome s (mkdir_refusal s.tree parent name) (with_group s.tree parent name)
+-- what a change prints
+abbrev pub ok_line : List ℕ
+ok_line = codes "ok" ++ 10 ∷ []
 
 -- `mkdir P`
 unfoldable pub mkdir_outcome : State → List ℕ → Outcome
-mkdir_outcome s path = mkdir_at s (last_name path) (find_path s.tree.groups (parent_path path))
+mkdir_outcome s path = call_outcome s (λ made. ok_line) (λ made. with_tree s made.1) (mkdir_of s.tree path)
 
-abbrev pub demand_at : State → ℕ → Option ℕ → Outcome
-demand_at s demand None = refused s (fault.Tree tree_fault.NotFound)
-demand_at s demand (Some id) = call_outcome s (demand_refusal s.tree id demand) (with_setting (set_demand demand) s.tree id)
+-- `rmdir P`
+unfoldable pub rmdir_outcome : State → List ℕ → Outcome
+rmdir_outcome s path = call_outcome s (λ after. ok_line) (λ after. after) (rmdir_of s path)
 
 -- `demand P N`, where N spells this number
 unfoldable pub demand_outcome : State → List ℕ → Option ℕ → Outcome
 demand_outcome s path None = refused s fault.BadNumber
-demand_outcome s path (Some demand) = demand_at s demand (find_path s.tree.groups path)
+demand_outcome s path (Some demand) = call_outcome s (λ after. ok_line) (λ after. after) (demand_set_of s path demand)
+
+-- `read P FILE`
+unfoldable pub read_outcome : State → List ℕ → List ℕ → Outcome
+read_outcome s path file = call_outcome s (λ text. text) (λ text. s) (read_of s.tree s.shape.period_us path file)
+
+-- `write P FILE TEXT`
+unfoldable pub write_outcome : State → List ℕ → List ℕ → List ℕ → Outcome
+write_outcome s path file text = call_outcome s (λ tree. ok_line) (λ tree. with_tree s tree) (write_of s.tree s.shape.period_us path file text)
 
 -- ---- lines
 
@@ -64,15 +71,23 @@ abbrev pub is_silent : List ℕ → Bool
 is_silent [] = true
 is_silent (b ∷ bs) = b == 35
 
--- the command with its words, at most four
-unfoldable pub outcome_of_words : State → List ℕ → List ℕ → List ℕ → List ℕ → Outcome
-outcome_of_words s verb first second third =
+-- a command on a file of the group at a path
+unfoldable pub outcome_of_file_words : State → List ℕ → List ℕ → List ℕ → List ℕ → List ℕ → Outcome
+outcome_of_file_words s verb path file next text =
+    (if bytes_eq verb (codes "read") && (not (is_empty file) && is_empty next) then read_outcome s path file
+    else if bytes_eq verb (codes "write") && not (is_empty file) then write_outcome s path file text
+    else refused s fault.BadCommand)
+
+-- the command with its words, at most four, and all that stands after the third
+unfoldable pub outcome_of_words : State → List ℕ → List ℕ → List ℕ → List ℕ → List ℕ → Outcome
+outcome_of_words s verb first second third text =
     (if is_silent verb then Silent
     else if bytes_eq verb (codes "mkdir") && (not (is_empty first) && is_empty second) then mkdir_outcome s first
     else if bytes_eq verb (codes "demand") && (not (is_empty second) && is_empty third) then demand_outcome s first (number_of second)
     else if bytes_eq verb (codes "total") && is_empty first then Total
     else if bytes_eq verb (codes "plan") && is_empty first then Plan
-    else refused s fault.BadCommand)
+    else if bytes_eq verb (codes "rmdir") && (not (is_empty first) && is_empty second) then rmdir_outcome s first
+    else outcome_of_file_words s verb first second third text)
 
 -- a line of text
 unfoldable pub outcome_of_text : State → List ℕ → Outcome
@@ -80,7 +95,7 @@ outcome_of_text s line =
     let a = after_word line in
     let b = after_word a in
     let c = after_word b in
-    outcome_of_words s (first_word line) (first_word a) (first_word b) (first_word c)
+    outcome_of_words s (first_word line) (first_word a) (first_word b) (first_word c) c
 
 -- what is kept of a line: nothing where it is too long
 abbrev pub kept_of : List ℕ → Option (List ℕ)

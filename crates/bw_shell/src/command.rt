@@ -1,59 +1,66 @@
 //! The commands of a script.
-ghost use Rattle.std.specs.Prelude.{◌≡◌, ◌≤◌, ◌++◌, [], ◌∷◌, codes, IfOk, vec_len};
+ghost use Rattle.std.specs.Prelude.{◌≡◌, ◌≤◌, ◌&&◌, not, [], IfOk, vec_len};
+ghost use Rattle.std.specs.Str.{bytes_eq};
 ghost use Rattle.std.specs.Vec.{vec_capacity};
 ghost use Rattle.bw_text.specs.Number.{number_of};
-ghost use Rattle.bw_shell.specs.Script.{outcome_of_text, outcome_of_words, mkdir_outcome, demand_outcome, Performs, Total, Plan};
+ghost use Rattle.bw_shell.specs.Script.{outcome_of_text, outcome_of_words, outcome_of_file_words, mkdir_outcome, rmdir_outcome, demand_outcome, read_outcome, write_outcome, ok_line, is_empty, Performs, Total, Plan};
 ghost use Rattle.bw_shell.specs.State.{start};
 ghost use Rattle.bw_shell.specs.Commands.{state_of};
 ghost use Rattle.bw_shell.specs.declared.put.TheConstants.{REFUSAL_BYTES};
 
 use crate::fault::ScriptFault;
-use crate::path::split_path;
 use crate::planned::put_plan;
 use crate::put::{REFUSAL_BYTES, put};
 use crate::total::put_total;
 use crate::word::split_word;
+use bw_hierarchy::{Fault, Hierarchy};
 use bw_model::HostShape;
 use bw_text::{NumberFault, read_number};
-use bw_tree::{Tree, TreeFault};
 use std::alloc::Global;
+
+// Whether the verb is this one, its last word is there, and no word follows.
+fn is_command(verb: &str, name: &str, last: &str, next: &str) -> bool
+    ensures { result ≡ (bytes_eq verb.now name.now && (not (is_empty last.now) && is_empty next.now)) }
+{
+    verb == name && !last.is_empty() && next.is_empty()
+}
 
 /// A host and its tree of groups, on which the lines of a script work.
 #[derive(Drop)]
 pub struct Commands {
-    shape: HostShape,
-    tree: Tree,
+    hierarchy: Hierarchy,
 }
 
 impl Commands {
     /// The root alone.
-    pub fn new(alloc: Global, shape: HostShape) -> Result<Commands, TreeFault>
+    pub fn new(alloc: Global, shape: HostShape) -> Result<Commands, Fault>
         ensures { IfOk result (λ c. state_of c ≡ start shape) }
     {
-        let tree = Tree::new(alloc)?;
-        Ok(Commands { shape, tree })
+        let hierarchy = Hierarchy::new(alloc, shape)?;
+        Ok(Commands { hierarchy })
     }
 
     // `mkdir P`, whose answer is `ok`.
     #[tactic(auto, unfolding(crate::specs::Script::mkdir_outcome))]
     fn mkdir(&mut self, path: &str) -> Result<(), ScriptFault>
-        ensures { Performs (state_of self.old) (mkdir_outcome (state_of self.old) path.now) result (codes "ok" ++ 10 ∷ []) (state_of self.new) }
+        ensures { Performs (state_of self.old) (mkdir_outcome (state_of self.old) path.now) result ok_line (state_of self.new) }
     {
-        let (front, name) = split_path(path);
-        let parent = match self.tree.find(front) {
-            Ok(id) => id,
-            Err(fault) => return Err(ScriptFault::Tree(fault)),
-        };
-        match self.tree.mkdir(parent, name) {
-            Ok(_) => Ok(()),
-            Err(fault) => Err(ScriptFault::Tree(fault)),
-        }
+        let _id = self.hierarchy.mkdir(path)?;
+        Ok(())
+    }
+
+    // `rmdir P`, whose answer is `ok`.
+    #[tactic(auto, unfolding(crate::specs::Script::rmdir_outcome))]
+    fn rmdir(&mut self, path: &str) -> Result<(), ScriptFault>
+        ensures { Performs (state_of self.old) (rmdir_outcome (state_of self.old) path.now) result ok_line (state_of self.new) }
+    {
+        Ok(self.hierarchy.rmdir(path)?)
     }
 
     // `demand P N`, whose answer is `ok`.
     #[tactic(auto, unfolding(crate::specs::Script::demand_outcome))]
     fn demand(&mut self, path: &str, number: &str) -> Result<(), ScriptFault>
-        ensures { Performs (state_of self.old) (demand_outcome (state_of self.old) path.now (number_of number.now)) result (codes "ok" ++ 10 ∷ []) (state_of self.new) }
+        ensures { Performs (state_of self.old) (demand_outcome (state_of self.old) path.now (number_of number.now)) result ok_line (state_of self.new) }
     {
         let demand = match read_number(number.as_bytes()) {
             Ok(demand) => demand,
@@ -61,14 +68,27 @@ impl Commands {
             // above every demand that a group may have
             Err(NumberFault::TooGreat) => u64::MAX,
         };
-        let id = match self.tree.find(path) {
-            Ok(id) => id,
-            Err(fault) => return Err(ScriptFault::Tree(fault)),
-        };
-        match self.tree.set_demand(id, demand) {
-            Ok(()) => Ok(()),
-            Err(fault) => Err(ScriptFault::Tree(fault)),
-        }
+        Ok(self.hierarchy.set_demand(path, demand)?)
+    }
+
+    // `read P FILE`
+    #[tactic(auto, unfolding(crate::specs::Script::read_outcome))]
+    fn read(&self, path: &str, file: &str, answer: &mut Vec<u8>) -> Result<(), ScriptFault>
+        requires { answer.old.items ≡ [] }
+        ensures outcome { Performs (state_of self.now) (read_outcome (state_of self.now) path.now file.now) result answer.new.items (state_of self.now) }
+        ensures room { vec_capacity answer.old ≤ vec_capacity answer.new }
+    {
+        let text = self.hierarchy.read_file(path, file)?;
+        answer.extend_from_slice(text.as_bytes())?;
+        Ok(())
+    }
+
+    // `write P FILE TEXT`, whose answer is `ok`.
+    #[tactic(auto, unfolding(crate::specs::Script::write_outcome))]
+    fn write(&mut self, path: &str, file: &str, text: &str) -> Result<(), ScriptFault>
+        ensures { Performs (state_of self.old) (write_outcome (state_of self.old) path.now file.now text.now) result ok_line (state_of self.new) }
+    {
+        Ok(self.hierarchy.write_file(path, file, text.as_bytes())?)
     }
 
     // `total`
@@ -77,7 +97,7 @@ impl Commands {
         ensures outcome { Performs (state_of self.now) Total result answer.new.items (state_of self.now) }
         ensures room { vec_capacity answer.old ≤ vec_capacity answer.new }
     {
-        match put_total(alloc, &self.tree, self.shape, answer) {
+        match put_total(alloc, self.hierarchy.tree(), self.hierarchy.shape(), answer) {
             Ok(()) => Ok(()),
             Err(_) => Err(ScriptFault::OutOfMemory),
         }
@@ -89,9 +109,37 @@ impl Commands {
         ensures outcome { Performs (state_of self.now) Plan result answer.new.items (state_of self.now) }
         ensures room { vec_capacity answer.old ≤ vec_capacity answer.new }
     {
-        match put_plan(alloc, &self.tree, self.shape, answer) {
+        match put_plan(alloc, self.hierarchy.tree(), self.hierarchy.shape(), answer) {
             Ok(()) => Ok(()),
             Err(_) => Err(ScriptFault::OutOfMemory),
+        }
+    }
+
+    // A command on a file of a group.
+    #[tactic(auto, unfolding(crate::specs::Script::outcome_of_file_words))]
+    fn perform_on_file(
+        &mut self,
+        verb: &str,
+        path: &str,
+        file: &str,
+        next: &str,
+        text: &str,
+        answer: &mut Vec<u8>,
+    ) -> Result<(), ScriptFault>
+        requires empty { answer.old.items ≡ [] }
+        requires room { REFUSAL_BYTES ≤ vec_capacity answer.old }
+        ensures outcome { Performs (state_of self.old)
+            (outcome_of_file_words (state_of self.old) verb.now path.now file.now next.now text.now)
+            result answer.new.items (state_of self.new) }
+        ensures room { vec_capacity answer.old ≤ vec_capacity answer.new }
+    {
+        if is_command(verb, "read", file, next) {
+            self.read(path, file, answer)
+        } else if verb == "write" && !file.is_empty() {
+            put(answer, b"ok\n");
+            self.write(path, file, text)
+        } else {
+            Err(ScriptFault::BadCommand)
         }
     }
 
@@ -104,30 +152,34 @@ impl Commands {
         first: &str,
         second: &str,
         third: &str,
+        text: &str,
         answer: &mut Vec<u8>,
     ) -> Result<(), ScriptFault>
         requires empty { answer.old.items ≡ [] }
         requires room { REFUSAL_BYTES ≤ vec_capacity answer.old }
         ensures outcome { Performs (state_of self.old)
-            (outcome_of_words (state_of self.old) verb.now first.now second.now third.now)
+            (outcome_of_words (state_of self.old) verb.now first.now second.now third.now text.now)
             result answer.new.items (state_of self.new) }
         ensures room { vec_capacity answer.old ≤ vec_capacity answer.new }
     {
         if verb.is_empty() || verb.as_bytes()[0] == b'#' {
             return Ok(());
         }
-        if verb == "mkdir" && !first.is_empty() && second.is_empty() {
+        if is_command(verb, "mkdir", first, second) {
             put(answer, b"ok\n");
             self.mkdir(first)
-        } else if verb == "demand" && !second.is_empty() && third.is_empty() {
+        } else if is_command(verb, "demand", second, third) {
             put(answer, b"ok\n");
             self.demand(first, second)
         } else if verb == "total" && first.is_empty() {
             self.total(alloc, answer)
         } else if verb == "plan" && first.is_empty() {
             self.plan(alloc, answer)
+        } else if is_command(verb, "rmdir", first, second) {
+            put(answer, b"ok\n");
+            self.rmdir(first)
         } else {
-            Err(ScriptFault::BadCommand)
+            self.perform_on_file(verb, first, second, third, text, answer)
         }
     }
 
@@ -148,8 +200,8 @@ impl Commands {
     {
         let (verb, rest) = split_word(line);
         let (first, rest) = split_word(rest);
-        let (second, rest) = split_word(rest);
-        let (third, _) = split_word(rest);
-        self.perform(alloc, verb, first, second, third, answer)
+        let (second, text) = split_word(rest);
+        let (third, _) = split_word(text);
+        self.perform(alloc, verb, first, second, third, text, answer)
     }
 }

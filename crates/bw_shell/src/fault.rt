@@ -2,7 +2,8 @@
 ghost use Rattle.std.specs.Prelude.{◌≡◌, ◌≤◌, ◌<◌, length};
 ghost use Rattle.bw_shell.specs.Fault.{number_of, name_of};
 
-use bw_tree::TreeFault;
+use bw_hierarchy::Fault;
+use std::alloc::AllocError;
 use thiserror::Error;
 
 /// Why a line of a script is refused. A refused line changes nothing.
@@ -11,9 +12,9 @@ pub enum ScriptFault {
     /// The number of `demand` is not `0`, nor decimal digits that begin with another one.
     #[error("BadNumber")]
     BadNumber,
-    /// The call on the tree was refused.
+    /// The call on the hierarchy was refused.
     #[error("{0}")]
-    Tree(TreeFault),
+    Call(Fault),
     /// A growth was refused.
     #[error("OutOfMemory")]
     OutOfMemory,
@@ -28,6 +29,28 @@ pub enum ScriptFault {
     LineTooLong,
 }
 
+impl From<Fault> for ScriptFault {
+    ghost use Rattle.std.specs.Prelude.{◌≡◌};
+    ghost use Rattle.bw_shell.specs.declared.fault.ScriptFault.TheVariants.{Call};
+
+    ghost from_gives = { λ fault e. e ≡ Call fault };
+
+    fn from(fault: Fault) -> ScriptFault {
+        ScriptFault::Call(fault)
+    }
+}
+
+impl From<AllocError> for ScriptFault {
+    ghost use Rattle.std.specs.Prelude.{◌≡◌};
+    ghost use Rattle.bw_shell.specs.declared.fault.ScriptFault.TheVariants.{OutOfMemory};
+
+    ghost from_gives = { λ _ e. e ≡ OutOfMemory };
+
+    fn from(_: AllocError) -> ScriptFault {
+        ScriptFault::OutOfMemory
+    }
+}
+
 impl ScriptFault {
     /// The number that is printed.
     pub fn number(self) -> u32
@@ -36,7 +59,7 @@ impl ScriptFault {
     {
         match self {
             ScriptFault::BadNumber => 11,
-            ScriptFault::Tree(fault) => fault.number(),
+            ScriptFault::Call(fault) => fault.number(),
             ScriptFault::OutOfMemory => 71,
             ScriptFault::BadCommand => 80,
             ScriptFault::BadText => 81,
@@ -51,7 +74,7 @@ impl ScriptFault {
     {
         match self {
             ScriptFault::BadNumber => "BadNumber",
-            ScriptFault::Tree(fault) => fault.name(),
+            ScriptFault::Call(fault) => fault.name(),
             ScriptFault::OutOfMemory => "OutOfMemory",
             ScriptFault::BadCommand => "BadCommand",
             ScriptFault::BadText => "BadText",

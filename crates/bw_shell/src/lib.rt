@@ -4,7 +4,6 @@
 
 mod command;
 mod fault;
-mod path;
 mod planned;
 mod put;
 mod put_text;

@@ -130,7 +130,7 @@ fn scripts_have_these_answers(rt: HostRuntime) -> Result<(), Fail> {
             "ok\nok\nerror 8 InnerDemand\nerror 9 DemandTooLarge\nok\n",
         ),
         (
-            "frob\nread . cpu.stat\nmkdir\nmkdir a b\ntotal 1\ndemand a\ndemand a 1 2\n",
+            "frob\nreport . cpu.stat\nmkdir\nmkdir a b\ntotal 1\ndemand a\ndemand a 1 2\n",
             "error 80 BadCommand\nerror 80 BadCommand\nerror 80 BadCommand\nerror 80 BadCommand\nerror 80 BadCommand\nerror 80 BadCommand\nerror 80 BadCommand\n",
         ),
         (
