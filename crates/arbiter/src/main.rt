@@ -1,11 +1,12 @@
-//! `arbiter run` reads a script on standard input and writes the answer to each line.
+//! `arbiter run` reads a script on standard input and writes the answer to each line. `arbiter check` reads one certified
+//! text and writes whether its amounts are the plan.
 #![tactic(auto)]
 
 mod status;
 mod words;
 
 use bw_model::HostShape;
-use bw_shell::{RunFault, Watched, run, status_of_run};
+use bw_shell::{RunFault, Watched, check_text, run, status_of_check, status_of_run};
 use status::status_of_words;
 use std::io;
 use std::io::BufWriter;
@@ -14,9 +15,6 @@ use words::{Job, WordsFault, read_words};
 
 // Words that cannot be read, or a host that is refused.
 const USAGE_STATUS: u8 = 2;
-
-// A certified text that is refused.
-const REFUSED_STATUS: u8 = 3;
 
 // Runs the script on standard input.
 fn run_script(rt: &HostRuntime, shape: HostShape) -> Result<(), RunFault> {
@@ -28,7 +26,7 @@ fn run_script(rt: &HostRuntime, shape: HostShape) -> Result<(), RunFault> {
     run(rt, &mut reader, &mut writer, shape)
 }
 
-// The end of a run or of another job that writes, with its fault on standard error.
+// The end of a run or of a text that is printed, with its fault on standard error.
 fn ended(rt: &HostRuntime, outcome: Result<(), RunFault>, status: u8) -> ExitCode {
     match outcome {
         Ok(()) => ExitCode::from(status),
@@ -54,10 +52,23 @@ fn run_job(rt: &HostRuntime, processors: u32, period_us: u32, slice_us: u32) -> 
     }
 }
 
-// `arbiter check`, which there is not yet.
+// Checks the certified text on standard input.
+fn check_input(rt: &HostRuntime) -> Result<bool, RunFault> {
+    let Ok(output) = BufWriter::new(rt.alloc(), io::writer(rt)) else {
+        return Err(RunFault::Memory);
+    };
+    let mut reader = Watched::new(rt.reader());
+    let mut writer = Watched::new(output);
+    check_text(rt.alloc(), &mut reader, &mut writer)
+}
+
+// `arbiter check`
 fn check_job(rt: &HostRuntime) -> ExitCode {
-    let printed = println!(rt; "error 80 BadCommand").map_err(|_| RunFault::Write);
-    ended(rt, printed, REFUSED_STATUS)
+    let checked = check_input(rt);
+    if let Err(fault) = &checked {
+        let _ = eprintln!(rt; "arbiter: {fault}");
+    }
+    ExitCode::from(status_of_check(&checked))
 }
 
 // The words name no job.

@@ -12,3 +12,4 @@ pub mod Transcript
 pub mod Scan
 pub mod Stream
 pub mod Session
+pub mod CheckText

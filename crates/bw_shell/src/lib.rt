@@ -11,11 +11,13 @@ pub mod script;
 mod send;
 mod session;
 mod status;
+mod text_check;
 mod total;
 mod watched;
 mod word;
 
 pub use fault::ScriptFault;
 pub use script::{RunFault, run};
-pub use status::status_of_run;
+pub use status::{status_of_check, status_of_run};
+pub use text_check::check_text;
 pub use watched::Watched;

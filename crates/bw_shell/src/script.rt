@@ -19,7 +19,7 @@ use thiserror::Error;
 pub const READ_CALLS: u64 = 4294967296;
 
 // How many bytes one read asks for.
-const PIECE_BYTES: usize = 65536;
+pub(crate) const PIECE_BYTES: usize = 65536;
 
 #[derive(Clone, Copy, Debug, PartialEq, Eq, Error)]
 pub enum RunFault {
@@ -32,7 +32,7 @@ pub enum RunFault {
 }
 
 // The room for one read.
-fn piece_room(alloc: Global) -> Result<Vec<u8>, AllocError>
+pub(crate) fn piece_room(alloc: Global) -> Result<Vec<u8>, AllocError>
     ensures { IfOk result (λ v. vec_len v ≡ PIECE_BYTES) }
 {
     vec![in alloc; 0u8; PIECE_BYTES]

@@ -27,3 +27,22 @@ pub fn send<W: Write>(writer: &mut Watched<W>, text: &[u8]) -> Result<(), RunFau
     }
     Ok(())
 }
+
+/// Writes all of the text and flushes the writer.
+pub fn send_line<W: Write>(writer: &mut Watched<W>, text: &[u8]) -> Result<(), RunFault>
+    requires { IsQuiet writer.old }
+    ensures ok { OnOk result (Appends (W.contents (inner_of writer.old)) (W.contents (inner_of writer.new)) text.now) }
+    ensures quiet { OnOk result (IsQuiet writer.new) }
+    ensures err { OnErr result (AppendsFront (W.contents (inner_of writer.old)) (W.contents (inner_of writer.new)) text.now) }
+    ensures blame { OnErr result ((has_failed writer.new || has_stalled writer.new) ≡ true) }
+    ensures fault { IfErr result (λ f. f ≡ RunFault.Write) }
+{
+    match send(writer, text) {
+        Err(fault) => return Err(fault),
+        Ok(()) => {}
+    }
+    match writer.flush() {
+        Ok(()) => Ok(()),
+        Err(_) => Err(RunFault::Write),
+    }
+}

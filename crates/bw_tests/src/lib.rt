@@ -8,6 +8,8 @@ mod check_cases;
 #[cfg(test)]
 mod check_search;
 #[cfg(test)]
+mod check_text_cases;
+#[cfg(test)]
 mod commands_cases;
 #[cfg(test)]
 mod demand_cases;

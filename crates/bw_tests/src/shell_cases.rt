@@ -9,11 +9,11 @@ use std::test::Fail;
 
 // A reader that gives at most `most` bytes a call, and fails in place of giving more than `left`.
 #[derive(Drop)]
-struct Broken<'a> {
-    bytes: &'a [u8],
-    most: usize,
-    left: usize,
-    kind: io::ErrorKind,
+pub(crate) struct Broken<'a> {
+    pub(crate) bytes: &'a [u8],
+    pub(crate) most: usize,
+    pub(crate) left: usize,
+    pub(crate) kind: io::ErrorKind,
     ghost gives_some: { 0 < most },
 }
 
@@ -39,11 +39,11 @@ impl Read for Broken<'_> {
 
 // A writer that takes at most `most` bytes a call, and at the call after `left` fails, or takes none.
 #[derive(Drop)]
-struct Choked {
-    bytes: Vec<u8>,
-    most: usize,
-    left: usize,
-    stalls: bool,
+pub(crate) struct Choked {
+    pub(crate) bytes: Vec<u8>,
+    pub(crate) most: usize,
+    pub(crate) left: usize,
+    pub(crate) stalls: bool,
 }
 
 impl Write for Choked {

@@ -1,0 +1,227 @@
+//! A certified text is read whole, checked, and answered by one line.
+ghost use Rattle.std.specs.Prelude.{◌≡◌, ◌≢◌, ◌⊎◌, ◌||◌, ◌<◌, ◌≤◌, ◌+◌, ◌-◌, ◌++◌, ◌^◌, ℕ, List, min, length, true, false, OnOk, IfOk, IfErr, IsErrOf, string_bytes};
+ghost use Rattle.std.specs.Io.KnownBytes.{Appends, Consumes, IsAtEnd, Keeps};
+ghost use Rattle.bw_shell.specs.Stream.{AppendsFront};
+ghost use Rattle.bw_shell.specs.CheckText.{line_of, verdict_line, fault_line, is_accepted, IsFinding, HoldsPlan, Checks, ChecksFront, ReadsTooMuch};
+ghost use Rattle.bw_shell.specs.Watched.{inner_of, has_failed, has_stalled, read_calls, IsFresh, IsQuiet};
+
+use crate::script::{READ_CALLS, RunFault, piece_room};
+use crate::send::send_line;
+use crate::watched::Watched;
+use bw_cert::{CertFault, read_certified};
+use bw_check::{CheckFault, Verdict, check};
+use bw_text::push_number;
+use std::alloc::{AllocError, Global};
+use std::io::{Read, Write};
+
+/// A certified text with more bytes, 4 MiB, is a read fault.
+pub const TEXT_BYTES: usize = 4194304;
+
+ghost use Rattle.bw_shell.specs.declared.text_check.TheConstants.{TEXT_BYTES};
+
+// What is found in a text: that it is no certified text, or the verdict on it.
+#[derive(Clone, Copy)]
+pub(crate) enum Finding {
+    Checked(Verdict),
+    Faulty(CertFault),
+}
+
+ghost use Rattle.bw_check.specs.declared.verdict.Verdict.TheVariants.{Refused};
+
+// One read, and its bytes behind those read so far. `false` is the end of the text.
+fn take_piece<R: Read>(
+    text: &mut Vec<u8>,
+    piece: &mut [u8],
+    reader: &mut Watched<R>,
+) -> Result<bool, RunFault>
+    requires room { 0 < length piece.old }
+    requires small { length text.old.items ≤ TEXT_BYTES }
+    requires reader { IsQuiet reader.old }
+    ensures reads { read_calls reader.new ≡ min (read_calls reader.old + 1) (2 ^ 64 - 1) }
+    ensures ok { OnOk result ((bytes : List ℕ)
+        × Consumes (R.remaining (inner_of reader.old)) (R.remaining (inner_of reader.new)) bytes
+        × (text.new.items ≡ text.old.items ++ bytes)) }
+    ensures small { OnOk result (length text.new.items ≤ TEXT_BYTES) }
+    ensures quiet { OnOk result (IsQuiet reader.new) }
+    ensures end { IfOk result (λ more. more ≡ false → IsAtEnd (R.remaining (inner_of reader.new))) }
+    ensures read_when { IsErrOf result RunFault.Read → (has_failed reader.new ≡ true) ⊎ ((bytes : List ℕ)
+        × Consumes (R.remaining (inner_of reader.old)) (R.remaining (inner_of reader.new)) bytes
+        × (TEXT_BYTES < length text.old.items + length bytes)) }
+    ensures write { IfErr result (λ f. f ≢ RunFault.Write) }
+{
+    match reader.read(piece) {
+        Err(_) => Err(RunFault::Read),
+        Ok(0) => Ok(false),
+        Ok(n) => {
+            if n > TEXT_BYTES - text.len() {
+                return Err(RunFault::Read);
+            }
+            match text.extend_from_slice(piece.split_at(n).0) {
+                Ok(()) => Ok(true),
+                Err(_) => Err(RunFault::Memory),
+            }
+        }
+    }
+}
+
+// All of the text.
+fn read_text<R: Read>(alloc: Global, reader: &mut Watched<R>) -> Result<Vec<u8>, RunFault>
+    requires { IsFresh reader.old }
+    ensures ok { IfOk result (λ v. Consumes (R.remaining (inner_of reader.old)) (R.remaining (inner_of reader.new)) v.items) }
+    ensures small { IfOk result (λ v. length v.items ≤ TEXT_BYTES) }
+    ensures end { OnOk result (IsAtEnd (R.remaining (inner_of reader.new))) }
+    ensures quiet { OnOk result (IsQuiet reader.new) }
+    ensures read_when { IsErrOf result RunFault.Read → (has_failed reader.new ≡ true) ⊎ (read_calls reader.new ≡ READ_CALLS)
+        ⊎ ReadsTooMuch (R.remaining (inner_of reader.old)) (R.remaining (inner_of reader.new)) }
+    ensures write { IfErr result (λ f. f ≢ RunFault.Write) }
+{
+    let Ok(mut piece) = piece_room(alloc) else {
+        return Err(RunFault::Memory);
+    };
+    let mut text = Vec::new(alloc);
+    for turn in 0..READ_CALLS {
+        match take_piece(&mut text, &mut piece, reader) {
+            Ok(true) => {}
+            Ok(false) => return Ok(text),
+            Err(fault) => return Err(fault),
+        }
+    }
+    Err(RunFault::Read)
+}
+
+// Reads a text and checks what it certifies.
+fn finding_in(alloc: Global, text: &[u8]) -> Result<Finding, AllocError>
+    ensures found { IfOk result (IsFinding text.now) }
+    ensures sound { IfOk result (λ f. is_accepted f ≡ true → HoldsPlan text.now) }
+{
+    match read_certified(alloc, text) {
+        Ok(certified) => {
+            let verdict = check(
+                alloc,
+                &certified.instance,
+                certified.amounts.as_slice(),
+                &certified.certificate,
+            )?;
+            Ok(Finding::Checked(verdict))
+        }
+        Err(CertFault::OutOfMemory) => Err(AllocError),
+        Err(fault) => Ok(Finding::Faulty(fault)),
+    }
+}
+
+// Whether the line is `accepted`.
+fn is_accepted(finding: Finding) -> bool
+    ensures { result ≡ is_accepted finding }
+{
+    matches!(finding, Finding::Checked(Verdict::Accepted))
+}
+
+// The line of a refusal.
+fn push_refusal(out: &mut String, fault: CheckFault, group: u32) -> Result<(), AllocError>
+    ensures { OnOk result (string_bytes out.new ≡ string_bytes out.old ++ verdict_line (Refused fault group)) }
+{
+    out.push_str("refused ")?;
+    push_number(out, u64::from(fault.number()))?;
+    out.push_str(" ")?;
+    out.push_str(fault.name())?;
+    out.push_str(" ")?;
+    push_number(out, u64::from(group))?;
+    out.push_str("\n")?;
+    Ok(())
+}
+
+// The line of a text that is no certified text.
+fn push_fault(out: &mut String, fault: CertFault) -> Result<(), AllocError>
+    ensures { OnOk result (string_bytes out.new ≡ string_bytes out.old ++ fault_line fault) }
+{
+    out.push_str("error ")?;
+    push_number(out, u64::from(fault.number()))?;
+    out.push_str(" ")?;
+    out.push_str(fault.name())?;
+    out.push_str("\n")?;
+    Ok(())
+}
+
+// The line that is printed.
+fn line_of(alloc: Global, finding: Finding) -> Result<String, AllocError>
+    ensures { IfOk result (λ t. string_bytes t ≡ line_of finding) }
+{
+    let mut out = String::new(alloc);
+    match finding {
+        Finding::Checked(Verdict::Accepted) => out.push_str("accepted\n")?,
+        Finding::Checked(Verdict::Refused { fault, group }) => push_refusal(
+            &mut out, fault, group,
+        )?,
+        Finding::Faulty(fault) => push_fault(&mut out, fault)?,
+    }
+    Ok(out)
+}
+
+// Writes the line of a finding.
+fn answer<W: Write>(
+    alloc: Global,
+    finding: Finding,
+    writer: &mut Watched<W>,
+) -> Result<(), RunFault>
+    requires { IsQuiet writer.old }
+    ensures ok { OnOk result (Appends (W.contents (inner_of writer.old)) (W.contents (inner_of writer.new)) (line_of finding)) }
+    ensures quiet { OnOk result (IsQuiet writer.new) }
+    ensures write { IsErrOf result RunFault.Write → AppendsFront (W.contents (inner_of writer.old)) (W.contents (inner_of writer.new)) (line_of finding) }
+    ensures write_when { IsErrOf result RunFault.Write → (has_failed writer.new || has_stalled writer.new) ≡ true }
+    ensures memory { IsErrOf result RunFault.Memory → writer.new ≡ writer.old }
+    ensures read { IfErr result (λ f. f ≢ RunFault.Read) }
+{
+    let Ok(line) = line_of(alloc, finding) else {
+        return Err(RunFault::Memory);
+    };
+    send_line(writer, line.as_bytes())
+}
+
+/// Reads a certified text to its end, checks it, and writes one line: `accepted`, `refused N NAME GROUP` with the row of
+/// the group, or `error N NAME`. It is true exactly for `accepted`, and then the amounts of the text are the plan of
+/// its instance.
+///
+/// The line is formed before its first byte is written. A text of more than 4 MiB is a read fault.
+pub fn check_text<R: Read, W: Write>(
+    alloc: Global,
+    reader: &mut Watched<R>,
+    writer: &mut Watched<W>,
+) -> Result<bool, RunFault>
+    requires reader { IsFresh reader.old }
+    requires writer { IsFresh writer.old }
+
+    // All that the reader held was read, and what was written is the line for the whole text.
+    ensures ok { IfOk result (Checks
+        (R.remaining (inner_of reader.old)) (R.remaining (inner_of reader.new))
+        (W.contents (inner_of writer.old)) (W.contents (inner_of writer.new))) }
+    ensures end { OnOk result (IsAtEnd (R.remaining (inner_of reader.new))) }
+    ensures reader_quiet { OnOk result (IsQuiet reader.new) }
+    ensures writer_quiet { OnOk result (IsQuiet writer.new) }
+
+    // After a read fault nothing is written.
+    ensures read { IsErrOf result RunFault.Read → writer.new ≡ writer.old }
+    ensures read_when { IsErrOf result RunFault.Read → (has_failed reader.new ≡ true) ⊎ (read_calls reader.new ≡ READ_CALLS)
+        ⊎ ReadsTooMuch (R.remaining (inner_of reader.old)) (R.remaining (inner_of reader.new)) }
+
+    // After a write fault a front of the line for the whole text is.
+    ensures write { IsErrOf result RunFault.Write → ChecksFront
+        (R.remaining (inner_of reader.old)) (R.remaining (inner_of reader.new))
+        (W.contents (inner_of writer.old)) (W.contents (inner_of writer.new)) }
+    ensures write_end { IsErrOf result RunFault.Write → IsAtEnd (R.remaining (inner_of reader.new)) }
+    ensures write_when { IsErrOf result RunFault.Write → (has_failed writer.new || has_stalled writer.new) ≡ true }
+
+    // For want of memory nothing is.
+    ensures memory { IsErrOf result RunFault.Memory → writer.new ≡ writer.old }
+{
+    let text = match read_text(alloc, reader) {
+        Ok(text) => text,
+        Err(fault) => return Err(fault),
+    };
+    let Ok(finding) = finding_in(alloc, text.as_slice()) else {
+        return Err(RunFault::Memory);
+    };
+    match answer(alloc, finding, writer) {
+        Ok(()) => Ok(is_accepted(finding)),
+        Err(fault) => Err(fault),
+    }
+}
