@@ -3,6 +3,7 @@
 use crate::shell_cases::{Broken, Choked};
 use bw_shell::{RunFault, Watched, check_text, status_of_check};
 use std::io;
+use std::process::Abort;
 use std::test::Fail;
 
 const ROOT_ALONE: &str = "bw 1 1 100000 5000 1\n- 100 max 0 0 0 -\n";
@@ -24,7 +25,7 @@ const A: &str = "0 100 max 20 7 0 -";
 const B: &str = "0 200 max 20 13 0 -";
 
 // What a check answers, and what it writes into an empty buffer.
-fn checked(rt: &HostRuntime, text: &[u8], out: &mut Vec<u8>) -> Result<bool, RunFault> {
+fn checked<A: AllocGlobal>(rt: &A, text: &[u8], out: &mut Vec<u8>) -> Result<bool, RunFault> {
     let mut reader = Watched::new(text);
     let mut writer = Watched::new(&mut *out);
     match check_text(rt.alloc(), &mut reader, &mut writer) {
@@ -37,7 +38,7 @@ fn checked(rt: &HostRuntime, text: &[u8], out: &mut Vec<u8>) -> Result<bool, Run
 }
 
 // The line is this one, and the answer and the exit number are those of the line.
-fn prints(rt: &HostRuntime, text: &[u8], line: &str) -> Result<(), Fail> {
+fn prints<A: AllocGlobal + Abort>(rt: &A, text: &[u8], line: &str) -> Result<(), Fail> {
     let mut out = Vec::with_capacity(rt.alloc(), 64)?;
     let result = checked(rt, text, &mut out);
     let is_accepted = line == "accepted\n";
