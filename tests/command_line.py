@@ -15,6 +15,37 @@ SECONDS = 60
 TWO_GROUPS = b"mkdir a\nmkdir b\ndemand a 20\ndemand b 20\ntotal\n"
 TWO_GROUPS_SAID = b"ok\nok\nok\nok\ntotal 20\nlimit 20 .\ndemand 0\n"
 
+POD = b"""mkdir pod
+mkdir pod/x
+mkdir pod/y
+mkdir job
+write pod cpu.max 50000 100000
+write pod/y cpu.weight 300
+demand pod/x 20
+demand pod/y 20
+demand job 20
+read pod cpu.max
+read pod/y cpu.weight
+total
+plan
+"""
+POD_SAID = b"ok\n" * 9 + b"""50000 100000
+300
+total 20
+limit 20 .
+demand 0
+20 .
+10 pod
+3 pod/x
+7 pod/y
+10 job
+"""
+TWO_CERTIFIED = b"""bw 1 1 100000 5000 3
+- 100 max 0 20 1 13/100@0
+0 100 max 20 7 0 -
+0 200 max 20 13 0 -
+"""
+
 
 def same(wanted):
     """What is written is exactly this text."""
@@ -36,6 +67,13 @@ CASES = [
     ("two processors", ["run", "--processors", "2"], b"mkdir a\ndemand a 100\ntotal\n", same(b"ok\nok\ntotal 40\nlimit 40 .\ndemand 0\n"), NOTHING, 0),
     ("all three options", ["run", "--processors", "4", "--period", "10000", "--slice", "1000"], b"mkdir a\ndemand a 100\ntotal\n", same(b"ok\nok\ntotal 40\nlimit 40 .\ndemand 0\n"), NOTHING, 0),
     ("a refused line, and the script goes on", ["run"], b"frob\nmkdir a\nmkdir a\ntotal", same(b"error 80 BadCommand\nok\nerror 21 Exists\ntotal 0\ndemand 0\n"), NOTHING, 0),
+    ("settings and a plan", ["run"], POD, same(POD_SAID), NOTHING, 0),
+    ("a group is taken out", ["run"], b"mkdir a\nrmdir a\nrmdir a\n", same(b"ok\nok\nerror 20 NotFound\n"), NOTHING, 0),
+    ("a certified text", ["check"], TWO_CERTIFIED, same(b"accepted\n"), NOTHING, 0),
+    ("amounts that are not the plan", ["check"], TWO_CERTIFIED.replace(b"20 7 0", b"20 6 0").replace(b"20 13 0", b"20 14 0"), same(b"refused 57 LastMarkAbove 2\n"), NOTHING, 3),
+    ("a text cut short", ["check"], TWO_CERTIFIED[:-1], same(b"error 42 CutShort\n"), NOTHING, 3),
+    ("no text", ["check"], b"", same(b"error 42 CutShort\n"), NOTHING, 3),
+    ("a text of 4 MiB and a byte", ["check"], b"0" * 4194305, NOTHING, same(b"arbiter: read fault\n"), 1),
     ("no processors", ["run", "--processors", "0"], TWO_GROUPS, NOTHING, same(b"error 1 BadProcessors\n"), 2),
     ("short period", ["run", "--period", "999"], TWO_GROUPS, NOTHING, same(b"error 2 BadPeriod\n"), 2),
     ("slice that does not divide", ["run", "--slice", "3000"], TWO_GROUPS, NOTHING, same(b"error 3 BadSlice\n"), 2),
@@ -71,21 +109,21 @@ def case(row):
     return told(name, run(arguments, input=given), out, err, status)
 
 
-def full_device():
+def full_device(word, given):
     """A device that takes no byte: a write fault."""
     with open("/dev/full", "wb") as device:
-        ended = run(["run"], input=TWO_GROUPS, stdout=device)
-    return told("a full device", ended, NOTHING, same(b"arbiter: write fault\n"), 1)
+        ended = run([word], input=given, stdout=device)
+    return told(f"{word} on a full device", ended, NOTHING, same(b"arbiter: write fault\n"), 1)
 
 
-def folder_as_input():
+def folder_as_input(word):
     """A folder opens and cannot be read: a read fault, with nothing written."""
     folder = os.open(TOP, os.O_RDONLY)
     try:
-        ended = run(["run"], stdin=folder)
+        ended = run([word], stdin=folder)
     finally:
         os.close(folder)
-    return told("a folder as standard input", ended, NOTHING, same(b"arbiter: read fault\n"), 1)
+    return told(f"{word} on a folder", ended, NOTHING, same(b"arbiter: read fault\n"), 1)
 
 
 def line_by_line():
@@ -115,7 +153,10 @@ def many_lines():
 
 def main():
     rows = [(row[0], lambda row=row: case(row)) for row in CASES]
-    rows += [(it.__name__, it) for it in (full_device, folder_as_input, line_by_line, many_lines)]
+    for word, given in [("run", TWO_GROUPS), ("check", TWO_CERTIFIED)]:
+        rows.append((f"{word} on a full device", lambda word=word, given=given: full_device(word, given)))
+        rows.append((f"{word} on a folder", lambda word=word: folder_as_input(word)))
+    rows += [("line by line", line_by_line), ("many lines", many_lines)]
     failed = 0
     for name, check in rows:
         try:
