@@ -49,7 +49,8 @@ fn assert_answers<A: AllocGlobal + Abort>(rt: &A, cases: &[(&str, &str)]) -> Res
     Ok(())
 }
 
-const NINES: &str = "write a cpu.weight 9999999999999999999999999999999999999999999999999999999999999999999999999999999999999999999999999999";
+const NINES: &str =
+    "write a cpu.weight 9999999999999999999999999999999999999999999999999999999999999999999999999999999999999999999999999999";
 
 #[test]
 fn files_by_lines(rt: HostRuntime) -> Result<(), Fail> {
@@ -63,10 +64,7 @@ fn files_by_lines(rt: HostRuntime) -> Result<(), Fail> {
             ("read a cpu.max", "1000 100000"),
             ("write a cpu.max 999", "error 13 QuotaTooSmall"),
             ("write a cpu.max 1000000000000000", "ok"),
-            (
-                "write a cpu.max 1000000000000001",
-                "error 14 QuotaTooLarge",
-            ),
+            ("write a cpu.max 1000000000000001", "error 14 QuotaTooLarge"),
             ("read a cpu.max", "1000000000000000 100000"),
             ("write a cpu.max 50000", "ok"),
             ("write a cpu.max 50000 200000", "error 32 PeriodDiffers"),
