@@ -69,6 +69,7 @@ CASES = [
     ("a refused line, and the script goes on", ["run"], b"frob\nmkdir a\nmkdir a\ntotal", same(b"error 80 BadCommand\nok\nerror 21 Exists\ntotal 0\ndemand 0\n"), NOTHING, 0),
     ("settings and a plan", ["run"], POD, same(POD_SAID), NOTHING, 0),
     ("a group is taken out", ["run"], b"mkdir a\nrmdir a\nrmdir a\n", same(b"ok\nok\nerror 20 NotFound\n"), NOTHING, 0),
+    ("a certified plan", ["run"], b"mkdir a\nmkdir b\nwrite b cpu.weight 200\ndemand a 20\ndemand b 20\ncert\n", same(b"ok\n" * 5 + TWO_CERTIFIED), NOTHING, 0),
     ("a certified text", ["check"], TWO_CERTIFIED, same(b"accepted\n"), NOTHING, 0),
     ("amounts that are not the plan", ["check"], TWO_CERTIFIED.replace(b"20 7 0", b"20 6 0").replace(b"20 13 0", b"20 14 0"), same(b"refused 57 LastMarkAbove 2\n"), NOTHING, 3),
     ("a text cut short", ["check"], TWO_CERTIFIED[:-1], same(b"error 42 CutShort\n"), NOTHING, 3),
@@ -126,6 +127,13 @@ def folder_as_input(word):
     return told(f"{word} on a folder", ended, NOTHING, same(b"arbiter: read fault\n"), 1)
 
 
+def certified(script):
+    """The certified text that `cert` writes at the end of a script is accepted by the checker."""
+    written = run(["run"], input=script + b"cert\n").stdout
+    text = written[written.index(b"bw 1 "):]
+    return told("a certified plan", run(["check"], input=text), same(b"accepted\n"), NOTHING, 0)
+
+
 def line_by_line():
     """A program that talks over pipes gets the answer to each line before it writes the next."""
     with subprocess.Popen([*ARBITER, "run"], stdin=subprocess.PIPE, stdout=subprocess.PIPE) as talk:
@@ -156,6 +164,10 @@ def main():
     for word, given in [("run", TWO_GROUPS), ("check", TWO_CERTIFIED)]:
         rows.append((f"{word} on a full device", lambda word=word, given=given: full_device(word, given)))
         rows.append((f"{word} on a folder", lambda word=word: folder_as_input(word)))
+    for name in sorted(os.listdir(f"{TOP}/examples")):
+        if name.endswith(".script"):
+            with open(f"{TOP}/examples/{name}", "rb") as script:
+                rows.append((f"the certified plan of {name}", lambda text=script.read(): certified(text)))
     rows += [("line by line", line_by_line), ("many lines", many_lines)]
     failed = 0
     for name, check in rows:
