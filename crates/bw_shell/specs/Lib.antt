@@ -6,6 +6,7 @@ pub mod Word
 pub mod GroupLines
 pub mod Total
 pub mod Planned
+pub mod CertifiedPlan
 pub mod Script
 pub mod Commands
 pub mod Transcript

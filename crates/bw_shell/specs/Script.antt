@@ -9,6 +9,7 @@ use Rattle.bw_hierarchy.specs.declared.fault.Fault.{Fault}
 use Rattle.bw_shell.specs.State.{State}
 use Rattle.bw_shell.specs.Total.{IsTotal}
 use Rattle.bw_shell.specs.Planned.{IsPlanText}
+use Rattle.bw_shell.specs.CertifiedPlan.{IsCertifiedPlan}
 use Rattle.bw_shell.specs.Word.{first_word, after_word}
 use Rattle.bw_shell.specs.Fault.{error_line}
 use Rattle.bw_shell.specs.declared.fault.ScriptFault.{ScriptFault}
@@ -18,12 +19,14 @@ use Rattle.bw_shell.specs.declared.fault.ScriptFault.TheVariants as fault
 abbrev pub line_bytes : ℕ
 line_bytes = 65536
 
--- What a line does: nothing at all, or it prints a text and leaves a state, or it prints the total or the plan.
+-- What a line does: nothing at all, or it prints a text and leaves a state, or it prints the total, the plan or the
+-- plan's certified text.
 pub data Outcome : Type 0 where
   Silent : Outcome
   Prints : (text : List ℕ) (after : State) → Outcome
   Total : Outcome
   Plan : Outcome
+  Cert : Outcome
 
 abbrev pub refused : State → ScriptFault → Outcome
 refused s f = Prints (error_line f) s
@@ -71,6 +74,14 @@ abbrev pub is_silent : List ℕ → Bool
 is_silent [] = true
 is_silent (b ∷ bs) = b == 35
 
+-- a command of one word
+unfoldable pub outcome_of_word : State → List ℕ → Outcome
+outcome_of_word s verb =
+    (if bytes_eq verb (codes "total") then Total
+    else if bytes_eq verb (codes "plan") then Plan
+    else if bytes_eq verb (codes "cert") then Cert
+    else refused s fault.BadCommand)
+
 -- a command on a file of the group at a path
 unfoldable pub outcome_of_file_words : State → List ℕ → List ℕ → List ℕ → List ℕ → List ℕ → Outcome
 outcome_of_file_words s verb path file next text =
@@ -82,10 +93,9 @@ outcome_of_file_words s verb path file next text =
 unfoldable pub outcome_of_words : State → List ℕ → List ℕ → List ℕ → List ℕ → List ℕ → Outcome
 outcome_of_words s verb first second third text =
     (if is_silent verb then Silent
+    else if is_empty first then outcome_of_word s verb
     else if bytes_eq verb (codes "mkdir") && (not (is_empty first) && is_empty second) then mkdir_outcome s first
     else if bytes_eq verb (codes "demand") && (not (is_empty second) && is_empty third) then demand_outcome s first (number_of second)
-    else if bytes_eq verb (codes "total") && is_empty first then Total
-    else if bytes_eq verb (codes "plan") && is_empty first then Plan
     else if bytes_eq verb (codes "rmdir") && (not (is_empty first) && is_empty second) then rmdir_outcome s first
     else outcome_of_file_words s verb first second third text)
 
@@ -117,6 +127,7 @@ Gives s Silent text next = (text ≡ []) × (next ≡ s)
 Gives s (Prints answer after) text next = (text ≡ answer) × (next ≡ after)
 Gives s Total text next = IsTotal s text × (next ≡ s)
 Gives s Plan text next = IsPlanText s text × (next ≡ s)
+Gives s Cert text next = IsCertifiedPlan s text × (next ≡ s)
 
 -- what may stand in place of an answer: want of memory, but nothing where nothing is printed
 abbrev pub spare_text : Outcome → List ℕ
@@ -124,6 +135,7 @@ spare_text Silent = []
 spare_text (Prints answer after) = error_line fault.OutOfMemory
 spare_text Total = error_line fault.OutOfMemory
 spare_text Plan = error_line fault.OutOfMemory
+spare_text Cert = error_line fault.OutOfMemory
 
 -- From s the answer to a line may be this text, with the state next after it: what the line means, or, where it
 -- prints anything, want of memory with nothing changed.

@@ -3,11 +3,12 @@ ghost use Rattle.std.specs.Prelude.{◌≡◌, ◌≤◌, ◌&&◌, not, [], IfO
 ghost use Rattle.std.specs.Str.{bytes_eq};
 ghost use Rattle.std.specs.Vec.{vec_capacity};
 ghost use Rattle.bw_text.specs.Number.{number_of};
-ghost use Rattle.bw_shell.specs.Script.{outcome_of_text, outcome_of_words, outcome_of_file_words, mkdir_outcome, rmdir_outcome, demand_outcome, read_outcome, write_outcome, ok_line, is_empty, Performs, Total, Plan};
+ghost use Rattle.bw_shell.specs.Script.{outcome_of_text, outcome_of_words, outcome_of_word, outcome_of_file_words, mkdir_outcome, rmdir_outcome, demand_outcome, read_outcome, write_outcome, ok_line, is_empty, Performs, Total, Plan, Cert};
 ghost use Rattle.bw_shell.specs.State.{start};
 ghost use Rattle.bw_shell.specs.Commands.{state_of};
 ghost use Rattle.bw_shell.specs.declared.put.TheConstants.{REFUSAL_BYTES};
 
+use crate::certified_plan::put_certified;
 use crate::fault::ScriptFault;
 use crate::planned::put_plan;
 use crate::put::{REFUSAL_BYTES, put};
@@ -115,6 +116,42 @@ impl Commands {
         }
     }
 
+    // `cert`
+    fn cert(&self, alloc: Global, answer: &mut Vec<u8>) -> Result<(), ScriptFault>
+        requires { answer.old.items ≡ [] }
+        ensures outcome { Performs (state_of self.now) Cert result answer.new.items (state_of self.now) }
+        ensures room { vec_capacity answer.old ≤ vec_capacity answer.new }
+    {
+        match put_certified(alloc, self.hierarchy.tree(), self.hierarchy.shape(), answer) {
+            Ok(()) => Ok(()),
+            Err(_) => Err(ScriptFault::OutOfMemory),
+        }
+    }
+
+    // A command of one word.
+    #[tactic(auto, unfolding(crate::specs::Script::outcome_of_word))]
+    fn perform_alone(
+        &self,
+        alloc: Global,
+        verb: &str,
+        answer: &mut Vec<u8>,
+    ) -> Result<(), ScriptFault>
+        requires { answer.old.items ≡ [] }
+        ensures outcome { Performs (state_of self.now) (outcome_of_word (state_of self.now) verb.now)
+            result answer.new.items (state_of self.now) }
+        ensures room { vec_capacity answer.old ≤ vec_capacity answer.new }
+    {
+        if verb == "total" {
+            self.total(alloc, answer)
+        } else if verb == "plan" {
+            self.plan(alloc, answer)
+        } else if verb == "cert" {
+            self.cert(alloc, answer)
+        } else {
+            Err(ScriptFault::BadCommand)
+        }
+    }
+
     // A command on a file of a group.
     #[tactic(auto, unfolding(crate::specs::Script::outcome_of_file_words))]
     fn perform_on_file(
@@ -165,16 +202,14 @@ impl Commands {
         if verb.is_empty() || verb.as_bytes()[0] == b'#' {
             return Ok(());
         }
-        if is_command(verb, "mkdir", first, second) {
+        if first.is_empty() {
+            self.perform_alone(alloc, verb, answer)
+        } else if is_command(verb, "mkdir", first, second) {
             put(answer, b"ok\n");
             self.mkdir(first)
         } else if is_command(verb, "demand", second, third) {
             put(answer, b"ok\n");
             self.demand(first, second)
-        } else if verb == "total" && first.is_empty() {
-            self.total(alloc, answer)
-        } else if verb == "plan" && first.is_empty() {
-            self.plan(alloc, answer)
         } else if is_command(verb, "rmdir", first, second) {
             put(answer, b"ok\n");
             self.rmdir(first)

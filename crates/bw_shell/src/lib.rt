@@ -2,6 +2,7 @@
 //! is written to any writer.
 #![tactic(auto)]
 
+mod certified_plan;
 mod command;
 mod fault;
 mod planned;

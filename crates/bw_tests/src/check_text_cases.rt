@@ -1,7 +1,8 @@
 //! Certified texts through the check of a whole text: the worked texts, changed texts, and readers and writers that fail.
 //! A check that is refused memory has written nothing, and is made once more.
 use crate::shell_cases::{Broken, Choked};
-use bw_shell::{RunFault, Watched, check_text, status_of_check};
+use bw_model::HostShape;
+use bw_shell::{RunFault, Watched, check_text, run, status_of_check};
 use std::io;
 use std::process::Abort;
 use std::test::Fail;
@@ -238,6 +239,47 @@ fn a_writer_that_fails_or_stalls_in_the_line(rt: HostRuntime) -> Result<(), Fail
                 assert_eq!(rt; out.bytes.as_slice(), line);
             }
         }
+    }
+    Ok(())
+}
+
+// The answers to a script of changes, each `ok`, and the certified text of the plan that they lead to.
+#[test]
+fn certified_texts_of_scripts(rt: HostRuntime) -> Result<(), Fail> {
+    for (processors, changes, script, text) in [
+        (1, 0, "", ROOT_ALONE),
+        (
+            1,
+            5,
+            "mkdir a\nmkdir b\nwrite b cpu.weight 200\ndemand a 20\ndemand b 20\n",
+            TWO_GROUPS,
+        ),
+        (
+            1,
+            9,
+            "mkdir pod\nmkdir pod/x\nmkdir pod/y\nmkdir job\nwrite pod cpu.max 50000 100000\nwrite pod/y cpu.weight 300\ndemand pod/x 20\ndemand pod/y 20\ndemand job 20\n",
+            POD_AND_JOB,
+        ),
+        (
+            2,
+            8,
+            "mkdir p\nmkdir p/c\nmkdir p/d\nwrite p cpu.max 100000\nwrite p/c cpu.max 75000\nwrite p/d cpu.max 75000\ndemand p/c 30\ndemand p/d 30\n",
+            TWO_PROCESSORS,
+        ),
+    ] {
+        let mut wanted = String::new(rt.alloc());
+        for _ in 0..changes {
+            wanted.push_str("ok\n")?;
+        }
+        wanted.push_str(text)?;
+        wanted.push_str("error 80 BadCommand\n")?;
+        let lines = format!(in rt.alloc(); "{script}cert\ncert .\n")?;
+        let mut out = Vec::new(rt.alloc());
+        let mut reader = Watched::new(lines.as_bytes());
+        let mut writer = Watched::new(&mut out);
+        let shape = HostShape::new(processors, 100000, 5000)?;
+        run(&rt, &mut reader, &mut writer, shape)?;
+        assert_eq!(rt; out.as_slice(), wanted.as_bytes(), "{script}");
     }
     Ok(())
 }

@@ -14,9 +14,9 @@ put_amounts-requires-clause-each c =
     let gs : List (ℕ × GroupFields) = c.args.tree.now.groups in
     let plan = c.in_ok-plan.ensures in
     let ids : length c.as_slice.result.now ≡ length rows =
-        ap length c.as_slice.ensures.value ∙ ap length c.in-Ok.ensures.ids
-        ∙ length-map gs (λ (e : ℕ × GroupFields). e.0) ∙ sym (length-map gs (λ (e : ℕ × GroupFields). e.1))
-        ∙ sym (length-map (values_of gs) (row_of gs c.args.shape.slice_us)) ∙ sym (ap (λ (i : Groups). length i.rows) c.in-Ok.ensures.rows) in
+    ap length c.as_slice.ensures.value ∙ ap length c.in-Ok.ensures.ids
+    ∙ length-map gs (λ (e : ℕ × GroupFields). e.0) ∙ sym (length-map gs (λ (e : ℕ × GroupFields). e.1))
+    ∙ sym (length-map (values_of gs) (row_of gs c.args.shape.slice_us)) ∙ sym (ap (λ (i : Groups). length i.rows) c.in-Ok.ensures.rows) in
     let amounts : length c.as_slice-2.result.now ≡ length rows =
-        ap length c.as_slice-2.ensures.value ∙ ap length plan.amounts_are ∙ length-map-range_with_len (total rows plan.allocation) 0 (length rows) in
+    ap length c.as_slice-2.ensures.value ∙ ap length plan.amounts_are ∙ length-map-range_with_len (total rows plan.allocation) 0 (length rows) in
     ids ∙ sym amounts

@@ -1,0 +1,31 @@
+//! The answer to `cert`.
+ghost use Rattle.std.specs.Prelude.{◌≡◌, ◌≤◌, ◌++◌, ℕ, List, OnOk};
+ghost use Rattle.std.specs.Vec.{vec_capacity};
+ghost use Rattle.bw_shell.specs.CertifiedPlan.{IsCertifiedPlan};
+
+use bw_cert::{certify, write_certified};
+use bw_model::HostShape;
+use bw_plan::plan;
+use bw_tree::Tree;
+use std::alloc::{AllocError, Global};
+
+/// Appends the answer to `cert`: the certified text of the plan. It fails for want of memory alone.
+pub fn put_certified(
+    alloc: Global,
+    tree: &Tree,
+    shape: HostShape,
+    answer: &mut Vec<u8>,
+) -> Result<(), AllocError>
+    ensures ok { OnOk result ((text : List ℕ) × IsCertifiedPlan (record { shape = shape; tree = tree.now }) text × (answer.new.items ≡ answer.old.items ++ text)) }
+    ensures room { vec_capacity answer.old ≤ vec_capacity answer.new }
+{
+    let Ok((instance, _)) = tree.snapshot(shape) else {
+        return Err(AllocError);
+    };
+    let plan = plan(alloc, &instance)?;
+    let amounts = plan.amounts.as_slice();
+    let certificate = certify(alloc, &instance, &plan)?;
+    let text = write_certified(alloc, &instance, amounts, &certificate)?;
+    answer.extend_from_slice(text.as_bytes())?;
+    Ok(())
+}
