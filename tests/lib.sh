@@ -12,7 +12,7 @@ stamp=crates/arbiter/out/arbiter.sources
 # One line that changes with every source that the program is built from, and with the toolchain.
 sources_now() {
   {
-    rt version
+    rt version </dev/null
     cat crates.txt HANDLES
     find crates/*/src crates/*/specs crates/*/proofs -type f \( -name '*.rt' -o -name '*.antt' \) -print0 | LC_ALL=C sort -z | xargs -0 sha256sum
   } | sha256sum

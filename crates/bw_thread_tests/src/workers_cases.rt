@@ -332,11 +332,23 @@ fn ask_two<R: Wait + Abort>(
     (seat, answer.reply)
 }
 
+// A pool of the plan, one amount for each row.
+fn pool_of<A: Abort>(
+    rt: &A,
+    alloc: Global,
+    instance: &Instance,
+    plan: &Plan,
+) -> Result<SlicePool, AllocError> {
+    let amounts = plan.amounts.as_slice();
+    assert_eq!(rt; amounts.len(), instance.rows().len());
+    SlicePool::new(alloc, instance, amounts)
+}
+
 // Two threads ask 2 of a leaf that has 3: one gets 2 and the other 1, in one order or the other.
 fn draw_in_two<R: Threads + Wait + Abort + Sync>(rt: &R, alloc: Global) -> Result<(), AllocError> {
     let (instance, plan) = planned(rt, alloc, 2, &[group(0, 100, None, 3)])?;
     assert_eq!(rt; plan.amounts.as_slice(), [3, 3].as_slice());
-    let pool = SlicePool::new(alloc, &instance, &plan.amounts)?;
+    let pool = pool_of(rt, alloc, &instance, &plan)?;
     let Ok((lock, mut seats)) = open(alloc, pool, 2, 2) else {
         return Err(AllocError);
     };
@@ -372,7 +384,7 @@ fn draw_in_two<R: Threads + Wait + Abort + Sync>(rt: &R, alloc: Global) -> Resul
 // A seat draws 2 of a leaf that has 3 and gives back 3, which it does not hold. Its third call is refused.
 fn give_back_too_many<R: Wait + Abort>(rt: &R, alloc: Global) -> Result<(), AllocError> {
     let (instance, plan) = planned(rt, alloc, 1, &[group(0, 100, None, 3)])?;
-    let pool = SlicePool::new(alloc, &instance, &plan.amounts)?;
+    let pool = pool_of(rt, alloc, &instance, &plan)?;
     let Ok((lock, mut seats)) = open(alloc, pool, 1, 2) else {
         return Err(AllocError);
     };
