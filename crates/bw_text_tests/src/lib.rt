@@ -1,0 +1,9 @@
+//! Tests of what is read and written as text: files, settings by path, certified texts.
+#![tactic(auto)]
+
+#[cfg(test)]
+mod cert_cases;
+#[cfg(test)]
+mod files_cases;
+#[cfg(test)]
+mod hierarchy_cases;
