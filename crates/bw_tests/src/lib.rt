@@ -16,6 +16,4 @@ mod pool_cases;
 #[cfg(test)]
 mod split_cases;
 #[cfg(test)]
-mod stat_cases;
-#[cfg(test)]
 mod tree_cases;
