@@ -8,6 +8,7 @@ use Rattle.std.proofs.lemmas.Bool.{ne_eqb}
 use Rattle.std.proofs.lemmas.Bool.Decides.{eqb_tells}
 use Rattle.std.proofs.lemmas.Slice.Eq.{bytes_eq-Decides}
 use Rattle.bw_text.specs.Words.{words}
+use Rattle.bw_model.specs.declared.stat.Stat.{Stat}
 use Rattle.bw_tree.specs.Groups.{GroupFields, TreeState, group_at, has_group, child_of, onward, walk, find_path}
 use Rattle.bw_tree.specs.Tree.{changed, changed_at, with_setting, set_weight, set_quota}
 use Rattle.bw_tree.proofs.SetLemmas.{look_set_other, look_set_same, child_set}
@@ -16,10 +17,11 @@ use Rattle.bw_files.specs.declared.reading.MaxWrite.{MaxWrite}
 use Rattle.bw_files.specs.Reading.{weight_of, max_of}
 use Rattle.bw_files.specs.Writing.{weight_text, max_text}
 use Rattle.bw_hierarchy.specs.declared.fault.Fault.{Fault}
-use Rattle.bw_hierarchy.specs.declared.fault.Fault.TheVariants.{Tree, File, NoSuchFile, PeriodDiffers}
+use Rattle.bw_hierarchy.specs.declared.fault.Fault.TheVariants.{Tree, NoSuchFile, ReadOnly}
 use Rattle.bw_tree.specs.declared.fault.TreeFault.TheVariants.{NotFound}
-use Rattle.bw_hierarchy.specs.Calls.{from_file, and_then, found, found_at, same_period}
-use Rattle.bw_hierarchy.specs.Files.{weight_file, max_file, text_of, read_of, weight_write, period_of, max_write, write_at, write_of}
+use Rattle.bw_hierarchy.specs.Calls.{from_file, and_then, found, same_period}
+use Rattle.bw_hierarchy.specs.Files.{weight_file, max_file, stat_file, text_of, read_of, weight_write, period_of, max_write, write_at, write_of}
+use Rattle.bw_hierarchy.specs.State.{HierarchyState, with_tree}
 
 -- a setting leaves the place of a group: its parent and its name
 pub record IsSetting (f : GroupFields → GroupFields) : Type 0 where
@@ -125,7 +127,8 @@ write_parts t u period_us path file text e =
     let a = found_parts (find_path t.groups path) (λ id. write_at t period_us id file text) u e in
     let b = guard_parts (not (has_group t.groups a.0)) (Tree NotFound) _ u a.2 in
     let there = there_parts (group_at t.groups a.0) b.0 in
-    let c = guard_parts (eqb a.0 0) NoSuchFile _ u b.1 in
+    let r = guard_parts (bytes_eq file stat_file) ReadOnly _ u b.1 in
+    let c = guard_parts (eqb a.0 0) NoSuchFile _ u r.1 in
     elim (branches (bytes_eq file weight_file) (bytes_eq file max_file) (weight_write t a.0 text) (max_write t period_us a.0 text) u c.1) [
       | inl d ↦
           let p = file_parts (weight_of (words text)) (λ w. Ok (with_setting (set_weight w) t a.0)) u d.1 in
@@ -138,40 +141,66 @@ write_parts t u period_us path file text e =
 
 -- ---- what is read after it
 
-module _ (t u : TreeState) (path : List ℕ) (f : GroupFields → GroupFields) (setting : IsSetting f) (id : ℕ) (g : GroupFields) (write : IsWrite t u path f id g) (period_us : ℕ) where
-  read-here : (file : List ℕ) → read_of u period_us path file ≡ text_of period_us id file (Some (f g))
+module _ (h : HierarchyState) (u : TreeState) (path : List ℕ) (f : GroupFields → GroupFields) (setting : IsSetting f) (id : ℕ) (g : GroupFields) (write : IsWrite h.tree u path f id g) where
+  abbrev gs : List (ℕ × GroupFields)
+  gs = h.tree.groups
+
+  -- the text of a file where a path leads
+  abbrev shown : List (ℕ × GroupFields) → List ℕ → Option ℕ → Result (List ℕ) Fault
+  shown es file o = and_then (found o) (λ k. text_of h.books h.shape.period_us k file (group_at es k))
+
+  -- what is read at a path
+  read-at : (path' file : List ℕ) → read_of (with_tree h u) path' file ≡ shown (changed_at f gs id) file (find_path gs path')
+  read-at path' file =
+      subst (λ (v : TreeState). read_of (with_tree h v) path' file ≡ shown (changed_at f gs id) file (find_path gs path')) write.is
+      (ap (shown (changed_at f gs id) file) (find_path-same f setting gs id g write.there path'))
+
+  read-here : (file : List ℕ) → read_of (with_tree h u) path file ≡ text_of h.books h.shape.period_us id file (Some (f g))
   read-here file =
-      subst (λ (v : TreeState). read_of v period_us path file ≡ text_of period_us id file (Some (f g))) write.is
-      (ap (λ (o : Option ℕ). and_then (found o) (λ k. text_of period_us k file (group_at (changed_at f t.groups id) k))) (find_path-same f setting t.groups id g write.there path ∙ write.leads)
-      ∙ ap (text_of period_us id file) (group-set f setting t.groups id g write.there))
+      read-at path file
+      ∙ ap (shown (changed_at f gs id) file) write.leads
+      ∙ ap (text_of h.books h.shape.period_us id file) (group-set f setting gs id g write.there)
 
-  read-before : (file : List ℕ) → read_of t period_us path file ≡ text_of period_us id file (Some g)
-  read-before file =
-      ap (λ (o : Option ℕ). and_then (found o) (λ k. text_of period_us k file (group_at t.groups k))) write.leads ∙ ap (text_of period_us id file) write.there
+  read-before : (file : List ℕ) → read_of h path file ≡ text_of h.books h.shape.period_us id file (Some g)
+  read-before file = ap (shown gs file) write.leads ∙ ap (text_of h.books h.shape.period_us id file) write.there
 
-  read-elsewhere : (path' file : List ℕ) → find_path t.groups path' ≢ find_path t.groups path → read_of u period_us path' file ≡ read_of t period_us path' file
-  read-elsewhere path' file apart =
-      subst (λ (v : TreeState). read_of v period_us path' file ≡ read_of t period_us path' file) write.is
-      (ap (λ (o : Option ℕ). and_then (found o) (λ k. text_of period_us k file (group_at (changed_at f t.groups id) k))) (find_path-same f setting t.groups id g write.there path')
-      ∙ by (find_path t.groups path') refl)
+  read-elsewhere : (path' file : List ℕ) → find_path gs path' ≢ find_path gs path → read_of (with_tree h u) path' file ≡ read_of h path' file
+  read-elsewhere path' file apart = read-at path' file ∙ by (find_path gs path') refl
     where
-      by : (o : Option ℕ) → find_path t.groups path' ≡ o
-          → and_then (found o) (λ k. text_of period_us k file (group_at (changed_at f t.groups id) k)) ≡ and_then (found o) (λ k. text_of period_us k file (group_at t.groups k))
+      by : (o : Option ℕ) → find_path gs path' ≡ o → shown (changed_at f gs id) file o ≡ shown gs file o
       by None e = refl
       by (Some k) e =
-          ap (text_of period_us k file) (group-other f setting t.groups id g write.there k (ne_eqb k id (λ same. apart (e ∙ ap (λ j. Some j) same ∙ sym write.leads))))
+          ap (text_of h.books h.shape.period_us k file) (group-other f setting gs id g write.there k (ne_eqb k id (λ same. apart (e ∙ ap (λ j. Some j) same ∙ sym write.leads))))
 
-text_weight : (period_us id n : ℕ) (g : GroupFields) → eqb id 0 ≡ false → text_of period_us id weight_file (Some (set_weight n g)) ≡ Ok (weight_text n)
-text_weight period_us id n g inner = rw inner refl
+  -- each group's counters
+  read-counters : (path' : List ℕ) → read_of (with_tree h u) path' stat_file ≡ read_of h path' stat_file
+  read-counters path' = read-at path' stat_file ∙ by (find_path gs path')
+    where
+      both : (k : ℕ) → ((eqb k id ≡ true) × (k ≡ id)) ⊎ ((eqb k id ≡ false) × (k ≢ id))
+          → text_of h.books h.shape.period_us k stat_file (group_at (changed_at f gs id) k) ≡ text_of h.books h.shape.period_us k stat_file (group_at gs k)
+      both k (inl same) =
+          ap (λ j. text_of h.books h.shape.period_us k stat_file (group_at (changed_at f gs id) j)) same.1
+          ∙ ap (text_of h.books h.shape.period_us k stat_file) (group-set f setting gs id g write.there)
+          ∙ sym (ap (λ j. text_of h.books h.shape.period_us k stat_file (group_at gs j)) same.1 ∙ ap (text_of h.books h.shape.period_us k stat_file) write.there)
+      both k (inr apart) = ap (text_of h.books h.shape.period_us k stat_file) (group-other f setting gs id g write.there k apart.0)
 
-text_max : (period_us id : ℕ) (m : MaxWrite) (g : GroupFields) → eqb id 0 ≡ false → text_of period_us id max_file (Some (set_quota m.quota g)) ≡ Ok (max_text m.quota period_us)
-text_max period_us id m g inner = rw inner refl
+      by : (o : Option ℕ) → shown (changed_at f gs id) stat_file o ≡ shown gs stat_file o
+      by None = refl
+      by (Some k) = both k (eqb_tells k id)
 
-text_but_weight : (period_us id n : ℕ) (g : GroupFields) (file : List ℕ) → bytes_eq file weight_file ≡ false → text_of period_us id file (Some (set_weight n g)) ≡ text_of period_us id file (Some g)
-text_but_weight period_us id n g file other = rw other refl
+text_weight : (books : List (ℕ × Stat)) (period_us id n : ℕ) (g : GroupFields) → eqb id 0 ≡ false → text_of books period_us id weight_file (Some (set_weight n g)) ≡ Ok (weight_text n)
+text_weight books period_us id n g inner = rw inner refl
 
-text_but_max : (period_us id : ℕ) (m : MaxWrite) (g : GroupFields) (file : List ℕ) → bytes_eq file max_file ≡ false → text_of period_us id file (Some (set_quota m.quota g)) ≡ text_of period_us id file (Some g)
-text_but_max period_us id m g file other = rw other refl
+text_max : (books : List (ℕ × Stat)) (period_us id : ℕ) (m : MaxWrite) (g : GroupFields) → eqb id 0 ≡ false → text_of books period_us id max_file (Some (set_quota m.quota g)) ≡ Ok (max_text m.quota period_us)
+text_max books period_us id m g inner = rw inner refl
+
+text_but_weight : (books : List (ℕ × Stat)) (period_us id n : ℕ) (g : GroupFields) (file : List ℕ) → bytes_eq file weight_file ≡ false
+    → text_of books period_us id file (Some (set_weight n g)) ≡ text_of books period_us id file (Some g)
+text_but_weight books period_us id n g file other = rw other refl
+
+text_but_max : (books : List (ℕ × Stat)) (period_us id : ℕ) (m : MaxWrite) (g : GroupFields) (file : List ℕ) → bytes_eq file max_file ≡ false
+    → text_of books period_us id file (Some (set_quota m.quota g)) ≡ text_of books period_us id file (Some g)
+text_but_max books period_us id m g file other = rw other refl
 
 other_file : (file name : List ℕ) → file ≢ name → bytes_eq file name ≡ false
 other_file file name apart = by (bytes_eq file name) refl
@@ -187,46 +216,54 @@ ok_is : {A : Type 0} (x y : A) (r : Result A FileFault) → r ≡ Ok x → r ≡
 ok_is x y (Ok z) e f = cc
 ok_is x y (Err z) e f = absurd cc
 
-pub weight_read : (t u : TreeState) (period_us : ℕ) (path text : List ℕ) (n : ℕ) → write_of t period_us path weight_file text ≡ Ok u → weight_of (words text) ≡ Ok n
-    → read_of u period_us path weight_file ≡ Ok (weight_text n)
-weight_read t u period_us path text n e value =
-    elim (write_parts t u period_us path weight_file text e) [
+pub weight_read : (h : HierarchyState) (u : TreeState) (path text : List ℕ) (n : ℕ) → write_of h.tree h.shape.period_us path weight_file text ≡ Ok u → weight_of (words text) ≡ Ok n
+    → read_of (with_tree h u) path weight_file ≡ Ok (weight_text n)
+weight_read h u path text n e value =
+    elim (write_parts h.tree u h.shape.period_us path weight_file text e) [
       | inl d ↦
-          read-here t u path (set_weight d.w) (weight_IsSetting d.w) d.id d.g d.write period_us weight_file
-          ∙ text_weight period_us d.id d.w d.g d.write.inner
+          read-here h u path (set_weight d.w) (weight_IsSetting d.w) d.id d.g d.write weight_file
+          ∙ text_weight h.books h.shape.period_us d.id d.w d.g d.write.inner
           ∙ ap (λ k. Ok (weight_text k)) (ok_is d.w n (weight_of (words text)) d.value value)
       | inr d ↦ absurd (omega (arith, ap length d.file_is))
     ]
 
-pub max_read : (t u : TreeState) (period_us : ℕ) (path text : List ℕ) (m : MaxWrite) → write_of t period_us path max_file text ≡ Ok u → max_of (words text) ≡ Ok m
-    → read_of u period_us path max_file ≡ Ok (max_text m.quota period_us)
-max_read t u period_us path text m e value =
-    elim (write_parts t u period_us path max_file text e) [
+pub max_read : (h : HierarchyState) (u : TreeState) (path text : List ℕ) (m : MaxWrite) → write_of h.tree h.shape.period_us path max_file text ≡ Ok u → max_of (words text) ≡ Ok m
+    → read_of (with_tree h u) path max_file ≡ Ok (max_text m.quota h.shape.period_us)
+max_read h u path text m e value =
+    elim (write_parts h.tree u h.shape.period_us path max_file text e) [
       | inl d ↦ absurd (omega (arith, ap length d.file_is))
       | inr d ↦
-          read-here t u path (set_quota d.m.quota) (quota_IsSetting d.m) d.id d.g d.write period_us max_file
-          ∙ text_max period_us d.id d.m d.g d.write.inner
-          ∙ ap (λ (k : MaxWrite). Ok (max_text k.quota period_us)) (ok_is d.m m (max_of (words text)) d.value value)
+          read-here h u path (set_quota d.m.quota) (quota_IsSetting d.m) d.id d.g d.write max_file
+          ∙ text_max h.books h.shape.period_us d.id d.m d.g d.write.inner
+          ∙ ap (λ (k : MaxWrite). Ok (max_text k.quota h.shape.period_us)) (ok_is d.m m (max_of (words text)) d.value value)
     ]
 
-pub other_files_stay : (t u : TreeState) (period_us : ℕ) (path file text other : List ℕ) → write_of t period_us path file text ≡ Ok u → other ≢ file
-    → read_of u period_us path other ≡ read_of t period_us path other
-other_files_stay t u period_us path file text other e apart =
-    elim (write_parts t u period_us path file text e) [
+pub other_files_stay : (h : HierarchyState) (u : TreeState) (path file text other : List ℕ) → write_of h.tree h.shape.period_us path file text ≡ Ok u → other ≢ file
+    → read_of (with_tree h u) path other ≡ read_of h path other
+other_files_stay h u path file text other e apart =
+    elim (write_parts h.tree u h.shape.period_us path file text e) [
       | inl d ↦
-          read-here t u path (set_weight d.w) (weight_IsSetting d.w) d.id d.g d.write period_us other
-          ∙ text_but_weight period_us d.id d.w d.g other (other_file other weight_file (λ same. apart (same ∙ sym d.file_is)))
-          ∙ sym (read-before t u path (set_weight d.w) (weight_IsSetting d.w) d.id d.g d.write period_us other)
+          read-here h u path (set_weight d.w) (weight_IsSetting d.w) d.id d.g d.write other
+          ∙ text_but_weight h.books h.shape.period_us d.id d.w d.g other (other_file other weight_file (λ same. apart (same ∙ sym d.file_is)))
+          ∙ sym (read-before h u path (set_weight d.w) (weight_IsSetting d.w) d.id d.g d.write other)
       | inr d ↦
-          read-here t u path (set_quota d.m.quota) (quota_IsSetting d.m) d.id d.g d.write period_us other
-          ∙ text_but_max period_us d.id d.m d.g other (other_file other max_file (λ same. apart (same ∙ sym d.file_is)))
-          ∙ sym (read-before t u path (set_quota d.m.quota) (quota_IsSetting d.m) d.id d.g d.write period_us other)
+          read-here h u path (set_quota d.m.quota) (quota_IsSetting d.m) d.id d.g d.write other
+          ∙ text_but_max h.books h.shape.period_us d.id d.m d.g other (other_file other max_file (λ same. apart (same ∙ sym d.file_is)))
+          ∙ sym (read-before h u path (set_quota d.m.quota) (quota_IsSetting d.m) d.id d.g d.write other)
     ]
 
-pub other_groups_stay : (t u : TreeState) (period_us : ℕ) (path file text path' other : List ℕ) → write_of t period_us path file text ≡ Ok u → find_path t.groups path' ≢ find_path t.groups path
-    → read_of u period_us path' other ≡ read_of t period_us path' other
-other_groups_stay t u period_us path file text path' other e apart =
-    elim (write_parts t u period_us path file text e) [
-      | inl d ↦ read-elsewhere t u path (set_weight d.w) (weight_IsSetting d.w) d.id d.g d.write period_us path' other apart
-      | inr d ↦ read-elsewhere t u path (set_quota d.m.quota) (quota_IsSetting d.m) d.id d.g d.write period_us path' other apart
+pub other_groups_stay : (h : HierarchyState) (u : TreeState) (path file text path' other : List ℕ) → write_of h.tree h.shape.period_us path file text ≡ Ok u
+    → find_path h.tree.groups path' ≢ find_path h.tree.groups path → read_of (with_tree h u) path' other ≡ read_of h path' other
+other_groups_stay h u path file text path' other e apart =
+    elim (write_parts h.tree u h.shape.period_us path file text e) [
+      | inl d ↦ read-elsewhere h u path (set_weight d.w) (weight_IsSetting d.w) d.id d.g d.write path' other apart
+      | inr d ↦ read-elsewhere h u path (set_quota d.m.quota) (quota_IsSetting d.m) d.id d.g d.write path' other apart
+    ]
+
+pub counters_stay : (h : HierarchyState) (u : TreeState) (path file text path' : List ℕ) → write_of h.tree h.shape.period_us path file text ≡ Ok u
+    → read_of (with_tree h u) path' stat_file ≡ read_of h path' stat_file
+counters_stay h u path file text path' e =
+    elim (write_parts h.tree u h.shape.period_us path file text e) [
+      | inl d ↦ read-counters h u path (set_weight d.w) (weight_IsSetting d.w) d.id d.g d.write path'
+      | inr d ↦ read-counters h u path (set_quota d.m.quota) (quota_IsSetting d.m) d.id d.g d.write path'
     ]

@@ -1,5 +1,5 @@
 -- What a builder does: one single call after another.
-use Rattle.std.specs.Prelude.{ℕ, ◌==◌, List, [], ◌∷◌, ◌++◌, codes, Option, Some, None, Result, Ok, Err, ℤ}
+use Rattle.std.specs.Prelude.{ℕ, ◌==◌, List, [], ◌∷◌, ◌++◌, codes, Option, Some, None, Result, Ok, ℤ}
 use Rattle.std.specs.List.{slice_split}
 use Rattle.bw_tree.specs.Groups.{TreeState, find_path}
 use Rattle.bw_hierarchy.specs.declared.fault.Fault.{Fault}

@@ -1,12 +1,12 @@
 -- What each call does to a tree, or its first refusal.
-use Rattle.std.specs.Prelude.{ℕ, zero, suc, ◌==◌, ◌||◌, not, nat_lt, if◌then◌else◌, List, Option, Some, None, Result, Ok, Err, ℤ, pos, negsuc}
+use Rattle.std.specs.Prelude.{ℕ, zero, suc, ◌==◌, if◌then◌else◌, List, Option, Some, None, Result, Ok, Err, ℤ, pos, negsuc}
 use Rattle.std.specs.Path.{rsplit_once}
 use Rattle.bw_model.specs.declared.quota.Quota.{Quota}
 use Rattle.bw_model.specs.declared.quota.Quota.TheVariants.{Max, Micros}
 use Rattle.bw_tree.specs.declared.fault.TreeFault.{TreeFault}
 use Rattle.bw_tree.specs.declared.fault.TreeFault.TheVariants.{NotFound, RootFixed}
 use Rattle.bw_tree.specs.Groups.{GroupFields, TreeState, group_at, find_path}
-use Rattle.bw_tree.specs.Tree.{mkdir_refusal, with_group, rmdir_refusal, without_group, setting_refusal, demand_refusal, with_setting, set_demand, set_weight, set_quota}
+use Rattle.bw_tree.specs.Tree.{mkdir_refusal, with_group, setting_refusal, with_setting, set_weight, set_quota}
 use Rattle.bw_files.specs.declared.fault.FileFault.{FileFault}
 use Rattle.bw_files.specs.declared.fault.FileFault.TheVariants.{QuotaTooSmall}
 use Rattle.bw_files.specs.Reading.{weight_in, quota_in, period_in}

@@ -1,29 +1,36 @@
--- A hierarchy: the host and its tree of groups.
-use Rattle.std.specs.Prelude.{ℕ, List, Result}
+-- A hierarchy: the host, its tree of groups, and their counters.
+use Rattle.std.specs.Prelude.{ℕ, List, [], Result}
 use Rattle.bw_model.specs.Host.{Shape}
+use Rattle.bw_model.specs.declared.stat.Stat.{Stat}
 use Rattle.bw_tree.specs.Groups.{TreeState}
 use Rattle.bw_tree.specs.Tree.{root_alone, rmdir_refusal, without_group, demand_refusal, with_setting, set_demand}
 use Rattle.bw_tree.specs.declared.limits.TheConstants.{FIRST_ID}
+use Rattle.bw_stat.specs.Books.{forgotten}
 use Rattle.bw_hierarchy.specs.declared.fault.Fault.{Fault}
 use Rattle.bw_hierarchy.specs.Calls.{and_then, found_at, unless}
 
 pub record HierarchyState : Type 0 where
   pub shape : Shape
   pub tree : TreeState
+  pub books : List (ℕ × Stat)
 
--- the same host with another tree
+-- the same host and counters with another tree
 abbrev pub with_tree : HierarchyState → TreeState → HierarchyState
-with_tree h t = record { shape = h.shape; tree = t }
+with_tree h t = record { shape = h.shape; tree = t; books = h.books }
 
--- the root alone
+-- the same host and tree with other counters
+abbrev pub with_books : HierarchyState → List (ℕ × Stat) → HierarchyState
+with_books h books = record { shape = h.shape; tree = h.tree; books = books }
+
+-- the root alone, and no counters
 abbrev pub new_hierarchy : Shape → HierarchyState
-new_hierarchy shape = record { shape = shape; tree = root_alone FIRST_ID }
+new_hierarchy shape = record { shape = shape; tree = root_alone FIRST_ID; books = [] }
 
--- one group taken out, by its id
+-- one group taken out with its counters, by its id
 abbrev pub delete_of : HierarchyState → ℕ → Result HierarchyState Fault
-delete_of h id = unless (rmdir_refusal h.tree id) (with_tree h (without_group h.tree id))
+delete_of h id = unless (rmdir_refusal h.tree id) (with_books (with_tree h (without_group h.tree id)) (forgotten h.books id))
 
--- one group taken out, by its path
+-- one group taken out with its counters, by its path
 abbrev pub rmdir_of : HierarchyState → List ℕ → Result HierarchyState Fault
 rmdir_of h path = and_then (found_at h.tree path) (delete_of h)
 

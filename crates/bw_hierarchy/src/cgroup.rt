@@ -43,7 +43,7 @@ impl Cgroup {
         CpuController { id: self.id }
     }
 
-    /// Takes the group out. A refusal hands the group back: `NotFound`, `RootFixed`, `HasChildren`, `HasDemand`.
+    /// Takes the group out and forgets its counters. A refusal hands the group back: `NotFound`, `RootFixed`, `HasChildren`, `HasDemand`.
     pub fn delete(self, hierarchy: &mut Hierarchy) -> Result<(), KeptCgroup>
         ensures removed { OnOk result (delete_of hierarchy.old self.id ≡ Ok hierarchy.new) }
         ensures refused { IfErr result (λ k. delete_of hierarchy.old self.id ≡ Err k.fault) }

@@ -14,8 +14,13 @@ pub enum Fault {
     Tree(TreeFault),
     #[error("{0}")]
     File(FileFault),
+    /// 30: the group has no such file.
     #[error("NoSuchFile")]
     NoSuchFile,
+    /// 31: the file is not written.
+    #[error("ReadOnly")]
+    ReadOnly,
+    /// 32: the period is not the host's.
     #[error("PeriodDiffers")]
     PeriodDiffers,
 }
@@ -56,25 +61,27 @@ impl From<AllocError> for Fault {
 
 impl Fault {
     /// The number that is printed.
-    pub fn number(&self) -> u32
-        ensures { result ≡ fault_number self.now }
+    pub fn number(self) -> u8
+        ensures { result ≡ fault_number self }
     {
         match self {
             Fault::Tree(fault) => fault.number(),
-            Fault::File(fault) => u32::from(fault.number()),
+            Fault::File(fault) => fault.number(),
             Fault::NoSuchFile => 30,
+            Fault::ReadOnly => 31,
             Fault::PeriodDiffers => 32,
         }
     }
 
     /// The name that is printed.
-    pub fn name(&self) -> &'static str
-        ensures { result.now ≡ fault_name self.now }
+    pub fn name(self) -> &'static str
+        ensures { result.now ≡ fault_name self }
     {
         match self {
             Fault::Tree(fault) => fault.name(),
             Fault::File(fault) => fault.name(),
             Fault::NoSuchFile => "NoSuchFile",
+            Fault::ReadOnly => "ReadOnly",
             Fault::PeriodDiffers => "PeriodDiffers",
         }
     }

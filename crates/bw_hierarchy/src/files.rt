@@ -3,30 +3,48 @@ ghost use Rattle.std.specs.Prelude.{◌≡◌, OnOk, OnErr, IfOk, IfErr, Ok, Err
 ghost use Rattle.bw_model.specs.Host.{IsHost};
 ghost use Rattle.bw_tree.specs.Groups.{group_at};
 ghost use Rattle.bw_tree.specs.Tree.{setting_refusal};
+ghost use Rattle.bw_stat.specs.Books.{stat_at, or_zeros};
 ghost use Rattle.bw_hierarchy.specs.Faults.{IsRefusal};
 ghost use Rattle.bw_hierarchy.specs.Files.{text_of, read_of, period_of, weight_write, max_write, write_at, write_of};
 
 use crate::calls;
 use crate::fault::Fault;
-use bw_files::{read_max, read_weight, write_max, write_weight};
-use bw_model::HostShape;
+use bw_files::{read_max, read_weight, write_max, write_stat, write_weight};
+use bw_model::{HostShape, Stat};
+use bw_stat::Books;
 use bw_tree::{GroupId, Tree, TreeFault};
 use std::alloc::Global;
+
+// The counters of a group, all 0 where none were booked.
+fn stat(books: &Books, id: GroupId) -> Stat
+    ensures { result ≡ or_zeros (stat_at books.now id) }
+{
+    books.of(id).unwrap_or(Stat {
+        usage_usec: 0,
+        nr_periods: 0,
+        nr_throttled: 0,
+        throttled_usec: 0,
+    })
+}
 
 // The text of a group's file.
 fn text(
     alloc: Global,
     shape: HostShape,
     tree: &Tree,
+    books: &Books,
     id: GroupId,
     file: &str,
 ) -> Result<String, Fault>
-    ensures found { IfOk result (λ t. text_of shape.period_us id file.now (group_at tree.now.groups id) ≡ Ok (string_bytes t)) }
-    ensures refused { IfErr result (IsRefusal (text_of shape.period_us id file.now (group_at tree.now.groups id))) }
+    ensures found { IfOk result (λ t. text_of books.now shape.period_us id file.now (group_at tree.now.groups id) ≡ Ok (string_bytes t)) }
+    ensures refused { IfErr result (IsRefusal (text_of books.now shape.period_us id file.now (group_at tree.now.groups id))) }
 {
     let Some(group) = tree.group(id) else {
         return Err(Fault::Tree(TreeFault::NotFound));
     };
+    if file == "cpu.stat" {
+        return Ok(write_stat(alloc, &stat(books, id), id == 0)?);
+    }
     if id == 0 {
         return Err(Fault::NoSuchFile);
     }
@@ -44,14 +62,15 @@ pub(crate) fn read(
     alloc: Global,
     shape: HostShape,
     tree: &Tree,
+    books: &Books,
     path: &str,
     file: &str,
 ) -> Result<String, Fault>
-    ensures found { IfOk result (λ t. read_of tree.now shape.period_us path.now file.now ≡ Ok (string_bytes t)) }
-    ensures refused { IfErr result (IsRefusal (read_of tree.now shape.period_us path.now file.now)) }
+    ensures found { IfOk result (λ t. read_of (record { shape = shape; tree = tree.now; books = books.now }) path.now file.now ≡ Ok (string_bytes t)) }
+    ensures refused { IfErr result (IsRefusal (read_of (record { shape = shape; tree = tree.now; books = books.now }) path.now file.now)) }
 {
     let id = calls::find(tree, path)?;
-    text(alloc, shape, tree, id, file)
+    text(alloc, shape, tree, books, id, file)
 }
 
 fn write_weight_at(tree: &mut Tree, id: GroupId, text: &[u8]) -> Result<(), Fault>
@@ -94,6 +113,9 @@ fn write_at(
 {
     if tree.group(id).is_none() {
         return Err(Fault::Tree(TreeFault::NotFound));
+    }
+    if file == "cpu.stat" {
+        return Err(Fault::ReadOnly);
     }
     if id == 0 {
         return Err(Fault::NoSuchFile);

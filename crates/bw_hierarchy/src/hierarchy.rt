@@ -1,29 +1,34 @@
 //! The hierarchy of groups.
-ghost use Rattle.std.specs.Prelude.{◌≡◌, length, OnOk, OnErr, IfOk, IfErr, Ok, Err, string_bytes};
+ghost use Rattle.std.specs.Prelude.{◌≡◌, length, nat_eq, OnOk, OnErr, IfOk, IfErr, Ok, Err, string_bytes};
+ghost use Rattle.std.specs.List.{IsDistinct};
 ghost use Rattle.bw_model.specs.Groups.{IsInstance};
 ghost use Rattle.bw_tree.specs.Snapshot.{instance_of};
 ghost use Rattle.std.specs.Map.{keys_of};
+ghost use Rattle.bw_stat.specs.Books.{booked, shares_of};
 ghost use Rattle.bw_hierarchy.specs.Faults.{IsRefusal};
 ghost use Rattle.bw_hierarchy.specs.Calls.{mkdir_of, set_shares_of, set_cfs_of, value_at, int_of_quota, found_at};
 ghost use Rattle.bw_hierarchy.specs.Files.{read_of, write_of};
 ghost use Rattle.bw_hierarchy.specs.Builder.{built};
-ghost use Rattle.bw_hierarchy.specs.State.{with_tree, new_hierarchy, rmdir_of, delete_of, demand_set_of};
+ghost use Rattle.bw_hierarchy.specs.State.{with_tree, with_books, new_hierarchy, rmdir_of, delete_of, demand_set_of};
 
 use crate::builder::build_tree;
 use crate::cgroup::Cgroup;
 use crate::fault::Fault;
 use crate::{calls, files};
+use bw_demand::Gathered;
 use bw_model::{HostShape, Instance};
+use bw_stat::Books;
 use bw_tree::{GroupId, Tree, TreeFault};
 use std::alloc::Global;
 use std::marker::Model;
 
-/// A host and its tree of groups.
+/// A host, its tree of groups, and their counters.
 #[derive(Debug, Drop)]
 pub struct Hierarchy {
     alloc: Global,
     shape: HostShape,
     tree: Tree,
+    books: Books,
 }
 
 impl Model for Hierarchy {
@@ -31,17 +36,22 @@ impl Model for Hierarchy {
 
     ghost Value = { HierarchyState };
 
-    ghost view = { λ h. record { shape = h.shape; tree = h.tree } };
+    ghost view = { λ h. record { shape = h.shape; tree = h.tree; books = h.books } };
 }
 
 impl Hierarchy {
-    /// A hierarchy of the root alone. It fails for want of memory alone.
+    /// A hierarchy of the root alone, with no counters. It fails for want of memory alone.
     pub fn new(alloc: Global, shape: HostShape) -> Result<Hierarchy, Fault>
         ensures made { IfOk result (λ h. h ≡ new_hierarchy shape) }
         ensures err { IfErr result (λ e. e ≡ Fault.Tree TreeFault.OutOfMemory) }
     {
         let tree = Tree::new(alloc)?;
-        Ok(Hierarchy { alloc, shape, tree })
+        Ok(Hierarchy {
+            alloc,
+            shape,
+            tree,
+            books: Books::new(alloc),
+        })
     }
 
     /// The host.
@@ -58,6 +68,34 @@ impl Hierarchy {
         &self.tree
     }
 
+    /// The counters of the groups that were booked and not taken out since (cgroup-v2.rst, "CPU Interface Files").
+    pub fn books(&self) -> &Books
+        ensures { result.now ≡ self.now.books }
+    {
+        &self.books
+    }
+
+    /// Counts one period for each group of an instance: the ids of its rows, what they wanted and what they drew, both in
+    /// slices (sched-bwc.rst, "Statistics"). The ids are those of [`Hierarchy::snapshot`], or any others of which no two are
+    /// the same. It fails for want of memory alone, and nothing is then counted.
+    pub fn book(
+        &mut self,
+        instance: &Instance,
+        ids: &[GroupId],
+        gathered: &Gathered,
+        drawn: &[u64],
+    ) -> Result<(), Fault>
+        requires ids { length ids.now ≡ length instance.now.rows }
+        requires wants { length gathered.now.want.items ≡ length instance.now.rows }
+        requires drawn { length drawn.now ≡ length instance.now.rows }
+        requires distinct { IsDistinct nat_eq ids.now }
+        ensures booked { OnOk result (self.new ≡ with_books self.old (booked self.old.books (shares_of instance.now.shape.slice_us instance.now.rows ids.now gathered.now.want.items drawn.now))) }
+        ensures err { IfErr result (λ e. e ≡ Fault.Tree TreeFault.OutOfMemory) }
+        ensures kept { OnErr result (self.new ≡ self.old) }
+    {
+        Ok(self.books.book(instance, ids, gathered, drawn)?)
+    }
+
     /// The root, whose settings are fixed.
     pub fn root_control_group(&self) -> Cgroup
         ensures { result.id ≡ 0 }
@@ -70,6 +108,8 @@ impl Hierarchy {
         ensures rows { IfOk result (λ s. s.0 ≡ instance_of self.now.tree self.now.shape) }
         ensures valid { IsInstance (instance_of self.now.tree self.now.shape) }
         ensures ids { IfOk result (λ s. s.1.items ≡ keys_of self.now.tree.groups) }
+        ensures count { IfOk result (λ s. length s.1.items ≡ length s.0.rows) }
+        ensures distinct { IfOk result (λ s. IsDistinct nat_eq s.1.items) }
         ensures err { IfErr result (λ e. e ≡ Fault.Tree TreeFault.OutOfMemory) }
     {
         Ok(self.tree.snapshot(self.shape)?)
@@ -85,7 +125,7 @@ impl Hierarchy {
         calls::mkdir(&mut self.tree, path)
     }
 
-    /// Takes a group out: `NotFound`, `RootFixed`, `HasChildren`, `HasDemand`.
+    /// Takes a group out and forgets its counters: `NotFound`, `RootFixed`, `HasChildren`, `HasDemand`.
     pub fn rmdir(&mut self, path: &str) -> Result<(), Fault>
         ensures removed { OnOk result (rmdir_of self.old path.now ≡ Ok self.new) }
         ensures refused { IfErr result (λ e. rmdir_of self.old path.now ≡ Err e) }
@@ -100,7 +140,9 @@ impl Hierarchy {
         ensures refused { IfErr result (λ e. delete_of self.old id ≡ Err e) }
         ensures err { OnErr result (self.new ≡ self.old) }
     {
-        Ok(self.tree.rmdir(id)?)
+        self.tree.rmdir(id)?;
+        self.books.forget(id);
+        Ok(())
     }
 
     /// Sets a group's demand in slices: `NotFound`, `RootFixed`, `DemandTooLarge`, `InnerDemand`.
@@ -113,19 +155,21 @@ impl Hierarchy {
         Ok(self.tree.set_demand(id, demand)?)
     }
 
-    /// The text of a group's file (cgroup-v2.rst, "CPU Interface Files"): `cpu.weight` or `cpu.max`. The root has none.
+    /// The text of a group's file (cgroup-v2.rst, "CPU Interface Files"): `cpu.weight`, `cpu.max`, or the counters in
+    /// `cpu.stat`, which are all 0 before the first period is counted. The root has `cpu.stat` alone, and in it its usage
+    /// alone.
     ///
     /// `NotFound` where there is no such group, else `NoSuchFile` where it has no such file.
     pub fn read_file(&self, path: &str, file: &str) -> Result<String, Fault>
-        ensures found { IfOk result (λ t. read_of self.now.tree self.now.shape.period_us path.now file.now ≡ Ok (string_bytes t)) }
-        ensures refused { IfErr result (IsRefusal (read_of self.now.tree self.now.shape.period_us path.now file.now)) }
+        ensures found { IfOk result (λ t. read_of self.now path.now file.now ≡ Ok (string_bytes t)) }
+        ensures refused { IfErr result (IsRefusal (read_of self.now path.now file.now)) }
     {
-        files::read(self.alloc, self.shape, &self.tree, path, file)
+        files::read(self.alloc, self.shape, &self.tree, &self.books, path, file)
     }
 
     /// Writes a text into a group's file, which changes the one value that the file names.
     ///
-    /// Refusals in order: `NotFound`, `NoSuchFile`, those of the text, `PeriodDiffers`.
+    /// Refusals in order: `NotFound`, `NoSuchFile`, `ReadOnly` of `cpu.stat`, those of the text, `PeriodDiffers`.
     pub fn write_file(&mut self, path: &str, file: &str, text: &[u8]) -> Result<(), Fault>
         ensures set { OnOk result (write_of self.old.tree self.old.shape.period_us path.now file.now text.now ≡ Ok self.new.tree) }
         ensures rest { self.new ≡ with_tree self.old self.new.tree }

@@ -1,6 +1,7 @@
 //! Groups by their paths, their files, the builder and the controller, against worked values.
 //! A call that runs out of memory is made once more on the same hierarchy, which it has not changed,
 //! so that each case holds with any one of its allocations failing.
+use bw_demand::gather;
 use bw_hierarchy::{Cgroup, CgroupBuilder, Fault, Hierarchy};
 use bw_model::HostShape;
 use bw_tree::TreeFault;
@@ -39,7 +40,7 @@ fn once(hierarchy: &mut Hierarchy, path: &str, ask: Ask) -> Result<(), Fault> {
 }
 
 /// Asserts the number of the refusal, 0 for none.
-fn assert_answers(rt: &impl Abort, hierarchy: &mut Hierarchy, cases: &[(&str, Ask, u32)]) {
+fn assert_answers(rt: &impl Abort, hierarchy: &mut Hierarchy, cases: &[(&str, Ask, u8)]) {
     for (path, ask, wanted) in cases {
         let answer = match once(hierarchy, path, *ask) {
             Err(Fault::Tree(TreeFault::OutOfMemory)) => once(hierarchy, path, *ask),
@@ -58,7 +59,7 @@ fn assert_reads(
     hierarchy: &Hierarchy,
     path: &str,
     file: &str,
-    wanted: Result<&str, u32>,
+    wanted: Result<&str, u8>,
 ) {
     let answer = match hierarchy.read_file(path, file) {
         Err(Fault::Tree(TreeFault::OutOfMemory)) => hierarchy.read_file(path, file),
@@ -85,7 +86,7 @@ fn last_limit(hierarchy: &Hierarchy) -> Result<Option<u64>, Fault> {
 #[test]
 fn paths(rt: HostRuntime) -> Result<(), Fail> {
     let mut hierarchy = new_hierarchy(rt.alloc())?;
-    let cases: [(&str, Ask, u32); 31] = [
+    let cases: [(&str, Ask, u8); 31] = [
         ("a", Ask::Mkdir, 0),
         ("a/b", Ask::Mkdir, 0),
         ("a", Ask::Rmdir, 23),
@@ -128,7 +129,7 @@ fn paths(rt: HostRuntime) -> Result<(), Fail> {
 fn files(rt: HostRuntime) -> Result<(), Fail> {
     let mut hierarchy = new_hierarchy(rt.alloc())?;
     assert_answers(&rt, &mut hierarchy, &[("a", Ask::Mkdir, 0)]);
-    let limits: [(&[u8], u32, &str, Option<u64>); 8] = [
+    let limits: [(&[u8], u8, &str, Option<u64>); 8] = [
         (b"1000 100000", 0, "1000 100000\n", Some(0)),
         (b"999", 13, "1000 100000\n", Some(0)),
         (
@@ -157,7 +158,7 @@ fn files(rt: HostRuntime) -> Result<(), Fail> {
         assert_reads(&rt, &hierarchy, "a", "cpu.max", Ok(after));
         assert_eq!(rt; last_limit(&hierarchy)?, slices);
     }
-    let others: [(&str, Ask, u32); 12] = [
+    let others: [(&str, Ask, u8); 12] = [
         ("a", Ask::Write("cpu.max", b"50000 200000"), 32),
         ("a", Ask::Write("cpu.weight", b"0"), 12),
         ("a", Ask::Write("cpu.weight", b"10001"), 12),
@@ -166,7 +167,7 @@ fn files(rt: HostRuntime) -> Result<(), Fail> {
         ("a", Ask::Write("cpu.weight", b""), 17),
         ("a", Ask::Write("cpu.weight", b" 100\n"), 0),
         ("a", Ask::Write("cpu.idle", b"1"), 30),
-        ("a", Ask::Write("cpu.stat", b"1"), 30),
+        ("a", Ask::Write("cpu.stat", b"1"), 31),
         ("a", Ask::Write("cpu.max.burst", b"1"), 30),
         (".", Ask::Write("cpu.weight", b"1"), 30),
         ("z", Ask::Write("cpu.idle", b""), 20),
@@ -175,7 +176,6 @@ fn files(rt: HostRuntime) -> Result<(), Fail> {
     assert_reads(&rt, &hierarchy, "a", "cpu.max", Ok("max 100000\n"));
     assert_reads(&rt, &hierarchy, "a", "cpu.weight", Ok("100\n"));
     assert_reads(&rt, &hierarchy, "a", "cpu.idle", Err(30));
-    assert_reads(&rt, &hierarchy, "a", "cpu.stat", Err(30));
     assert_reads(&rt, &hierarchy, ".", "cpu.weight", Err(30));
     assert_reads(&rt, &hierarchy, "z", "cpu.idle", Err(20));
     Ok(())
@@ -188,7 +188,7 @@ fn built(
     shares: Option<u64>,
     quota: Option<i64>,
     period: Option<u64>,
-) -> Result<Cgroup, u32> {
+) -> Result<Cgroup, u8> {
     let mut resources = CgroupBuilder::new(path).cpu();
     if let Some(shares) = shares {
         resources = resources.shares(shares);
@@ -251,7 +251,7 @@ fn controllers(rt: HostRuntime) -> Result<(), Fail> {
     );
     let group = Cgroup::load(&hierarchy, "a/b")?;
     let cpu = group.cpu();
-    let settings: [(Option<i64>, Option<u64>, u32, i64); 10] = [
+    let settings: [(Option<i64>, Option<u64>, u8, i64); 10] = [
         (Some(50_000), None, 0, 50_000),
         (Some(999), None, 13, 50_000),
         (Some(-2), None, 13, 50_000),
@@ -317,5 +317,149 @@ fn controllers(rt: HostRuntime) -> Result<(), Fail> {
         );
     }
     assert!(rt; Cgroup::load(&hierarchy, "a/b").map_err(|fault| fault.number()) == Err(20));
+    Ok(())
+}
+
+const ZEROS: &str = "usage_usec 0\nnr_periods 0\nnr_throttled 0\nthrottled_usec 0\n";
+
+fn book_once(alloc: Global, hierarchy: &mut Hierarchy, drawn: &[u64]) -> Result<(), Fault> {
+    let (instance, ids) = hierarchy.snapshot()?;
+    let gathered = gather(alloc, &instance)?;
+    if drawn.len() == instance.rows().len() {
+        hierarchy.book(&instance, ids.as_slice(), &gathered, drawn)?;
+    }
+    Ok(())
+}
+
+/// Counts one period in which the groups draw these slices, in order of creation, one amount for each of them.
+fn book(alloc: Global, hierarchy: &mut Hierarchy, drawn: &[u64]) -> Result<(), Fault> {
+    match book_once(alloc, hierarchy, drawn) {
+        Ok(()) => Ok(()),
+        Err(_) => book_once(alloc, hierarchy, drawn),
+    }
+}
+
+#[test]
+fn counters_before_the_first_period(rt: HostRuntime) -> Result<(), Fail> {
+    let mut hierarchy = new_hierarchy(rt.alloc())?;
+    let cases: [(&str, Ask, u8); 5] = [
+        ("a", Ask::Mkdir, 0),
+        ("a", Ask::Write("cpu.stat", b"usage_usec 0"), 31),
+        (".", Ask::Write("cpu.stat", b"1"), 31),
+        (".", Ask::Write("cpu.stat", b""), 31),
+        ("z", Ask::Write("cpu.stat", b"1"), 20),
+    ];
+    assert_answers(&rt, &mut hierarchy, &cases);
+    assert_reads(&rt, &hierarchy, "a", "cpu.stat", Ok(ZEROS));
+    assert_reads(&rt, &hierarchy, ".", "cpu.stat", Ok("usage_usec 0\n"));
+    assert_reads(&rt, &hierarchy, ".", "cpu.max", Err(30));
+    assert_reads(&rt, &hierarchy, "a", "cpu.stat.local", Err(30));
+    assert_reads(&rt, &hierarchy, "z", "cpu.stat", Err(20));
+    Ok(())
+}
+
+#[test]
+fn counters_of_a_limited_group(rt: HostRuntime) -> Result<(), Fail> {
+    let alloc = rt.alloc();
+    let mut hierarchy = new_hierarchy(alloc)?;
+    let cases: [(&str, Ask, u8); 8] = [
+        ("pod", Ask::Mkdir, 0),
+        ("pod/x", Ask::Mkdir, 0),
+        ("pod/y", Ask::Mkdir, 0),
+        ("job", Ask::Mkdir, 0),
+        ("pod", Ask::Write("cpu.max", b"50000 100000"), 0),
+        ("pod/x", Ask::Demand(20), 0),
+        ("pod/y", Ask::Demand(20), 0),
+        ("job", Ask::Demand(20), 0),
+    ];
+    assert_answers(&rt, &mut hierarchy, &cases);
+    book(alloc, &mut hierarchy, &[20, 10, 3, 7, 10])?;
+    let pod = "usage_usec 50000\nnr_periods 1\nnr_throttled 1\nthrottled_usec 150000\n";
+    assert_reads(&rt, &hierarchy, "pod", "cpu.stat", Ok(pod));
+    // the root wants 30 slices of 20, which isn't counted
+    assert_reads(&rt, &hierarchy, ".", "cpu.stat", Ok("usage_usec 100000\n"));
+    Ok(())
+}
+
+#[test]
+fn counters_of_a_later_group(rt: HostRuntime) -> Result<(), Fail> {
+    let alloc = rt.alloc();
+    let mut hierarchy = new_hierarchy(alloc)?;
+    book(alloc, &mut hierarchy, &[0])?;
+    book(alloc, &mut hierarchy, &[0])?;
+    assert_answers(&rt, &mut hierarchy, &[("a", Ask::Mkdir, 0)]);
+    assert_reads(&rt, &hierarchy, "a", "cpu.stat", Ok(ZEROS));
+    book(alloc, &mut hierarchy, &[20, 20])?;
+    let once = "usage_usec 100000\nnr_periods 1\nnr_throttled 0\nthrottled_usec 0\n";
+    assert_reads(&rt, &hierarchy, "a", "cpu.stat", Ok(once));
+    Ok(())
+}
+
+#[test]
+fn counters_of_a_group_made_again(rt: HostRuntime) -> Result<(), Fail> {
+    let alloc = rt.alloc();
+    let mut hierarchy = new_hierarchy(alloc)?;
+    assert_answers(&rt, &mut hierarchy, &[("a", Ask::Mkdir, 0)]);
+    book(alloc, &mut hierarchy, &[20, 20])?;
+    assert_answers(
+        &rt,
+        &mut hierarchy,
+        &[("a", Ask::Rmdir, 0), ("a", Ask::Mkdir, 0)],
+    );
+    assert_reads(&rt, &hierarchy, "a", "cpu.stat", Ok(ZEROS));
+    assert_reads(&rt, &hierarchy, ".", "cpu.stat", Ok("usage_usec 100000\n"));
+    Ok(())
+}
+
+#[test]
+fn counters_at_their_greatest_value(rt: HostRuntime) -> Result<(), Fail> {
+    let alloc = rt.alloc();
+    let mut hierarchy = new_hierarchy(alloc)?;
+    for drawn in [u64::MAX, 20] {
+        book(alloc, &mut hierarchy, &[drawn])?;
+        assert_reads(
+            &rt,
+            &hierarchy,
+            ".",
+            "cpu.stat",
+            Ok("usage_usec 18446744073709551615\n"),
+        );
+    }
+    Ok(())
+}
+
+// A call that is refused for memory leaves the hierarchy as it was.
+#[test]
+fn building_without_memory(rt: HostRuntime) -> Result<(), Fail> {
+    let mut hierarchy = new_hierarchy(rt.alloc())?;
+    let builder = CgroupBuilder::new("p/q").cpu().shares(300).done();
+    if builder.build(&mut hierarchy).is_err() {
+        assert_reads(&rt, &hierarchy, "p", "cpu.weight", Err(20));
+        assert!(rt; builder.build(&mut hierarchy).is_ok());
+    }
+    assert_reads(&rt, &hierarchy, "p/q", "cpu.weight", Ok("300\n"));
+    Ok(())
+}
+
+#[test]
+fn making_without_memory(rt: HostRuntime) -> Result<(), Fail> {
+    let mut hierarchy = new_hierarchy(rt.alloc())?;
+    if hierarchy.mkdir("a").is_err() {
+        assert_reads(&rt, &hierarchy, "a", "cpu.weight", Err(20));
+        assert!(rt; hierarchy.mkdir("a").is_ok());
+    }
+    assert_reads(&rt, &hierarchy, "a", "cpu.weight", Ok("100\n"));
+    Ok(())
+}
+
+#[test]
+fn counting_without_memory(rt: HostRuntime) -> Result<(), Fail> {
+    let alloc = rt.alloc();
+    let mut hierarchy = new_hierarchy(alloc)?;
+    if book_once(alloc, &mut hierarchy, &[20]).is_err() {
+        assert_reads(&rt, &hierarchy, ".", "cpu.stat", Ok("usage_usec 0\n"));
+        book_once(alloc, &mut hierarchy, &[20])?;
+    }
+    assert_reads(&rt, &hierarchy, ".", "cpu.stat", Ok("usage_usec 100000\n"));
     Ok(())
 }

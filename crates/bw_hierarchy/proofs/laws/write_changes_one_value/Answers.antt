@@ -1,4 +1,4 @@
-use Rattle.bw_hierarchy.proofs.Writes.{weight_read, max_read, other_files_stay, other_groups_stay}
+use Rattle.bw_hierarchy.proofs.Writes.{weight_read, max_read, other_files_stay, other_groups_stay, counters_stay}
 use Rattle.bw_hierarchy.proofs.laws.write_changes_one_value.Goals as goal
 
 pub returns-clause-weight : goal.returns-clause-weight
@@ -12,3 +12,6 @@ returns-clause-other_files c = other_files_stay
 
 pub returns-clause-other_groups : goal.returns-clause-other_groups
 returns-clause-other_groups c = other_groups_stay
+
+pub returns-clause-counters : goal.returns-clause-counters
+returns-clause-counters c = counters_stay
