@@ -1,4 +1,4 @@
-use Rattle.std.proofs.Common.{arith, ◌+◌, ◌%◌, ◌^◌, ◌==◌, ◌∙◌}
+use Rattle.std.proofs.Common.{arith, ◌+◌, ◌%◌, ◌^◌, ◌==◌}
 use prog.Atomic.{either}
 use Rattle.bw_ticket.proofs.Allowed.{may_ring}
 use Rattle.bw_ticket.proofs.steps.ring.Goals as goal
