@@ -4,8 +4,6 @@
 #[cfg(test)]
 mod check_cases;
 #[cfg(test)]
-mod check_search;
-#[cfg(test)]
 mod demand_cases;
 #[cfg(test)]
 mod model_cases;
@@ -15,5 +13,3 @@ mod plan_cases;
 mod pool_cases;
 #[cfg(test)]
 mod split_cases;
-#[cfg(test)]
-mod tree_cases;

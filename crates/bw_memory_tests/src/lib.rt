@@ -1,0 +1,8 @@
+//! Each call that takes memory, on values so small that each of its allocations can be made to fail in turn. A refused
+//! call says so and changes nothing, and succeeds where it is made again.
+#![tactic(auto)]
+
+#[cfg(test)]
+mod instance_cases;
+#[cfg(test)]
+mod tree_cases;

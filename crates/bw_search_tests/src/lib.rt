@@ -1,0 +1,5 @@
+//! Tests that try all small instances.
+#![tactic(auto)]
+
+#[cfg(test)]
+mod check_search;
