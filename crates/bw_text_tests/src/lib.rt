@@ -1,4 +1,4 @@
-//! Tests of what is read and written as text: files, settings by path, certified texts.
+//! Tests of what is read and written as text: files, settings by path, counters, certified texts.
 #![tactic(auto)]
 
 #[cfg(test)]
@@ -7,3 +7,5 @@ mod cert_cases;
 mod files_cases;
 #[cfg(test)]
 mod hierarchy_cases;
+#[cfg(test)]
+mod stat_cases;
