@@ -7,6 +7,7 @@ pub mod GroupLines
 pub mod Total
 pub mod Planned
 pub mod CertifiedPlan
+pub mod Period
 pub mod Script
 pub mod Commands
 pub mod Transcript

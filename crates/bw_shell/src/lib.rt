@@ -5,6 +5,7 @@
 mod certified_plan;
 mod command;
 mod fault;
+mod period;
 mod planned;
 mod put;
 mod put_text;
@@ -18,7 +19,7 @@ mod watched;
 mod word;
 
 pub use fault::ScriptFault;
-pub use script::{RunFault, run};
+pub use script::{RunFault, run, run_gated};
 pub use status::{status_of_check, status_of_run};
 pub use text_check::check_text;
 pub use watched::Watched;

@@ -5,10 +5,16 @@ use bw_model::HostShape;
 use bw_shell::{RunFault, Watched, run};
 use std::alloc::{AllocError, Global};
 use std::process::Abort;
+use std::sync::Wait;
 use std::test::Fail;
+use std::thread::Threads;
 
 // What a run writes.
-fn written<A: AllocGlobal>(rt: &A, shape: HostShape, script: &[u8]) -> Result<Vec<u8>, RunFault> {
+fn written<R: AllocGlobal + Threads + Wait + Sync>(
+    rt: &R,
+    shape: HostShape,
+    script: &[u8],
+) -> Result<Vec<u8>, RunFault> {
     let mut out = Vec::new(rt.alloc());
     let mut reader = Watched::new(script);
     let mut writer = Watched::new(&mut out);
@@ -34,9 +40,13 @@ fn joined(alloc: Global, cases: &[(&str, &str)]) -> Result<(String, String), All
     Ok((script, wanted))
 }
 
-// Asserts the answers to the lines of one script, on a host with one processor of 20 slices of 5 ms.
-fn assert_answers<A: AllocGlobal + Abort>(rt: &A, cases: &[(&str, &str)]) -> Result<(), Fail> {
-    let shape = HostShape::new(1, 100000, 5000)?;
+// Asserts the answers to the lines of one script, on a host whose processors have 20 slices of 5 ms each.
+pub(crate) fn assert_answers_on<R: AllocGlobal + Threads + Wait + Abort + Sync>(
+    rt: &R,
+    processors: u64,
+    cases: &[(&str, &str)],
+) -> Result<(), Fail> {
+    let shape = HostShape::new(processors, 100000, 5000)?;
     let (script, wanted) = match joined(rt.alloc(), cases) {
         Ok(texts) => texts,
         Err(_) => joined(rt.alloc(), cases)?,
@@ -47,6 +57,14 @@ fn assert_answers<A: AllocGlobal + Abort>(rt: &A, cases: &[(&str, &str)]) -> Res
     };
     assert_eq!(rt; str::from_utf8(out.as_slice()), Ok(wanted.as_str()));
     Ok(())
+}
+
+// The same on one processor.
+pub(crate) fn assert_answers<R: AllocGlobal + Threads + Wait + Abort + Sync>(
+    rt: &R,
+    cases: &[(&str, &str)],
+) -> Result<(), Fail> {
+    assert_answers_on(rt, 1, cases)
 }
 
 const NINES: &str =
