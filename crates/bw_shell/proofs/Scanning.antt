@@ -4,7 +4,7 @@ use Rattle.std.proofs.lemmas.Bool.{cases_lt, lt-ltb, le-ltb}
 use Rattle.std.proofs.lemmas.Bool.Decides.{eqb_tells}
 use Rattle.bw_shell.specs.State.{State}
 use Rattle.bw_shell.specs.Script.{Outcome, IsAnswer, IsOutcome, outcome_of_kept, kept_of}
-use Rattle.bw_shell.specs.Script.Outcome.{Silent, Prints, Total, Plan, Cert, Period}
+use Rattle.bw_shell.specs.Script.Outcome.{Silent, Prints, Total, Plan, Cert, Period, Report}
 use Rattle.bw_shell.specs.Fault.{error_line}
 use Rattle.bw_shell.specs.declared.fault.ScriptFault.TheVariants.{OutOfMemory}
 use Rattle.bw_shell.specs.Transcript.{Answers, IsTranscript}
@@ -37,6 +37,7 @@ answered s Total = (error_line OutOfMemory, inr (refl, refl))
 answered s Plan = (error_line OutOfMemory, inr (refl, refl))
 answered s Cert = (error_line OutOfMemory, inr (refl, refl))
 answered s Period = (error_line OutOfMemory, inr (inl refl, refl))
+answered s Report = (error_line OutOfMemory, inr (refl, refl))
 
 -- so each byte can be taken
 TakesByte-total : (a : Scan) (x : ℕ) → (t : List ℕ) × (b : Scan) × TakesByte a x t b

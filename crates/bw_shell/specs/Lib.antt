@@ -8,6 +8,7 @@ pub mod Total
 pub mod Planned
 pub mod CertifiedPlan
 pub mod Period
+pub mod Reported
 pub mod Script
 pub mod Commands
 pub mod Transcript

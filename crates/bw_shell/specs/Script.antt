@@ -11,6 +11,7 @@ use Rattle.bw_shell.specs.Total.{IsTotal}
 use Rattle.bw_shell.specs.Planned.{IsPlanText}
 use Rattle.bw_shell.specs.CertifiedPlan.{IsCertifiedPlan}
 use Rattle.bw_shell.specs.Period.{IsPeriod}
+use Rattle.bw_shell.specs.Reported.{IsReport}
 use Rattle.bw_shell.specs.Word.{first_word, after_word}
 use Rattle.bw_shell.specs.Fault.{error_line}
 use Rattle.bw_shell.specs.declared.fault.ScriptFault.{ScriptFault}
@@ -20,8 +21,8 @@ use Rattle.bw_shell.specs.declared.fault.ScriptFault.TheVariants as fault
 abbrev pub line_bytes : ℕ
 line_bytes = 65536
 
--- What a line does: nothing at all, or it prints a text and leaves a state, or it prints the total, the plan or the
--- plan's certified text, or it serves a period.
+-- What a line does: nothing at all, or it prints a text and leaves a state, or it prints the total, the plan, the plan's
+-- certified text or the counters, or it serves a period.
 pub data Outcome : Type 0 where
   Silent : Outcome
   Prints : (text : List ℕ) (after : State) → Outcome
@@ -29,6 +30,7 @@ pub data Outcome : Type 0 where
   Plan : Outcome
   Cert : Outcome
   Period : Outcome
+  Report : Outcome
 
 abbrev pub refused : State → ScriptFault → Outcome
 refused s f = Prints (error_line f) s
@@ -59,7 +61,7 @@ demand_outcome s path (Some demand) = call_outcome s (λ after. ok_line) (with_h
 
 -- `read P FILE`
 unfoldable pub read_outcome : State → List ℕ → List ℕ → Outcome
-read_outcome s path file = call_outcome s (λ text. text) (λ text. s) (read_of s.hierarchy.tree s.hierarchy.shape.period_us path file)
+read_outcome s path file = call_outcome s (λ text. text) (λ text. s) (read_of s.hierarchy path file)
 
 -- `write P FILE TEXT`
 unfoldable pub write_outcome : State → List ℕ → List ℕ → List ℕ → Outcome
@@ -83,6 +85,7 @@ outcome_of_word s verb =
     else if bytes_eq verb (codes "plan") then Plan
     else if bytes_eq verb (codes "cert") then Cert
     else if bytes_eq verb (codes "period") then Period
+    else if bytes_eq verb (codes "report") then Report
     else refused s fault.BadCommand)
 
 -- a command on a file of the group at a path
@@ -132,6 +135,7 @@ Gives s Total text next = IsTotal s.hierarchy text × (next ≡ s)
 Gives s Plan text next = IsPlanText s.hierarchy text × (next ≡ s)
 Gives s Cert text next = IsCertifiedPlan s.hierarchy text × (next ≡ s)
 Gives s Period text next = IsPeriod s.hierarchy s.uses text next.hierarchy × (next.uses ≡ s.uses)
+Gives s Report text next = IsReport s.hierarchy text × (next ≡ s)
 
 -- what may stand in place of an answer: want of memory where anything is printed, and where a period is served a thread
 -- that was refused
@@ -142,6 +146,7 @@ IsSpare Total text = text ≡ error_line fault.OutOfMemory
 IsSpare Plan text = text ≡ error_line fault.OutOfMemory
 IsSpare Cert text = text ≡ error_line fault.OutOfMemory
 IsSpare Period text = (text ≡ error_line fault.OutOfMemory) ⊎ (text ≡ error_line fault.NotStarted)
+IsSpare Report text = text ≡ error_line fault.OutOfMemory
 
 -- From s the answer to a line may be this text, with the state next after it: what the line means, or what may stand
 -- in its place, with nothing changed.

@@ -3,16 +3,17 @@ ghost use Rattle.std.specs.Prelude.{◌≡◌, ◌≤◌, ◌&&◌, not, [], IfO
 ghost use Rattle.std.specs.Str.{bytes_eq};
 ghost use Rattle.std.specs.Vec.{vec_capacity};
 ghost use Rattle.bw_text.specs.Number.{number_of};
-ghost use Rattle.bw_shell.specs.Script.{outcome_of_text, outcome_of_words, outcome_of_word, outcome_of_file_words, mkdir_outcome, rmdir_outcome, demand_outcome, read_outcome, write_outcome, ok_line, is_empty, Performs, Total, Plan, Cert, Period};
+ghost use Rattle.bw_shell.specs.Script.{outcome_of_text, outcome_of_words, outcome_of_word, outcome_of_file_words, mkdir_outcome, rmdir_outcome, demand_outcome, read_outcome, write_outcome, ok_line, is_empty, Performs, Total, Plan, Cert, Period, Report};
 ghost use Rattle.bw_shell.specs.State.{start};
 ghost use Rattle.bw_shell.specs.Commands.{state_of};
 ghost use Rattle.bw_shell.specs.declared.put.TheConstants.{REFUSAL_BYTES};
 
 use crate::certified_plan::put_certified;
 use crate::fault::ScriptFault;
-use crate::period::put_period;
+use crate::period::serve_period;
 use crate::planned::put_plan;
 use crate::put::{REFUSAL_BYTES, put};
+use crate::report::put_report;
 use crate::total::put_total;
 use crate::word::split_word;
 use bw_hierarchy::{Fault, Hierarchy};
@@ -135,34 +136,46 @@ impl<'a, G: Gate> Commands<'a, G> {
 
     // `period`
     fn period<H: Threads + Wait + Sync>(
-        &self,
+        &mut self,
         rt: &H,
         alloc: Global,
         answer: &mut Vec<u8>,
     ) -> Result<(), ScriptFault>
         requires { answer.old.items ≡ [] }
-        ensures outcome { Performs (state_of G.used self.now) Period result answer.new.items (state_of G.used self.now) }
+        ensures outcome { Performs (state_of G.used self.old) Period result answer.new.items (state_of G.used self.new) }
         ensures room { vec_capacity answer.old ≤ vec_capacity answer.new }
     {
-        match put_period(rt, alloc, &self.hierarchy, self.gate, answer) {
+        match serve_period(rt, alloc, &mut self.hierarchy, self.gate, answer) {
             Ok(()) => Ok(()),
             Err(ServeFault::NotStarted) => Err(ScriptFault::NotStarted),
             Err(ServeFault::OutOfMemory) => Err(ScriptFault::OutOfMemory),
         }
     }
 
+    // `report`
+    fn report(&self, alloc: Global, answer: &mut Vec<u8>) -> Result<(), ScriptFault>
+        requires { answer.old.items ≡ [] }
+        ensures outcome { Performs (state_of G.used self.now) Report result answer.new.items (state_of G.used self.now) }
+        ensures room { vec_capacity answer.old ≤ vec_capacity answer.new }
+    {
+        match put_report(alloc, &self.hierarchy, answer) {
+            Ok(()) => Ok(()),
+            Err(_) => Err(ScriptFault::OutOfMemory),
+        }
+    }
+
     // A command of one word.
     #[tactic(auto, unfolding(crate::specs::Script::outcome_of_word))]
     fn perform_alone<H: Threads + Wait + Sync>(
-        &self,
+        &mut self,
         rt: &H,
         alloc: Global,
         verb: &str,
         answer: &mut Vec<u8>,
     ) -> Result<(), ScriptFault>
         requires { answer.old.items ≡ [] }
-        ensures outcome { Performs (state_of G.used self.now) (outcome_of_word (state_of G.used self.now) verb.now)
-            result answer.new.items (state_of G.used self.now) }
+        ensures outcome { Performs (state_of G.used self.old) (outcome_of_word (state_of G.used self.old) verb.now)
+            result answer.new.items (state_of G.used self.new) }
         ensures room { vec_capacity answer.old ≤ vec_capacity answer.new }
     {
         if verb == "total" {
@@ -173,6 +186,8 @@ impl<'a, G: Gate> Commands<'a, G> {
             self.cert(alloc, answer)
         } else if verb == "period" {
             self.period(rt, alloc, answer)
+        } else if verb == "report" {
+            self.report(alloc, answer)
         } else {
             Err(ScriptFault::BadCommand)
         }

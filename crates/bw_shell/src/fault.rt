@@ -56,7 +56,7 @@ impl From<AllocError> for ScriptFault {
 
 impl ScriptFault {
     /// The number that is printed.
-    pub fn number(self) -> u32
+    pub fn number(self) -> u8
         ensures value { result ≡ number_of self }
         ensures small { result < 100 }
     {

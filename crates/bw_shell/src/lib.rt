@@ -9,6 +9,7 @@ mod period;
 mod planned;
 mod put;
 mod put_text;
+mod report;
 pub mod script;
 mod send;
 mod session;
