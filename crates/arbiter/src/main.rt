@@ -11,13 +11,18 @@ use status::status_of_words;
 use std::io;
 use std::io::BufWriter;
 use std::process::ExitCode;
+use std::sync::Wait;
+use std::thread::Threads;
 use words::{Job, WordsFault, read_words};
 
 // Words that cannot be read, or a host that is refused.
 const USAGE_STATUS: u8 = 2;
 
-// Runs the script on standard input.
-fn run_script(rt: &HostRuntime, shape: HostShape) -> Result<(), RunFault> {
+// Runs the script on standard input, with a thread for each processor at each `period`.
+fn run_script<R: AllocGlobal + Input + Print + Threads + Wait + Sync>(
+    rt: &R,
+    shape: HostShape,
+) -> Result<(), RunFault> {
     let Ok(output) = BufWriter::new(rt.alloc(), io::writer(rt)) else {
         return Err(RunFault::Memory);
     };
@@ -27,7 +32,7 @@ fn run_script(rt: &HostRuntime, shape: HostShape) -> Result<(), RunFault> {
 }
 
 // The end of a run or of a text that is printed, with its fault on standard error.
-fn ended(rt: &HostRuntime, outcome: Result<(), RunFault>, status: u8) -> ExitCode {
+fn ended(rt: &impl Eprint, outcome: Result<(), RunFault>, status: u8) -> ExitCode {
     match outcome {
         Ok(()) => ExitCode::from(status),
         Err(fault) => {
@@ -38,7 +43,12 @@ fn ended(rt: &HostRuntime, outcome: Result<(), RunFault>, status: u8) -> ExitCod
 }
 
 // `arbiter run`
-fn run_job(rt: &HostRuntime, processors: u32, period_us: u32, slice_us: u32) -> ExitCode {
+fn run_job<R: AllocGlobal + Input + Print + Eprint + Threads + Wait + Sync>(
+    rt: &R,
+    processors: u32,
+    period_us: u32,
+    slice_us: u32,
+) -> ExitCode {
     match HostShape::new(
         u64::from(processors),
         u64::from(period_us),

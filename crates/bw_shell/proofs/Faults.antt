@@ -1,10 +1,10 @@
 -- Refusals are short: a number of at most two digits, and a name of at most 20 bytes.
-use Rattle.std.proofs.Common.{◌≡◌, ◌<◌, ◌≤◌, ℕ, length, arith}
+use Rattle.std.proofs.Common.{◌<◌, ◌≤◌, length, arith}
 use Rattle.bw_tree.specs.declared.fault.TreeFault.TheVariants.{NotFound, Exists, BadName, HasChildren, HasDemand, ParentHasDemand, RootFixed, TreeFull, IdsSpent, TooDeep, InnerDemand, DemandTooLarge, OutOfMemory}
 use Rattle.bw_files.specs.declared.fault.FileFault.TheVariants.{BadNumber, WeightOutOfRange, QuotaTooSmall, QuotaTooLarge, PeriodOutOfRange, TooManyWords, Empty}
 use Rattle.bw_hierarchy.specs.Faults.{fault_number, fault_name}
 use Rattle.bw_hierarchy.specs.declared.fault.Fault.{Fault}
-use Rattle.bw_hierarchy.specs.declared.fault.Fault.TheVariants.{Tree, File, NoSuchFile, PeriodDiffers}
+use Rattle.bw_hierarchy.specs.declared.fault.Fault.TheVariants.{Tree, File, NoSuchFile, ReadOnly, PeriodDiffers}
 
 pub fault_number-lt : (fault : Fault) → fault_number fault < 100
 fault_number-lt (Tree NotFound) = omega arith
@@ -28,6 +28,7 @@ fault_number-lt (File PeriodOutOfRange) = omega arith
 fault_number-lt (File TooManyWords) = omega arith
 fault_number-lt (File Empty) = omega arith
 fault_number-lt NoSuchFile = omega arith
+fault_number-lt ReadOnly = omega arith
 fault_number-lt PeriodDiffers = omega arith
 
 pub length-fault_name-le : (fault : Fault) → length (fault_name fault) ≤ 20
@@ -52,4 +53,5 @@ length-fault_name-le (File PeriodOutOfRange) = omega arith
 length-fault_name-le (File TooManyWords) = omega arith
 length-fault_name-le (File Empty) = omega arith
 length-fault_name-le NoSuchFile = omega arith
+length-fault_name-le ReadOnly = omega arith
 length-fault_name-le PeriodDiffers = omega arith

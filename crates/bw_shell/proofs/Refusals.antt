@@ -1,9 +1,9 @@
 -- What a refused call on the hierarchy means for its line.
-use Rattle.std.proofs.Common.{◌≡◌, ◌⊎◌, ℕ, List, Result, Ok, Err, refl, inl, inr, sym, subst}
+use Rattle.std.proofs.Common.{◌≡◌, ℕ, List, Result, Ok, Err, refl, inl, inr, sym, subst}
 use Rattle.bw_tree.specs.declared.fault.TreeFault.TheVariants.{NotFound, Exists, BadName, HasChildren, HasDemand, ParentHasDemand, RootFixed, TreeFull, IdsSpent, TooDeep, InnerDemand, DemandTooLarge, OutOfMemory}
 use Rattle.bw_hierarchy.specs.Faults.{IsRefusal}
 use Rattle.bw_hierarchy.specs.declared.fault.Fault.{Fault}
-use Rattle.bw_hierarchy.specs.declared.fault.Fault.TheVariants.{Tree, File, NoSuchFile, PeriodDiffers}
+use Rattle.bw_hierarchy.specs.declared.fault.Fault.TheVariants.{Tree, File, NoSuchFile, ReadOnly, PeriodDiffers}
 use Rattle.bw_shell.specs.State.{State}
 use Rattle.bw_shell.specs.Fault.{error_line}
 use Rattle.bw_shell.specs.Script.{IsOutcome, call_outcome}
@@ -39,4 +39,5 @@ call_outcome-IsRefusal s text after r (Tree InnerDemand) h = call_outcome-refuse
 call_outcome-IsRefusal s text after r (Tree DemandTooLarge) h = call_outcome-refused s text after r _ (h (λ e. cc))
 call_outcome-IsRefusal s text after r (File f) h = call_outcome-refused s text after r _ (h (λ e. cc))
 call_outcome-IsRefusal s text after r NoSuchFile h = call_outcome-refused s text after r _ (h (λ e. cc))
+call_outcome-IsRefusal s text after r ReadOnly h = call_outcome-refused s text after r _ (h (λ e. cc))
 call_outcome-IsRefusal s text after r PeriodDiffers h = call_outcome-refused s text after r _ (h (λ e. cc))

@@ -3,7 +3,10 @@ use Rattle.std.proofs.Common.{◌≡◌, ◌<◌, ◌≤◌, ◌+◌, ℕ, List,
 use Rattle.std.proofs.lemmas.Bool.{cases_lt, lt-ltb, le-ltb}
 use Rattle.std.proofs.lemmas.Bool.Decides.{eqb_tells}
 use Rattle.bw_shell.specs.State.{State}
-use Rattle.bw_shell.specs.Script.{Outcome, IsAnswer, IsOutcome, outcome_of_kept, kept_of, spare_text}
+use Rattle.bw_shell.specs.Script.{Outcome, IsAnswer, IsOutcome, outcome_of_kept, kept_of}
+use Rattle.bw_shell.specs.Script.Outcome.{Silent, Prints, Total, Plan, Cert, Period, Report}
+use Rattle.bw_shell.specs.Fault.{error_line}
+use Rattle.bw_shell.specs.declared.fault.ScriptFault.TheVariants.{OutOfMemory}
 use Rattle.bw_shell.specs.Transcript.{Answers, IsTranscript}
 use Rattle.bw_shell.specs.Lines.{lines_of, whole_lines_of}
 use Rattle.bw_shell.specs.Scan.{Scan, TakesByte, TakesBytes, Finishes, kept_with, begin}
@@ -26,12 +29,22 @@ pub TakesBytes-one : (a b : Scan) (x : ℕ) (t : List ℕ) → TakesByte a x t b
 unfolding TakesBytes
 TakesBytes-one a b x t p = (t, [], b, p, (refl, refl), sym (append-nil t))
 
--- each byte can be taken, since an answer may always be want of memory
+-- each line has an answer, since it may always be want of memory where anything is printed
+answered : (s : State) (o : Outcome) → (text : List ℕ) × IsOutcome s o text s
+answered s Silent = ([], inl (refl, refl))
+answered s (Prints text after) = (error_line OutOfMemory, inr (refl, refl))
+answered s Total = (error_line OutOfMemory, inr (refl, refl))
+answered s Plan = (error_line OutOfMemory, inr (refl, refl))
+answered s Cert = (error_line OutOfMemory, inr (refl, refl))
+answered s Period = (error_line OutOfMemory, inr (inl refl, refl))
+answered s Report = (error_line OutOfMemory, inr (refl, refl))
+
+-- so each byte can be taken
 TakesByte-total : (a : Scan) (x : ℕ) → (t : List ℕ) × (b : Scan) × TakesByte a x t b
 TakesByte-total a x =
-    let o : Outcome = outcome_of_kept a.state a.kept in
+    let o = answered a.state (outcome_of_kept a.state a.kept) in
     elim (eqb_tells x 10) [
-      | inl h ↦ (spare_text o, record { state = a.state; kept = Some [] }, record { newline = λ e. record { answer = inr (refl, refl); empty = refl }; other = λ ne. absurd (ne h.1) })
+      | inl h ↦ (o.0, record { state = a.state; kept = Some [] }, record { newline = λ e. record { answer = o.1; empty = refl }; other = λ ne. absurd (ne h.1) })
       | inr h ↦ ([], record a { kept = kept_with a.kept x }, record { newline = λ e. absurd (h.1 e); other = λ ne. (refl, refl) })
     ]
 

@@ -1,5 +1,5 @@
 -- The lines of the limiting groups.
-use Rattle.std.proofs.Common.{◌≡◌, ◌∙◌, ◌<◌, ◌≤◌, ◌+◌, ℕ, zero, suc, List, [], ◌∷◌, ◌++◌, Bool, length, refl, sym, ap, subst, arith, append_assoc, append-nil, get_or, cond, true, false}
+use Rattle.std.proofs.Common.{◌≡◌, ◌∙◌, ◌<◌, ◌+◌, ℕ, zero, suc, List, [], ◌∷◌, ◌++◌, Bool, length, sym, ap, arith, append_assoc, append-nil, get_or, cond, true, false}
 use Rattle.std.specs.Prelude.{filter}
 use Rattle.std.specs.List.{range_with_len}
 use Rattle.bw_model.specs.Groups.{Groups}

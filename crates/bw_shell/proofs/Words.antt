@@ -1,8 +1,7 @@
 -- A text may be cut where a blank stands, and behind blanks.
-use Rattle.std.proofs.Common.{◌≡◌, ◌≢◌, ◌<◌, ◌≤◌, ◌+◌, ◌||◌, not, ℕ, zero, suc, List, length, true, false, refl, sym, ap, subst, arith, eqb, get_or, Option, Some, None, inl, inr, Bool}
+use Rattle.std.proofs.Common.{◌≡◌, ◌<◌, not, ℕ, zero, suc, List, length, true, false, refl, subst, arith, get_or, Option, Some, None, inl, inr, Bool}
 use Rattle.std.specs.Prelude.{position, unwrap_or}
 use Rattle.std.specs.Str.{IsUtf8, IsCharBoundary}
-use Rattle.std.proofs.lemmas.Bool.{eqb-true}
 use Rattle.std.proofs.lemmas.Bool.Decides.{eqb_tells}
 use Rattle.std.proofs.lemmas.List.Quantifiers.{position-Some}
 use Rattle.std.proofs.lemmas.Str.{IsCharBoundary-start, IsCharBoundary-end, IsCharBoundary-before_ascii, IsCharBoundary-after_ascii}

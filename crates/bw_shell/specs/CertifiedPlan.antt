@@ -8,7 +8,7 @@ use Rattle.bw_model.specs.Certificate.{Certified, IsAccepted}
 use Rattle.bw_cert.specs.Levels.{AreLevels, AreTightFlags}
 use Rattle.bw_cert.specs.Spelling.{Value, IsValue, spelling}
 use Rattle.bw_tree.specs.Snapshot.{instance_of}
-use Rattle.bw_shell.specs.State.{State}
+use Rattle.bw_hierarchy.specs.State.{HierarchyState}
 
 -- what a text tells of an instance with amounts and their certificate
 abbrev pub value_with : Groups → List ℕ → Certified → Value
@@ -19,12 +19,12 @@ value_with groups amounts certificate = record {
 
 -- The text is the one spelling of the plan of all groups with its certificate: exactly the tight groups are flagged, and
 -- a level stands at each group that shares something out. It is read again, and accepted.
-pub record IsCertifiedPlan (s : State) (text : List ℕ) : Type 0 where
+pub record IsCertifiedPlan (h : HierarchyState) (text : List ℕ) : Type 0 where
   pub amounts : List ℕ
   pub certificate : Certified
-  pub plan : IsPlan (instance_of s.tree s.shape) amounts
-  pub flags : AreTightFlags (instance_of s.tree s.shape) certificate
-  pub levels : AreLevels (instance_of s.tree s.shape) amounts certificate
-  pub accepted : IsAccepted (instance_of s.tree s.shape) amounts certificate
-  pub valid : IsValue (value_with (instance_of s.tree s.shape) amounts certificate)
-  pub is : text ≡ spelling (value_with (instance_of s.tree s.shape) amounts certificate)
+  pub plan : IsPlan (instance_of h.tree h.shape) amounts
+  pub flags : AreTightFlags (instance_of h.tree h.shape) certificate
+  pub levels : AreLevels (instance_of h.tree h.shape) amounts certificate
+  pub accepted : IsAccepted (instance_of h.tree h.shape) amounts certificate
+  pub valid : IsValue (value_with (instance_of h.tree h.shape) amounts certificate)
+  pub is : text ≡ spelling (value_with (instance_of h.tree h.shape) amounts certificate)

@@ -1,6 +1,8 @@
--- The host and the tree that the commands work on, as contracts see them.
+-- What the commands work on, as contracts see it.
+use Rattle.std.specs.Prelude.{ℕ, Bool}
 use Rattle.bw_shell.specs.State.{State}
 use Rattle.bw_shell.specs.declared.command.Commands.{Commands}
 
-abbrev pub state_of : Commands → State
-state_of c = c.hierarchy
+-- by which leaves a gate uses
+abbrev pub state_of : {G : Type 0} → (G → ℕ → Bool) → Commands G → State
+state_of used c = record { hierarchy = c.hierarchy; uses = used c.gate.now }

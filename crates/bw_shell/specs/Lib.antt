@@ -7,6 +7,8 @@ pub mod GroupLines
 pub mod Total
 pub mod Planned
 pub mod CertifiedPlan
+pub mod Period
+pub mod Reported
 pub mod Script
 pub mod Commands
 pub mod Transcript

@@ -6,10 +6,12 @@ use Rattle.bw_hierarchy.specs.State.{with_tree, rmdir_of, demand_set_of}
 use Rattle.bw_hierarchy.specs.Calls.{mkdir_of}
 use Rattle.bw_hierarchy.specs.Files.{read_of, write_of}
 use Rattle.bw_hierarchy.specs.declared.fault.Fault.{Fault}
-use Rattle.bw_shell.specs.State.{State}
+use Rattle.bw_shell.specs.State.{State, with_hierarchy}
 use Rattle.bw_shell.specs.Total.{IsTotal}
 use Rattle.bw_shell.specs.Planned.{IsPlanText}
 use Rattle.bw_shell.specs.CertifiedPlan.{IsCertifiedPlan}
+use Rattle.bw_shell.specs.Period.{IsPeriod}
+use Rattle.bw_shell.specs.Reported.{IsReport}
 use Rattle.bw_shell.specs.Word.{first_word, after_word}
 use Rattle.bw_shell.specs.Fault.{error_line}
 use Rattle.bw_shell.specs.declared.fault.ScriptFault.{ScriptFault}
@@ -19,14 +21,16 @@ use Rattle.bw_shell.specs.declared.fault.ScriptFault.TheVariants as fault
 abbrev pub line_bytes : ℕ
 line_bytes = 65536
 
--- What a line does: nothing at all, or it prints a text and leaves a state, or it prints the total, the plan or the
--- plan's certified text.
+-- What a line does: nothing at all, or it prints a text and leaves a state, or it prints the total, the plan, the plan's
+-- certified text or the counters, or it serves a period.
 pub data Outcome : Type 0 where
   Silent : Outcome
   Prints : (text : List ℕ) (after : State) → Outcome
   Total : Outcome
   Plan : Outcome
   Cert : Outcome
+  Period : Outcome
+  Report : Outcome
 
 abbrev pub refused : State → ScriptFault → Outcome
 refused s f = Prints (error_line f) s
@@ -44,24 +48,24 @@ ok_line = codes "ok" ++ 10 ∷ []
 
 -- `mkdir P`
 unfoldable pub mkdir_outcome : State → List ℕ → Outcome
-mkdir_outcome s path = call_outcome s (λ made. ok_line) (λ made. with_tree s made.1) (mkdir_of s.tree path)
+mkdir_outcome s path = call_outcome s (λ made. ok_line) (λ made. with_hierarchy s (with_tree s.hierarchy made.1)) (mkdir_of s.hierarchy.tree path)
 
 -- `rmdir P`
 unfoldable pub rmdir_outcome : State → List ℕ → Outcome
-rmdir_outcome s path = call_outcome s (λ after. ok_line) (λ after. after) (rmdir_of s path)
+rmdir_outcome s path = call_outcome s (λ after. ok_line) (with_hierarchy s) (rmdir_of s.hierarchy path)
 
 -- `demand P N`, where N spells this number
 unfoldable pub demand_outcome : State → List ℕ → Option ℕ → Outcome
 demand_outcome s path None = refused s fault.BadNumber
-demand_outcome s path (Some demand) = call_outcome s (λ after. ok_line) (λ after. after) (demand_set_of s path demand)
+demand_outcome s path (Some demand) = call_outcome s (λ after. ok_line) (with_hierarchy s) (demand_set_of s.hierarchy path demand)
 
 -- `read P FILE`
 unfoldable pub read_outcome : State → List ℕ → List ℕ → Outcome
-read_outcome s path file = call_outcome s (λ text. text) (λ text. s) (read_of s.tree s.shape.period_us path file)
+read_outcome s path file = call_outcome s (λ text. text) (λ text. s) (read_of s.hierarchy path file)
 
 -- `write P FILE TEXT`
 unfoldable pub write_outcome : State → List ℕ → List ℕ → List ℕ → Outcome
-write_outcome s path file text = call_outcome s (λ tree. ok_line) (λ tree. with_tree s tree) (write_of s.tree s.shape.period_us path file text)
+write_outcome s path file text = call_outcome s (λ tree. ok_line) (λ tree. with_hierarchy s (with_tree s.hierarchy tree)) (write_of s.hierarchy.tree s.hierarchy.shape.period_us path file text)
 
 -- ---- lines
 
@@ -80,6 +84,8 @@ outcome_of_word s verb =
     (if bytes_eq verb (codes "total") then Total
     else if bytes_eq verb (codes "plan") then Plan
     else if bytes_eq verb (codes "cert") then Cert
+    else if bytes_eq verb (codes "period") then Period
+    else if bytes_eq verb (codes "report") then Report
     else refused s fault.BadCommand)
 
 -- a command on a file of the group at a path
@@ -125,28 +131,33 @@ outcome_of s line = outcome_of_kept s (kept_of line)
 abbrev pub Gives : State → Outcome → List ℕ → State → Type 0
 Gives s Silent text next = (text ≡ []) × (next ≡ s)
 Gives s (Prints answer after) text next = (text ≡ answer) × (next ≡ after)
-Gives s Total text next = IsTotal s text × (next ≡ s)
-Gives s Plan text next = IsPlanText s text × (next ≡ s)
-Gives s Cert text next = IsCertifiedPlan s text × (next ≡ s)
+Gives s Total text next = IsTotal s.hierarchy text × (next ≡ s)
+Gives s Plan text next = IsPlanText s.hierarchy text × (next ≡ s)
+Gives s Cert text next = IsCertifiedPlan s.hierarchy text × (next ≡ s)
+Gives s Period text next = IsPeriod s.hierarchy s.uses text next.hierarchy × (next.uses ≡ s.uses)
+Gives s Report text next = IsReport s.hierarchy text × (next ≡ s)
 
--- what may stand in place of an answer: want of memory, but nothing where nothing is printed
-abbrev pub spare_text : Outcome → List ℕ
-spare_text Silent = []
-spare_text (Prints answer after) = error_line fault.OutOfMemory
-spare_text Total = error_line fault.OutOfMemory
-spare_text Plan = error_line fault.OutOfMemory
-spare_text Cert = error_line fault.OutOfMemory
+-- what may stand in place of an answer: want of memory where anything is printed, and where a period is served a thread
+-- that was refused
+abbrev pub IsSpare : Outcome → List ℕ → Type 0
+IsSpare Silent text = ⊥
+IsSpare (Prints answer after) text = text ≡ error_line fault.OutOfMemory
+IsSpare Total text = text ≡ error_line fault.OutOfMemory
+IsSpare Plan text = text ≡ error_line fault.OutOfMemory
+IsSpare Cert text = text ≡ error_line fault.OutOfMemory
+IsSpare Period text = (text ≡ error_line fault.OutOfMemory) ⊎ (text ≡ error_line fault.NotStarted)
+IsSpare Report text = text ≡ error_line fault.OutOfMemory
 
--- From s the answer to a line may be this text, with the state next after it: what the line means, or, where it
--- prints anything, want of memory with nothing changed.
+-- From s the answer to a line may be this text, with the state next after it: what the line means, or what may stand
+-- in its place, with nothing changed.
 abbrev pub IsOutcome : State → Outcome → List ℕ → State → Type 0
-IsOutcome s outcome text next = Gives s outcome text next ⊎ ((text ≡ spare_text outcome) × (next ≡ s))
+IsOutcome s outcome text next = Gives s outcome text next ⊎ (IsSpare outcome text × (next ≡ s))
 
 abbrev pub IsAnswer : State → List ℕ → List ℕ → State → Type 0
 IsAnswer s line text next = IsOutcome s (outcome_of s line) text next
 
 -- What a call that forms the answer may do: at Ok the answer is in the buffer and the change is made; at Err nothing
--- is changed, and the refusal is the line's, or memory is wanting.
+-- is changed, and the refusal is the line's, or stands in place of its answer.
 abbrev pub Performs : {U : Type 0} → State → Outcome → Result U ScriptFault → List ℕ → State → Type 0
 Performs s outcome (Ok u) text next = Gives s outcome text next
 Performs s outcome (Err f) text next = (next ≡ s) × IsOutcome s outcome (error_line f) s

@@ -1,10 +1,16 @@
--- What a script works on: a host and its tree of groups.
+-- What a script works on: a host and its tree of groups, and which leaves use their slices.
+use Rattle.std.specs.Prelude.{ℕ, Bool}
 use Rattle.bw_model.specs.Host.{Shape}
 use Rattle.bw_hierarchy.specs.State.{HierarchyState, new_hierarchy}
 
-abbrev pub State : Type 0
-State = HierarchyState
+pub record State : Type 0 where
+  pub hierarchy : HierarchyState
+  pub uses : ℕ → Bool  -- by row number: whether the leaf uses the slices that its workers draw
+
+-- the same leaves use their slices, with another hierarchy
+abbrev pub with_hierarchy : State → HierarchyState → State
+with_hierarchy s h = record { hierarchy = h; uses = s.uses }
 
 -- before the first line there is the root alone
-abbrev pub start : Shape → State
-start shape = new_hierarchy shape
+abbrev pub start : Shape → (ℕ → Bool) → State
+start shape uses = record { hierarchy = new_hierarchy shape; uses = uses }

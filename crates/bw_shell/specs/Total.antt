@@ -4,7 +4,7 @@ use Rattle.std.specs.Fmt.{decimal}
 use Rattle.bw_model.specs.Groups.{Groups, limit_of}
 use Rattle.bw_model.specs.Demand.{AreMosts, limiting_groups, limited_total, demand_outside}
 use Rattle.bw_tree.specs.Snapshot.{instance_of}
-use Rattle.bw_shell.specs.State.{State}
+use Rattle.bw_hierarchy.specs.State.{HierarchyState}
 use Rattle.bw_shell.specs.GroupLines.{ArePathsOf, group_lines}
 
 -- a number behind a word, on a line
@@ -27,9 +27,9 @@ total_text groups most paths =
     ++ number_line (codes "demand ") (demand_outside groups.rows (limiting_groups groups most))
 
 -- The text is the answer to `total`.
-pub record IsTotal (s : State) (text : List ℕ) : Type 0 where
+pub record IsTotal (h : HierarchyState) (text : List ℕ) : Type 0 where
   pub most : List ℕ
   pub paths : List (List ℕ)
-  pub mosts : AreMosts (instance_of s.tree s.shape) most
-  pub named : ArePathsOf s.tree (limiting_groups (instance_of s.tree s.shape) most) paths
-  pub is : text ≡ total_text (instance_of s.tree s.shape) most paths
+  pub mosts : AreMosts (instance_of h.tree h.shape) most
+  pub named : ArePathsOf h.tree (limiting_groups (instance_of h.tree h.shape) most) paths
+  pub is : text ≡ total_text (instance_of h.tree h.shape) most paths

@@ -4,22 +4,20 @@ ghost use Rattle.std.specs.Vec.{vec_capacity};
 ghost use Rattle.bw_shell.specs.CertifiedPlan.{IsCertifiedPlan};
 
 use bw_cert::{certify, write_certified};
-use bw_model::HostShape;
+use bw_hierarchy::Hierarchy;
 use bw_plan::plan;
-use bw_tree::Tree;
 use std::alloc::{AllocError, Global};
 
 /// Appends the answer to `cert`: the certified text of the plan. It fails for want of memory alone.
 pub fn put_certified(
     alloc: Global,
-    tree: &Tree,
-    shape: HostShape,
+    hierarchy: &Hierarchy,
     answer: &mut Vec<u8>,
 ) -> Result<(), AllocError>
-    ensures ok { OnOk result ((text : List ℕ) × IsCertifiedPlan (record { shape = shape; tree = tree.now }) text × (answer.new.items ≡ answer.old.items ++ text)) }
+    ensures ok { OnOk result ((text : List ℕ) × IsCertifiedPlan hierarchy.now text × (answer.new.items ≡ answer.old.items ++ text)) }
     ensures room { vec_capacity answer.old ≤ vec_capacity answer.new }
 {
-    let Ok((instance, _)) = tree.snapshot(shape) else {
+    let Ok((instance, _)) = hierarchy.snapshot() else {
         return Err(AllocError);
     };
     let plan = plan(alloc, &instance)?;

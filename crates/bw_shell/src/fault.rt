@@ -15,6 +15,9 @@ pub enum ScriptFault {
     /// The call on the hierarchy was refused.
     #[error("{0}")]
     Call(Fault),
+    /// A thread of a period was refused.
+    #[error("NotStarted")]
+    NotStarted,
     /// A growth was refused.
     #[error("OutOfMemory")]
     OutOfMemory,
@@ -53,13 +56,14 @@ impl From<AllocError> for ScriptFault {
 
 impl ScriptFault {
     /// The number that is printed.
-    pub fn number(self) -> u32
+    pub fn number(self) -> u8
         ensures value { result ≡ number_of self }
         ensures small { result < 100 }
     {
         match self {
             ScriptFault::BadNumber => 11,
             ScriptFault::Call(fault) => fault.number(),
+            ScriptFault::NotStarted => 70,
             ScriptFault::OutOfMemory => 71,
             ScriptFault::BadCommand => 80,
             ScriptFault::BadText => 81,
@@ -75,6 +79,7 @@ impl ScriptFault {
         match self {
             ScriptFault::BadNumber => "BadNumber",
             ScriptFault::Call(fault) => fault.name(),
+            ScriptFault::NotStarted => "NotStarted",
             ScriptFault::OutOfMemory => "OutOfMemory",
             ScriptFault::BadCommand => "BadCommand",
             ScriptFault::BadText => "BadText",

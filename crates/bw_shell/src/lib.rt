@@ -5,9 +5,11 @@
 mod certified_plan;
 mod command;
 mod fault;
+mod period;
 mod planned;
 mod put;
 mod put_text;
+mod report;
 pub mod script;
 mod send;
 mod session;
@@ -18,7 +20,7 @@ mod watched;
 mod word;
 
 pub use fault::ScriptFault;
-pub use script::{RunFault, run};
+pub use script::{RunFault, run, run_gated};
 pub use status::{status_of_check, status_of_run};
 pub use text_check::check_text;
 pub use watched::Watched;

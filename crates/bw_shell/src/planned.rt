@@ -7,7 +7,7 @@ ghost use Rattle.bw_shell.specs.GroupLines.{IsPathOf, ArePathsOf, group_lines};
 ghost use Rattle.bw_shell.specs.Planned.{IsPlanText, amount_line};
 
 use crate::put_text::{put_number, put_path};
-use bw_model::HostShape;
+use bw_hierarchy::Hierarchy;
 use bw_plan::plan;
 use bw_tree::{GroupId, Tree};
 use std::alloc::{AllocError, Global};
@@ -16,18 +16,23 @@ use std::alloc::{AllocError, Global};
 /// period, and its path. It fails for want of memory alone.
 pub fn put_plan(
     alloc: Global,
-    tree: &Tree,
-    shape: HostShape,
+    hierarchy: &Hierarchy,
     answer: &mut Vec<u8>,
 ) -> Result<(), AllocError>
-    ensures ok { OnOk result ((text : List ℕ) × IsPlanText (record { shape = shape; tree = tree.now }) text × (answer.new.items ≡ answer.old.items ++ text)) }
+    ensures ok { OnOk result ((text : List ℕ) × IsPlanText hierarchy.now text × (answer.new.items ≡ answer.old.items ++ text)) }
     ensures room { vec_capacity answer.old ≤ vec_capacity answer.new }
 {
-    let Ok((instance, ids)) = tree.snapshot(shape) else {
+    let Ok((instance, ids)) = hierarchy.snapshot() else {
         return Err(AllocError);
     };
     let plan = plan(alloc, &instance)?;
-    put_amounts(alloc, tree, ids.as_slice(), plan.amounts.as_slice(), answer)
+    put_amounts(
+        alloc,
+        hierarchy.tree(),
+        ids.as_slice(),
+        plan.amounts.as_slice(),
+        answer,
+    )
 }
 
 // Appends a line for each group.

@@ -21,7 +21,7 @@ pub fn put(answer: &mut Vec<u8>, bytes: &[u8])
 }
 
 // Appends a number of one digit or two.
-fn put_small(answer: &mut Vec<u8>, number: u32)
+fn put_small(answer: &mut Vec<u8>, number: u8)
     requires small { number < 100 }
     requires room { vec_len answer.old + 2 ≤ vec_capacity answer.old }
     ensures items { answer.new.items ≡ answer.old.items ++ decimal number }
@@ -29,12 +29,9 @@ fn put_small(answer: &mut Vec<u8>, number: u32)
     ensures len { vec_len answer.new ≤ vec_len answer.old + 2 }
 {
     if number < 10 {
-        put(answer, &[b'0' + number as u8]);
+        put(answer, &[b'0' + number]);
     } else {
-        put(
-            answer,
-            &[b'0' + (number / 10) as u8, b'0' + (number % 10) as u8],
-        );
+        put(answer, &[b'0' + number / 10, b'0' + number % 10]);
     }
 }
 

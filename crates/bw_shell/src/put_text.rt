@@ -2,6 +2,7 @@
 ghost use Rattle.std.specs.Prelude.{◌≡◌, ◌≤◌, ◌++◌, ◌∷◌, [], codes, OnOk};
 ghost use Rattle.std.specs.Fmt.{decimal};
 ghost use Rattle.std.specs.Vec.{vec_capacity};
+ghost use Rattle.bw_shell.specs.Total.{number_line};
 
 use std::alloc::{AllocError, Global};
 
@@ -28,6 +29,21 @@ pub fn put_path(path: &str, answer: &mut Vec<u8>) -> Result<(), AllocError>
 {
     answer.extend_from_slice(b" ")?;
     answer.extend_from_slice(path.as_bytes())?;
+    answer.extend_from_slice(b"\n")?;
+    Ok(())
+}
+
+/// Appends a word and a number on a line of their own.
+pub fn put_number_line(
+    alloc: Global,
+    word: &[u8],
+    number: u64,
+    answer: &mut Vec<u8>,
+) -> Result<(), AllocError>
+    ensures ok { OnOk result (answer.new.items ≡ answer.old.items ++ number_line word.now number) }
+    ensures room { vec_capacity answer.old ≤ vec_capacity answer.new }
+{
+    put_number(alloc, word, number, answer)?;
     answer.extend_from_slice(b"\n")?;
     Ok(())
 }

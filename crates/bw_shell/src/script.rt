@@ -11,8 +11,11 @@ ghost use Rattle.bw_shell.specs.Watched.{inner_of, has_failed, has_stalled, read
 use crate::session::Session;
 use crate::watched::Watched;
 use bw_model::HostShape;
+use bw_workers::{Gate, NoGate};
 use std::alloc::{AllocError, Global};
 use std::io::{Read, Write};
+use std::sync::Wait;
+use std::thread::Threads;
 use thiserror::Error;
 
 /// More read calls than this are not made.
@@ -39,8 +42,9 @@ pub(crate) fn piece_room(alloc: Global) -> Result<Vec<u8>, AllocError>
 }
 
 // One read, and the bytes that it gave. `false` is the end of the script.
-fn read_some<R: Read, W: Write>(
-    session: &mut Session,
+fn read_some<H: Threads + Wait + Sync, G: Gate, R: Read, W: Write>(
+    rt: &H,
+    session: &mut Session<'_, G>,
     piece: &mut [u8],
     reader: &mut Watched<R>,
     writer: &mut Watched<W>,
@@ -50,7 +54,7 @@ fn read_some<R: Read, W: Write>(
     requires writer { IsQuiet writer.old }
     ensures reads { read_calls reader.new ≡ min (read_calls reader.old + 1) (2 ^ 64 - 1) }
     ensures ok { OnOk result ((input text : List ℕ)
-        × TakesBytes (scan_of session.old) input text (scan_of session.new)
+        × TakesBytes (scan_of G.used session.old) input text (scan_of G.used session.new)
         × Consumes (R.remaining (inner_of reader.old)) (R.remaining (inner_of reader.new)) input
         × Appends (W.contents (inner_of writer.old)) (W.contents (inner_of writer.new)) text) }
     ensures reader_quiet { OnOk result (IsQuiet reader.new) }
@@ -60,7 +64,7 @@ fn read_some<R: Read, W: Write>(
     ensures read_when { IsErrOf result RunFault.Read → has_failed reader.new ≡ true }
     ensures read_writes { IsErrOf result RunFault.Read → writer.new ≡ writer.old }
     ensures write { IsErrOf result RunFault.Write → (input text : List ℕ) × (t : Scan)
-        × TakesBytes (scan_of session.old) input text t
+        × TakesBytes (scan_of G.used session.old) input text t
         × Consumes (R.remaining (inner_of reader.old)) (R.remaining (inner_of reader.new)) input
         × AppendsFront (W.contents (inner_of writer.old)) (W.contents (inner_of writer.new)) text }
     ensures write_when { IsErrOf result RunFault.Write → (has_failed writer.new || has_stalled writer.new) ≡ true }
@@ -69,25 +73,27 @@ fn read_some<R: Read, W: Write>(
     match reader.read(piece) {
         Err(_) => Err(RunFault::Read),
         Ok(0) => Ok(false),
-        Ok(n) => match session.feed(piece.split_at(n).0, writer) {
+        Ok(n) => match session.feed(rt, piece.split_at(n).0, writer) {
             Ok(()) => Ok(true),
             Err(fault) => Err(fault),
         },
     }
 }
 
-/// Reads a script to its end, and writes the answer to each line. All room is taken before the first read.
-pub fn run<A: AllocGlobal, R: Read, W: Write>(
-    rt: &A,
+/// Reads a script to its end, and writes the answer to each line; the workers of each `period` draw under the gate. All
+/// room is taken before the first read.
+pub fn run_gated<H: AllocGlobal + Threads + Wait + Sync, G: Gate, R: Read, W: Write>(
+    rt: &H,
     reader: &mut Watched<R>,
     writer: &mut Watched<W>,
     shape: HostShape,
+    gate: &G,
 ) -> Result<(), RunFault>
     requires reader { IsFresh reader.old }
     requires writer { IsFresh writer.old }
 
     // All that the reader held was read, and what was written is the transcript of its lines.
-    ensures ok { OnOk result (Transcribes (start shape) lines_of
+    ensures ok { OnOk result (Transcribes (start shape (G.used gate.now)) lines_of
         (R.remaining (inner_of reader.old)) (R.remaining (inner_of reader.new))
         (W.contents (inner_of writer.old)) (W.contents (inner_of writer.new))) }
     ensures end { OnOk result (IsAtEnd (R.remaining (inner_of reader.new))) }
@@ -95,17 +101,17 @@ pub fn run<A: AllocGlobal, R: Read, W: Write>(
     ensures writer_quiet { OnOk result (IsQuiet writer.new) }
 
     // After a read fault it is the transcript of the whole lines read.
-    ensures read { IsErrOf result RunFault.Read → Transcribes (start shape) whole_lines_of
+    ensures read { IsErrOf result RunFault.Read → Transcribes (start shape (G.used gate.now)) whole_lines_of
         (R.remaining (inner_of reader.old)) (R.remaining (inner_of reader.new))
         (W.contents (inner_of writer.old)) (W.contents (inner_of writer.new)) }
     ensures read_when { IsErrOf result RunFault.Read → (has_failed reader.new ≡ true) ⊎ (read_calls reader.new ≡ READ_CALLS) }
 
     // After a write fault it is a front of that, or at the end a front of the transcript of all lines.
     ensures write { IsErrOf result RunFault.Write →
-        (TranscribesFront (start shape) whole_lines_of
+        (TranscribesFront (start shape (G.used gate.now)) whole_lines_of
         (R.remaining (inner_of reader.old)) (R.remaining (inner_of reader.new))
         (W.contents (inner_of writer.old)) (W.contents (inner_of writer.new)))
-        ⊎ ((TranscribesFront (start shape) lines_of
+        ⊎ ((TranscribesFront (start shape (G.used gate.now)) lines_of
         (R.remaining (inner_of reader.old)) (R.remaining (inner_of reader.new))
         (W.contents (inner_of writer.old)) (W.contents (inner_of writer.new)))
         × IsAtEnd (R.remaining (inner_of reader.new))) }
@@ -114,18 +120,60 @@ pub fn run<A: AllocGlobal, R: Read, W: Write>(
     // Memory is wanted before the first read alone.
     ensures memory { IsErrOf result RunFault.Memory → (reader.new ≡ reader.old) × (writer.new ≡ writer.old) }
 {
-    let Ok(mut session) = Session::new(rt.alloc(), shape) else {
+    let Ok(mut session) = Session::new(rt.alloc(), shape, gate) else {
         return Err(RunFault::Memory);
     };
     let Ok(mut piece) = piece_room(rt.alloc()) else {
         return Err(RunFault::Memory);
     };
     for turn in 0..READ_CALLS {
-        match read_some(&mut session, &mut piece, reader, writer) {
+        match read_some(rt, &mut session, &mut piece, reader, writer) {
             Ok(true) => {}
-            Ok(false) => return session.finish(writer),
+            Ok(false) => return session.finish(rt, writer),
             Err(fault) => return Err(fault),
         }
     }
     Err(RunFault::Read)
+}
+
+/// Reads a script to its end, and writes the answer to each line; every leaf uses what its workers draw. All room is
+/// taken before the first read.
+pub fn run<H: AllocGlobal + Threads + Wait + Sync, R: Read, W: Write>(
+    rt: &H,
+    reader: &mut Watched<R>,
+    writer: &mut Watched<W>,
+    shape: HostShape,
+) -> Result<(), RunFault>
+    requires reader { IsFresh reader.old }
+    requires writer { IsFresh writer.old }
+
+    // All that the reader held was read, and what was written is the transcript of its lines.
+    ensures ok { OnOk result (Transcribes (start shape (λ leaf. true)) lines_of
+        (R.remaining (inner_of reader.old)) (R.remaining (inner_of reader.new))
+        (W.contents (inner_of writer.old)) (W.contents (inner_of writer.new))) }
+    ensures end { OnOk result (IsAtEnd (R.remaining (inner_of reader.new))) }
+    ensures reader_quiet { OnOk result (IsQuiet reader.new) }
+    ensures writer_quiet { OnOk result (IsQuiet writer.new) }
+
+    // After a read fault it is the transcript of the whole lines read.
+    ensures read { IsErrOf result RunFault.Read → Transcribes (start shape (λ leaf. true)) whole_lines_of
+        (R.remaining (inner_of reader.old)) (R.remaining (inner_of reader.new))
+        (W.contents (inner_of writer.old)) (W.contents (inner_of writer.new)) }
+    ensures read_when { IsErrOf result RunFault.Read → (has_failed reader.new ≡ true) ⊎ (read_calls reader.new ≡ READ_CALLS) }
+
+    // After a write fault it is a front of that, or at the end a front of the transcript of all lines.
+    ensures write { IsErrOf result RunFault.Write →
+        (TranscribesFront (start shape (λ leaf. true)) whole_lines_of
+        (R.remaining (inner_of reader.old)) (R.remaining (inner_of reader.new))
+        (W.contents (inner_of writer.old)) (W.contents (inner_of writer.new)))
+        ⊎ ((TranscribesFront (start shape (λ leaf. true)) lines_of
+        (R.remaining (inner_of reader.old)) (R.remaining (inner_of reader.new))
+        (W.contents (inner_of writer.old)) (W.contents (inner_of writer.new)))
+        × IsAtEnd (R.remaining (inner_of reader.new))) }
+    ensures write_when { IsErrOf result RunFault.Write → (has_failed writer.new || has_stalled writer.new) ≡ true }
+
+    // Memory is wanted before the first read alone.
+    ensures memory { IsErrOf result RunFault.Memory → (reader.new ≡ reader.old) × (writer.new ≡ writer.old) }
+{
+    run_gated(rt, reader, writer, shape, &NoGate)
 }

@@ -12,8 +12,11 @@ use crate::script::RunFault;
 use crate::send::send;
 use crate::watched::Watched;
 use bw_model::HostShape;
+use bw_workers::Gate;
 use std::alloc::{AllocError, Global};
 use std::io::Write;
+use std::sync::Wait;
+use std::thread::Threads;
 
 /// A line with more bytes is skipped.
 pub const LINE_BYTES: usize = 65536;
@@ -22,8 +25,8 @@ ghost use Rattle.bw_shell.specs.declared.session.TheConstants.{LINE_BYTES};
 ghost use Rattle.bw_shell.specs.declared.put.TheConstants.{REFUSAL_BYTES};
 
 #[derive(Drop)]
-pub struct Session {
-    commands: Commands,
+pub struct Session<'a, G> {
+    commands: Commands<'a, G>,
     alloc: Global,
     line: Vec<u8>,
     is_long: bool,
@@ -33,7 +36,7 @@ pub struct Session {
     ghost answer_room: { REFUSAL_BYTES ≤ vec_capacity answer },
 }
 
-impl Session {
+impl<'a, G: Gate> Session<'a, G> {
     ghost use Rattle.std.specs.Prelude.{◌≡◌, ◌||◌, ◌++◌, List, ℕ, [], true, IfOk, OnOk, OnErr, IfErr};
     ghost use Rattle.std.specs.Io.KnownBytes.{Appends};
     ghost use Rattle.bw_shell.specs.State.{start};
@@ -44,10 +47,10 @@ impl Session {
     ghost use Rattle.bw_shell.specs.Watched.{inner_of, has_failed, has_stalled, IsQuiet};
 
     /// Takes all the room that lines and refusals need.
-    pub fn new(alloc: Global, shape: HostShape) -> Result<Session, AllocError>
-        ensures { IfOk result (λ s. scan_of s ≡ begin (start shape)) }
+    pub fn new(alloc: Global, shape: HostShape, gate: &'a G) -> Result<Session<'a, G>, AllocError>
+        ensures { IfOk result (λ s. scan_of G.used s ≡ begin (start shape (G.used gate.now))) }
     {
-        let Ok(commands) = Commands::new(alloc, shape) else {
+        let Ok(commands) = Commands::new(alloc, shape, gate) else {
             return Err(AllocError);
         };
         Ok(Session {
@@ -61,7 +64,7 @@ impl Session {
 
     // Keeps one more byte of the line in hand, if it is not too long.
     fn keep(&mut self, byte: u8)
-        ensures { scan_of self.new ≡ record (scan_of self.old) { kept = kept_with (scan_of self.old).kept byte } }
+        ensures { scan_of G.used self.new ≡ record (scan_of G.used self.old) { kept = kept_with (scan_of G.used self.old).kept byte } }
     {
         if self.line.len() < LINE_BYTES {
             self.line.push_reserved(byte);
@@ -71,26 +74,26 @@ impl Session {
     }
 
     // Forms the answer to the line in hand in an empty buffer, and makes its change.
-    fn form(&mut self) -> Result<(), ScriptFault>
+    fn form<H: Threads + Wait + Sync>(&mut self, rt: &H) -> Result<(), ScriptFault>
         requires { self.old.answer.items ≡ [] }
-        ensures outcome { Performs (scan_of self.old).state (outcome_of_kept (scan_of self.old).state (scan_of self.old).kept)
-            result self.new.answer.items (scan_of self.new).state }
+        ensures outcome { Performs (scan_of G.used self.old).state (outcome_of_kept (scan_of G.used self.old).state (scan_of G.used self.old).kept)
+            result self.new.answer.items (scan_of G.used self.new).state }
     {
         if self.is_long {
             return Err(ScriptFault::LineTooLong);
         }
         match str::from_utf8(self.line.as_slice()) {
             Err(_) => Err(ScriptFault::BadText),
-            Ok(line) => self.commands.answer(self.alloc, line, &mut self.answer),
+            Ok(line) => self.commands.answer(rt, self.alloc, line, &mut self.answer),
         }
     }
 
     // Forms the answer to the line in hand, and begins the next.
-    fn answer_line(&mut self)
-        ensures { AnswersKept (scan_of self.old) self.new.answer.items (scan_of self.new) }
+    fn answer_line<H: Threads + Wait + Sync>(&mut self, rt: &H)
+        ensures { AnswersKept (scan_of G.used self.old) self.new.answer.items (scan_of G.used self.new) }
     {
         self.answer.clear();
-        if let Err(fault) = self.form() {
+        if let Err(fault) = self.form(rt) {
             self.answer.clear();
             put_error(&mut self.answer, fault);
         }
@@ -99,18 +102,23 @@ impl Session {
     }
 
     // Takes one byte of the script.
-    fn take_byte<W: Write>(&mut self, byte: u8, writer: &mut Watched<W>) -> Result<(), RunFault>
+    fn take_byte<H: Threads + Wait + Sync, W: Write>(
+        &mut self,
+        rt: &H,
+        byte: u8,
+        writer: &mut Watched<W>,
+    ) -> Result<(), RunFault>
         requires { IsQuiet writer.old }
-        ensures ok { OnOk result ((text : List ℕ) × TakesByte (scan_of self.old) byte text (scan_of self.new)
+        ensures ok { OnOk result ((text : List ℕ) × TakesByte (scan_of G.used self.old) byte text (scan_of G.used self.new)
             × Appends (W.contents (inner_of writer.old)) (W.contents (inner_of writer.new)) text) }
         ensures quiet { OnOk result (IsQuiet writer.new) }
-        ensures err { OnErr result ((text : List ℕ) × (t : Scan) × TakesByte (scan_of self.old) byte text t
+        ensures err { OnErr result ((text : List ℕ) × (t : Scan) × TakesByte (scan_of G.used self.old) byte text t
             × AppendsFront (W.contents (inner_of writer.old)) (W.contents (inner_of writer.new)) text) }
         ensures blame { OnErr result ((has_failed writer.new || has_stalled writer.new) ≡ true) }
         ensures fault { IfErr result (λ f. f ≡ RunFault.Write) }
     {
         if byte == b'\n' {
-            self.answer_line();
+            self.answer_line(rt);
             send(writer, self.answer.as_slice())
         } else {
             self.keep(byte);
@@ -119,22 +127,23 @@ impl Session {
     }
 
     // Takes bytes of the script.
-    fn take_bytes<W: Write>(
+    fn take_bytes<H: Threads + Wait + Sync, W: Write>(
         &mut self,
+        rt: &H,
         piece: &[u8],
         writer: &mut Watched<W>,
     ) -> Result<(), RunFault>
         requires { IsQuiet writer.old }
-        ensures ok { OnOk result ((text : List ℕ) × TakesBytes (scan_of self.old) piece.now text (scan_of self.new)
+        ensures ok { OnOk result ((text : List ℕ) × TakesBytes (scan_of G.used self.old) piece.now text (scan_of G.used self.new)
             × Appends (W.contents (inner_of writer.old)) (W.contents (inner_of writer.new)) text) }
         ensures quiet { OnOk result (IsQuiet writer.new) }
-        ensures err { OnErr result ((text : List ℕ) × (t : Scan) × TakesBytes (scan_of self.old) piece.now text t
+        ensures err { OnErr result ((text : List ℕ) × (t : Scan) × TakesBytes (scan_of G.used self.old) piece.now text t
             × AppendsFront (W.contents (inner_of writer.old)) (W.contents (inner_of writer.new)) text) }
         ensures blame { OnErr result ((has_failed writer.new || has_stalled writer.new) ≡ true) }
         ensures fault { IfErr result (λ f. f ≡ RunFault.Write) }
     {
         for byte in piece {
-            match self.take_byte(*byte, writer) {
+            match self.take_byte(rt, *byte, writer) {
                 Err(fault) => return Err(fault),
                 Ok(()) => {}
             }
@@ -143,17 +152,22 @@ impl Session {
     }
 
     /// Takes a piece of the script, and flushes the writer, so that no answer waits for more of the script.
-    pub fn feed<W: Write>(&mut self, piece: &[u8], writer: &mut Watched<W>) -> Result<(), RunFault>
+    pub fn feed<H: Threads + Wait + Sync, W: Write>(
+        &mut self,
+        rt: &H,
+        piece: &[u8],
+        writer: &mut Watched<W>,
+    ) -> Result<(), RunFault>
         requires { IsQuiet writer.old }
-        ensures ok { OnOk result ((text : List ℕ) × TakesBytes (scan_of self.old) piece.now text (scan_of self.new)
+        ensures ok { OnOk result ((text : List ℕ) × TakesBytes (scan_of G.used self.old) piece.now text (scan_of G.used self.new)
             × Appends (W.contents (inner_of writer.old)) (W.contents (inner_of writer.new)) text) }
         ensures quiet { OnOk result (IsQuiet writer.new) }
-        ensures err { OnErr result ((text : List ℕ) × (t : Scan) × TakesBytes (scan_of self.old) piece.now text t
+        ensures err { OnErr result ((text : List ℕ) × (t : Scan) × TakesBytes (scan_of G.used self.old) piece.now text t
             × AppendsFront (W.contents (inner_of writer.old)) (W.contents (inner_of writer.new)) text) }
         ensures blame { OnErr result ((has_failed writer.new || has_stalled writer.new) ≡ true) }
         ensures fault { IfErr result (λ f. f ≡ RunFault.Write) }
     {
-        match self.take_bytes(piece, writer) {
+        match self.take_bytes(rt, piece, writer) {
             Err(fault) => return Err(fault),
             Ok(()) => {}
         }
@@ -164,18 +178,22 @@ impl Session {
     }
 
     // Answers a last line that lacks its newline.
-    fn answer_last<W: Write>(&mut self, writer: &mut Watched<W>) -> Result<(), RunFault>
+    fn answer_last<H: Threads + Wait + Sync, W: Write>(
+        &mut self,
+        rt: &H,
+        writer: &mut Watched<W>,
+    ) -> Result<(), RunFault>
         requires { IsQuiet writer.old }
-        ensures ok { OnOk result ((text : List ℕ) × Finishes (scan_of self.old) text
+        ensures ok { OnOk result ((text : List ℕ) × Finishes (scan_of G.used self.old) text
             × Appends (W.contents (inner_of writer.old)) (W.contents (inner_of writer.new)) text) }
         ensures quiet { OnOk result (IsQuiet writer.new) }
-        ensures err { OnErr result ((text : List ℕ) × Finishes (scan_of self.old) text
+        ensures err { OnErr result ((text : List ℕ) × Finishes (scan_of G.used self.old) text
             × AppendsFront (W.contents (inner_of writer.old)) (W.contents (inner_of writer.new)) text) }
         ensures blame { OnErr result ((has_failed writer.new || has_stalled writer.new) ≡ true) }
         ensures fault { IfErr result (λ f. f ≡ RunFault.Write) }
     {
         if self.is_long || !self.line.is_empty() {
-            self.answer_line();
+            self.answer_line(rt);
             send(writer, self.answer.as_slice())
         } else {
             Ok(())
@@ -183,17 +201,21 @@ impl Session {
     }
 
     /// Answers a last line that lacks its newline, and flushes the writer.
-    pub fn finish<W: Write>(&mut self, writer: &mut Watched<W>) -> Result<(), RunFault>
+    pub fn finish<H: Threads + Wait + Sync, W: Write>(
+        &mut self,
+        rt: &H,
+        writer: &mut Watched<W>,
+    ) -> Result<(), RunFault>
         requires { IsQuiet writer.old }
-        ensures ok { OnOk result ((text : List ℕ) × Finishes (scan_of self.old) text
+        ensures ok { OnOk result ((text : List ℕ) × Finishes (scan_of G.used self.old) text
             × Appends (W.contents (inner_of writer.old)) (W.contents (inner_of writer.new)) text) }
         ensures quiet { OnOk result (IsQuiet writer.new) }
-        ensures err { OnErr result ((text : List ℕ) × Finishes (scan_of self.old) text
+        ensures err { OnErr result ((text : List ℕ) × Finishes (scan_of G.used self.old) text
             × AppendsFront (W.contents (inner_of writer.old)) (W.contents (inner_of writer.new)) text) }
         ensures blame { OnErr result ((has_failed writer.new || has_stalled writer.new) ≡ true) }
         ensures fault { IfErr result (λ f. f ≡ RunFault.Write) }
     {
-        match self.answer_last(writer) {
+        match self.answer_last(rt, writer) {
             Err(fault) => return Err(fault),
             Ok(()) => {}
         }

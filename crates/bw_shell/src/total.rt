@@ -7,11 +7,12 @@ ghost use Rattle.bw_model.specs.Groups.{limit_of};
 ghost use Rattle.bw_model.specs.Demand.{limited_total};
 ghost use Rattle.bw_demand.specs.Demands.{demands_of, IsGathered};
 ghost use Rattle.bw_shell.specs.GroupLines.{IsPathOf, ArePathsOf};
-ghost use Rattle.bw_shell.specs.Total.{IsTotal, number_line, limit_line, limit_lines};
+ghost use Rattle.bw_shell.specs.Total.{IsTotal, limit_line, limit_lines};
 
-use crate::put_text::{put_number, put_path};
+use crate::put_text::{put_number, put_number_line, put_path};
 use bw_demand::{Gathered, gather, limiting};
-use bw_model::{HostShape, Instance};
+use bw_hierarchy::Hierarchy;
+use bw_model::Instance;
 use bw_tree::{GroupId, Tree};
 use std::alloc::{AllocError, Global};
 
@@ -19,14 +20,13 @@ use std::alloc::{AllocError, Global};
 /// creation, and the demands outside them, in slices of one period. It fails for want of memory alone.
 pub fn put_total(
     alloc: Global,
-    tree: &Tree,
-    shape: HostShape,
+    hierarchy: &Hierarchy,
     answer: &mut Vec<u8>,
 ) -> Result<(), AllocError>
-    ensures ok { OnOk result ((text : List ℕ) × IsTotal (record { shape = shape; tree = tree.now }) text × (answer.new.items ≡ answer.old.items ++ text)) }
+    ensures ok { OnOk result ((text : List ℕ) × IsTotal hierarchy.now text × (answer.new.items ≡ answer.old.items ++ text)) }
     ensures room { vec_capacity answer.old ≤ vec_capacity answer.new }
 {
-    let Ok((instance, ids)) = tree.snapshot(shape) else {
+    let Ok((instance, ids)) = hierarchy.snapshot() else {
         return Err(AllocError);
     };
     let gathered = gather(alloc, &instance)?;
@@ -35,7 +35,7 @@ pub fn put_total(
     put_number_line(alloc, b"total ", total, answer)?;
     put_limits(
         alloc,
-        tree,
+        hierarchy.tree(),
         &instance,
         ids.as_slice(),
         limits.groups.as_slice(),
@@ -111,19 +111,4 @@ fn limit_at(instance: &Instance, g: u32) -> u64
     } else {
         instance.row(g).limit.unwrap_or(0)
     }
-}
-
-// Appends a word and a number on a line of their own.
-fn put_number_line(
-    alloc: Global,
-    word: &[u8],
-    number: u64,
-    answer: &mut Vec<u8>,
-) -> Result<(), AllocError>
-    ensures ok { OnOk result (answer.new.items ≡ answer.old.items ++ number_line word.now number) }
-    ensures room { vec_capacity answer.old ≤ vec_capacity answer.new }
-{
-    put_number(alloc, word, number, answer)?;
-    answer.extend_from_slice(b"\n")?;
-    Ok(())
 }

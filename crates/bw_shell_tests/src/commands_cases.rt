@@ -5,10 +5,16 @@ use bw_model::HostShape;
 use bw_shell::{RunFault, Watched, run};
 use std::alloc::{AllocError, Global};
 use std::process::Abort;
+use std::sync::Wait;
 use std::test::Fail;
+use std::thread::Threads;
 
 // What a run writes.
-fn written<A: AllocGlobal>(rt: &A, shape: HostShape, script: &[u8]) -> Result<Vec<u8>, RunFault> {
+fn written<R: AllocGlobal + Threads + Wait + Sync>(
+    rt: &R,
+    shape: HostShape,
+    script: &[u8],
+) -> Result<Vec<u8>, RunFault> {
     let mut out = Vec::new(rt.alloc());
     let mut reader = Watched::new(script);
     let mut writer = Watched::new(&mut out);
@@ -34,9 +40,13 @@ fn joined(alloc: Global, cases: &[(&str, &str)]) -> Result<(String, String), All
     Ok((script, wanted))
 }
 
-// Asserts the answers to the lines of one script, on a host with one processor of 20 slices of 5 ms.
-fn assert_answers<A: AllocGlobal + Abort>(rt: &A, cases: &[(&str, &str)]) -> Result<(), Fail> {
-    let shape = HostShape::new(1, 100000, 5000)?;
+// Asserts the answers to the lines of one script, on a host whose processors have 20 slices of 5 ms each.
+pub(crate) fn assert_answers_on<R: AllocGlobal + Threads + Wait + Abort + Sync>(
+    rt: &R,
+    processors: u64,
+    cases: &[(&str, &str)],
+) -> Result<(), Fail> {
+    let shape = HostShape::new(processors, 100000, 5000)?;
     let (script, wanted) = match joined(rt.alloc(), cases) {
         Ok(texts) => texts,
         Err(_) => joined(rt.alloc(), cases)?,
@@ -47,6 +57,14 @@ fn assert_answers<A: AllocGlobal + Abort>(rt: &A, cases: &[(&str, &str)]) -> Res
     };
     assert_eq!(rt; str::from_utf8(out.as_slice()), Ok(wanted.as_str()));
     Ok(())
+}
+
+// The same on one processor.
+pub(crate) fn assert_answers<R: AllocGlobal + Threads + Wait + Abort + Sync>(
+    rt: &R,
+    cases: &[(&str, &str)],
+) -> Result<(), Fail> {
+    assert_answers_on(rt, 1, cases)
 }
 
 const NINES: &str =
@@ -90,8 +108,8 @@ fn files_by_lines(rt: HostRuntime) -> Result<(), Fail> {
             (" read  a\tcpu.weight ", "300"),
             ("read a cpu.idle", "error 30 NoSuchFile"),
             ("read a cpu.max.burst", "error 30 NoSuchFile"),
-            ("read a cpu.stat", "error 30 NoSuchFile"),
-            ("write a cpu.stat 1", "error 30 NoSuchFile"),
+            ("read a cpu.stat", "usage_usec 0\nnr_periods 0\nnr_throttled 0\nthrottled_usec 0"),
+            ("write a cpu.stat 1", "error 31 ReadOnly"),
             ("read . cpu.weight", "error 30 NoSuchFile"),
             ("write . cpu.max 1000", "error 30 NoSuchFile"),
             ("read z cpu.idle", "error 20 NotFound"),

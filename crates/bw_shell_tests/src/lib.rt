@@ -6,4 +6,6 @@ mod check_text_cases;
 #[cfg(test)]
 mod commands_cases;
 #[cfg(test)]
+mod period_cases;
+#[cfg(test)]
 mod shell_cases;

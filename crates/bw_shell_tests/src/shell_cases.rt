@@ -5,7 +5,9 @@ use bw_model::HostShape;
 use bw_shell::{RunFault, Watched, run, status_of_run};
 use std::io;
 use std::io::{Read, Write};
+use std::sync::Wait;
 use std::test::Fail;
+use std::thread::Threads;
 
 // A reader that gives at most `most` bytes a call, and fails in place of giving more than `left`.
 #[derive(Drop)]
@@ -77,7 +79,10 @@ fn host() -> Result<HostShape, Fail> {
 }
 
 // What a run writes.
-fn written(rt: &HostRuntime, script: &[u8]) -> Result<Vec<u8>, Fail> {
+fn written<R: AllocGlobal + Threads + Wait + Sync>(
+    rt: &R,
+    script: &[u8],
+) -> Result<Vec<u8>, Fail> {
     let mut out = Vec::new(rt.alloc());
     let mut reader = Watched::new(script);
     let mut writer = Watched::new(&mut out);

@@ -6,4 +6,6 @@ mod counter;
 #[cfg(test)]
 mod lock_cases;
 #[cfg(test)]
+mod script_cases;
+#[cfg(test)]
 mod workers_cases;

@@ -110,7 +110,7 @@ fn served<G: Gate, R: Threads + Wait + Abort + Sync>(
 
 // Uses all leaves but one.
 #[derive(Drop)]
-struct Without(u32);
+pub(crate) struct Without(pub(crate) u32);
 
 impl Gate for Without {
     ghost used = { λ gate leaf. not (leaf == gate.0) };
@@ -130,15 +130,15 @@ impl Gate for Without {
 
 // Holds the first draw of one worker until a draw of another is answered.
 #[derive(Drop)]
-struct Holds {
+pub(crate) struct Holds {
     held: u32,
     other: u32,
     nth: u64,
     answered: AtomicCell<bool>,
-    came: AtomicCell<bool>,
+    pub(crate) came: AtomicCell<bool>,
 }
 
-fn held_first(held: u32, other: u32, nth: u64) -> Holds {
+pub(crate) fn held_first(held: u32, other: u32, nth: u64) -> Holds {
     Holds {
         held,
         other,
@@ -176,9 +176,16 @@ impl Gate for Holds {
 
 // Holds each worker's first draw until all four have begun theirs.
 #[derive(Drop)]
-struct Meet {
+pub(crate) struct Meet {
     begun: AtomicCell<u32>,
-    met: AtomicCell<u32>,
+    pub(crate) met: AtomicCell<u32>,
+}
+
+pub(crate) fn meet() -> Meet {
+    Meet {
+        begun: AtomicCell::new(0),
+        met: AtomicCell::new(0),
+    }
 }
 
 impl Gate for Meet {
@@ -189,7 +196,7 @@ impl Gate for Meet {
         if nth == 0 {
             self.begun.fetch_add(1);
             for _ in 0..TURNS {
-                if self.begun.load() == 4 {
+                if self.begun.load() >= 4 {
                     self.met.fetch_add(1);
                     return;
                 }
@@ -249,10 +256,7 @@ fn serve_all_meet<R: Threads + Wait + Abort + Sync>(
     alloc: Global,
 ) -> Result<(), AllocError> {
     let (instance, plan) = pod_and_job(rt, alloc)?;
-    let gate = Meet {
-        begun: AtomicCell::new(0),
-        met: AtomicCell::new(0),
-    };
+    let gate = meet();
     served(rt, alloc, &instance, &plan, &gate, &[30, 10, 3, 7, 20])?;
     assert_eq!(rt; gate.met.load(), 4);
     Ok(())

@@ -1,4 +1,4 @@
-use Rattle.std.proofs.Common.{◌≡◌, ◌∙◌, ◌++◌, [], ◌∷◌, arith, sym, ap, append-nil, append_assoc}
+use Rattle.std.proofs.Common.{◌∙◌, ◌++◌, [], ◌∷◌, arith, sym, ap, append-nil, append_assoc}
 use Rattle.std.specs.List.{range_with_len}
 use Rattle.bw_shell.specs.GroupLines.{group_lines}
 use Rattle.bw_shell.specs.Planned.{amount_line}

@@ -1,4 +1,4 @@
-use Rattle.std.proofs.Common.{◌≡◌, ◌∙◌, sym, ap, arith, ◌++◌, refl}
+use Rattle.std.proofs.Common.{◌∙◌, sym, ap, ◌++◌}
 use Rattle.std.proofs.lemmas.Fmt.{decimal_digit}
 use Rattle.bw_shell.proofs.Decimals.{decimal_two}
 use Rattle.bw_shell.proofs.put.put_small.Goals as goal

@@ -1,4 +1,4 @@
-use Rattle.std.proofs.Common.{◌⊎◌, ◌<◌, ◌≤◌, ◌+◌, ◌++◌, ℕ, List, Bool, Option, length, length-append, inl, inr, arith}
+use Rattle.std.proofs.Common.{◌⊎◌, ◌<◌, ◌+◌, ◌++◌, ℕ, List, Bool, Option, length, length-append, inl, inr, arith}
 use Rattle.std.specs.Io.KnownBytes.{Consumes}
 use Rattle.bw_shell.specs.CheckText.{ReadsTooMuch}
 use Rattle.bw_shell.specs.declared.script.RunFault.TheVariants.{Read}

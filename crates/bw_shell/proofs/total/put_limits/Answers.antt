@@ -1,6 +1,5 @@
-use Rattle.std.proofs.Common.{◌≡◌, ◌∙◌, ◌<◌, ◌++◌, [], ◌∷◌, length, take, get_or, arith, sym, ap, append-nil, append_assoc}
+use Rattle.std.proofs.Common.{◌∙◌, ◌<◌, ◌++◌, [], ◌∷◌, length, take, get_or, arith, sym, ap, append-nil, append_assoc}
 use Rattle.std.proofs.lemmas.List.{take_more}
-use Rattle.bw_shell.specs.GroupLines.{ArePathsOf}
 use Rattle.bw_shell.specs.Total.{limit_line, limit_lines}
 use Rattle.bw_shell.proofs.Totals.{ArePathsOf-push, group_lines-push}
 use Rattle.bw_shell.proofs.total.put_limits.Goals as goal

@@ -1,4 +1,4 @@
-use Rattle.std.proofs.Common.{◌≡◌, ◌∙◌, ◌<◌, length, arith, sym}
+use Rattle.std.proofs.Common.{◌∙◌, ◌<◌, length, arith, sym}
 use Rattle.bw_demand.proofs.Passed.{get_or_within}
 use Rattle.bw_model.proofs.Limiting.{limited_total-is}
 use Rattle.bw_model.proofs.Mosts.{AreMosts-capped}

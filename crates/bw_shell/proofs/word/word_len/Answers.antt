@@ -1,4 +1,4 @@
-use Rattle.std.proofs.Common.{◌≡◌, ◌∙◌, sym, subst, ap, length, not}
+use Rattle.std.proofs.Common.{◌≡◌, ◌∙◌, sym, subst, ap, length}
 use Rattle.std.specs.Prelude.{position, unwrap_or}
 use Rattle.std.specs.Str.{IsCharBoundary}
 use Rattle.bw_shell.specs.Word.{is_blank, word_len_of}

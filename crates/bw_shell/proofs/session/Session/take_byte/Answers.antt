@@ -9,9 +9,9 @@ returns-then-byte-eq10-clause-err g c =
     OnErr-map c.send.result
     (λ p. (
       c.as_slice.result.now,
-      scan_of c.answer_line.new.self,
+      scan_of g.G.Gate.used c.answer_line.new.self,
       record {
-        newline = λ e. subst (λ t. AnswersKept (scan_of c.args.self.now) t (scan_of c.answer_line.new.self)) (sym c.as_slice.ensures.value) c.answer_line.ensures;
+        newline = λ e. subst (λ t. AnswersKept (scan_of g.G.Gate.used c.args.self.now) t (scan_of g.G.Gate.used c.answer_line.new.self)) (sym c.as_slice.ensures.value) c.answer_line.ensures;
         other = λ ne. absurd (ne c.if-byte-eq10.true);
       },
       p,

@@ -33,9 +33,9 @@ returns-in-Err-clause-err g c =
     let lt : i < length xs = omega arith in
     let more = TakesBytes-total (drop (i + 1) xs) s.1 in
     let here = TakesBytes-append (take i xs) _ t.0 s.0 _ _ _ t.1 (TakesBytes-one _ _ _ s.0 s.2) in
-    let front : TakesBytes (scan_of c.args.self.now) (take (i + 1) xs) (t.0 ++ s.0) s.1 =
-    subst (λ l. TakesBytes (scan_of c.args.self.now) l (t.0 ++ s.0) s.1) (sym (take_more xs i 0 lt)) here in
-    let there : TakesBytes (scan_of c.args.self.now) xs ((t.0 ++ s.0) ++ more.0) more.1 =
-    subst (λ l. TakesBytes (scan_of c.args.self.now) l ((t.0 ++ s.0) ++ more.0) more.1) (take-append-drop (i + 1) xs)
-    (TakesBytes-append (take (i + 1) xs) (drop (i + 1) xs) (t.0 ++ s.0) more.0 (scan_of c.args.self.now) s.1 more.1 front more.2) in
+    let front : TakesBytes (scan_of g.G.Gate.used c.args.self.now) (take (i + 1) xs) (t.0 ++ s.0) s.1 =
+    subst (λ l. TakesBytes (scan_of g.G.Gate.used c.args.self.now) l (t.0 ++ s.0) s.1) (sym (take_more xs i 0 lt)) here in
+    let there : TakesBytes (scan_of g.G.Gate.used c.args.self.now) xs ((t.0 ++ s.0) ++ more.0) more.1 =
+    subst (λ l. TakesBytes (scan_of g.G.Gate.used c.args.self.now) l ((t.0 ++ s.0) ++ more.0) more.1) (take-append-drop (i + 1) xs)
+    (TakesBytes-append (take (i + 1) xs) (drop (i + 1) xs) (t.0 ++ s.0) more.0 (scan_of g.G.Gate.used c.args.self.now) s.1 more.1 front more.2) in
     ((t.0 ++ s.0) ++ more.0, more.1, there, AppendsFront-more _ _ (t.0 ++ s.0) more.0 (AppendsFront-after _ _ _ t.0 s.0 t.2 s.3))

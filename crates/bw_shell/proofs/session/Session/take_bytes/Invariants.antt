@@ -7,7 +7,7 @@ use Rattle.bw_shell.proofs.session.Session.take_bytes.Given as goal
 
 abbrev pub invariant-loop-byte : goal.invariant-loop-byte
 invariant-loop-byte g l = record {
-  taken : (text : List ℕ) × TakesBytes (scan_of l.initial.self) (take l.byte-index l.piece) text (scan_of l.self)
+  taken : (text : List ℕ) × TakesBytes (scan_of g.G.Gate.used l.initial.self) (take l.byte-index l.piece) text (scan_of g.G.Gate.used l.self)
       × Appends (g.W.Write.contents (inner_of l.initial.writer)) (g.W.Write.contents (inner_of l.writer)) text;
   quiet : IsQuiet l.writer;
 }

@@ -1,0 +1,39 @@
+//! One period, and the answer to `period`.
+ghost use Rattle.std.specs.Prelude.{◌≡◌, ◌≤◌, ◌++◌, ℕ, List, OnOk, OnErr};
+ghost use Rattle.std.specs.Vec.{vec_capacity};
+ghost use Rattle.bw_shell.specs.Period.{IsPeriod};
+
+use crate::put_text::put_number_line;
+use bw_demand::gather;
+use bw_hierarchy::Hierarchy;
+use bw_plan::plan;
+use bw_workers::{Gate, ServeFault, serve};
+use std::alloc::Global;
+use std::sync::Wait;
+use std::thread::Threads;
+
+/// Serves one period, appends the answer, the slices that its workers drew at the root, and then counts the period for
+/// each group. An `Err` changes no counter.
+pub fn serve_period<G: Gate, H: Threads + Wait + Sync>(
+    rt: &H,
+    alloc: Global,
+    hierarchy: &mut Hierarchy,
+    gate: &G,
+    answer: &mut Vec<u8>,
+) -> Result<(), ServeFault>
+    ensures ok { OnOk result ((text : List ℕ) × IsPeriod hierarchy.old (G.used gate.now) text hierarchy.new × (answer.new.items ≡ answer.old.items ++ text)) }
+    ensures err { OnErr result (hierarchy.new ≡ hierarchy.old) }
+    ensures room { vec_capacity answer.old ≤ vec_capacity answer.new }
+{
+    let Ok((instance, ids)) = hierarchy.snapshot() else {
+        return Err(ServeFault::OutOfMemory);
+    };
+    let gathered = gather(alloc, &instance)?;
+    let plan = plan(alloc, &instance)?;
+    let served = serve(rt, alloc, &instance, &plan, gate)?;
+    put_number_line(alloc, b"served ", served.drawn[0], answer)?;
+    match hierarchy.book(&instance, &ids, &gathered, &served.drawn) {
+        Ok(()) => Ok(()),
+        Err(_) => Err(ServeFault::OutOfMemory),
+    }
+}
