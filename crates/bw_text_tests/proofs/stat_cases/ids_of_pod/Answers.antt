@@ -4,4 +4,4 @@ use Rattle.bw_text_tests.proofs.stat_cases.ids_of_pod.Goals as goal
 
 pub returns : goal.returns
 unfolding IsDistinct
-returns c = ((refl, refl, refl, refl, tt), ((refl, refl, refl, tt), ((refl, refl, tt), ((refl, tt), (tt, tt)))))
+returns c = ((refl, (refl, (refl, (refl, tt)))), ((refl, (refl, (refl, tt))), ((refl, (refl, tt)), ((refl, tt), (tt, tt)))))
