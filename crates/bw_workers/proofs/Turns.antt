@@ -1,6 +1,6 @@
 -- What a worker knows between two turns, and what a turn makes of it.
 use Rattle.bw_model.specs.declared.row.Row.{Row}
-use Rattle.std.proofs.Common.{◌≡◌, ℕ, zero, suc, ◌+◌, ◌<◌, ◌≤◌, ◌⊎◌, ◌==◌, inl, inr, List, [], ◌∷◌, ◌++◌, length, take, drop, get_or, Bool, true, false, cond, None, refl, sym, ap, ◌∙◌, subst, arith, append-nil, append_assoc}
+use Rattle.std.proofs.Common.{◌≡◌, ℕ, ◌+◌, ◌<◌, ◌≤◌, ◌⊎◌, ◌==◌, inl, inr, List, [], ◌∷◌, ◌++◌, length, Bool, true, false, cond, None, refl, sym, ap, ◌∙◌, subst, arith, append-nil, append_assoc}
 use Rattle.std.specs.Prelude.{nat_lt}
 use Rattle.std.proofs.lemmas.Bool.{and_parts, and_from, ltb-true, lt-ltb, eq-eqb, or_from, or_left, or_right, true≢false}
 use Rattle.std.proofs.lemmas.Bool.Decides.{eqb_tells}
@@ -43,27 +43,20 @@ begins uses tree slices calls leaves e h = record {
   closed = λ row lt leaf none. absurd (one_if_not (is_leaf_row tree row) (and_from (nat_lt row (length tree)) (is_leaf tree row) (lt-ltb row (length tree) lt) leaf) (sym (h row) ∙ none));
 }
 
--- a list with one place less
+-- the leaf that stands first
 first_off : (a b : ℕ) → a + b ≡ b + a
 first_off a b = omega arith
 
-later_off : (a t t' c : ℕ) → t ≡ t' + c → a + t ≡ (a + t') + c
-later_off a t t' c h = omega arith
+pub stands : (leaf : ℕ) (rest : List ℕ) → 1 ≤ times leaf (leaf ∷ rest)
+stands leaf rest = let one : cond {A = ℕ} (leaf == leaf) 1 0 ≡ 1 = ap (λ b. cond {A = ℕ} b 1 0) (eq-eqb leaf leaf refl) in omega (arith, one)
 
-without_suc : (xs : List ℕ) (at x d : ℕ) → at < length xs → times x xs ≡ times x (take at xs ++ drop (suc at) xs) + cond {A = ℕ} (get_or xs at d == x) 1 0
-without_suc [] at x d lt = absurd (omega arith)
-without_suc (y ∷ ys) zero x d lt = first_off (cond {A = ℕ} (y == x) 1 0) (times x ys)
-without_suc (y ∷ ys) (suc k) x d lt = later_off (cond {A = ℕ} (y == x) 1 0) (times x ys) (times x (take k ys ++ drop (suc k) ys)) (cond {A = ℕ} (get_or ys k d == x) 1 0) (without_suc ys k x d (omega arith))
+past : (a b t u : ℕ) → u ≡ b + t → a + u ≡ b + (a + t)
+past a b t u h = omega arith
 
-pub times_without : (xs : List ℕ) (at x d : ℕ) → at < length xs → times x xs ≡ times x (take at xs ++ drop (at + 1) xs) + cond {A = ℕ} (get_or xs at d == x) 1 0
-times_without xs at x d lt = let e : suc at ≡ at + 1 = omega arith in subst (λ (n : ℕ). times x xs ≡ times x (take at xs ++ drop n xs) + cond {A = ℕ} (get_or xs at d == x) 1 0) e (without_suc xs at x d lt)
-
-pub times_at : (xs : List ℕ) (at d : ℕ) → at < length xs → 1 ≤ times (get_or xs at d) xs
-times_at xs at d lt = let x = get_or xs at d in let h = times_without xs at x d lt in let one : cond {A = ℕ} (x == x) 1 0 ≡ 1 = ap (λ b. cond {A = ℕ} b 1 0) (eq-eqb x x refl) in omega (arith, h, one)
-
--- the leaf that stands at a place of the list
-pub stands : (xs : List ℕ) (at x : ℕ) → at < length xs → x ≡ get_or xs at x → 1 ≤ times x xs
-stands xs at x lt e = subst (λ (y : ℕ). 1 ≤ times y xs) (sym e) (times_at xs at x lt)
+-- it goes behind the others
+pub goes_last : (leaf : ℕ) (rest : List ℕ) (row : ℕ) → times row (rest ++ leaf ∷ []) ≡ times row (leaf ∷ rest)
+goes_last leaf [] row = refl
+goes_last leaf (x ∷ xs) row = past (cond {A = ℕ} (x == row) 1 0) (cond {A = ℕ} (leaf == row) 1 0) (times row xs) (times row (xs ++ leaf ∷ [])) (goes_last leaf xs row)
 
 pub nothing : (xs : List ℕ) → length xs ≡ 0 → xs ≡ []
 nothing [] h = refl
@@ -73,8 +66,8 @@ nothing (x ∷ xs) h = absurd (omega arith)
 abbrev pub Without : ℕ → List ℕ → List ℕ → Type 0
 Without leaf rows rows' = (row : ℕ) → times row rows ≡ times row rows' + cond {A = ℕ} (leaf == row) 1 0
 
-pub goes : (xs xs' : List ℕ) (at x : ℕ) → at < length xs → x ≡ get_or xs at x → xs' ≡ take at xs ++ drop (at + 1) xs → Without x xs xs'
-goes xs xs' at x lt e is row = times_without xs at row x lt ∙ (λ i. times row (sym is i) + cond {A = ℕ} (sym e i == row) 1 0)
+pub goes : (leaf : ℕ) (rest : List ℕ) → Without leaf (leaf ∷ rest) rest
+goes leaf rest row = first_off (cond {A = ℕ} (leaf == row) 1 0) (times row rest)
 
 more_le : (t t' c : ℕ) → t ≤ 1 → t ≡ t' + c → t' ≤ 1
 more_le t t' c h e = omega arith
@@ -161,6 +154,18 @@ module _ (uses : ℕ → Bool) (tree : List Row) (slices : ℕ) where
     | inl h ↦ had_none (calls_of old) (calls_of new) rows rows' kept old.number leaf k.reply w some off h.0 h.1
     | inr h ↦ gave_back (calls_of old) (calls_of new) rows rows' kept old.number leaf k.reply h.2 w some off h.0 h.1 h.3
   ]
+
+  -- the leaves that are still asked, in another order
+  pub reordered : (calls : List PoolEntry) (rows rows' : List ℕ) (kept : ℕ) → ((row : ℕ) → times row rows' ≡ times row rows) → IsWorking uses tree slices calls rows kept → IsWorking uses tree slices calls rows' kept
+  reordered calls rows rows' kept same w = record {
+    worker = w.worker;
+    has = w.has;
+    none_owed = w.none_owed;
+    goes_on = w.goes_on;
+    once = λ row. subst (λ (n : ℕ). n ≤ 1) (sym (same row)) (w.once row);
+    still = λ row is. w.still row (sym (same row) ∙ is);
+    closed = λ row lt is none. w.closed row lt is (sym (same row) ∙ none);
+  }
 
   pub ends : (calls : List PoolEntry) (rows : List ℕ) (kept : ℕ) → IsWorking uses tree slices calls rows kept → (kept ≡ slices) ⊎ (rows ≡ []) → Drains uses tree slices fresh calls
   ends calls rows kept w h = subst (Drains uses tree slices fresh) (append-nil calls) (w.goes_on [] (record { none_owed = w.none_owed; spent_or_no_leaf = why h })) where

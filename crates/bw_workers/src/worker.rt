@@ -9,6 +9,7 @@ use bw_model::Instance;
 use bw_model::limits::MAX_GROUPS;
 use bw_pool::{PoolCall, PoolReply, SlicePool};
 use bw_ticket::{Seat, TicketLock};
+use std::collections::VecDeque;
 use std::sync::Wait;
 
 // Whether a draw got its one slice.
@@ -74,7 +75,7 @@ pub(crate) fn work<G: Gate, R: Wait>(
     lock: &TicketLock<SlicePool>,
     mut seat: Seat<SlicePool>,
     instance: &Instance,
-    mut leaves: Vec<u32>,
+    leaves: Vec<u32>,
     gate: &G,
 ) -> Seat<SlicePool>
     requires lock { seat.lock_id ≡ lock.now.lock_id }
@@ -88,19 +89,17 @@ pub(crate) fn work<G: Gate, R: Wait>(
 {
     let shape = instance.shape();
     let slices = shape.per_processor();
+    // the leaf that is asked next stands first
+    let mut leaves = VecDeque::from_vec(leaves);
     let mut kept = 0;
     let mut nth = 0;
-    let mut at = 0;
     while kept < slices && !leaves.is_empty() {
-        if at == leaves.len() {
-            at = 0;
-        }
-        let leaf = leaves[at];
+        let Some(leaf) = leaves.pop_front() else {
+            unreachable!()
+        };
         if take_turn(rt, lock, &mut seat, leaf, nth, gate) {
             kept += 1;
-            at += 1;
-        } else {
-            leaves.remove(at);
+            leaves.push_back_reserved(leaf);
         }
         nth += 1;
     }

@@ -13,7 +13,6 @@ invariant-loop-kept g l = record {
   works : IsWorking (g.G.Gate.used l.gate) l.instance.rows (slices_per_processor l.instance.shape) (calls_of l.seat) l.leaves.items l.kept;
   slices : l.slices ≡ (slices_per_processor l.instance.shape);
   few_slices : l.slices ≤ MAX_PER_PROCESSOR;
-  at : l.at ≤ length l.leaves.items;
   kept : l.kept ≤ l.slices;
   leaves : length l.leaves.items ≤ length l.initial.leaves.items;
   nth : l.nth + length l.leaves.items ≤ l.kept + length l.initial.leaves.items;
