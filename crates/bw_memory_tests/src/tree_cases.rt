@@ -1,14 +1,15 @@
 //! Calls on a tree that take memory.
 use bw_model::HostShape;
 use bw_tree::{GroupId, Tree, TreeFault};
+use std::alloc::Global;
 use std::process::Abort;
 use std::test::Fail;
 
-fn new_tree(rt: &HostRuntime) -> Result<Tree, TreeFault> {
-    match Tree::new(rt.alloc()) {
+fn new_tree(rt: &impl Abort, alloc: Global) -> Result<Tree, TreeFault> {
+    match Tree::new(alloc) {
         Err(fault) => {
             assert!(rt; fault == TreeFault::OutOfMemory);
-            Tree::new(rt.alloc())
+            Tree::new(alloc)
         }
         made => made,
     }
@@ -38,8 +39,8 @@ fn make(
 }
 
 /// A tree of `a` (1) and `a/b` (2).
-fn small_tree(rt: &HostRuntime) -> Result<Tree, TreeFault> {
-    let mut tree = new_tree(rt)?;
+fn small_tree(rt: &impl Abort, alloc: Global) -> Result<Tree, TreeFault> {
+    let mut tree = new_tree(rt, alloc)?;
     make(rt, &mut tree, 0, "a", "a", 1)?;
     make(rt, &mut tree, 1, "b", "a/b", 2)?;
     Ok(tree)
@@ -48,7 +49,7 @@ fn small_tree(rt: &HostRuntime) -> Result<Tree, TreeFault> {
 /// Enough groups that map and index grow more than once.
 #[test]
 fn mkdir(rt: HostRuntime) -> Result<(), Fail> {
-    let mut tree = small_tree(&rt)?;
+    let mut tree = small_tree(&rt, rt.alloc())?;
     let names = ["c", "d", "e", "f", "g", "h", "i", "j", "k", "l", "m", "n", "o", "p"];
     let mut next = 3;
     for name in names {
@@ -61,7 +62,7 @@ fn mkdir(rt: HostRuntime) -> Result<(), Fail> {
 
 #[test]
 fn path_of(rt: HostRuntime) -> Result<(), Fail> {
-    let tree = small_tree(&rt)?;
+    let tree = small_tree(&rt, rt.alloc())?;
     for (id, wanted) in [(0, "."), (1, "a"), (2, "a/b")] {
         let path = match tree.path_of(id) {
             Err(fault) => {
@@ -77,7 +78,7 @@ fn path_of(rt: HostRuntime) -> Result<(), Fail> {
 
 #[test]
 fn copy(rt: HostRuntime) -> Result<(), Fail> {
-    let tree = small_tree(&rt)?;
+    let tree = small_tree(&rt, rt.alloc())?;
     let copy = match tree.copy() {
         Err(fault) => {
             assert!(rt; fault == TreeFault::OutOfMemory);
@@ -92,7 +93,7 @@ fn copy(rt: HostRuntime) -> Result<(), Fail> {
 
 #[test]
 fn snapshot(rt: HostRuntime) -> Result<(), Fail> {
-    let tree = small_tree(&rt)?;
+    let tree = small_tree(&rt, rt.alloc())?;
     let shape = HostShape::new(1, 100_000, 5_000)?;
     let (instance, ids) = match tree.snapshot(shape) {
         Err(fault) => {

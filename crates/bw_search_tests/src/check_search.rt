@@ -147,11 +147,7 @@ fn is_plan(rows: &[Row], within: &[Vec<u64>], amounts: &[u64]) -> bool {
 }
 
 // The levels that are tried at a group with so many children.
-fn levels_of(
-    alloc: Global,
-    size: Size,
-    children: usize,
-) -> Result<Vec<Option<Mark>>, AllocError> {
+fn levels_of(alloc: Global, size: Size, children: usize) -> Result<Vec<Option<Mark>>, AllocError> {
     let mut levels: Vec<Option<Mark>> = Vec::new(alloc);
     levels.push(None)?;
     if children > 0 {
@@ -297,7 +293,13 @@ fn is_exact(
     let levels = all_levels(alloc, size, instance)?;
     for list in &within {
         if list.as_slice() != amounts {
-            if !is_refused_at_all(alloc, instance, list.as_slice(), &mut certificate, levels.as_slice())? {
+            if !is_refused_at_all(
+                alloc,
+                instance,
+                list.as_slice(),
+                &mut certificate,
+                levels.as_slice(),
+            )? {
                 return Ok(false);
             }
         }
