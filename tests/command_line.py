@@ -40,6 +40,19 @@ demand 0
 7 pod/y
 10 job
 """
+COUNTERS = POD.replace(b"read pod cpu.max\nread pod/y cpu.weight\n", b"") + b"period\nread pod cpu.stat\nreport\n"
+COUNTERS_SAID = POD_SAID.replace(b"50000 100000\n300\n", b"") + b"""served 20
+usage_usec 50000
+nr_periods 1
+nr_throttled 1
+throttled_usec 150000
+          usage_usec    periods  throttled       throttled_usec group
+              100000          1          0                    0 .
+               50000          1          1               150000 pod
+               15000          1          0                    0 pod/x
+               35000          1          0                    0 pod/y
+               50000          1          0                    0 job
+"""
 TWO_CERTIFIED = b"""bw 1 1 100000 5000 3
 - 100 max 0 20 1 13/100@0
 0 100 max 20 7 0 -
@@ -68,6 +81,12 @@ CASES = [
     ("all three options", ["run", "--processors", "4", "--period", "10000", "--slice", "1000"], b"mkdir a\ndemand a 100\ntotal\n", same(b"ok\nok\ntotal 40\nlimit 40 .\ndemand 0\n"), NOTHING, 0),
     ("a refused line, and the script goes on", ["run"], b"frob\nmkdir a\nmkdir a\ntotal", same(b"error 80 BadCommand\nok\nerror 21 Exists\ntotal 0\ndemand 0\n"), NOTHING, 0),
     ("settings and a plan", ["run"], POD, same(POD_SAID), NOTHING, 0),
+    ("a period and its counters", ["run"], COUNTERS, same(COUNTERS_SAID), NOTHING, 0),
+    ("a period of four processors", ["run", "--processors", "4"], POD + b"period\nread . cpu.stat\n", holds(b"10 pod\n3 pod/x\n7 pod/y\n20 job\nserved 30\nusage_usec 150000\n"), NOTHING, 0),
+    ("a period of 64 processors", ["run", "--processors", "64"], b"mkdir a\ndemand a 1000000\nperiod\n", same(b"ok\nok\nserved 1280\n"), NOTHING, 0),
+    ("a period without groups", ["run"], b"period\nperiod 1\n", same(b"served 0\nerror 80 BadCommand\n"), NOTHING, 0),
+    ("a report without periods", ["run"], b"report\n", same(b"          usage_usec    periods  throttled       throttled_usec group\n                   0          0          0                    0 .\n"), NOTHING, 0),
+    ("counters are read only", ["run"], b"mkdir a\nwrite a cpu.stat 1\nwrite . cpu.stat 1\nread . cpu.stat\nread . cpu.max\n", same(b"ok\nerror 31 ReadOnly\nerror 31 ReadOnly\nusage_usec 0\nerror 30 NoSuchFile\n"), NOTHING, 0),
     ("a group is taken out", ["run"], b"mkdir a\nrmdir a\nrmdir a\n", same(b"ok\nok\nerror 20 NotFound\n"), NOTHING, 0),
     ("a certified plan", ["run"], b"mkdir a\nmkdir b\nwrite b cpu.weight 200\ndemand a 20\ndemand b 20\ncert\n", same(b"ok\n" * 5 + TWO_CERTIFIED), NOTHING, 0),
     ("a certified text", ["check"], TWO_CERTIFIED, same(b"accepted\n"), NOTHING, 0),
@@ -134,6 +153,12 @@ def certified(script):
     return told("a certified plan", run(["check"], input=text), same(b"accepted\n"), NOTHING, 0)
 
 
+def counters_script():
+    """The example of one period answers as the case of the same lines does."""
+    with open(f"{TOP}/examples/counters.script", "rb") as script:
+        return told("counters.script", run(["run"], input=script.read()), same(COUNTERS_SAID), NOTHING, 0)
+
+
 def line_by_line():
     """A program that talks over pipes gets the answer to each line before it writes the next."""
     with subprocess.Popen([*ARBITER, "run"], stdin=subprocess.PIPE, stdout=subprocess.PIPE) as talk:
@@ -168,7 +193,7 @@ def main():
         if name.endswith(".script"):
             with open(f"{TOP}/examples/{name}", "rb") as script:
                 rows.append((f"the certified plan of {name}", lambda text=script.read(): certified(text)))
-    rows += [("line by line", line_by_line), ("many lines", many_lines)]
+    rows += [("counters.script", counters_script), ("line by line", line_by_line), ("many lines", many_lines)]
     failed = 0
     for name, check in rows:
         try:

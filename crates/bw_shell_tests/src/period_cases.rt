@@ -1,4 +1,4 @@
-//! Periods by script lines.
+//! Periods by script lines, and the counters after them.
 use crate::commands_cases::{assert_answers, assert_answers_on};
 use std::test::Fail;
 
@@ -36,6 +36,83 @@ fn periods_of_one_processor(rt: HostRuntime) -> Result<(), Fail> {
             (" period\t", "served 7"),
             ("demand a 21", "ok"),
             ("period", "served 20"),
+        ],
+    )
+}
+
+// One period of one processor, byte for byte.
+#[test]
+fn counters_of_one_period(rt: HostRuntime) -> Result<(), Fail> {
+    assert_answers(
+        &rt,
+        &[
+            ("mkdir pod", "ok"),
+            ("mkdir pod/x", "ok"),
+            ("mkdir pod/y", "ok"),
+            ("mkdir job", "ok"),
+            ("write pod cpu.max 50000 100000", "ok"),
+            ("write pod/y cpu.weight 300", "ok"),
+            ("demand pod/x 20", "ok"),
+            ("demand pod/y 20", "ok"),
+            ("demand job 20", "ok"),
+            ("total", "total 20\nlimit 20 .\ndemand 0"),
+            ("plan", "20 .\n10 pod\n3 pod/x\n7 pod/y\n10 job"),
+            ("period", "served 20"),
+            (
+                "read pod cpu.stat",
+                "usage_usec 50000\nnr_periods 1\nnr_throttled 1\nthrottled_usec 150000",
+            ),
+            (
+                "report",
+                "          usage_usec    periods  throttled       throttled_usec group
+              100000          1          0                    0 .
+               50000          1          1               150000 pod
+               15000          1          0                    0 pod/x
+               35000          1          0                    0 pod/y
+               50000          1          0                    0 job",
+            ),
+        ],
+    )
+}
+
+const ZEROS: &str = "usage_usec 0\nnr_periods 0\nnr_throttled 0\nthrottled_usec 0";
+
+// A group counts the periods since it was made, and one made again under the same name begins anew.
+#[test]
+fn counters_of_groups_that_come_and_go(rt: HostRuntime) -> Result<(), Fail> {
+    assert_answers(
+        &rt,
+        &[
+            ("mkdir a", "ok"),
+            ("demand a 4", "ok"),
+            ("period", "served 4"),
+            ("period", "served 4"),
+            ("mkdir b", "ok"),
+            ("read b cpu.stat", ZEROS),
+            ("period", "served 4"),
+            (
+                "read b cpu.stat",
+                "usage_usec 0\nnr_periods 1\nnr_throttled 0\nthrottled_usec 0",
+            ),
+            (
+                "read a cpu.stat",
+                "usage_usec 60000\nnr_periods 3\nnr_throttled 0\nthrottled_usec 0",
+            ),
+            ("demand a 0", "ok"),
+            ("rmdir a", "ok"),
+            ("mkdir a", "ok"),
+            ("read a cpu.stat", ZEROS),
+            ("read . cpu.stat", "usage_usec 60000"),
+            ("write . cpu.stat 1", "error 31 ReadOnly"),
+            ("write a cpu.stat", "error 31 ReadOnly"),
+            (
+                "report",
+                "          usage_usec    periods  throttled       throttled_usec group
+               60000          3          0                    0 .
+                   0          1          0                    0 b
+                   0          0          0                    0 a",
+            ),
+            ("report .", "error 80 BadCommand"),
         ],
     )
 }

@@ -1,5 +1,5 @@
 //! Scripts whose periods are served under gates. Where memory was wanting a case is run once more.
-use crate::workers_cases::{Without, held_first, meet};
+use crate::workers_cases::{Without, held_first, meeting};
 use bw_model::HostShape;
 use bw_shell::{RunFault, Watched, run_gated};
 use bw_workers::{Gate, NoGate};
@@ -82,7 +82,7 @@ fn one_period<G: Gate, R: AllocGlobal + Threads + Wait + Abort + Sync>(
 }
 
 fn four_meet<R: AllocGlobal + Threads + Wait + Abort + Sync>(rt: &R) -> Result<(), AllocError> {
-    let gate = meet();
+    let gate = meeting();
     one_period(rt, &gate, "served 30")?;
     assert_eq!(rt; gate.met.load(), 4);
     Ok(())
@@ -96,10 +96,89 @@ fn all_meet(rt: HostRuntime) -> Result<(), Fail> {
     Ok(())
 }
 
+const UNUSED_JOB_SAID: &str =
+    "total 20
+limit 20 .
+demand 0
+20 .
+10 pod
+3 pod/x
+7 pod/y
+10 job
+served 10
+          usage_usec    periods  throttled       throttled_usec group
+               50000          1          0                    0 .
+               50000          1          1               150000 pod
+               15000          1          0                    0 pod/x
+               35000          1          0                    0 pod/y
+                   0          1          0                    0 job
+";
+
+// A gate that does not use job: the plan is as before, and what is drawn of job is given back.
+fn without_job<R: AllocGlobal + Threads + Wait + Abort + Sync>(rt: &R) -> Result<(), AllocError> {
+    one_period(rt, &Without(4), "served 10")?;
+    let script = format!(in rt.alloc(); "{POD_AND_JOB}total\nplan\nperiod\nreport\n")?;
+    let said = format!(in rt.alloc(); "{POD_AND_JOB_SAID}{UNUSED_JOB_SAID}")?;
+    ran(rt, 1, script.as_str(), &Without(4), said.as_str())
+}
+
 #[test]
 fn a_leaf_that_is_not_used(rt: HostRuntime) -> Result<(), Fail> {
-    if one_period(&rt, &Without(4), "served 10").is_err() {
-        one_period(&rt, &Without(4), "served 10")?;
+    if without_job(&rt).is_err() {
+        without_job(&rt)?;
+    }
+    Ok(())
+}
+
+const FIFTY_SAID: &str =
+    "          usage_usec    periods  throttled       throttled_usec group
+             7500000         50          0                    0 .
+             2500000         50         50              7500000 pod
+              750000         50          0                    0 pod/x
+             1750000         50          0                    0 pod/y
+             5000000         50          0                    0 job
+usage_usec 7500000
+usage_usec 2500000
+nr_periods 50
+nr_throttled 50
+throttled_usec 7500000
+";
+
+// Fifty periods of the script of pod and job, on four processors, and the counters after them.
+fn fifty_periods<G: Gate, R: AllocGlobal + Threads + Wait + Abort + Sync>(
+    rt: &R,
+    gate: &G,
+) -> Result<(), AllocError> {
+    let mut script = String::new(rt.alloc());
+    let mut said = String::new(rt.alloc());
+    script.push_str(POD_AND_JOB)?;
+    said.push_str(POD_AND_JOB_SAID)?;
+    for _ in 0..50 {
+        script.push_str("period\n")?;
+        said.push_str("served 30\n")?;
+    }
+    script.push_str("report\nread . cpu.stat\nread pod cpu.stat\n")?;
+    said.push_str(FIFTY_SAID)?;
+    ran(rt, 4, script.as_str(), gate, said.as_str())
+}
+
+#[test]
+fn fifty_periods_without_a_gate(rt: HostRuntime) -> Result<(), Fail> {
+    if fifty_periods(&rt, &NoGate).is_err() {
+        fifty_periods(&rt, &NoGate)?;
+    }
+    Ok(())
+}
+
+#[test]
+fn fifty_periods_under_gates(rt: HostRuntime) -> Result<(), Fail> {
+    for (held, other, nth) in [(0, 1, 0), (1, 0, 0), (3, 2, 1)] {
+        if fifty_periods(&rt, &held_first(held, other, nth)).is_err() {
+            fifty_periods(&rt, &held_first(held, other, nth))?;
+        }
+    }
+    if fifty_periods(&rt, &meeting()).is_err() {
+        fifty_periods(&rt, &meeting())?;
     }
     Ok(())
 }

@@ -181,7 +181,7 @@ pub(crate) struct Meet {
     pub(crate) met: AtomicCell<u32>,
 }
 
-pub(crate) fn meet() -> Meet {
+pub(crate) fn meeting() -> Meet {
     Meet {
         begun: AtomicCell::new(0),
         met: AtomicCell::new(0),
@@ -256,7 +256,7 @@ fn serve_all_meet<R: Threads + Wait + Abort + Sync>(
     alloc: Global,
 ) -> Result<(), AllocError> {
     let (instance, plan) = pod_and_job(rt, alloc)?;
-    let gate = meet();
+    let gate = meeting();
     served(rt, alloc, &instance, &plan, &gate, &[30, 10, 3, 7, 20])?;
     assert_eq!(rt; gate.met.load(), 4);
     Ok(())
