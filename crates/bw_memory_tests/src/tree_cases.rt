@@ -50,7 +50,9 @@ fn small_tree(rt: &impl Abort, alloc: Global) -> Result<Tree, TreeFault> {
 #[test]
 fn mkdir(rt: HostRuntime) -> Result<(), Fail> {
     let mut tree = small_tree(&rt, rt.alloc())?;
-    let names = ["c", "d", "e", "f", "g", "h", "i", "j", "k", "l", "m", "n", "o", "p"];
+    let names = [
+        "c", "d", "e", "f", "g", "h", "i", "j", "k", "l", "m", "n", "o", "p",
+    ];
     let mut next = 3;
     for name in names {
         make(&rt, &mut tree, 0, name, name, next)?;

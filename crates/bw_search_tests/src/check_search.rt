@@ -6,6 +6,9 @@
 //! level is accepted the greatest last mark is too: it is above the same last marks, and below the same next marks.
 //! Amounts above a limit or a demand, or that are not the sums of the children's, are tried with all flags and with the
 //! levels of the plan alone.
+//!
+//! Built natively these tests take about a minute of one processor; the build of `rt try`, which checks each step, takes
+//! some hundred times as long, and ends in time for one and two rows alone.
 
 use bw_cert::certify;
 use bw_check::{Verdict, check};
@@ -147,7 +150,7 @@ fn is_plan(rows: &[Row], within: &[Vec<u64>], amounts: &[u64]) -> bool {
 }
 
 // The levels that are tried at a group with so many children.
-fn levels_of(alloc: Global, size: Size, children: usize) -> Result<Vec<Option<Mark>>, AllocError> {
+fn levels_of(alloc: Global, size: Size, children: u32) -> Result<Vec<Option<Mark>>, AllocError> {
     let mut levels: Vec<Option<Mark>> = Vec::new(alloc);
     levels.push(None)?;
     if children > 0 {
@@ -155,7 +158,7 @@ fn levels_of(alloc: Global, size: Size, children: usize) -> Result<Vec<Option<Ma
             for den in 1..=size.weights {
                 for place in 0..children {
                     let num = half.saturating_mul(2).saturating_add(1);
-                    levels.push(Mark::new(num, den, place as u32))?;
+                    levels.push(Mark::new(num, den, place))?;
                 }
             }
         }
@@ -258,7 +261,8 @@ fn all_levels(
 ) -> Result<Vec<Vec<Option<Mark>>>, AllocError> {
     let mut levels: Vec<Vec<Option<Mark>>> = Vec::new(alloc);
     for g in 0..instance.group_count() {
-        levels.push(levels_of(alloc, size, instance.children(g).len())?)?;
+        let children = u32::try_from(instance.children(g).len()).unwrap_or(0);
+        levels.push(levels_of(alloc, size, children)?)?;
     }
     Ok(levels)
 }
@@ -374,15 +378,31 @@ fn three_rows(rt: HostRuntime) -> Result<(), Fail> {
     assert_exact(&rt, rt.alloc(), size, 1, 0)
 }
 
-/// Four rows, with weights 1 and 2, demands and limits up to 2, and amounts up to 2.
+/// Four rows, with weights 1 and 2, demands and limits up to 2, and amounts up to 3. They are tried in four parts, since
+/// together they take long.
 const FOUR_ROWS: Size = Size {
     rows: 4,
     capacity: 2,
     weights: 2,
-    greatest: 2,
+    greatest: 3,
 };
 
 #[test]
-fn four_rows(rt: HostRuntime) -> Result<(), Fail> {
-    assert_exact(&rt, rt.alloc(), FOUR_ROWS, 1, 0)
+fn four_rows_first_part(rt: HostRuntime) -> Result<(), Fail> {
+    assert_exact(&rt, rt.alloc(), FOUR_ROWS, 4, 0)
+}
+
+#[test]
+fn four_rows_second_part(rt: HostRuntime) -> Result<(), Fail> {
+    assert_exact(&rt, rt.alloc(), FOUR_ROWS, 4, 1)
+}
+
+#[test]
+fn four_rows_third_part(rt: HostRuntime) -> Result<(), Fail> {
+    assert_exact(&rt, rt.alloc(), FOUR_ROWS, 4, 2)
+}
+
+#[test]
+fn four_rows_fourth_part(rt: HostRuntime) -> Result<(), Fail> {
+    assert_exact(&rt, rt.alloc(), FOUR_ROWS, 4, 3)
 }
