@@ -3,6 +3,8 @@
 #![tactic(auto)]
 
 #[cfg(test)]
+mod hierarchy_cases;
+#[cfg(test)]
 mod instance_cases;
 #[cfg(test)]
 mod tree_cases;
