@@ -1,27 +1,22 @@
 -- What is spelled is read.
-use Rattle.std.proofs.Common.{◌≡◌, ℕ, zero, suc, ◌+◌, ◌<◌, ◌≤◌, ◌^◌, Bool, true, false, cond, ltb, eqb, List, [], ◌∷◌, ◌++◌, length, get_or, Option, Some, None, Result, Ok, Err, refl, sym, ap, subst, ◌∙◌, append_assoc, ◌⊎◌, inl, inr, arith}
+use Rattle.std.proofs.Common.{◌≡◌, ℕ, ◌<◌, ◌≤◌, ◌^◌, Bool, true, false, eqb, List, [], ◌∷◌, ◌++◌, length, get_or, Option, Some, None, Ok, refl, ap, ◌∙◌, append_assoc, ◌⊎◌, inl, inr, arith}
 use Rattle.std.specs.Prelude.{codes, IfSome}
-use Rattle.std.specs.List.{slice_split, join_with_byte, flat_map, AllByRecursion, All}
+use Rattle.std.specs.List.{slice_split, join_with_byte, AllByRecursion, All}
 use Rattle.std.specs.Str.{bytes_eq}
 use Rattle.std.specs.Fmt.{decimal}
-use Rattle.std.specs.Char.{is_ascii_digit}
-use Rattle.std.proofs.lemmas.Bool.{lt-ltb, le-ltb}
+use Rattle.std.proofs.lemmas.Bool.{lt-ltb}
 use Rattle.std.proofs.lemmas.Bool.Decides.{nat_tests}
 use Rattle.std.proofs.lemmas.Fmt.{decimal_nonempty}
-use Rattle.std.proofs.lemmas.List.{append-nil, length-append}
+use Rattle.std.proofs.lemmas.List.{length-append}
 use Rattle.std.proofs.lemmas.List.Elements.{All-append, All-from_recursion, recursion_from_All}
 use Rattle.std.proofs.lemmas.List.Splits.{slice_split_at, slice_split_none}
 use Rattle.std.proofs.lemmas.Slice.Eq.{bytes_eq-Decides}
 use Rattle.bw_text.specs.Number.{number_read}
 use Rattle.bw_text.proofs.Numbers.{digit_range}
 use Rattle.bw_text.proofs.Decimals.{decimal_is_read, digits_of_decimal}
-use Rattle.bw_model.specs.declared.row.Row.{Row}
-use Rattle.bw_cert.specs.declared.fault.CertFault.{CertFault}
-use Rattle.bw_cert.specs.declared.fault.CertFault.TheVariants as faults
 use Rattle.bw_model.specs.Marks.{Price}
-use Rattle.bw_cert.specs.Spelling.{Columns, Value, lines_of, words_of, line, parent_word, limit_word, flag_word, level_word, head_words, group_words, groups_words, groups_text, spelling, IsSmallRow, IsSmallLevel, IsValue}
-use Rattle.bw_cert.specs.Reading.{◌>>=◌, number_at, small_at, parent_at, limit_at, flag_at, two, level_in, mark_at, level_at, line_at, group_of, with_group, groups_at}
-use Rattle.bw_cert.proofs.Lines.{line_there}
+use Rattle.bw_cert.specs.Spelling.{lines_of, words_of, line, parent_word, limit_word, flag_word, level_word, IsSmallLevel}
+use Rattle.bw_cert.specs.Reading.{number_at, small_at, parent_at, limit_at, flag_at, mark_at, level_at}
 
 pub number_again : (n : ℕ) → n < 2 ^ 64 → number_at (decimal n) ≡ Ok n
 number_again n h = rw (decimal_is_read n h) refl

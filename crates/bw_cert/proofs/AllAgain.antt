@@ -1,23 +1,19 @@
 -- The whole of a spelled text is read.
-use Rattle.std.proofs.Common.{◌≡◌, ℕ, zero, suc, ◌+◌, ◌<◌, ◌≤◌, ◌^◌, Bool, true, false, ◌||◌, not, cond, ltb, eqb, List, [], ◌∷◌, ◌++◌, length, Option, Some, None, Result, Ok, Err, refl, sym, ap, subst, ◌∙◌, arith}
+use Rattle.std.proofs.Common.{◌≡◌, ℕ, ◌<◌, ◌≤◌, ◌^◌, Bool, true, false, List, [], ◌∷◌, ◌++◌, length, Option, Some, None, Result, Ok, refl, sym, ap, subst, ◌∙◌, arith}
 use Rattle.std.specs.Prelude.{codes, IfSome}
 use Rattle.std.specs.List.{join_with_byte, AllByRecursion}
 use Rattle.std.specs.Fmt.{decimal}
-use Rattle.std.proofs.lemmas.Bool.{lt-ltb, le-ltb}
-use Rattle.std.proofs.lemmas.Bool.Decides.{nat_tests}
+use Rattle.std.proofs.lemmas.Bool.{le-ltb}
 use Rattle.std.proofs.lemmas.List.Elements.{All-append, All-from_recursion, recursion_from_All}
 use Rattle.bw_model.specs.declared.limits.TheConstants.{MAX_GROUPS}
-use Rattle.bw_model.specs.Host.{Shape, IsHost, host_refusal}
+use Rattle.bw_model.specs.Host.{Shape, IsHost}
 use Rattle.bw_model.proofs.Instances.{IsHost-accepted, IsInstance-accepted}
-use Rattle.bw_model.specs.Refusal.{refusal}
-use Rattle.bw_model.specs.declared.host.HostFault.TheVariants.{BadProcessors, BadPeriod, BadSlice}
 use Rattle.bw_model.specs.declared.row.Row.{Row}
-use Rattle.bw_model.specs.declared.instance_fault.InstanceFault.TheVariants.{TooMany}
 use Rattle.bw_cert.specs.declared.fault.CertFault.{CertFault}
 use Rattle.bw_cert.specs.declared.groups.Certified.{Certified}
 use Rattle.bw_model.specs.Marks.{Price}
-use Rattle.bw_cert.specs.Spelling.{groups_of, Columns, Value, lines_of, words_of, line, parent_word, limit_word, flag_word, level_word, head_words, group_words, groups_words, groups_text, spelling, IsSmallRow, IsSmallLevel, IsValue}
-use Rattle.bw_cert.specs.Reading.{Gives, line_at, Group, head_of, group_of, groups_at, certified_of, certified_view}
+use Rattle.bw_cert.specs.Spelling.{groups_of, Value, lines_of, line, parent_word, limit_word, flag_word, level_word, head_words, group_words, groups_text, spelling, IsSmallRow, IsSmallLevel, IsValue}
+use Rattle.bw_cert.specs.Reading.{Gives, line_at, head_of, group_of, groups_at, certified_of, certified_view}
 use Rattle.bw_cert.proofs.Lines.{line_there}
 use Rattle.bw_cert.proofs.Again.{IsPlain, digits_plain, number_again, parent_again, limit_again, flag_again, level_again, words_again, line_again}
 

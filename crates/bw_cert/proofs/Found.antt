@@ -1,9 +1,8 @@
 -- A text that is read is the one spelling of its value.
-use Rattle.std.proofs.Common.{◌≡◌, ℕ, zero, suc, ◌+◌, ◌<◌, ◌≤◌, ◌^◌, Bool, true, false, cond, ltb, eqb, List, [], ◌∷◌, ◌++◌, length, Option, Some, None, Result, Ok, Err, refl, sym, ap, subst, ◌∙◌, append_assoc, ◌⊎◌, inl, inr, arith}
+use Rattle.std.proofs.Common.{◌≡◌, ℕ, zero, suc, ◌<◌, ◌^◌, Bool, true, false, cond, ltb, eqb, List, [], ◌∷◌, ◌++◌, length, Option, Some, None, Result, Ok, Err, refl, sym, ap, subst, ◌∙◌, append_assoc}
 use Rattle.std.specs.Prelude.{codes, IfSome, IfOk}
-use Rattle.std.specs.List.{slice_split, join_with_byte, flat_map, AllByRecursion}
+use Rattle.std.specs.List.{join_with_byte, AllByRecursion}
 use Rattle.std.specs.Str.{bytes_eq}
-use Rattle.std.specs.Fmt.{decimal}
 use Rattle.std.proofs.lemmas.List.{append-nil}
 use Rattle.std.proofs.lemmas.List.Elements.{All-from_recursion}
 use Rattle.std.proofs.lemmas.List.Splits.{join_with_byte-slice_split}
@@ -13,14 +12,13 @@ use Rattle.bw_model.proofs.Instances.{accepted-IsInstance}
 use Rattle.bw_model.specs.Host.{Shape, host_refusal}
 use Rattle.bw_model.specs.Refusal.{refusal}
 use Rattle.bw_model.specs.declared.host.HostFault.{HostFault}
-use Rattle.bw_model.specs.declared.row.Row.{Row}
 use Rattle.bw_model.specs.declared.instance_fault.InstanceFault.{InstanceFault}
 use Rattle.bw_model.specs.declared.instance_fault.InstanceFault.TheVariants.{TooMany}
 use Rattle.bw_cert.specs.declared.fault.CertFault.{CertFault}
 use Rattle.bw_cert.specs.declared.fault.CertFault.TheVariants as faults
 use Rattle.bw_cert.specs.declared.groups.Certified.{Certified}
 use Rattle.bw_model.specs.Marks.{Price}
-use Rattle.bw_cert.specs.Spelling.{groups_of, Columns, Value, lines_of, words_of, line, head_words, group_words, groups_words, groups_text, spelling, IsSmallRow, IsSmallLevel, IsValue}
+use Rattle.bw_cert.specs.Spelling.{groups_of, Columns, Value, lines_of, words_of, line, head_words, group_words, groups_text, spelling, IsSmallRow, IsSmallLevel, IsValue}
 use Rattle.bw_cert.specs.Reading.{◌>>=◌, Gives, number_at, parent_at, limit_at, flag_at, level_at, line_at, word_is, host_unless, host_in, head_of, Group, group_of, with_group, no_groups, groups_at, value_unless, is_over, certified_of, certified_view}
 use Rattle.bw_cert.proofs.WordsFound.{bind_ok, number_found, parent_found, limit_found, flag_found, level_found}
 

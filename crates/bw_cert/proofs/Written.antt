@@ -1,13 +1,13 @@
 -- Lines as they are put together.
-use Rattle.std.proofs.Common.{◌≡◌, ℕ, zero, suc, ◌+◌, ◌<◌, ◌≤◌, ◌^◌, ◌⊎◌, inl, inr, Bool, List, [], ◌∷◌, ◌++◌, length, get_or, map, drop, Option, None, refl, sym, ap, subst, ◌∙◌, append_assoc, arith}
+use Rattle.std.proofs.Common.{◌≡◌, ℕ, ◌+◌, ◌<◌, ◌≤◌, ◌^◌, inl, inr, Bool, List, [], ◌∷◌, ◌++◌, length, get_or, map, drop, Option, None, refl, sym, ap, subst, ◌∙◌, append_assoc, arith}
 use Rattle.std.specs.Prelude.{codes, IfSome}
 use Rattle.std.specs.List.{flat_map, All}
 use Rattle.std.specs.Option.{option_map}
-use Rattle.std.proofs.lemmas.List.{drop_more, drop_all, drop-map, append-nil, get_or_default, get_or-map, length-map}
+use Rattle.std.proofs.lemmas.List.{drop_more, drop_all, append-nil, get_or_default, get_or-map, length-map}
 use Rattle.std.proofs.lemmas.Bool.{cases_lt}
 use Rattle.bw_model.specs.declared.row.Row.{Row}
 use Rattle.bw_model.specs.declared.mark.Mark.{Mark}
-use Rattle.bw_model.specs.Marks.{Price, price_of}
+use Rattle.bw_model.specs.Marks.{price_of}
 use Rattle.bw_cert.specs.Spelling.{line, group_words, groups_words, IsSmallRow, IsSmallLevel}
 
 pub head_text : (old p us s n : List ℕ) → ((((((((old ++ codes "bw 1 ") ++ p) ++ codes " ") ++ us) ++ codes " ") ++ s) ++ codes " ") ++ n) ++ codes "\n" ≡ old ++ line (codes "bw" ∷ codes "1" ∷ p ∷ us ∷ s ∷ n ∷ [])

@@ -1,10 +1,9 @@
 -- Reading from the first line to the last, with the first refusal that is met.
-use Rattle.std.specs.Prelude.{◌≡◌, ℕ, zero, suc, ◌+◌, ◌^◌, Bool, true, false, ◌&&◌, ◌==◌, nat_lt, List, [], ◌∷◌, ◌++◌, length, map, Option, Some, None, Result, Ok, Err, codes, if◌then◌else◌}
+use Rattle.std.specs.Prelude.{◌≡◌, ℕ, zero, suc, ◌^◌, Bool, true, false, ◌&&◌, ◌==◌, nat_lt, List, [], ◌∷◌, length, map, Option, Some, None, Result, Ok, Err, codes, if◌then◌else◌}
 use Rattle.std.specs.Option.{option_map}
 use Rattle.std.specs.List.{slice_split}
 use Rattle.std.specs.Str.{bytes_eq}
 use Rattle.bw_text.specs.Number.{number_read}
-use Rattle.bw_text.specs.declared.number.NumberFault.{NumberFault}
 use Rattle.bw_model.specs.Host.{Shape, host_refusal}
 use Rattle.bw_model.specs.Refusal.{refusal}
 use Rattle.bw_model.specs.declared.host.HostFault.{HostFault}

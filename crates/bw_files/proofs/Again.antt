@@ -1,18 +1,16 @@
 -- What is written is read again.
-use Rattle.std.proofs.Common.{◌≡◌, ℕ, ◌^◌, ◌<◌, ◌≤◌, false, List, [], ◌∷◌, ◌++◌, Option, Some, Ok, refl, sym, ap, ◌∙◌, append_assoc, arith, rules}
+use Rattle.std.proofs.Common.{◌≡◌, ℕ, ◌^◌, ◌<◌, ◌≤◌, false, List, [], ◌∷◌, ◌++◌, Some, Ok, refl, ap, ◌∙◌, append_assoc, arith}
 use Rattle.std.specs.Prelude.{codes}
 use Rattle.std.specs.Fmt.{decimal}
 use Rattle.std.proofs.lemmas.Bool.{le-ltb}
 use Rattle.std.proofs.lemmas.List.Elements.{All-from_recursion}
 use Rattle.bw_text.specs.Words.{is_white, words}
-use Rattle.bw_text.specs.Number.{number_of}
 use Rattle.bw_text.proofs.Parts.{IsWord, words_next}
 use Rattle.bw_text.proofs.Decimals.{decimal_is_word, decimal_is_number, decimal_value}
 use Rattle.bw_model.specs.declared.limits.TheConstants.{MIN_WEIGHT, MAX_WEIGHT, MIN_PERIOD_US, MAX_PERIOD_US}
 use Rattle.bw_model.specs.Quota.{IsValid}
 use Rattle.bw_model.specs.declared.quota.Quota.{Quota}
 use Rattle.bw_model.specs.declared.quota.Quota.TheVariants.{Max, Micros}
-use Rattle.bw_files.specs.declared.reading.MaxWrite.{MaxWrite}
 use Rattle.bw_files.specs.Values.{IsNumber, IsQuotaWord, IsWeightText, IsMaxText}
 use Rattle.bw_files.specs.Reading.{weight_of, max_of}
 use Rattle.bw_files.specs.Writing.{weight_text, max_text, quota_word}

@@ -1,5 +1,5 @@
 -- What is read is a value of the text, and each value of the text is read.
-use Rattle.std.proofs.Common.{◌≡◌, ℕ, ◌^◌, ◌<◌, ◌≤◌, Bool, true, false, ◌||◌, cond, ltb, List, [], ◌∷◌, Option, Some, None, Result, Ok, Err, refl, sym, ap, subst, ◌∙◌, ◌⊎◌, inl, inr, arith, rules}
+use Rattle.std.proofs.Common.{◌≡◌, ℕ, ◌≤◌, Bool, true, false, ◌||◌, cond, ltb, List, [], ◌∷◌, Option, Some, None, Result, Ok, Err, refl, sym, ap, ◌∙◌, ◌⊎◌, inl, inr, arith}
 use Rattle.std.specs.Prelude.{codes, IfOk}
 use Rattle.std.specs.Str.{bytes_eq}
 use Rattle.std.proofs.lemmas.Bool.{le-ltb}
@@ -14,7 +14,7 @@ use Rattle.bw_files.specs.declared.fault.FileFault.{FileFault}
 use Rattle.bw_files.specs.declared.fault.FileFault.TheVariants as faults
 use Rattle.bw_files.specs.declared.reading.MaxWrite.{MaxWrite}
 use Rattle.bw_files.specs.Values.{IsNumber, IsQuotaWord, ArePeriodWords, IsMaxText}
-use Rattle.bw_files.specs.Reading.{◌>>=◌, or_bad, number_at, quota_at, quota_in, period_in, one_word, two_words, max_of}
+use Rattle.bw_files.specs.Reading.{◌>>=◌, or_bad, number_at, quota_at, quota_in, period_in, max_of}
 
 bind_ok : {A B : Type 0} (r : Result A FileFault) (f : A → Result B FileFault) (y : B) → (r >>= f) ≡ Ok y → (x : A) × (r ≡ Ok x) × (f x ≡ Ok y)
 bind_ok (Ok x) f y e = (x, refl, e)

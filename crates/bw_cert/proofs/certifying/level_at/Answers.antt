@@ -1,8 +1,8 @@
-use Rattle.std.proofs.Common.{◌≡◌, ◌<◌, ◌≤◌, ℕ, false, length, get_or, ap, sym, ◌∙◌, arith}
+use Rattle.std.proofs.Common.{◌≡◌, ◌≤◌, ℕ, length, ap, sym, ◌∙◌, arith}
 use Rattle.std.specs.Prelude.{map, slice_index}
 use Rattle.std.proofs.lemmas.List.{length-map}
 use Rattle.bw_model.specs.declared.limits.TheConstants.{MAX_GROUPS}
-use Rattle.bw_model.specs.Groups.{children_of, is_leaf}
+use Rattle.bw_model.specs.Groups.{children_of}
 use Rattle.bw_model.specs.Plan.{child_weights}
 use Rattle.bw_plan.proofs.Shares.{few_children, weights_in_range}
 use Rattle.bw_cert.proofs.Levelled.{small_parts, to_level}

@@ -1,4 +1,4 @@
-use Rattle.std.proofs.Common.{◌≡◌, None, sym, arith, rules}
+use Rattle.std.proofs.Common.{◌≡◌, None, sym, rules}
 use Rattle.bw_cert.specs.Spelling.{lines_of}
 use Rattle.bw_cert.specs.Reading.{columns_view}
 use Rattle.bw_model.specs.Refusal.{refusal}

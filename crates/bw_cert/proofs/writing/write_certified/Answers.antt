@@ -1,10 +1,10 @@
-use Rattle.std.proofs.Common.{◌≡◌, ◌<◌, ◌≤◌, ◌^◌, ◌++◌, ◌∙◌, ap, sym, refl, length, arith, rules}
+use Rattle.std.proofs.Common.{◌≡◌, ◌<◌, ◌≤◌, ◌^◌, ◌++◌, ◌∙◌, ap, refl, length, arith, rules}
 use Rattle.std.specs.Prelude.{string_bytes}
 use Rattle.std.proofs.lemmas.List.{length-map}
 use Rattle.std.specs.Option.{option_map}
 use Rattle.bw_model.specs.Marks.{price_of}
 use Rattle.bw_cert.specs.Spelling.{value_of, spelling, IsSmallRow}
-use Rattle.bw_cert.proofs.Written.{rest_text, rest_step, rest_none, written_more, written_all, first_none, first_more, first_all, all_levels, IsSmallMark, AreSmall}
+use Rattle.bw_cert.proofs.Written.{rest_text, rest_step, rest_none, written_more, written_all, first_none, first_more, first_all, all_levels, IsSmallMark}
 use Rattle.bw_cert.proofs.writing.write_certified.Goals as goal
 
 pub loop-i-init : goal.loop-i-init
