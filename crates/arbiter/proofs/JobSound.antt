@@ -8,7 +8,7 @@ use Rattle.clap.specs.Lexer.{long_of}
 use Rattle.clap.specs.Walk.{Held, Names, Walk, arg_by_long, idle, trailing, finished, nothing_held, settled, walk, walk_from, walked, subcommand_met, subcommand_or_other, long_or_other, after_step}
 use Rattle.clap.specs.Faults.{check_fault, defaults_fault, entered_fault, fault_of, level_fault, settle_fault, react_fault, walk_fault, turn_fault, other_fault, step_fault, long_fault, short_fault}
 use Rattle.clap.specs.Kinds.{Kinds, or_else}
-use Rattle.clap.specs.Simple.{built, entered, filled, help_rule, version_rule}
+use Rattle.clap.specs.Simple.{entered, filled, help_rule, version_rule}
 use Rattle.clap.proofs.WalkLemmas.{walk_stopped}
 use Rattle.clap.proofs.FaultLemmas.{stopped_fault}
 use Rattle.clap.proofs.OnLiterals.{clap_on_literals}

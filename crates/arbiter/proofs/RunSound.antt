@@ -1,11 +1,11 @@
 -- Words after `run` that clap takes name a job.
-use Rattle.std.proofs.Common.{◌≡◌, ◌∙◌, ap, ap₂, sym, subst, refl, ℕ, List, [], ◌∷◌, Option, Some, None, codes, is_some, false, true}
-use Rattle.std.specs.Prelude.{fold, option_map}
-use Rattle.clap.specs.Words.{Row, Text, App, subcommand_of}
-use Rattle.clap.specs.Walk.{Walk, finished, nothing_held, settled, walk, walk_from, walked}
+use Rattle.std.proofs.Common.{◌≡◌, ◌∙◌, ap, ap₂, sym, refl, List, [], ◌∷◌, Option, Some, None, codes, is_some, false}
+use Rattle.std.specs.Prelude.{option_map}
+use Rattle.clap.specs.Words.{Row, Text, subcommand_of}
+use Rattle.clap.specs.Walk.{Walk, finished, nothing_held, settled, walk, walk_from}
 use Rattle.clap.specs.Faults.{check_fault, defaults_fault, entered_fault, fault_of, level_fault, settle_fault, walk_fault}
 use Rattle.clap.specs.Kinds.{Kinds, or_else}
-use Rattle.clap.specs.Simple.{built, entered}
+use Rattle.clap.specs.Simple.{entered}
 use Rattle.clap.proofs.OnLiterals.{clap_on_literals}
 use Rattle.arbiter.specs.CommandLine.{arbiter_app}
 use Rattle.arbiter.specs.Found.{HasNumbers}

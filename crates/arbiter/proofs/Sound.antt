@@ -1,5 +1,5 @@
 -- Words that clap takes name a job.
-use Rattle.std.proofs.Common.{◌≡◌, ◌∙◌, ap, ap₂, sym, subst, refl, ℕ, ◌==◌, ◌&&◌, ◌||◌, not, List, [], ◌∷◌, ◌++◌, Bool, true, false, Option, Some, None, codes, cond, pos, is_some, true≢false, length}
+use Rattle.std.proofs.Common.{◌≡◌, ◌∙◌, ap, ap₂, sym, subst, refl, ℕ, ◌==◌, ◌&&◌, ◌||◌, not, List, [], ◌∷◌, ◌++◌, Bool, true, false, Option, Some, None, codes, cond, pos, true≢false, length}
 use Rattle.std.specs.Prelude.{fold, slice_get}
 use Rattle.std.specs.Option.{option_map_or}
 use Rattle.std.specs.Str.{bytes_eq, chars, chars_after}
@@ -12,22 +12,20 @@ use Rattle.std.specs.Str.Parse.{without_leading_plus, without_leading_sign}
 use Rattle.std.proofs.lemmas.Bool.{ltb-true, lt-ltb, ne_eqb}
 use Rattle.std.proofs.lemmas.Str.Parse.{digit_from_value}
 use Rattle.clap.specs.Lexer.{short_of_rest}
-use Rattle.clap.specs.Walk.{Outcome, Waiting}
-use Rattle.clap.specs.Faults.{bundle_step_fault, positional_fault}
 use Rattle.arbiter.specs.Words.{are_digits}
-use Rattle.clap.specs.Words.{Rule, Row, Shape, Text}
+use Rattle.clap.specs.Words.{Shape, Text}
 use Rattle.clap.specs.Lexer.{long_of, short_of}
-use Rattle.clap.specs.Walk.{Held, Step, Walk, arg_by_id, arg_by_index, arg_by_long, arg_by_short, idle, option, next, trailing, value, settled, walked, word_met, long_or_other, short_or_plain, plain_word, option_word, pushed, reacted, used, after_flag, plain, bundle_met, has_row, pending_count, nothing_held}
-use Rattle.clap.specs.Faults.{settle_fault, react_fault, turn_fault, walk_fault, use_fault, word_fault, flag_word_fault, flags_fault, long_fault, short_fault, step_fault, stray_fault, bundle_fault, level_fault, repeat_fault, values_fault}
+use Rattle.clap.specs.Walk.{Held, arg_by_id, arg_by_long, idle, option, next, trailing, settled, walked, word_met, long_or_other, plain_word, option_word, pushed, reacted, has_row, pending_count}
+use Rattle.clap.specs.Faults.{settle_fault, react_fault, turn_fault, walk_fault, use_fault, long_fault, short_fault, step_fault, repeat_fault, values_fault}
 use Rattle.clap.specs.Kinds.{or_else, Kinds}
 use Rattle.clap.specs.ValueTests.{accepts}
 use Rattle.clap.specs.Simple.{filled, help_rule}
 use Rattle.clap.specs.declared.builder.ValueParser.TheVariants as parser
-use Rattle.clap.proofs.WalkLemmas.{both, bundle_ends}
-use Rattle.arbiter.specs.Words.{Uses, is_setting, is_given, may_give, is_number, option_parts, begins_with_dash, uses_after, after_parts, after_name, is_empty}
-use Rattle.arbiter.proofs.RunWalk.{Reads, IsIdle, IsWaiting, state, rows_for, setting_rule, turned, given_row, number_is, none≢some, parts_are, not_long, not_short, not_dashes, same_name, name_met, name_turn, pair_met, pair_turn, value_met, value_turn, paired, valued}
+use Rattle.clap.proofs.WalkLemmas.{both}
+use Rattle.arbiter.specs.Words.{Uses, is_setting, is_given, may_give, is_number, option_parts, begins_with_dash, uses_after, after_parts, is_empty}
+use Rattle.arbiter.proofs.RunWalk.{Reads, IsIdle, IsWaiting, state, rows_for, setting_rule, turned, given_row, number_is, none≢some, parts_are, same_name, name_met, name_turn, pair_met, pair_turn, paired, valued}
 use Rattle.arbiter.proofs.RunFaults.{run_shape}
-use Rattle.arbiter.proofs.Refused.{RefusesWords, is_fault, contra, or_none, fault_left, fault_right, split, turn_of, strays, trails, short_refused, fault_at, long_fault_at, short_fault_at, met_at, met_other, met_empty, idle_other}
+use Rattle.arbiter.proofs.Refused.{RefusesWords, is_fault, contra, or_none, fault_left, fault_right, split, turn_of, trails, short_refused, fault_at, long_fault_at, short_fault_at, met_at, met_other, met_empty, idle_other}
 
 -- the options of a run are all that the command takes
 pub record Refuses (s : Shape) : Type 0 where

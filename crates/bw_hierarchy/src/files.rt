@@ -3,29 +3,16 @@ ghost use Rattle.std.specs.Prelude.{◌≡◌, OnOk, OnErr, IfOk, IfErr, Ok, Err
 ghost use Rattle.bw_model.specs.Host.{IsHost};
 ghost use Rattle.bw_tree.specs.Groups.{group_at};
 ghost use Rattle.bw_tree.specs.Tree.{setting_refusal};
-ghost use Rattle.bw_stat.specs.Books.{stat_at, or_zeros};
 ghost use Rattle.bw_hierarchy.specs.Faults.{IsRefusal};
 ghost use Rattle.bw_hierarchy.specs.Files.{text_of, read_of, period_of, weight_write, max_write, write_at, write_of};
 
 use crate::calls;
 use crate::fault::Fault;
 use bw_files::{read_max, read_weight, write_max, write_stat, write_weight};
-use bw_model::{HostShape, Stat};
+use bw_model::HostShape;
 use bw_stat::Books;
 use bw_tree::{GroupId, Tree, TreeFault};
 use std::alloc::Global;
-
-// The counters of a group, all 0 where none were booked.
-fn stat(books: &Books, id: GroupId) -> Stat
-    ensures { result ≡ or_zeros (stat_at books.now id) }
-{
-    books.of(id).unwrap_or(Stat {
-        usage_usec: 0,
-        nr_periods: 0,
-        nr_throttled: 0,
-        throttled_usec: 0,
-    })
-}
 
 // The text of a group's file.
 fn text(
@@ -43,7 +30,7 @@ fn text(
         return Err(Fault::Tree(TreeFault::NotFound));
     };
     if file == "cpu.stat" {
-        return Ok(write_stat(alloc, &stat(books, id), id == 0)?);
+        return Ok(write_stat(alloc, &books.counters(id), id == 0)?);
     }
     if id == 0 {
         return Err(Fault::NoSuchFile);

@@ -3,12 +3,10 @@ ghost use Rattle.std.specs.Prelude.{◌≡◌, ◌≤◌, ◌<◌, ◌++◌, ℕ
 ghost use Rattle.std.specs.List.{range_with_len};
 ghost use Rattle.std.specs.Map.{keys_of};
 ghost use Rattle.std.specs.Vec.{vec_capacity};
-ghost use Rattle.bw_stat.specs.Books.{stat_at, or_zeros};
 ghost use Rattle.bw_shell.specs.GroupLines.{IsPathOf, ArePathsOf, group_lines};
 ghost use Rattle.bw_shell.specs.Reported.{IsReport, counter_line};
 
 use bw_hierarchy::Hierarchy;
-use bw_model::Stat;
 use bw_stat::{Books, report_head, report_line};
 use bw_tree::{GroupId, Tree};
 use std::alloc::{AllocError, Global};
@@ -73,20 +71,7 @@ fn put_counter(
     let Ok(path) = tree.path_of(ids[g]) else {
         return Err(AllocError);
     };
-    let stat = counters(books, ids[g]);
-    let line = report_line(alloc, &stat, path.as_str())?;
+    let line = report_line(alloc, &books.counters(ids[g]), path.as_str())?;
     answer.extend_from_slice(line.as_bytes())?;
     Ok(())
-}
-
-// The counters of a group, all 0 where none were booked.
-fn counters(books: &Books, id: GroupId) -> Stat
-    ensures { result ≡ or_zeros (stat_at books.now id) }
-{
-    books.of(id).unwrap_or(Stat {
-        usage_usec: 0,
-        nr_periods: 0,
-        nr_throttled: 0,
-        throttled_usec: 0,
-    })
 }

@@ -96,19 +96,8 @@ fn put_limit(
     let Ok(path) = tree.path_of(ids[g as usize]) else {
         return Err(AllocError);
     };
-    put_number(alloc, b"limit ", limit_at(instance, g), answer)?;
+    let limit = instance.limit(g).unwrap_or(0);
+    put_number(alloc, b"limit ", limit, answer)?;
     put_path(path.as_str(), answer)?;
     Ok(())
-}
-
-// The limit of a row, the capacity at the root.
-fn limit_at(instance: &Instance, g: u32) -> u64
-    requires { g < length instance.now.rows }
-    ensures { result ≡ unwrap_or (limit_of instance.now g) 0 }
-{
-    if g == 0 {
-        instance.shape().capacity()
-    } else {
-        instance.row(g).limit.unwrap_or(0)
-    }
 }

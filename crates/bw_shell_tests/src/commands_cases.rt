@@ -108,7 +108,10 @@ fn files_by_lines(rt: HostRuntime) -> Result<(), Fail> {
             (" read  a\tcpu.weight ", "300"),
             ("read a cpu.idle", "error 30 NoSuchFile"),
             ("read a cpu.max.burst", "error 30 NoSuchFile"),
-            ("read a cpu.stat", "usage_usec 0\nnr_periods 0\nnr_throttled 0\nthrottled_usec 0"),
+            (
+                "read a cpu.stat",
+                "usage_usec 0\nnr_periods 0\nnr_throttled 0\nthrottled_usec 0",
+            ),
             ("write a cpu.stat 1", "error 31 ReadOnly"),
             ("read . cpu.weight", "error 30 NoSuchFile"),
             ("write . cpu.max 1000", "error 30 NoSuchFile"),

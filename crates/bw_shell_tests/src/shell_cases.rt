@@ -79,10 +79,7 @@ fn host() -> Result<HostShape, Fail> {
 }
 
 // What a run writes.
-fn written<R: AllocGlobal + Threads + Wait + Sync>(
-    rt: &R,
-    script: &[u8],
-) -> Result<Vec<u8>, Fail> {
+fn written<R: AllocGlobal + Threads + Wait + Sync>(rt: &R, script: &[u8]) -> Result<Vec<u8>, Fail> {
     let mut out = Vec::new(rt.alloc());
     let mut reader = Watched::new(script);
     let mut writer = Watched::new(&mut out);

@@ -43,6 +43,13 @@ impl Books {
         self.stats.get(&id).copied()
     }
 
+    /// The same, and zeros where nothing is kept, as `cpu.stat` and the report show it.
+    pub fn counters(&self, id: u64) -> Stat
+        ensures { result ≡ or_zeros (stat_at self.now id) }
+    {
+        or_zeros(self.of(id))
+    }
+
     /// Counts one period for each group of an instance: the ids of its rows, what they wanted and what
     /// they drew, both in slices. `Err` is want of memory alone, and the books are then as before.
     ///

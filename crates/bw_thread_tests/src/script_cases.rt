@@ -35,7 +35,8 @@ fn ran<G: Gate, R: AllocGlobal + Threads + Wait + Abort + Sync>(
     let mut writer = Watched::new(&mut out);
     let run = run_gated(rt, &mut reader, &mut writer, shape, gate);
     if run == Err(RunFault::Memory)
-        || str::from_utf8(&out).is_ok_and(|text| text.contains("error 71 OutOfMemory\n")) {
+        || str::from_utf8(&out).is_ok_and(|text| text.contains("error 71 OutOfMemory\n"))
+    {
         return Err(AllocError);
     }
     assert_eq!(rt; run, Ok(()));
@@ -96,8 +97,7 @@ fn all_meet(rt: HostRuntime) -> Result<(), Fail> {
     Ok(())
 }
 
-const UNUSED_JOB_SAID: &str =
-    "total 20
+const UNUSED_JOB_SAID: &str = "total 20
 limit 20 .
 demand 0
 20 .
@@ -130,8 +130,7 @@ fn a_leaf_that_is_not_used(rt: HostRuntime) -> Result<(), Fail> {
     Ok(())
 }
 
-const FIFTY_SAID: &str =
-    "          usage_usec    periods  throttled       throttled_usec group
+const FIFTY_SAID: &str = "          usage_usec    periods  throttled       throttled_usec group
              7500000         50          0                    0 .
              2500000         50         50              7500000 pod
               750000         50          0                    0 pod/x

@@ -1,5 +1,5 @@
-use Rattle.std.proofs.Common.{◌≡◌, ◌∙◌, ap, refl, subst, sym, map, string_bytes, true, List, [], Some, codes, ◌∷◌}
-use Rattle.clap.specs.Words.{App, Text, is_simple, subcommand_of, subcommand_rows_of}
+use Rattle.std.proofs.Common.{◌≡◌, ◌∙◌, ap, subst, sym, map, string_bytes, []}
+use Rattle.clap.specs.Words.{App, is_simple, subcommand_of, subcommand_rows_of}
 use Rattle.clap.specs.Faults.{fault_of, is_simple_and_free}
 use Rattle.clap.specs.Kinds.{HasKind}
 use Rattle.arbiter.specs.CommandLine.{arbiter_app}
