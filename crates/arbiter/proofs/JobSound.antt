@@ -2,7 +2,6 @@
 use Rattle.std.proofs.Common.{◌≡◌, ◌∙◌, ap, ap₂, sym, subst, refl, ℕ, ◌==◌, ◌&&◌, ◌||◌, List, [], ◌∷◌, Bool, true, false, Option, Some, None, codes, cond, is_some}
 use Rattle.std.specs.Prelude.{fold, option_map}
 use Rattle.std.specs.Str.{bytes_eq}
-use Rattle.std.proofs.lemmas.Slice.Eq.{bytes_eq-Decides}
 use Rattle.clap.specs.Words.{Row, Text, Shape, subcommand_of}
 use Rattle.clap.specs.Lexer.{long_of}
 use Rattle.clap.specs.Walk.{Held, Names, Walk, arg_by_long, idle, trailing, finished, nothing_held, settled, walk, walk_from, walked, subcommand_met, subcommand_or_other, long_or_other, after_step}
@@ -18,7 +17,7 @@ use Rattle.arbiter.specs.Words.{Uses, is_end, job_named, run_job}
 use Rattle.arbiter.specs.declared.words.Job.{Job}
 use Rattle.arbiter.specs.declared.words.Job.TheVariants as job
 use Rattle.arbiter.proofs.RunWalk.{state}
-use Rattle.arbiter.proofs.RunFaults.{built_app, names}
+use Rattle.arbiter.proofs.RunFaults.{built_app, names, known}
 use Rattle.arbiter.proofs.Refused.{RefusesWords, is_fault, contra, or_none, fault_left, fault_right, turn_of, trails, fault_at, long_fault_at, idle_other}
 use Rattle.arbiter.proofs.RunSound.{run_sound}
 use Rattle.arbiter.proofs.Named.{named_gives}
@@ -158,9 +157,6 @@ end_alone = refl
 
 help_faults : is_fault (turn_fault built_app.top names (walk_from nothing_held) (codes "help")) ≡ true
 help_faults = refl
-
-known : (word name : List ℕ) → bytes_eq word name ≡ true → word ≡ name
-known word name e = (bytes_eq-Decides word name).0 e
 
 -- what is found for these words is the job k
 pub record IsFoundFor (words : List Text) (k : Job) : Type 0 where
