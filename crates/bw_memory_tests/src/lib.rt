@@ -1,4 +1,4 @@
-//! Each call that takes memory, on values so small that each of its allocations can be made to fail in turn. A refused
+//! Calls that take memory, on values so small that each of their allocations can be made to fail in turn. A refused
 //! call says so and changes nothing, and succeeds where it is made again.
 #![tactic(auto)]
 
