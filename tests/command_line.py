@@ -46,6 +46,8 @@ usage_usec 50000
 nr_periods 1
 nr_throttled 1
 throttled_usec 150000
+nr_bursts 0
+burst_usec 0
           usage_usec    periods  throttled       throttled_usec group
               100000          1          0                    0 .
                50000          1          1               150000 pod

@@ -1,4 +1,4 @@
-use Rattle.std.proofs.Common.{◌≡◌, ℕ, ◌<◌, ◌≤◌, List, true, false, Option, None, Some, length, get_or, ltb, ap, sym, ◌∙◌, subst, arith, rules}
+use Rattle.std.proofs.Common.{◌≡◌, ℕ, ◌<◌, ◌≤◌, List, true, false, Option, None, Some, length, get_or, ltb, refl, ap, sym, ◌∙◌, subst, arith, rules}
 use Rattle.std.specs.Prelude.{sum_by, slice_index, map}
 use Rattle.std.specs.Option.{option_map_or, IsSome}
 use Rattle.std.proofs.lemmas.Bool.{false≢true}
@@ -21,7 +21,8 @@ use Rattle.bw_model.specs.Split.{IsGreatestLast}
 use Rattle.bw_model.proofs.Moves.{best-IsAtLevel}
 use Rattle.bw_model.proofs.Mosts.{AreMosts-capped}
 use Rattle.bw_plan.proofs.Backward.{plan-IsPlanning}
-use Rattle.bw_plan.proofs.Shares.{IsPlanning, weights_in_range, at_most}
+use Rattle.bw_plan.specs.Shared.{IsPlanning}
+use Rattle.bw_plan.proofs.Shares.{weights_in_range, at_most}
 use Rattle.bw_cert.specs.Levels.{IsLevelAt, AreLevels}
 
 some_limit : (o : Option ℕ) (want : ℕ) → option_map_or (λ limit. ltb limit want) o false ≡ true → IsSome o
@@ -40,7 +41,7 @@ module _ (groups : Groups) (valid : IsInstance groups) (most : List ℕ) (mosts 
   rule : (g : ℕ) → g < length groups.rows → get_or most g 0 ≡ capped (limit_of groups g) (want_of groups most g)
   rule = AreMosts-capped groups valid.tree most mosts
 
-  planned : IsPlanning groups most (length groups.rows) amounts
+  planned : IsPlanning groups most (λ _. true) amounts
   planned = plan-IsPlanning groups valid most rule amounts is_plan
 
   pub planned_each : length amounts ≡ length groups.rows
@@ -52,14 +53,14 @@ module _ (groups : Groups) (valid : IsInstance groups) (most : List ℕ) (mosts 
   splits : (g : ℕ) → g < length groups.rows → is_leaf groups.rows g ≡ false →
       IsBestSplit (get_or amounts g 0) (child_weights groups.rows g) (map (slice_index most) (children_of groups.rows g))
       (map (slice_index amounts) (children_of groups.rows g))
-  splits g below inner = planned.splits g below below inner
+  splits g below inner = planned.splits g below refl inner
 
   pub planned_sums : (g : ℕ) → g < length groups.rows → is_leaf groups.rows g ≡ false →
       get_or amounts g 0 ≡ sum_by (slice_index amounts) (children_of groups.rows g)
   planned_sums g below inner = sym (splits g below inner).split.whole ∙ sum-map (slice_index amounts) (children_of groups.rows g)
 
   le_most : (g : ℕ) → g < length groups.rows → get_or amounts g 0 ≤ get_or most g 0
-  le_most g below = at_most groups valid most rule (length groups.rows) g amounts planned (omega (arith, below)) below
+  le_most g below = at_most groups valid most rule (λ _. true) g amounts planned (λ p e. refl) below
 
   -- what the greatest last mark says of the children
   levelled : (g : ℕ) (mark : Mark) → g < length groups.rows → is_leaf groups.rows g ≡ false →

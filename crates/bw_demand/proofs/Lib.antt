@@ -1,3 +1,5 @@
+pub mod ByDepth
+pub mod Seen
 pub mod Covered
 pub mod Passed
 pub mod Outside

@@ -4,11 +4,13 @@
 mod gathered;
 mod gathering;
 mod laws;
+mod leveled;
 mod limits;
 mod listed;
 
 pub use gathered::Gathered;
-pub use gathering::gather;
+pub use gathering::{gather, gather_levels};
 pub use laws::{allocations_join, amounts_are_reached, bounds_hold, most_is_the_want_cut};
+pub use leveled::levels;
 pub use limits::limiting;
 pub use listed::Limiting;

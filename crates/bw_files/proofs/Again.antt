@@ -7,13 +7,13 @@ use Rattle.std.proofs.lemmas.List.Elements.{All-from_recursion}
 use Rattle.bw_text.specs.Words.{is_white, words}
 use Rattle.bw_text.proofs.Parts.{IsWord, words_next}
 use Rattle.bw_text.proofs.Decimals.{decimal_is_word, decimal_is_number, decimal_value}
-use Rattle.bw_model.specs.declared.limits.TheConstants.{MIN_WEIGHT, MAX_WEIGHT, MIN_PERIOD_US, MAX_PERIOD_US}
+use Rattle.bw_model.specs.declared.limits.TheConstants.{MIN_WEIGHT, MAX_WEIGHT, MAX_BURST_US, MIN_PERIOD_US, MAX_PERIOD_US}
 use Rattle.bw_model.specs.Quota.{IsValid}
 use Rattle.bw_model.specs.declared.quota.Quota.{Quota}
 use Rattle.bw_model.specs.declared.quota.Quota.TheVariants.{Max, Micros}
-use Rattle.bw_files.specs.Values.{IsNumber, IsQuotaWord, IsWeightText, IsMaxText}
-use Rattle.bw_files.specs.Reading.{weight_of, max_of}
-use Rattle.bw_files.specs.Writing.{weight_text, max_text, quota_word}
+use Rattle.bw_files.specs.Values.{IsNumber, IsQuotaWord, IsWeightText, IsBurstText, IsMaxText}
+use Rattle.bw_files.specs.Reading.{weight_of, burst_of, max_of}
+use Rattle.bw_files.specs.Writing.{weight_text, burst_text, max_text, quota_word}
 use Rattle.bw_files.proofs.Values.{words_only}
 
 spelled : (n : ℕ) → n < 2 ^ 64 → IsNumber (decimal n) n
@@ -27,6 +27,15 @@ weight_written n low high = (decimal n, one_weight_word n high, spelled n (omega
 
 pub weight_again : (n : ℕ) → MIN_WEIGHT ≤ n → n ≤ MAX_WEIGHT → weight_of (words (weight_text n)) ≡ Ok n
 weight_again n low high = rw (one_weight_word n high, spelled n (omega arith), le-ltb n MIN_WEIGHT low, le-ltb MAX_WEIGHT n high) refl
+
+one_burst_word : (n : ℕ) → n ≤ MAX_BURST_US → words (burst_text n) ≡ decimal n ∷ []
+one_burst_word n high = words_next (decimal n) 10 [] (decimal_is_word n (omega arith)) refl
+
+pub burst_written : (n : ℕ) → n ≤ MAX_BURST_US → IsBurstText (burst_text n) n
+burst_written n high = (decimal n, one_burst_word n high, spelled n (omega arith), high)
+
+pub burst_again : (n : ℕ) → n ≤ MAX_BURST_US → burst_of (words (burst_text n)) ≡ Ok n
+burst_again n high = rw (one_burst_word n high, spelled n (omega arith), le-ltb MAX_BURST_US n high) refl
 
 max_is_word : IsWord (codes "max")
 max_is_word = record { some = omega arith; letters = All-from_recursion (λ b. is_white b ≡ false) (codes "max") (refl, (refl, (refl, tt))) }

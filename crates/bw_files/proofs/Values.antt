@@ -1,6 +1,7 @@
 -- What is read is a value of the text, and each value of the text is read.
 use Rattle.std.proofs.Common.{◌≡◌, ℕ, ◌≤◌, Bool, true, false, ◌||◌, cond, ltb, List, [], ◌∷◌, Option, Some, None, Result, Ok, Err, refl, sym, ap, ◌∙◌, ◌⊎◌, inl, inr, arith}
-use Rattle.std.specs.Prelude.{codes, IfOk}
+use Rattle.std.specs.Prelude.{codes, IfOk, IfSome}
+use Rattle.bw_model.specs.Quota.{IsValid}
 use Rattle.std.specs.Str.{bytes_eq}
 use Rattle.std.proofs.lemmas.Bool.{le-ltb}
 use Rattle.std.proofs.lemmas.Bool.Decides.{nat_tests}
@@ -136,3 +137,19 @@ max_found text (Err f) e = tt
 
 pub max_only : (text : List ℕ) (r : Result MaxWrite FileFault) → r ≡ max_of (words text) → (m : MaxWrite) → IsMaxText text m → r ≡ Ok m
 max_only text r e m h = e ∙ max_words_only (words text) m h
+
+-- a value of a text is in range
+pub value_valid : (text : List ℕ) (m : MaxWrite) → IsMaxText text m → IsValid m.quota × IfSome m.period (λ n. (MIN_PERIOD_US ≤ n) × (n ≤ MAX_PERIOD_US))
+value_valid text m h = (quota_valid h.0 m.quota h.3, period_valid h.1 m.period h.4)
+  where
+    quota_valid : (word : List ℕ) (quota : Quota) → IsQuotaWord word quota → IsValid quota
+    quota_valid word Max e = tt
+    quota_valid word (Micros n) e = (e.1, e.2)
+
+    period_valid : (ws : List (List ℕ)) (period : Option ℕ) → ArePeriodWords ws period → IfSome period (λ n. (MIN_PERIOD_US ≤ n) × (n ≤ MAX_PERIOD_US))
+    period_valid ws None e = tt
+    period_valid ws (Some n) e = (e.3, e.4)
+
+pub max_valid : (text : List ℕ) (r : Result MaxWrite FileFault) → r ≡ max_of (words text) → IfOk r (λ m. IsValid m.quota × IfSome m.period (λ n. (MIN_PERIOD_US ≤ n) × (n ≤ MAX_PERIOD_US)))
+max_valid text (Ok m) e = value_valid text m (max_words_found (words text) m (sym e))
+max_valid text (Err f) e = tt

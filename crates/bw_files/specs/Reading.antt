@@ -2,7 +2,7 @@
 use Rattle.std.specs.Prelude.{ℕ, ◌^◌, ◌-◌, min, ◌||◌, nat_lt, List, [], ◌∷◌, Option, Some, None, Result, Ok, Err, codes, if◌then◌else◌}
 use Rattle.std.specs.Str.{bytes_eq}
 use Rattle.bw_text.specs.Number.{number_of}
-use Rattle.bw_model.specs.declared.limits.TheConstants.{MIN_WEIGHT, MAX_WEIGHT, MIN_QUOTA_US, MAX_QUOTA_US, MIN_PERIOD_US, MAX_PERIOD_US}
+use Rattle.bw_model.specs.declared.limits.TheConstants.{MIN_WEIGHT, MAX_WEIGHT, MIN_QUOTA_US, MAX_QUOTA_US, MAX_BURST_US, MIN_PERIOD_US, MAX_PERIOD_US}
 use Rattle.bw_model.specs.declared.quota.Quota.{Quota}
 use Rattle.bw_model.specs.declared.quota.Quota.TheVariants.{Max, Micros}
 use Rattle.bw_files.specs.declared.fault.FileFault.{FileFault}
@@ -41,11 +41,21 @@ quota_in (Some n) = if nat_lt n MIN_QUOTA_US then Err QuotaTooSmall else if nat_
 abbrev pub period_in : ℕ → Result ℕ FileFault
 period_in n = if nat_lt n MIN_PERIOD_US || nat_lt MAX_PERIOD_US n then Err PeriodOutOfRange else Ok n
 
+-- a burst in range
+abbrev pub burst_in : ℕ → Result ℕ FileFault
+burst_in n = if nat_lt MAX_BURST_US n then Err QuotaTooLarge else Ok n
+
 -- the weight that the words of `cpu.weight` set
 abbrev pub weight_of : List (List ℕ) → Result ℕ FileFault
 weight_of [] = Err Empty
 weight_of (first ∷ []) = number_at first >>= weight_in
 weight_of (first ∷ second ∷ others) = Err TooManyWords
+
+-- the burst that the words of `cpu.max.burst` set
+abbrev pub burst_of : List (List ℕ) → Result ℕ FileFault
+burst_of [] = Err Empty
+burst_of (first ∷ []) = number_at first >>= burst_in
+burst_of (first ∷ second ∷ others) = Err TooManyWords
 
 -- a limit alone
 abbrev pub one_word : List ℕ → Result MaxWrite FileFault

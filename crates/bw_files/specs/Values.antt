@@ -2,7 +2,7 @@
 use Rattle.std.specs.Prelude.{◌≡◌, ℕ, ◌≤◌, List, [], ◌∷◌, Option, Some, None, codes}
 use Rattle.bw_text.specs.Words.{words}
 use Rattle.bw_text.specs.Number.{number_of}
-use Rattle.bw_model.specs.declared.limits.TheConstants.{MIN_WEIGHT, MAX_WEIGHT, MIN_QUOTA_US, MAX_QUOTA_US, MIN_PERIOD_US, MAX_PERIOD_US}
+use Rattle.bw_model.specs.declared.limits.TheConstants.{MIN_WEIGHT, MAX_WEIGHT, MIN_QUOTA_US, MAX_QUOTA_US, MAX_BURST_US, MIN_PERIOD_US, MAX_PERIOD_US}
 use Rattle.bw_model.specs.declared.quota.Quota.{Quota}
 use Rattle.bw_model.specs.declared.quota.Quota.TheVariants.{Max, Micros}
 use Rattle.bw_files.specs.declared.reading.MaxWrite.{MaxWrite}
@@ -14,6 +14,10 @@ IsNumber word n = number_of word ≡ Some n
 -- a text of `cpu.weight`: one number, a weight
 abbrev pub IsWeightText : List ℕ → ℕ → Type 0
 IsWeightText text n = (word : List ℕ) × (words text ≡ word ∷ []) × IsNumber word n × (MIN_WEIGHT ≤ n) × (n ≤ MAX_WEIGHT)
+
+-- a text of `cpu.max.burst`: one number, a burst in microseconds
+abbrev pub IsBurstText : List ℕ → ℕ → Type 0
+IsBurstText text n = (word : List ℕ) × (words text ≡ word ∷ []) × IsNumber word n × (n ≤ MAX_BURST_US)
 
 -- the first word of `cpu.max`: `max` for no limit, or a number, a limit in microseconds
 abbrev pub IsQuotaWord : List ℕ → Quota → Type 0

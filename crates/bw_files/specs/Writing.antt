@@ -9,6 +9,10 @@ use Rattle.bw_model.specs.declared.stat.Stat.{Stat}
 abbrev pub weight_text : ℕ → List ℕ
 weight_text n = decimal n ++ codes "\n"
 
+-- the text of `cpu.max.burst`
+abbrev pub burst_text : ℕ → List ℕ
+burst_text n = decimal n ++ codes "\n"
+
 -- a limit in microseconds, or `max`
 abbrev pub quota_word : Quota → List ℕ
 quota_word Max = codes "max"
@@ -30,3 +34,5 @@ stat_text s false =
     ++ line (codes "nr_periods") s.nr_periods
     ++ line (codes "nr_throttled") s.nr_throttled
     ++ line (codes "throttled_usec") s.throttled_usec
+    ++ line (codes "nr_bursts") s.nr_bursts
+    ++ line (codes "burst_usec") s.burst_usec

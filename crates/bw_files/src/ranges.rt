@@ -1,12 +1,12 @@
 //! The ranges of what a group's files set.
 ghost use Rattle.std.specs.Prelude.{◌≡◌, ◌≤◌, Some, IfOk};
 ghost use Rattle.bw_model.specs.Quota.{IsValid};
-ghost use Rattle.bw_files.specs.Reading.{weight_in, quota_in, period_in};
+ghost use Rattle.bw_files.specs.Reading.{weight_in, quota_in, burst_in, period_in};
 
 use crate::fault::FileFault;
 use bw_model::Quota;
 use bw_model::limits::{
-    MAX_PERIOD_US, MAX_QUOTA_US, MAX_WEIGHT, MIN_PERIOD_US, MIN_QUOTA_US, MIN_WEIGHT,
+    MAX_BURST_US, MAX_PERIOD_US, MAX_QUOTA_US, MAX_WEIGHT, MIN_PERIOD_US, MIN_QUOTA_US, MIN_WEIGHT,
 };
 
 /// The weight, or `WeightOutOfRange` unless it is 1 to 10000.
@@ -34,9 +34,21 @@ pub fn check_quota(us: u64) -> Result<Quota, FileFault>
     Ok(Quota::Micros(us))
 }
 
+/// The burst of so many microseconds, or `QuotaTooLarge` above 10^15.
+pub fn check_burst(us: u64) -> Result<u64, FileFault>
+    ensures value { result ≡ burst_in us }
+    ensures range { IfOk result (λ n. n ≤ MAX_BURST_US) }
+{
+    if us > MAX_BURST_US {
+        return Err(FileFault::QuotaTooLarge);
+    }
+    Ok(us)
+}
+
 /// The period of so many microseconds, or `PeriodOutOfRange` unless it is 1000 to 1000000.
 pub fn check_period(us: u64) -> Result<u64, FileFault>
-    ensures { result ≡ period_in us }
+    ensures value { result ≡ period_in us }
+    ensures range { IfOk result (λ n. (MIN_PERIOD_US ≤ n) × (n ≤ MAX_PERIOD_US)) }
 {
     if us < MIN_PERIOD_US || us > MAX_PERIOD_US {
         return Err(FileFault::PeriodOutOfRange);

@@ -1,12 +1,14 @@
 //! Texts as they are written into a group's files.
-ghost use Rattle.std.specs.Prelude.{◌≡◌, ◌∷◌, [], ℕ, Ok, IfOk};
+ghost use Rattle.std.specs.Prelude.{◌≡◌, ◌≤◌, ◌∷◌, [], ℕ, Ok, IfOk, IfSome};
+ghost use Rattle.bw_model.specs.Quota.{IsValid};
+ghost use Rattle.bw_model.specs.declared.limits.TheConstants.{MIN_PERIOD_US, MAX_PERIOD_US};
 ghost use Rattle.bw_text.specs.Words.{words};
-ghost use Rattle.bw_files.specs.Values.{IsWeightText, IsMaxText};
-ghost use Rattle.bw_files.specs.Reading.{capped, capped_asked, number_at, quota_at, quota_in, weight_of, max_of};
+ghost use Rattle.bw_files.specs.Values.{IsWeightText, IsBurstText, IsMaxText};
+ghost use Rattle.bw_files.specs.Reading.{capped, capped_asked, number_at, quota_at, quota_in, weight_of, burst_of, max_of};
 ghost use Rattle.bw_files.specs.declared.reading.MaxWrite.{MaxWrite};
 
 use crate::fault::FileFault;
-use crate::ranges::{check_period, check_quota, check_weight};
+use crate::ranges::{check_burst, check_period, check_quota, check_weight};
 use bw_model::Quota;
 use bw_text::{NumberFault, next_word, read_number};
 
@@ -55,6 +57,18 @@ fn weight(text: &[u8]) -> Result<u64, FileFault>
     };
     match next_word(rest) {
         None => check_weight(number(word)?),
+        Some(_) => Err(FileFault::TooManyWords),
+    }
+}
+
+fn burst(text: &[u8]) -> Result<u64, FileFault>
+    ensures { result ≡ burst_of (words text.now) }
+{
+    let Some((word, rest)) = next_word(text) else {
+        return Err(FileFault::Empty);
+    };
+    match next_word(rest) {
+        None => check_burst(number(word)?),
         Some(_) => Err(FileFault::TooManyWords),
     }
 }
@@ -111,6 +125,19 @@ pub fn read_weight(text: &[u8]) -> Result<u64, FileFault>
     weight(text)
 }
 
+/// The burst in microseconds, 0 to 10^15, that a text of `cpu.max.burst` sets (cgroup-v2.rst, "CPU Interface Files").
+///
+/// The first refusal that applies is answered: `Empty`, `TooManyWords`, `BadNumber`, `QuotaTooLarge`.
+pub fn read_burst(text: &[u8]) -> Result<u64, FileFault>
+    // What is read is a burst of that text, and each burst of that text is read.
+    ensures found { IfOk result (λ n. IsBurstText text.now n) }
+    ensures only { (n : ℕ) → IsBurstText text.now n → result ≡ Ok n }
+    // Which refusal it is.
+    ensures exact { result ≡ burst_of (words text.now) }
+{
+    burst(text)
+}
+
 /// The quota, and the period where there is one, that a text of `cpu.max` sets, both in microseconds
 /// (cgroup-v2.rst, "CPU Interface Files").
 ///
@@ -122,6 +149,7 @@ pub fn read_max(text: &[u8]) -> Result<MaxWrite, FileFault>
     ensures only { (m : MaxWrite) → IsMaxText text.now m → result ≡ Ok m }
     // Which refusal it is.
     ensures exact { result ≡ max_of (words text.now) }
+    ensures valid { IfOk result (λ m. IsValid m.quota × IfSome m.period (λ n. (MIN_PERIOD_US ≤ n) × (n ≤ MAX_PERIOD_US))) }
 {
     max(text)
 }

@@ -1,9 +1,9 @@
 //! Texts of a group's files, as they are read.
 ghost use Rattle.std.specs.Prelude.{◌≡◌, ◌≤◌, ◌++◌, OnOk, IfOk, string_bytes};
 ghost use Rattle.bw_model.specs.Quota.{IsValid};
-ghost use Rattle.bw_files.specs.Writing.{weight_text, max_text, line, stat_text};
+ghost use Rattle.bw_files.specs.Writing.{weight_text, burst_text, max_text, line, stat_text};
 
-use bw_model::limits::{MAX_PERIOD_US, MAX_WEIGHT, MIN_PERIOD_US, MIN_WEIGHT};
+use bw_model::limits::{MAX_BURST_US, MAX_PERIOD_US, MAX_WEIGHT, MIN_PERIOD_US, MIN_WEIGHT};
 use bw_model::{Quota, Stat};
 use bw_text::push_number;
 use std::alloc::{AllocError, Global};
@@ -12,6 +12,17 @@ use std::alloc::{AllocError, Global};
 pub fn write_weight(alloc: Global, n: u64) -> Result<String, AllocError>
     requires { (MIN_WEIGHT ≤ n) × (n ≤ MAX_WEIGHT) }
     ensures { IfOk result (λ t. string_bytes t ≡ weight_text n) }
+{
+    let mut out = String::new(alloc);
+    push_number(&mut out, n)?;
+    out.push_str("\n")?;
+    Ok(out)
+}
+
+/// The text of `cpu.max.burst`, in microseconds, refused for memory alone.
+pub fn write_burst(alloc: Global, n: u64) -> Result<String, AllocError>
+    requires { n ≤ MAX_BURST_US }
+    ensures { IfOk result (λ t. string_bytes t ≡ burst_text n) }
 {
     let mut out = String::new(alloc);
     push_number(&mut out, n)?;
@@ -59,5 +70,7 @@ pub fn write_stat(alloc: Global, stat: &Stat, root: bool) -> Result<String, Allo
     push_line(&mut out, "nr_periods", stat.nr_periods)?;
     push_line(&mut out, "nr_throttled", stat.nr_throttled)?;
     push_line(&mut out, "throttled_usec", stat.throttled_usec)?;
+    push_line(&mut out, "nr_bursts", stat.nr_bursts)?;
+    push_line(&mut out, "burst_usec", stat.burst_usec)?;
     Ok(out)
 }

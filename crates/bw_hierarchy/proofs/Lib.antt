@@ -1,2 +1,3 @@
 pub mod LastSlash
 pub mod Writes
+pub mod Settings

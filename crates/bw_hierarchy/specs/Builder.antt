@@ -30,13 +30,13 @@ shares_step t id None = Ok t
 shares_step t id (Some n) = set_shares_of t id n
 
 -- the quota, where it or a period is given
-abbrev pub cfs_step : TreeState → ℕ → ℕ → Option ℤ → Option ℕ → Result TreeState Fault
-cfs_step t period_us id None None = Ok t
-cfs_step t period_us id (Some quota) period = set_cfs_of t period_us id (Some quota) period
-cfs_step t period_us id None (Some period) = set_cfs_of t period_us id None (Some period)
+abbrev pub cfs_step : TreeState → ℕ → Option ℤ → Option ℕ → Result TreeState Fault
+cfs_step t id None None = Ok t
+cfs_step t id (Some quota) period = set_cfs_of t id (Some quota) period
+cfs_step t id None (Some period) = set_cfs_of t id None (Some period)
 
 -- the groups, then the shares where they are given, then the quota and the period where one is given
-abbrev pub built : TreeState → ℕ → List ℕ → Option ℕ → Option ℤ → Option ℕ → Result (ℕ × TreeState) Fault
-built t period_us path shares quota period =
+abbrev pub built : TreeState → List ℕ → Option ℕ → Option ℤ → Option ℕ → Result (ℕ × TreeState) Fault
+built t path shares quota period =
     and_then (ensured t 0 (prefixes path))
-    (λ r. and_then (shares_step r.1 r.0 shares) (λ t. and_then (cfs_step t period_us r.0 quota period) (λ t. Ok (r.0, t))))
+    (λ r. and_then (shares_step r.1 r.0 shares) (λ t. and_then (cfs_step t r.0 quota period) (λ t. Ok (r.0, t))))

@@ -1,17 +1,17 @@
 -- What each call does to a tree, or its first refusal.
-use Rattle.std.specs.Prelude.{ℕ, zero, suc, ◌==◌, if◌then◌else◌, List, Option, Some, None, Result, Ok, Err, ℤ, pos, negsuc}
+use Rattle.std.specs.Prelude.{ℕ, nat_lt, Bool, false, zero, suc, ◌==◌, if◌then◌else◌, List, Option, Some, None, Result, Ok, Err, ℤ, pos, negsuc}
 use Rattle.std.specs.Path.{rsplit_once}
 use Rattle.bw_model.specs.declared.quota.Quota.{Quota}
 use Rattle.bw_model.specs.declared.quota.Quota.TheVariants.{Max, Micros}
 use Rattle.bw_tree.specs.declared.fault.TreeFault.{TreeFault}
 use Rattle.bw_tree.specs.declared.fault.TreeFault.TheVariants.{NotFound, RootFixed}
 use Rattle.bw_tree.specs.Groups.{GroupFields, TreeState, group_at, find_path}
-use Rattle.bw_tree.specs.Tree.{mkdir_refusal, with_group, setting_refusal, with_setting, set_weight, set_quota}
+use Rattle.bw_tree.specs.Tree.{mkdir_refusal, with_group, setting_refusal, with_setting, set_weight, set_quota, set_max}
 use Rattle.bw_files.specs.declared.fault.FileFault.{FileFault}
 use Rattle.bw_files.specs.declared.fault.FileFault.TheVariants.{QuotaTooSmall}
-use Rattle.bw_files.specs.Reading.{weight_in, quota_in, period_in}
+use Rattle.bw_files.specs.Reading.{◌>>=◌, weight_in, quota_in, period_in}
 use Rattle.bw_hierarchy.specs.declared.fault.Fault.{Fault}
-use Rattle.bw_hierarchy.specs.declared.fault.Fault.TheVariants.{Tree, File, PeriodDiffers}
+use Rattle.bw_hierarchy.specs.declared.fault.Fault.TheVariants.{Tree, File, BurstAboveQuota}
 
 -- a value, unless the tree refuses
 abbrev pub unless : {A : Type 0} → Option TreeFault → A → Result A Fault
@@ -68,26 +68,39 @@ quota_given None old = Ok old
 quota_given (Some quota) old = quota_of_int quota
 
 -- the period that is asked for, where one is
-abbrev pub period_given : ℕ → Option ℕ → Result ℕ FileFault
-period_given period_us None = Ok period_us
-period_given period_us (Some n) = period_in n
+abbrev pub period_given : Option ℕ → Result (Option ℕ) FileFault
+period_given None = Ok None
+period_given (Some n) = period_in n >>= λ p. Ok (Some p)
 
--- the host's period is the only one
-abbrev pub same_period : ℕ → ℕ → Result ℕ Fault
-same_period period_us n = if n == period_us then Ok n else Err PeriodDiffers
+-- whether a burst is above a limit, both in microseconds as they are written
+abbrev pub is_above : ℕ → Quota → Bool
+is_above burst Max = false
+is_above burst (Micros us) = nat_lt us burst
+
+-- a value, unless a burst is above a limit
+abbrev pub fitting : {A : Type 0} → ℕ → Quota → A → Result A Fault
+fitting burst quota x = if is_above burst quota then Err BurstAboveQuota else Ok x
 
 -- the quota of a group
 abbrev pub quota_at : Option GroupFields → Quota
 quota_at None = Max
 quota_at (Some g) = g.quota
 
--- one group's quota, by its id; a value that is left out stays
-abbrev pub set_cfs_of : TreeState → ℕ → ℕ → Option ℤ → Option ℕ → Result TreeState Fault
-set_cfs_of t period_us id quota period =
+-- the burst of a group
+abbrev pub burst_at : Option GroupFields → ℕ
+burst_at None = 0
+burst_at (Some g) = g.burst
+
+-- a limit, and a period where there is one, that the group's burst fits
+abbrev pub max_set : TreeState → ℕ → Quota → Option ℕ → Result TreeState Fault
+max_set t id quota period = fitting (burst_at (group_at t.groups id)) quota (with_setting (set_max quota period) t id)
+
+-- one group's quota and period, by its id; a value that is left out stays
+abbrev pub set_cfs_of : TreeState → ℕ → Option ℤ → Option ℕ → Result TreeState Fault
+set_cfs_of t id quota period =
     and_then (unless (setting_refusal t id) id)
     (λ id. and_then (from_file (quota_given quota (quota_at (group_at t.groups id))))
-    (λ q. and_then (from_file (period_given period_us period))
-    (λ p. and_then (same_period period_us p) (λ _. Ok (with_setting (set_quota q) t id)))))
+    (λ q. and_then (from_file (period_given period)) (max_set t id q)))
 
 -- a value of a group that is not the root
 abbrev pub value_of : {A : Type 0} → (GroupFields → A) → ℕ → Option GroupFields → Result A Fault

@@ -4,15 +4,15 @@ use Rattle.std.specs.Str.{bytes_eq}
 use Rattle.bw_text.specs.Words.{words}
 use Rattle.bw_model.specs.declared.stat.Stat.{Stat}
 use Rattle.bw_tree.specs.Groups.{GroupFields, TreeState, group_at, has_group}
-use Rattle.bw_tree.specs.Tree.{with_setting, set_weight, set_quota}
+use Rattle.bw_tree.specs.Tree.{with_setting, set_weight, set_burst}
 use Rattle.bw_tree.specs.declared.fault.TreeFault.TheVariants.{NotFound}
-use Rattle.bw_files.specs.Reading.{weight_of, max_of}
-use Rattle.bw_files.specs.Writing.{weight_text, max_text, stat_text}
+use Rattle.bw_files.specs.Reading.{weight_of, burst_of, max_of}
+use Rattle.bw_files.specs.Writing.{weight_text, burst_text, max_text, stat_text}
 use Rattle.bw_files.specs.declared.reading.MaxWrite.{MaxWrite}
 use Rattle.bw_stat.specs.Books.{stat_at, or_zeros}
 use Rattle.bw_hierarchy.specs.declared.fault.Fault.{Fault}
 use Rattle.bw_hierarchy.specs.declared.fault.Fault.TheVariants.{Tree, NoSuchFile, ReadOnly}
-use Rattle.bw_hierarchy.specs.Calls.{from_file, and_then, found_at, same_period}
+use Rattle.bw_hierarchy.specs.Calls.{from_file, and_then, found_at, quota_at, fitting, max_set}
 use Rattle.bw_hierarchy.specs.State.{HierarchyState}
 
 -- the file of a group's weight
@@ -23,49 +23,53 @@ weight_file = codes "cpu.weight"
 abbrev pub max_file : List ℕ
 max_file = codes "cpu.max"
 
+-- the file of a group's burst
+abbrev pub burst_file : List ℕ
+burst_file = codes "cpu.max.burst"
+
 -- the file of a group's counters
 abbrev pub stat_file : List ℕ
 stat_file = codes "cpu.stat"
 
 -- the text of a group's file; the root has its counters alone, and counters that were never booked are zeros
-abbrev pub text_of : List (ℕ × Stat) → ℕ → ℕ → List ℕ → Option GroupFields → Result (List ℕ) Fault
-text_of books period_us id file None = Err (Tree NotFound)
-text_of books period_us id file (Some g) =
+abbrev pub text_of : List (ℕ × Stat) → ℕ → List ℕ → Option GroupFields → Result (List ℕ) Fault
+text_of books id file None = Err (Tree NotFound)
+text_of books id file (Some g) =
     if bytes_eq file stat_file then Ok (stat_text (or_zeros (stat_at books id)) (id == 0))
     else if id == 0 then Err NoSuchFile
     else if bytes_eq file weight_file then Ok (weight_text g.weight)
-    else if bytes_eq file max_file then Ok (max_text g.quota period_us)
+    else if bytes_eq file max_file then Ok (max_text g.quota g.period)
+    else if bytes_eq file burst_file then Ok (burst_text g.burst)
     else Err NoSuchFile
 
 -- the text of a file of the group at a path
 abbrev pub read_of : HierarchyState → List ℕ → List ℕ → Result (List ℕ) Fault
-read_of h path file = and_then (found_at h.tree path) (λ id. text_of h.books h.shape.period_us id file (group_at h.tree.groups id))
+read_of h path file = and_then (found_at h.tree path) (λ id. text_of h.books id file (group_at h.tree.groups id))
 
 -- a text of `cpu.weight` sets the weight alone
 abbrev pub weight_write : TreeState → ℕ → List ℕ → Result TreeState Fault
 weight_write t id text = and_then (from_file (weight_of (words text))) (λ w. Ok (with_setting (set_weight w) t id))
 
--- a period that is left out is the host's
-abbrev pub period_of : ℕ → Option ℕ → ℕ
-period_of period_us None = period_us
-period_of period_us (Some n) = n
+-- a text of `cpu.max` sets the limit, and the period where it has one
+abbrev pub max_write : TreeState → ℕ → List ℕ → Result TreeState Fault
+max_write t id text = and_then (from_file (max_of (words text))) (λ (m : MaxWrite). max_set t id m.quota m.period)
 
--- a text of `cpu.max` sets the limit alone
-abbrev pub max_write : TreeState → ℕ → ℕ → List ℕ → Result TreeState Fault
-max_write t period_us id text =
-    and_then (from_file (max_of (words text)))
-    (λ (m : MaxWrite). and_then (same_period period_us (period_of period_us m.period)) (λ _. Ok (with_setting (set_quota m.quota) t id)))
+-- a text of `cpu.max.burst` sets the burst alone
+abbrev pub burst_write : TreeState → ℕ → List ℕ → Result TreeState Fault
+burst_write t id text =
+    and_then (from_file (burst_of (words text))) (λ n. fitting n (quota_at (group_at t.groups id)) (with_setting (set_burst n) t id))
 
 -- what a text that is written into a group's file changes; the counters are read alone
-abbrev pub write_at : TreeState → ℕ → ℕ → List ℕ → List ℕ → Result TreeState Fault
-write_at t period_us id file text =
+abbrev pub write_at : TreeState → ℕ → List ℕ → List ℕ → Result TreeState Fault
+write_at t id file text =
     if not (has_group t.groups id) then Err (Tree NotFound)
     else if bytes_eq file stat_file then Err ReadOnly
     else if id == 0 then Err NoSuchFile
     else if bytes_eq file weight_file then weight_write t id text
-    else if bytes_eq file max_file then max_write t period_us id text
+    else if bytes_eq file max_file then max_write t id text
+    else if bytes_eq file burst_file then burst_write t id text
     else Err NoSuchFile
 
 -- the same by the path of the group
-abbrev pub write_of : TreeState → ℕ → List ℕ → List ℕ → List ℕ → Result TreeState Fault
-write_of t period_us path file text = and_then (found_at t path) (λ id. write_at t period_us id file text)
+abbrev pub write_of : TreeState → List ℕ → List ℕ → List ℕ → Result TreeState Fault
+write_of t path file text = and_then (found_at t path) (λ id. write_at t id file text)

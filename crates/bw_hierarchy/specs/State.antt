@@ -1,11 +1,14 @@
 -- A hierarchy: the host, its tree of groups, and their counters.
-use Rattle.std.specs.Prelude.{ℕ, List, [], Result}
+use Rattle.std.specs.Prelude.{ℕ, List, [], Option, Result}
+use Rattle.std.specs.Map.{keys_of}
+use Rattle.bw_model.specs.declared.row.Row.{Row}
 use Rattle.bw_model.specs.Host.{Shape}
 use Rattle.bw_model.specs.declared.stat.Stat.{Stat}
 use Rattle.bw_tree.specs.Groups.{TreeState}
 use Rattle.bw_tree.specs.Tree.{root_alone, rmdir_refusal, without_group, demand_refusal, with_setting, set_demand}
 use Rattle.bw_tree.specs.declared.limits.TheConstants.{FIRST_ID}
-use Rattle.bw_stat.specs.Books.{forgotten}
+use Rattle.bw_tree.specs.Snapshot.{carried_over}
+use Rattle.bw_stat.specs.Books.{booked, shares_of, forgotten}
 use Rattle.bw_hierarchy.specs.declared.fault.Fault.{Fault}
 use Rattle.bw_hierarchy.specs.Calls.{and_then, found_at, unless}
 
@@ -21,6 +24,11 @@ with_tree h t = record { shape = h.shape; tree = t; books = h.books }
 -- the same host and tree with other counters
 abbrev pub with_books : HierarchyState → List (ℕ × Stat) → HierarchyState
 with_books h books = record { shape = h.shape; tree = h.tree; books = books }
+
+-- a period of these rows: what each group wanted and drew is counted, and what it left of its limit is noted
+abbrev pub booked_period : HierarchyState → List Row → List (Option ℕ) → List ℕ → List ℕ → HierarchyState
+booked_period h rows base wants drawn =
+    with_books (with_tree h (carried_over h.tree rows drawn)) (booked h.books (shares_of h.shape.slice_us rows (keys_of h.tree.groups) base wants drawn))
 
 -- the root alone, and no counters
 abbrev pub new_hierarchy : Shape → HierarchyState

@@ -56,9 +56,9 @@ impl<'a> CgroupBuilder<'a> {
     ///
     /// Where one of these single calls is refused, the first refusal is answered and nothing is changed.
     pub fn build(self, hierarchy: &mut Hierarchy) -> Result<Cgroup, Fault>
-        ensures made { IfOk result (λ g. built hierarchy.old.tree hierarchy.old.shape.period_us self.entry.path.now self.entry.shares self.entry.quota self.entry.period ≡ Ok (g.id, hierarchy.new.tree)) }
+        ensures made { IfOk result (λ g. built hierarchy.old.tree self.entry.path.now self.entry.shares self.entry.quota self.entry.period ≡ Ok (g.id, hierarchy.new.tree)) }
         ensures rest { hierarchy.new ≡ with_tree hierarchy.old hierarchy.new.tree }
-        ensures refused { IfErr result (IsRefusal (built hierarchy.old.tree hierarchy.old.shape.period_us self.entry.path.now self.entry.shares self.entry.quota self.entry.period)) }
+        ensures refused { IfErr result (IsRefusal (built hierarchy.old.tree self.entry.path.now self.entry.shares self.entry.quota self.entry.period)) }
         ensures err { OnErr result (hierarchy.new ≡ hierarchy.old) }
     {
         let id = hierarchy.build(self.path, self.shares, self.quota, self.period)?;
@@ -91,7 +91,7 @@ impl<'a> CpuResources<'a> {
         }
     }
 
-    /// The period in microseconds, which has to be the host's.
+    /// The length of its own period in microseconds, 1000 to 1000000.
     pub fn period(self, period: u64) -> CpuResources<'a>
         ensures { result.builder ≡ record self.entry.builder { period = Some period } }
     {
@@ -161,20 +161,19 @@ fn set_shares(tree: &mut Tree, id: GroupId, shares: Option<u64>) -> Result<(), F
 // The quota and the period, where one is given.
 fn set_cfs(
     tree: &mut Tree,
-    period_us: u64,
     id: GroupId,
     quota: Option<i64>,
     period: Option<u64>,
 ) -> Result<(), Fault>
-    ensures set { OnOk result (cfs_step tree.old period_us id quota period ≡ Ok tree.new) }
-    ensures refused { IfErr result (λ e. cfs_step tree.old period_us id quota period ≡ Err e) }
+    ensures set { OnOk result (cfs_step tree.old id quota period ≡ Ok tree.new) }
+    ensures refused { IfErr result (λ e. cfs_step tree.old id quota period ≡ Err e) }
 {
     match quota {
         None => match period {
             None => Ok(()),
-            Some(n) => calls::set_cfs(tree, period_us, id, None, Some(n)),
+            Some(n) => calls::set_cfs(tree, id, None, Some(n)),
         },
-        Some(quota) => calls::set_cfs(tree, period_us, id, Some(quota), period),
+        Some(quota) => calls::set_cfs(tree, id, Some(quota), period),
     }
 }
 
@@ -182,17 +181,16 @@ fn set_cfs(
 pub(crate) fn build_tree(
     tree: &mut Tree,
     alloc: Global,
-    period_us: u64,
     path: &str,
     shares: Option<u64>,
     quota: Option<i64>,
     period: Option<u64>,
 ) -> Result<GroupId, Fault>
-    ensures made { IfOk result (λ id. built tree.old period_us path.now shares quota period ≡ Ok (id, tree.new)) }
-    ensures refused { IfErr result (IsRefusal (built tree.old period_us path.now shares quota period)) }
+    ensures made { IfOk result (λ id. built tree.old path.now shares quota period ≡ Ok (id, tree.new)) }
+    ensures refused { IfErr result (IsRefusal (built tree.old path.now shares quota period)) }
 {
     let id = ensure(tree, alloc, path)?;
     set_shares(tree, id, shares)?;
-    set_cfs(tree, period_us, id, quota, period)?;
+    set_cfs(tree, id, quota, period)?;
     Ok(id)
 }

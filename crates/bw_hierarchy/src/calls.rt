@@ -5,13 +5,14 @@ ghost use Rattle.std.specs.List.{slice_split};
 ghost use Rattle.std.specs.Path.{rsplit_once};
 ghost use Rattle.bw_model.specs.Quota.{IsValid};
 ghost use Rattle.bw_tree.specs.Groups.{find_path, group_at, IsTree};
-ghost use Rattle.bw_tree.specs.Tree.{setting_refusal};
+ghost use Rattle.bw_tree.specs.Tree.{setting_refusal, with_setting, set_max, set_burst};
 ghost use Rattle.bw_hierarchy.specs.Faults.{IsRefusal};
-ghost use Rattle.bw_hierarchy.specs.Calls.{unless, found_at, mkdir_of, set_shares_of, quota_of_int, int_of_quota, quota_given, period_given, same_period, quota_at, set_cfs_of, value_at};
+ghost use Rattle.bw_hierarchy.specs.Calls.{unless, found_at, mkdir_of, set_shares_of, quota_of_int, int_of_quota, quota_given, period_given, is_above, fitting, quota_at, burst_at, max_set, set_cfs_of, value_at};
 
 use crate::fault::Fault;
 use bw_files::{FileFault, check_period, check_quota, check_weight};
 use bw_model::Quota;
+use bw_model::limits::{MAX_BURST_US, MAX_PERIOD_US, MIN_PERIOD_US};
 use bw_tree::{GroupId, Tree, TreeFault};
 
 pub(crate) fn find(tree: &Tree, path: &str) -> Result<GroupId, Fault>
@@ -101,43 +102,101 @@ fn quota_given(quota: Option<i64>, old: Quota) -> Result<Quota, FileFault>
     }
 }
 
-fn period_given(period_us: u64, period: Option<u64>) -> Result<u64, FileFault>
-    ensures { result ≡ period_given period_us period }
+// The burst of a group, and 0 where there is no such group.
+fn burst_at(tree: &Tree, id: GroupId) -> u64
+    ensures { result ≡ burst_at (group_at tree.now.groups id) }
+{
+    match tree.group(id) {
+        None => 0,
+        Some(group) => group.burst,
+    }
+}
+
+fn period_given(period: Option<u64>) -> Result<Option<u64>, FileFault>
+    ensures value { result ≡ period_given period }
+    ensures range { IfOk result (λ p. IfSome p (λ n. (MIN_PERIOD_US ≤ n) × (n ≤ MAX_PERIOD_US))) }
 {
     match period {
-        None => Ok(period_us),
-        Some(n) => check_period(n),
+        None => Ok(None),
+        Some(n) => Ok(Some(check_period(n)?)),
     }
 }
 
-pub(crate) fn same_period(period_us: u64, n: u64) -> Result<u64, Fault>
-    ensures { result ≡ same_period period_us n }
+// Whether a burst is above a limit.
+fn is_above(burst: u64, quota: Quota) -> bool
+    ensures { result ≡ is_above burst quota }
 {
-    if n == period_us {
-        Ok(n)
-    } else {
-        Err(Fault::PeriodDiffers)
+    match quota {
+        Quota::Max => false,
+        Quota::Micros(us) => us < burst,
     }
 }
 
-/// Sets a group's quota. A value that is left out stays.
+// Sets a group's quota, and its period where one is given.
+fn write_max(tree: &mut Tree, id: GroupId, quota: Quota, period: Option<u64>) -> Result<(), Fault>
+    requires settable { setting_refusal tree.old id ≡ None }
+    requires quota { IsValid quota }
+    requires period { IfSome period (λ n. (MIN_PERIOD_US ≤ n) × (n ≤ MAX_PERIOD_US)) }
+    ensures set { OnOk result (tree.new ≡ with_setting (set_max quota period) tree.old id) }
+    ensures never { IfErr result (λ e. ⊥) }
+{
+    tree.set_limit(id, quota)?;
+    match period {
+        None => Ok(()),
+        Some(n) => Ok(tree.set_period(id, n)?),
+    }
+}
+
+/// Sets a group's quota, and its period where one is given, unless its burst is above the quota.
+pub(crate) fn set_max(
+    tree: &mut Tree,
+    id: GroupId,
+    quota: Quota,
+    period: Option<u64>,
+) -> Result<(), Fault>
+    requires settable { setting_refusal tree.old id ≡ None }
+    requires quota { IsValid quota }
+    requires period { IfSome period (λ n. (MIN_PERIOD_US ≤ n) × (n ≤ MAX_PERIOD_US)) }
+    ensures set { OnOk result (max_set tree.old id quota period ≡ Ok tree.new) }
+    ensures refused { IfErr result (λ e. max_set tree.old id quota period ≡ Err e) }
+    ensures err { OnErr result (tree.new ≡ tree.old) }
+{
+    if is_above(burst_at(tree, id), quota) {
+        return Err(Fault::BurstAboveQuota);
+    }
+    write_max(tree, id, quota, period)
+}
+
+/// Sets a group's burst, unless it is above the quota.
+pub(crate) fn set_burst(tree: &mut Tree, id: GroupId, burst: u64) -> Result<(), Fault>
+    requires settable { setting_refusal tree.old id ≡ None }
+    requires burst { burst ≤ MAX_BURST_US }
+    ensures set { OnOk result (fitting burst (quota_at (group_at tree.old.groups id)) (with_setting (set_burst burst) tree.old id) ≡ Ok tree.new) }
+    ensures refused { IfErr result (λ e. fitting burst (quota_at (group_at tree.old.groups id)) (with_setting (set_burst burst) tree.old id) ≡ Err e) }
+    ensures err { OnErr result (tree.new ≡ tree.old) }
+{
+    if is_above(burst, quota_at(tree, id)) {
+        return Err(Fault::BurstAboveQuota);
+    }
+    Ok(tree.set_burst(id, burst)?)
+}
+
+/// Sets a group's quota and period. A value that is left out stays.
 pub(crate) fn set_cfs(
     tree: &mut Tree,
-    period_us: u64,
     id: GroupId,
     quota: Option<i64>,
     period: Option<u64>,
 ) -> Result<(), Fault>
-    ensures set { OnOk result (set_cfs_of tree.old period_us id quota period ≡ Ok tree.new) }
-    ensures refused { IfErr result (λ e. set_cfs_of tree.old period_us id quota period ≡ Err e) }
+    ensures set { OnOk result (set_cfs_of tree.old id quota period ≡ Ok tree.new) }
+    ensures refused { IfErr result (λ e. set_cfs_of tree.old id quota period ≡ Err e) }
     ensures err { OnErr result (tree.new ≡ tree.old) }
 {
     let id = settable(tree, id)?;
     let old = quota_at(tree, id);
     let quota = quota_given(quota, old)?;
-    let period = period_given(period_us, period)?;
-    let _period = same_period(period_us, period)?;
-    Ok(tree.set_limit(id, quota)?)
+    let period = period_given(period)?;
+    set_max(tree, id, quota, period)
 }
 
 /// The weight of a group that is not the root.
@@ -185,10 +244,15 @@ pub(crate) fn cfs_quota(tree: &Tree, id: GroupId) -> Result<i64, Fault>
     Ok(int_of_quota(quota))
 }
 
-/// The period, which is the host's.
-pub(crate) fn cfs_period(tree: &Tree, period_us: u64, id: GroupId) -> Result<u64, Fault>
-    ensures { result ≡ value_at (λ g. period_us) tree.now id }
+/// The length of a group's own period.
+pub(crate) fn cfs_period(tree: &Tree, id: GroupId) -> Result<u64, Fault>
+    ensures { result ≡ value_at (λ g. g.period) tree.now id }
 {
-    let _weight = shares(tree, id)?;
-    Ok(period_us)
+    let Some(group) = tree.group(id) else {
+        return Err(Fault::Tree(TreeFault::NotFound));
+    };
+    if id == 0 {
+        return Err(Fault::Tree(TreeFault::RootFixed));
+    }
+    Ok(group.period)
 }

@@ -85,25 +85,25 @@ impl CpuController {
         hierarchy.cfs_quota(self.id)
     }
 
-    /// The period in microseconds, which is the host's (sched-bwc.rst, "Management").
+    /// The length of its own period in microseconds (sched-bwc.rst, "Management").
     pub fn cfs_period(&self, hierarchy: &Hierarchy) -> Result<u64, Fault>
-        ensures { result ≡ value_at (λ g. hierarchy.now.shape.period_us) hierarchy.now.tree self.now.id }
+        ensures { result ≡ value_at (λ g. g.period) hierarchy.now.tree self.now.id }
     {
         hierarchy.cfs_period(self.id)
     }
 
-    /// Sets the quota in microseconds, -1 for no limit. A value that is left out stays.
+    /// Sets the quota in microseconds, -1 for no limit, and the length of its own period. A value that is left out stays.
     ///
-    /// Refusals in order: `QuotaTooSmall`, `QuotaTooLarge`, `PeriodOutOfRange`, `PeriodDiffers`.
+    /// Refusals in order: `QuotaTooSmall`, `QuotaTooLarge`, `PeriodOutOfRange`, `BurstAboveQuota`.
     pub fn set_cfs_quota_and_period(
         &self,
         hierarchy: &mut Hierarchy,
         quota: Option<i64>,
         period: Option<u64>,
     ) -> Result<(), Fault>
-        ensures set { OnOk result (set_cfs_of hierarchy.old.tree hierarchy.old.shape.period_us self.now.id quota period ≡ Ok hierarchy.new.tree) }
+        ensures set { OnOk result (set_cfs_of hierarchy.old.tree self.now.id quota period ≡ Ok hierarchy.new.tree) }
         ensures rest { hierarchy.new ≡ with_tree hierarchy.old hierarchy.new.tree }
-        ensures refused { IfErr result (λ e. set_cfs_of hierarchy.old.tree hierarchy.old.shape.period_us self.now.id quota period ≡ Err e) }
+        ensures refused { IfErr result (λ e. set_cfs_of hierarchy.old.tree self.now.id quota period ≡ Err e) }
         ensures err { OnErr result (hierarchy.new ≡ hierarchy.old) }
     {
         hierarchy.set_cfs(self.id, quota, period)

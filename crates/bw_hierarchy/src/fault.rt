@@ -20,9 +20,9 @@ pub enum Fault {
     /// 31: the file is not written.
     #[error("ReadOnly")]
     ReadOnly,
-    /// 32: the period is not the host's.
-    #[error("PeriodDiffers")]
-    PeriodDiffers,
+    /// 33: the burst is above the quota.
+    #[error("BurstAboveQuota")]
+    BurstAboveQuota,
 }
 
 impl From<TreeFault> for Fault {
@@ -69,7 +69,7 @@ impl Fault {
             Fault::File(fault) => fault.number(),
             Fault::NoSuchFile => 30,
             Fault::ReadOnly => 31,
-            Fault::PeriodDiffers => 32,
+            Fault::BurstAboveQuota => 33,
         }
     }
 
@@ -82,7 +82,7 @@ impl Fault {
             Fault::File(fault) => fault.name(),
             Fault::NoSuchFile => "NoSuchFile",
             Fault::ReadOnly => "ReadOnly",
-            Fault::PeriodDiffers => "PeriodDiffers",
+            Fault::BurstAboveQuota => "BurstAboveQuota",
         }
     }
 }

@@ -4,27 +4,22 @@ ghost use Rattle.bw_model.specs.Host.{IsHost};
 ghost use Rattle.bw_tree.specs.Groups.{group_at};
 ghost use Rattle.bw_tree.specs.Tree.{setting_refusal};
 ghost use Rattle.bw_hierarchy.specs.Faults.{IsRefusal};
-ghost use Rattle.bw_hierarchy.specs.Files.{text_of, read_of, period_of, weight_write, max_write, write_at, write_of};
+ghost use Rattle.bw_hierarchy.specs.Files.{text_of, read_of, weight_write, max_write, burst_write, write_at, write_of};
 
 use crate::calls;
 use crate::fault::Fault;
-use bw_files::{read_max, read_weight, write_max, write_stat, write_weight};
+use bw_files::{
+    read_burst, read_max, read_weight, write_burst, write_max, write_stat, write_weight,
+};
 use bw_model::HostShape;
 use bw_stat::Books;
 use bw_tree::{GroupId, Tree, TreeFault};
 use std::alloc::Global;
 
 // The text of a group's file.
-fn text(
-    alloc: Global,
-    shape: HostShape,
-    tree: &Tree,
-    books: &Books,
-    id: GroupId,
-    file: &str,
-) -> Result<String, Fault>
-    ensures found { IfOk result (λ t. text_of books.now shape.period_us id file.now (group_at tree.now.groups id) ≡ Ok (string_bytes t)) }
-    ensures refused { IfErr result (IsRefusal (text_of books.now shape.period_us id file.now (group_at tree.now.groups id))) }
+fn text(alloc: Global, tree: &Tree, books: &Books, id: GroupId, file: &str) -> Result<String, Fault>
+    ensures found { IfOk result (λ t. text_of books.now id file.now (group_at tree.now.groups id) ≡ Ok (string_bytes t)) }
+    ensures refused { IfErr result (IsRefusal (text_of books.now id file.now (group_at tree.now.groups id))) }
 {
     let Some(group) = tree.group(id) else {
         return Err(Fault::Tree(TreeFault::NotFound));
@@ -39,7 +34,10 @@ fn text(
         return Ok(write_weight(alloc, group.weight)?);
     }
     if file == "cpu.max" {
-        return Ok(write_max(alloc, group.quota, shape.period_us())?);
+        return Ok(write_max(alloc, group.quota, group.period)?);
+    }
+    if file == "cpu.max.burst" {
+        return Ok(write_burst(alloc, group.burst)?);
     }
     Err(Fault::NoSuchFile)
 }
@@ -57,7 +55,7 @@ pub(crate) fn read(
     ensures refused { IfErr result (IsRefusal (read_of (record { shape = shape; tree = tree.now; books = books.now }) path.now file.now)) }
 {
     let id = calls::find(tree, path)?;
-    text(alloc, shape, tree, books, id, file)
+    text(alloc, tree, books, id, file)
 }
 
 fn write_weight_at(tree: &mut Tree, id: GroupId, text: &[u8]) -> Result<(), Fault>
@@ -70,32 +68,29 @@ fn write_weight_at(tree: &mut Tree, id: GroupId, text: &[u8]) -> Result<(), Faul
     Ok(tree.set_weight(id, weight)?)
 }
 
-fn period_of(period_us: u64, period: Option<u64>) -> u64
-    ensures { result ≡ period_of period_us period }
-{
-    period.unwrap_or(period_us)
-}
-
-fn write_max_at(tree: &mut Tree, period_us: u64, id: GroupId, text: &[u8]) -> Result<(), Fault>
+fn write_max_at(tree: &mut Tree, id: GroupId, text: &[u8]) -> Result<(), Fault>
     requires { setting_refusal tree.old id ≡ None }
-    ensures set { OnOk result (max_write tree.old period_us id text.now ≡ Ok tree.new) }
-    ensures refused { IfErr result (λ e. max_write tree.old period_us id text.now ≡ Err e) }
+    ensures set { OnOk result (max_write tree.old id text.now ≡ Ok tree.new) }
+    ensures refused { IfErr result (λ e. max_write tree.old id text.now ≡ Err e) }
     ensures err { OnErr result (tree.new ≡ tree.old) }
 {
     let wanted = read_max(text)?;
-    let _period = calls::same_period(period_us, period_of(period_us, wanted.period))?;
-    Ok(tree.set_limit(id, wanted.quota)?)
+    calls::set_max(tree, id, wanted.quota, wanted.period)
 }
 
-fn write_at(
-    tree: &mut Tree,
-    period_us: u64,
-    id: GroupId,
-    file: &str,
-    text: &[u8],
-) -> Result<(), Fault>
-    ensures set { OnOk result (write_at tree.old period_us id file.now text.now ≡ Ok tree.new) }
-    ensures refused { IfErr result (λ e. write_at tree.old period_us id file.now text.now ≡ Err e) }
+fn write_burst_at(tree: &mut Tree, id: GroupId, text: &[u8]) -> Result<(), Fault>
+    requires { setting_refusal tree.old id ≡ None }
+    ensures set { OnOk result (burst_write tree.old id text.now ≡ Ok tree.new) }
+    ensures refused { IfErr result (λ e. burst_write tree.old id text.now ≡ Err e) }
+    ensures err { OnErr result (tree.new ≡ tree.old) }
+{
+    let burst = read_burst(text)?;
+    calls::set_burst(tree, id, burst)
+}
+
+fn write_at(tree: &mut Tree, id: GroupId, file: &str, text: &[u8]) -> Result<(), Fault>
+    ensures set { OnOk result (write_at tree.old id file.now text.now ≡ Ok tree.new) }
+    ensures refused { IfErr result (λ e. write_at tree.old id file.now text.now ≡ Err e) }
     ensures err { OnErr result (tree.new ≡ tree.old) }
 {
     if tree.group(id).is_none() {
@@ -111,23 +106,20 @@ fn write_at(
         return write_weight_at(tree, id, text);
     }
     if file == "cpu.max" {
-        return write_max_at(tree, period_us, id, text);
+        return write_max_at(tree, id, text);
+    }
+    if file == "cpu.max.burst" {
+        return write_burst_at(tree, id, text);
     }
     Err(Fault::NoSuchFile)
 }
 
 /// Writes a text into the file at a path.
-pub(crate) fn write(
-    tree: &mut Tree,
-    period_us: u64,
-    path: &str,
-    file: &str,
-    text: &[u8],
-) -> Result<(), Fault>
-    ensures set { OnOk result (write_of tree.old period_us path.now file.now text.now ≡ Ok tree.new) }
-    ensures refused { IfErr result (λ e. write_of tree.old period_us path.now file.now text.now ≡ Err e) }
+pub(crate) fn write(tree: &mut Tree, path: &str, file: &str, text: &[u8]) -> Result<(), Fault>
+    ensures set { OnOk result (write_of tree.old path.now file.now text.now ≡ Ok tree.new) }
+    ensures refused { IfErr result (λ e. write_of tree.old path.now file.now text.now ≡ Err e) }
     ensures err { OnErr result (tree.new ≡ tree.old) }
 {
     let id = calls::find(tree, path)?;
-    write_at(tree, period_us, id, file, text)
+    write_at(tree, id, file, text)
 }

@@ -2,14 +2,13 @@
 ghost use Rattle.std.specs.Prelude.{◌≡◌, length, nat_eq, OnOk, OnErr, IfOk, IfErr, Ok, Err, string_bytes};
 ghost use Rattle.std.specs.List.{IsDistinct};
 ghost use Rattle.bw_model.specs.Groups.{IsInstance};
-ghost use Rattle.bw_tree.specs.Snapshot.{instance_of};
+ghost use Rattle.bw_tree.specs.Snapshot.{instance_of, base_of, IsDrawnWithin};
 ghost use Rattle.std.specs.Map.{keys_of};
-ghost use Rattle.bw_stat.specs.Books.{booked, shares_of};
 ghost use Rattle.bw_hierarchy.specs.Faults.{IsRefusal};
 ghost use Rattle.bw_hierarchy.specs.Calls.{mkdir_of, set_shares_of, set_cfs_of, value_at, int_of_quota, found_at};
 ghost use Rattle.bw_hierarchy.specs.Files.{read_of, write_of};
 ghost use Rattle.bw_hierarchy.specs.Builder.{built};
-ghost use Rattle.bw_hierarchy.specs.State.{with_tree, with_books, new_hierarchy, rmdir_of, delete_of, demand_set_of};
+ghost use Rattle.bw_hierarchy.specs.State.{with_tree, booked_period, new_hierarchy, rmdir_of, delete_of, demand_set_of};
 
 use crate::builder::build_tree;
 use crate::cgroup::Cgroup;
@@ -18,7 +17,7 @@ use crate::{calls, files};
 use bw_demand::Gathered;
 use bw_model::{HostShape, Instance};
 use bw_stat::Books;
-use bw_tree::{GroupId, Tree, TreeFault};
+use bw_tree::{GroupId, Snapshot, Tree, TreeFault};
 use std::alloc::Global;
 use std::marker::Model;
 
@@ -75,25 +74,31 @@ impl Hierarchy {
         &self.books
     }
 
-    /// Counts one period for each group of an instance: the ids of its rows, what they wanted and what they drew, both in
-    /// slices (sched-bwc.rst, "Statistics"). The ids are those of [`Hierarchy::snapshot`], or any others of which no two are
-    /// the same. It fails for want of memory alone, and nothing is then counted.
+    /// Counts one period for each group of the present snapshot: its instance, ids and quotas in slices, what the groups
+    /// wanted and what they drew (sched-bwc.rst, "Statistics"); and notes what each left of its limit. It fails for want of
+    /// memory alone, and nothing is then counted or noted.
     pub fn book(
         &mut self,
         instance: &Instance,
         ids: &[GroupId],
+        base: &[Option<u64>],
         gathered: &Gathered,
         drawn: &[u64],
     ) -> Result<(), Fault>
-        requires ids { length ids.now ≡ length instance.now.rows }
+        requires snapshot { instance.now ≡ instance_of self.old.tree self.old.shape }
+        requires ids { ids.now ≡ keys_of self.old.tree.groups }
+        requires base { length base.now ≡ length instance.now.rows }
         requires wants { length gathered.now.want.items ≡ length instance.now.rows }
         requires drawn { length drawn.now ≡ length instance.now.rows }
         requires distinct { IsDistinct nat_eq ids.now }
-        ensures booked { OnOk result (self.new ≡ with_books self.old (booked self.old.books (shares_of instance.now.shape.slice_us instance.now.rows ids.now gathered.now.want.items drawn.now))) }
+        requires within { IsDrawnWithin instance.now.rows drawn.now }
+        ensures booked { OnOk result (self.new ≡ booked_period self.old instance.now.rows base.now gathered.now.want.items drawn.now) }
         ensures err { IfErr result (λ e. e ≡ Fault.Tree TreeFault.OutOfMemory) }
         ensures kept { OnErr result (self.new ≡ self.old) }
     {
-        Ok(self.books.book(instance, ids, gathered, drawn)?)
+        self.books.book(instance, ids, base, gathered, drawn)?;
+        self.tree.carry_over(instance, ids, drawn);
+        Ok(())
     }
 
     /// The root, whose settings are fixed.
@@ -103,12 +108,14 @@ impl Hierarchy {
         Cgroup { id: 0 }
     }
 
-    /// The rows of all groups in order of creation, and their ids. It fails for want of memory alone.
-    pub fn snapshot(&self) -> Result<(Instance, Vec<GroupId>), Fault>
+    /// The rows of all groups in order of creation, their ids, and their quotas in whole slices. It fails for want of memory
+    /// alone.
+    pub fn snapshot(&self) -> Result<Snapshot, Fault>
         ensures rows { IfOk result (λ s. s.0 ≡ instance_of self.now.tree self.now.shape) }
         ensures valid { IsInstance (instance_of self.now.tree self.now.shape) }
         ensures ids { IfOk result (λ s. s.1.items ≡ keys_of self.now.tree.groups) }
-        ensures count { IfOk result (λ s. length s.1.items ≡ length s.0.rows) }
+        ensures base { IfOk result (λ s. s.2.items ≡ base_of self.now.tree.groups self.now.shape) }
+        ensures count { IfOk result (λ s. (length s.1.items ≡ length s.0.rows) × (length s.2.items ≡ length s.0.rows)) }
         ensures distinct { IfOk result (λ s. IsDistinct nat_eq s.1.items) }
         ensures err { IfErr result (λ e. e ≡ Fault.Tree TreeFault.OutOfMemory) }
     {
@@ -155,8 +162,8 @@ impl Hierarchy {
         Ok(self.tree.set_demand(id, demand)?)
     }
 
-    /// The text of a group's file (cgroup-v2.rst, "CPU Interface Files"): `cpu.weight`, `cpu.max`, or the counters in
-    /// `cpu.stat`, which are all 0 before the first period is counted. The root has `cpu.stat` alone, and in it its usage
+    /// The text of a group's file (cgroup-v2.rst, "CPU Interface Files"): `cpu.weight`, `cpu.max`, `cpu.max.burst`, or the
+    /// counters in `cpu.stat`, which are all 0 before the first period is counted. The root has `cpu.stat` alone, and in it its usage
     /// alone.
     ///
     /// `NotFound` where there is no such group, else `NoSuchFile` where it has no such file.
@@ -169,14 +176,14 @@ impl Hierarchy {
 
     /// Writes a text into a group's file, which changes the one value that the file names.
     ///
-    /// Refusals in order: `NotFound`, `NoSuchFile`, `ReadOnly` of `cpu.stat`, those of the text, `PeriodDiffers`.
+    /// Refusals in order: `NotFound`, `NoSuchFile`, `ReadOnly` of `cpu.stat`, those of the text, `BurstAboveQuota`.
     pub fn write_file(&mut self, path: &str, file: &str, text: &[u8]) -> Result<(), Fault>
-        ensures set { OnOk result (write_of self.old.tree self.old.shape.period_us path.now file.now text.now ≡ Ok self.new.tree) }
+        ensures set { OnOk result (write_of self.old.tree path.now file.now text.now ≡ Ok self.new.tree) }
         ensures rest { self.new ≡ with_tree self.old self.new.tree }
-        ensures refused { IfErr result (λ e. write_of self.old.tree self.old.shape.period_us path.now file.now text.now ≡ Err e) }
+        ensures refused { IfErr result (λ e. write_of self.old.tree path.now file.now text.now ≡ Err e) }
         ensures err { OnErr result (self.new ≡ self.old) }
     {
-        files::write(&mut self.tree, self.shape.period_us(), path, file, text)
+        files::write(&mut self.tree, path, file, text)
     }
 
     pub(crate) fn find(&self, path: &str) -> Result<GroupId, Fault>
@@ -198,9 +205,9 @@ impl Hierarchy {
     }
 
     pub(crate) fn cfs_period(&self, id: GroupId) -> Result<u64, Fault>
-        ensures { result ≡ value_at (λ g. self.now.shape.period_us) self.now.tree id }
+        ensures { result ≡ value_at (λ g. g.period) self.now.tree id }
     {
-        calls::cfs_period(&self.tree, self.shape.period_us(), id)
+        calls::cfs_period(&self.tree, id)
     }
 
     pub(crate) fn set_shares(&mut self, id: GroupId, n: u64) -> Result<(), Fault>
@@ -218,12 +225,12 @@ impl Hierarchy {
         quota: Option<i64>,
         period: Option<u64>,
     ) -> Result<(), Fault>
-        ensures set { OnOk result (set_cfs_of self.old.tree self.old.shape.period_us id quota period ≡ Ok self.new.tree) }
+        ensures set { OnOk result (set_cfs_of self.old.tree id quota period ≡ Ok self.new.tree) }
         ensures rest { self.new ≡ with_tree self.old self.new.tree }
-        ensures refused { IfErr result (λ e. set_cfs_of self.old.tree self.old.shape.period_us id quota period ≡ Err e) }
+        ensures refused { IfErr result (λ e. set_cfs_of self.old.tree id quota period ≡ Err e) }
         ensures err { OnErr result (self.new ≡ self.old) }
     {
-        calls::set_cfs(&mut self.tree, self.shape.period_us(), id, quota, period)
+        calls::set_cfs(&mut self.tree, id, quota, period)
     }
 
     // All that a builder does, or nothing.
@@ -234,21 +241,13 @@ impl Hierarchy {
         quota: Option<i64>,
         period: Option<u64>,
     ) -> Result<GroupId, Fault>
-        ensures made { IfOk result (λ id. built self.old.tree self.old.shape.period_us path.now shares quota period ≡ Ok (id, self.new.tree)) }
+        ensures made { IfOk result (λ id. built self.old.tree path.now shares quota period ≡ Ok (id, self.new.tree)) }
         ensures rest { self.new ≡ with_tree self.old self.new.tree }
-        ensures refused { IfErr result (IsRefusal (built self.old.tree self.old.shape.period_us path.now shares quota period)) }
+        ensures refused { IfErr result (IsRefusal (built self.old.tree path.now shares quota period)) }
         ensures err { OnErr result (self.new ≡ self.old) }
     {
         let mut tree = self.tree.copy()?;
-        let id = build_tree(
-            &mut tree,
-            self.alloc,
-            self.shape.period_us(),
-            path,
-            shares,
-            quota,
-            period,
-        )?;
+        let id = build_tree(&mut tree, self.alloc, path, shares, quota, period)?;
         self.tree = tree;
         Ok(id)
     }

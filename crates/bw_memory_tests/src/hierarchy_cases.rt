@@ -39,7 +39,7 @@ fn mkdir_and_snapshot(rt: HostRuntime) -> Result<(), Fail> {
     let mut hierarchy = new_hierarchy(&rt, rt.alloc())?;
     make(&rt, &mut hierarchy, "a", 1)?;
     make(&rt, &mut hierarchy, "a/b", 2)?;
-    let (instance, ids) = match hierarchy.snapshot() {
+    let (instance, ids, _base) = match hierarchy.snapshot() {
         Err(fault) => {
             assert!(rt; fault == REFUSED);
             hierarchy.snapshot()?
@@ -55,7 +55,11 @@ fn mkdir_and_snapshot(rt: HostRuntime) -> Result<(), Fail> {
 fn read_file(rt: HostRuntime) -> Result<(), Fail> {
     let mut hierarchy = new_hierarchy(&rt, rt.alloc())?;
     make(&rt, &mut hierarchy, "a", 1)?;
-    for (file, wanted) in [("cpu.weight", "100\n"), ("cpu.max", "max 100000\n")] {
+    for (file, wanted) in [
+        ("cpu.weight", "100\n"),
+        ("cpu.max", "max 100000\n"),
+        ("cpu.max.burst", "0\n"),
+    ] {
         let text = match hierarchy.read_file("a", file) {
             Err(fault) => {
                 assert!(rt; fault == REFUSED);

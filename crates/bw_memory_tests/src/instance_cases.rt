@@ -1,9 +1,9 @@
 //! Calls on an instance that take memory, and splits.
 use bw_cert::certify;
 use bw_check::{Verdict, check};
-use bw_demand::{gather, limiting};
+use bw_demand::{gather, levels, limiting};
 use bw_model::{HostShape, Instance, InstanceFault, Row};
-use bw_plan::plan;
+use bw_plan::{plan, plan_levels};
 use bw_split::{can_split, split, split_by_marks};
 use std::alloc::{AllocError, Global};
 use std::process::Abort;
@@ -62,6 +62,17 @@ fn instance_new(rt: HostRuntime) -> Result<(), Fail> {
 }
 
 #[test]
+fn leveling(rt: HostRuntime) -> Result<(), Fail> {
+    let instance = made(&rt, rt.alloc())?;
+    let found = match levels(rt.alloc(), &instance) {
+        Err(_) => levels(rt.alloc(), &instance)?,
+        Ok(found) => found,
+    };
+    assert_eq!(rt; found.len(), 3);
+    Ok(())
+}
+
+#[test]
 fn gathering(rt: HostRuntime) -> Result<(), Fail> {
     let instance = made(&rt, rt.alloc())?;
     let gathered = match gather(rt.alloc(), &instance) {
@@ -101,6 +112,17 @@ fn splitting_by_marks(rt: HostRuntime) -> Result<(), Fail> {
         Ok(parts) => parts,
     };
     assert_eq!(rt; parts.as_slice(), [3, 7].as_slice());
+    Ok(())
+}
+
+#[test]
+fn planning_by_levels(rt: HostRuntime) -> Result<(), Fail> {
+    let instance = made(&rt, rt.alloc())?;
+    let planned = match plan_levels(&rt, rt.alloc(), &instance) {
+        Err(_) => plan_levels(&rt, rt.alloc(), &instance)?,
+        Ok(planned) => planned,
+    };
+    assert_eq!(rt; planned.amounts.as_slice(), [20, 10, 3, 7, 10].as_slice());
     Ok(())
 }
 

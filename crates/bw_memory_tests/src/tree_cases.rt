@@ -97,7 +97,7 @@ fn copy(rt: HostRuntime) -> Result<(), Fail> {
 fn snapshot(rt: HostRuntime) -> Result<(), Fail> {
     let tree = small_tree(&rt, rt.alloc())?;
     let shape = HostShape::new(1, 100_000, 5_000)?;
-    let (instance, ids) = match tree.snapshot(shape) {
+    let (instance, ids, base) = match tree.snapshot(shape) {
         Err(fault) => {
             assert!(rt; fault == TreeFault::OutOfMemory);
             tree.snapshot(shape)?
@@ -105,6 +105,7 @@ fn snapshot(rt: HostRuntime) -> Result<(), Fail> {
         Ok(snapshot) => snapshot,
     };
     assert_eq!(rt; ids.as_slice(), [0, 1, 2].as_slice());
+    assert_eq!(rt; base.as_slice(), [None, None, None].as_slice());
     assert_eq!(rt; instance.rows().len(), 3);
     Ok(())
 }

@@ -1,19 +1,20 @@
 -- Splits that need no search: of nothing, and for an only child.
-use Rattle.std.proofs.Common.{◌≡◌, ℕ, zero, suc, ◌<◌, ◌≤◌, List, [], ◌∷◌, Some, length, get_or, set, refl, ap, sym, ◌∙◌, arith}
+use Rattle.std.proofs.Common.{◌≡◌, ℕ, zero, suc, ◌<◌, ◌≤◌, List, [], ◌∷◌, true, false, Some, length, get_or, refl, ap, sym, ◌∙◌, arith, inl, inr}
 use Rattle.std.specs.Prelude.{sum, sum_by, slice_index, map}
-use Rattle.std.proofs.lemmas.Bool.{both_ways}
+use Rattle.std.proofs.lemmas.Bool.{cases_eq}
 use Rattle.std.proofs.lemmas.Grind.{same_number_lists}
-use Rattle.std.proofs.lemmas.List.{get_or-set_same, get_or-set_other, length-map}
+use Rattle.std.proofs.lemmas.List.{length-map}
 use Rattle.std.proofs.lemmas.List.Sums.{get_or-le-sum_by}
-use Rattle.std.proofs.Math.ListN.{length-set}
-use Rattle.bw_model.specs.Groups.{Groups, parent_of, is_child, children_of, sum_of_children}
+use Rattle.bw_model.specs.declared.row.Row.{Row}
+use Rattle.bw_model.specs.Groups.{Groups, parent_of, is_child, is_leaf, children_of, sum_of_children}
 use Rattle.bw_model.specs.Plan.{child_weights}
 use Rattle.bw_model.specs.Split.{IsBestSplit}
 use Rattle.bw_model.proofs.Sums.{sum-cons}
 use Rattle.bw_model.proofs.Places.{child_at}
 use Rattle.bw_model.proofs.Optimum.{get_or-map, IsNoWorse-same}
-use Rattle.bw_model.proofs.Totals.{is_child_from_parent}
-use Rattle.bw_plan.specs.Shared.{IsShared}
+use Rattle.bw_model.proofs.Totals.{inner_has_child, leaf_no_child}
+use Rattle.bw_model.proofs.Unique.{listed_child}
+use Rattle.bw_plan.specs.Shared.{IsShared, AreParts, IsGiven}
 
 sum_none : (xs : List ℕ) → ((k : ℕ) → k < length xs → get_or xs k 0 ≡ 0) → ◌≡◌ {A = ℕ} (sum xs) 0
 sum_none [] h = refl
@@ -74,38 +75,51 @@ shared-none groups most g amounts one_each nothing unshared = record {
 sum_of_one : (f : ℕ → ℕ) (x : ℕ) → sum_by f (x ∷ []) ≡ f x
 sum_of_one f x = omega arith
 
--- an only child gets all
-pub shared-only : (groups : Groups) (most : List ℕ) (g only : ℕ) (before : List ℕ) (amount : ℕ) → length before ≡ length groups.rows →
-    children_of groups.rows g ≡ only ∷ [] → amount ≡ get_or before g 0 → get_or before g 0 ≤ sum_of_children groups.rows most g →
-    IsShared groups most g before (set before only amount)
-shared-only groups most g only before amount one_each list is enough =
-    let first : 0 < length (children_of groups.rows g) = rw list (omega arith) in
-    let c = child_at groups.rows g 0 first in
-    let at : get_or (children_of groups.rows g) 0 0 ≡ only = ap (λ (xs : List ℕ). get_or xs 0 0) list in
-    let here : only < length groups.rows = rw at at c.within in
-    let parent : parent_of groups.rows only ≡ Some g = rw at at c.parent in
-    let own : get_or (set before only amount) only 0 ≡ amount = get_or-set_same before only amount 0 (omega (arith, here, one_each)) in
-    let whole : sum_of_children groups.rows most g ≡ get_or most only 0 = ap (sum_by (slice_index most)) list ∙ sum_of_one (slice_index most) only in
-    let fits : amount ≤ get_or most only 0 = omega (arith, enough, whole, is) in
-    record {
-      one_each = length-set before only amount ∙ one_each;
-      split = best_of (children_of groups.rows g) list (get_or before g 0) (sym is) own fits;
-      others = λ i below no'. get_or-set_other before only i amount 0
-          (λ same. both_ways (is_child groups.rows g i) no' (rw same (is_child_from_parent groups.rows g only parent)));
-    }
-  where
-    best_of : (list : List ℕ) → list ≡ only ∷ [] → (n : ℕ) → n ≡ amount → get_or (set before only amount) only 0 ≡ amount → amount ≤ get_or most only 0 →
-        IsBestSplit n (child_weights groups.rows g) (map (slice_index most) list) (map (slice_index (set before only amount)) list)
-    best_of list e n en own fits = rw (e, en, own) (only-IsBestSplit (child_weights groups.rows g) (get_or most only 0) amount fits)
+best_of : (weights most after : List ℕ) (c n : ℕ) (list : List ℕ) → list ≡ c ∷ [] → get_or after c 0 ≡ n → n ≤ get_or most c 0 →
+    IsBestSplit n weights (map (slice_index most) list) (map (slice_index after) list)
+best_of weights most after c n list e own fits = rw (e, own) (only-IsBestSplit weights (get_or most c 0) n fits)
 
 one_element : (xs : List ℕ) → length xs ≡ 1 → xs ≡ get_or xs 0 0 ∷ []
 one_element [] e = absurd (omega (arith, e))
 one_element (x ∷ []) e = refl
 one_element (x ∷ y ∷ zs) e = absurd (omega (arith, e))
 
--- by the list that was read
-pub shared-one : (groups : Groups) (most : List ℕ) (g : ℕ) (children before : List ℕ) (amount : ℕ) → length before ≡ length groups.rows →
-    children ≡ children_of groups.rows g → length children ≡ 1 → amount ≡ get_or before g 0 → get_or before g 0 ≤ sum_of_children groups.rows most g →
-    IsShared groups most g before (set before (get_or children 0 0) amount)
-shared-one groups most g children before amount one_each list one is enough =
-    shared-only groups most g (get_or children 0 0) before amount one_each (sym list ∙ one_element children one) is enough
+-- a group that has given out what it has, has shared it out
+pub given-IsShared : (groups : Groups) (most : List ℕ) (g : ℕ) (parts before after : List ℕ) → is_leaf groups.rows g ≡ false →
+    length before ≡ length groups.rows → get_or before g 0 ≤ sum_of_children groups.rows most g →
+    ((c : ℕ) → c < length groups.rows → parent_of groups.rows c ≡ Some g → get_or before c 0 ≡ 0) →
+    AreParts groups most before g parts → IsGiven groups.rows g parts before after → IsShared groups most g before after
+given-IsShared groups most g parts before after inner one_each enough unshared are_parts given = elim (cases_eq (get_or before g 0) 0) [
+  | inl nothing ↦ rw (given.nothing nothing) (shared-none groups most g before one_each nothing unshared)
+  | inr some ↦
+      let has : 0 < get_or before g 0 = omega (arith, some) in
+      elim (cases_eq (length (children_of groups.rows g)) 1) [
+        | inl one ↦
+            let list : children_of groups.rows g ≡ get_or (children_of groups.rows g) 0 0 ∷ [] = one_element (children_of groups.rows g) one in
+            let whole : sum_of_children groups.rows most g ≡ get_or most (get_or (children_of groups.rows g) 0 0) 0 =
+            ap (sum_by (slice_index most)) list ∙ sum_of_one (slice_index most) (get_or (children_of groups.rows g) 0 0) in
+            record {
+              one_each = given.one_each ∙ one_each;
+              split = best_of (child_weights groups.rows g) most after (get_or (children_of groups.rows g) 0 0) (get_or before g 0) (children_of groups.rows g) list
+                  (given.only has (get_or (children_of groups.rows g) 0 0) list) (omega (arith, enough, whole));
+              others = λ i _ no'. given.others i no';
+            }
+        | inr many ↦
+            let child : (c : ℕ) × (c < length groups.rows) × (parent_of groups.rows c ≡ Some g) = inner_has_child groups.rows g inner in
+            let place : (k : ℕ) × (k < length (children_of groups.rows g)) × (get_or (children_of groups.rows g) k 0 ≡ child.0) =
+            listed_child groups.rows g child.0 child.1 child.2 in
+            let two : 1 < length (children_of groups.rows g) = omega (arith, many, place.1) in
+            record {
+              one_each = given.one_each ∙ one_each;
+              split = rw (given.among has two) (are_parts has two);
+              others = λ i _ no'. given.others i no';
+            }
+      ]
+]
+
+-- a leaf gives out nothing
+pub given-leaf : (rows : List Row) (g : ℕ) (parts before after : List ℕ) → is_leaf rows g ≡ true → length before ≡ length rows →
+    IsGiven rows g parts before after → after ≡ before
+given-leaf rows g parts before after leaf one_each given =
+    same_number_lists after before given.one_each
+    (λ k below. given.others k (leaf_no_child rows g k leaf (omega (arith, below, given.one_each, one_each))))

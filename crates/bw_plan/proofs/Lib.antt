@@ -3,3 +3,5 @@ pub mod Existence
 pub mod Easy
 pub mod Shares
 pub mod Backward
+pub mod Collected
+pub mod Done

@@ -3,7 +3,7 @@ ghost use Rattle.std.specs.Prelude.{IfOk};
 ghost use Rattle.bw_model.specs.Plan.{IsPlan};
 
 use crate::amounts::Plan;
-use crate::sharing::share_out;
+use crate::sharing::{give, parts_of};
 use bw_demand::gather;
 use bw_model::Instance;
 use std::alloc::{AllocError, Global};
@@ -19,15 +19,9 @@ pub fn plan(alloc: Global, instance: &Instance) -> Result<Plan, AllocError>
     let mut amounts = vec![in alloc; 0u64; count]?;
     amounts[0] = gathered.most[0];
     for g in 0..count {
-        if !instance.is_leaf(g as u32) {
-            share_out(
-                alloc,
-                instance,
-                gathered.most.as_slice(),
-                g as u32,
-                &mut amounts,
-            )?;
-        }
+        let most = gathered.most.as_slice();
+        let parts = parts_of(alloc, instance, most, amounts.as_slice(), g as u32)?;
+        give(instance, g as u32, parts.as_slice(), &mut amounts);
     }
     Ok(Plan { amounts })
 }

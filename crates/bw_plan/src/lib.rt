@@ -4,10 +4,12 @@
 mod amounts;
 mod downward;
 mod laws;
+mod level_plan;
 mod sharing;
 mod siblings;
 
 pub use amounts::Plan;
 pub use downward::plan;
 pub use laws::there_is_one_plan;
+pub use level_plan::plan_levels;
 pub use siblings::{child_values, child_weights};

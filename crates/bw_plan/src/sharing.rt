@@ -1,11 +1,10 @@
 //! One group's amount among its children.
-ghost use Rattle.std.specs.Prelude.{◌≡◌, ◌≢◌, ℕ, ◌<◌, ◌≤◌, Some, length, slice_index, EachIndex, OnOk};
-ghost use Rattle.bw_model.specs.Groups.{parent_of, sum_of_children};
-ghost use Rattle.bw_plan.specs.Shared.{IsShared};
+ghost use Rattle.std.specs.Prelude.{◌≡◌, ◌≢◌, ℕ, ◌<◌, ◌≤◌, false, length, slice_index, EachIndex, IfOk};
+ghost use Rattle.bw_model.specs.Groups.{children_of, is_leaf};
+ghost use Rattle.bw_plan.specs.Shared.{CanShare, AreBestParts, AreParts, IsGiven};
 
 use crate::siblings::{child_values, child_weights};
 use bw_model::Instance;
-use bw_model::limits::MAX_CAPACITY;
 use bw_split::split;
 use std::alloc::{AllocError, Global};
 
@@ -22,55 +21,62 @@ fn write_parts(amounts: &mut Vec<u64>, places: &[u32], parts: &[u64])
     }
 }
 
-// A group with more than one child.
-fn share_among(
+// The best split of what a group has among its children.
+fn split_among(
     alloc: Global,
     instance: &Instance,
     most: &[u64],
+    amounts: &[u64],
     g: u32,
-    amounts: &mut Vec<u64>,
-) -> Result<(), AllocError>
-    requires row { g < length instance.now.rows }
+) -> Result<Vec<u64>, AllocError>
     requires most_each { length most.now ≡ length instance.now.rows }
-    requires amount_each { length amounts.old.items ≡ length instance.now.rows }
-    requires enough { slice_index amounts.old.items g ≤ sum_of_children instance.now.rows most.now g }
-    requires small { slice_index amounts.old.items g ≤ MAX_CAPACITY }
-    ensures { OnOk result (IsShared instance.now most.now g amounts.old.items amounts.new.items) }
+    requires amount_each { length amounts.now ≡ length instance.now.rows }
+    requires can_share { CanShare instance.now most.now amounts.now g }
+    requires inner { is_leaf instance.now.rows g ≡ false }
+    ensures { IfOk result (λ parts. AreBestParts instance.now most.now amounts.now g parts.items) }
 {
     // its contract says that the weights are in range
     let _rows = instance.rows();
     let weights = child_weights(alloc, instance, g)?;
     let mosts = child_values(alloc, instance, most, g)?;
     let amount = amounts[g as usize];
-    let parts = split(alloc, amount, weights.as_slice(), mosts.as_slice())?;
-    write_parts(amounts, instance.children(g), parts.as_slice());
-    Ok(())
+    split(alloc, amount, weights.as_slice(), mosts.as_slice())
 }
 
-/// Splits what a group has among its children, of whom none has anything yet. Takes no memory where the group has
-/// nothing, and none for an only child.
-pub fn share_out(
+/// The parts of what a group has among its children, where it has something and more than one child; else nothing, which
+/// takes no memory.
+pub fn parts_of(
     alloc: Global,
     instance: &Instance,
     most: &[u64],
+    amounts: &[u64],
     g: u32,
-    amounts: &mut Vec<u64>,
-) -> Result<(), AllocError>
-    requires row { g < length instance.now.rows }
+) -> Result<Vec<u64>, AllocError>
     requires most_each { length most.now ≡ length instance.now.rows }
+    requires amount_each { length amounts.now ≡ length instance.now.rows }
+    requires can_share { CanShare instance.now most.now amounts.now g }
+    ensures { IfOk result (λ parts. AreParts instance.now most.now amounts.now g parts.items) }
+{
+    if amounts[g as usize] == 0 || instance.children(g).len() < 2 {
+        return Ok(Vec::new(alloc));
+    }
+    split_among(alloc, instance, most, amounts, g)
+}
+
+/// Gives the children of a group what it has: all to an only child, and the parts to more of them.
+pub fn give(instance: &Instance, g: u32, parts: &[u64], amounts: &mut Vec<u64>)
+    requires row { g < length instance.now.rows }
     requires amount_each { length amounts.old.items ≡ length instance.now.rows }
-    requires enough { slice_index amounts.old.items g ≤ sum_of_children instance.now.rows most.now g }
-    requires small { slice_index amounts.old.items g ≤ MAX_CAPACITY }
-    requires unshared { (c : ℕ) → c < length instance.now.rows → parent_of instance.now.rows c ≡ Some g → slice_index amounts.old.items c ≡ 0 }
-    ensures { OnOk result (IsShared instance.now most.now g amounts.old.items amounts.new.items) }
+    requires part_each { 0 < slice_index amounts.old.items g → 1 < length (children_of instance.now.rows g) → length parts.now ≡ length (children_of instance.now.rows g) }
+    ensures { IsGiven instance.now.rows g parts.now amounts.old.items amounts.new.items }
 {
     let amount = amounts[g as usize];
     if amount == 0 {
-        return Ok(());
+        return;
     }
-    if let [only] = instance.children(g) {
-        amounts[*only as usize] = amount;
-        return Ok(());
+    match instance.children(g) {
+        [] => {}
+        [only] => amounts[*only as usize] = amount,
+        children => write_parts(amounts, children, parts),
     }
-    share_among(alloc, instance, most, g, amounts)
 }

@@ -4,7 +4,7 @@ use Rattle.bw_tree.specs.declared.fault.TreeFault.TheVariants.{NotFound, Exists,
 use Rattle.bw_files.specs.declared.fault.FileFault.TheVariants.{BadNumber, WeightOutOfRange, QuotaTooSmall, QuotaTooLarge, PeriodOutOfRange, TooManyWords, Empty}
 use Rattle.bw_hierarchy.specs.Faults.{fault_number, fault_name}
 use Rattle.bw_hierarchy.specs.declared.fault.Fault.{Fault}
-use Rattle.bw_hierarchy.specs.declared.fault.Fault.TheVariants.{Tree, File, NoSuchFile, ReadOnly, PeriodDiffers}
+use Rattle.bw_hierarchy.specs.declared.fault.Fault.TheVariants.{Tree, File, NoSuchFile, ReadOnly, BurstAboveQuota}
 
 pub fault_number-lt : (fault : Fault) → fault_number fault < 100
 fault_number-lt (Tree NotFound) = omega arith
@@ -29,7 +29,7 @@ fault_number-lt (File TooManyWords) = omega arith
 fault_number-lt (File Empty) = omega arith
 fault_number-lt NoSuchFile = omega arith
 fault_number-lt ReadOnly = omega arith
-fault_number-lt PeriodDiffers = omega arith
+fault_number-lt BurstAboveQuota = omega arith
 
 pub length-fault_name-le : (fault : Fault) → length (fault_name fault) ≤ 20
 length-fault_name-le (Tree NotFound) = omega arith
@@ -54,4 +54,4 @@ length-fault_name-le (File TooManyWords) = omega arith
 length-fault_name-le (File Empty) = omega arith
 length-fault_name-le NoSuchFile = omega arith
 length-fault_name-le ReadOnly = omega arith
-length-fault_name-le PeriodDiffers = omega arith
+length-fault_name-le BurstAboveQuota = omega arith

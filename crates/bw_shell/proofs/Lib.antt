@@ -9,3 +9,4 @@ pub mod Refusals
 pub mod Words
 pub mod Decimals
 pub mod Totals
+pub mod Within

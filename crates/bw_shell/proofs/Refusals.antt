@@ -3,7 +3,7 @@ use Rattle.std.proofs.Common.{◌≡◌, ℕ, List, Result, Ok, Err, refl, inl, 
 use Rattle.bw_tree.specs.declared.fault.TreeFault.TheVariants.{NotFound, Exists, BadName, HasChildren, HasDemand, ParentHasDemand, RootFixed, TreeFull, IdsSpent, TooDeep, InnerDemand, DemandTooLarge, OutOfMemory}
 use Rattle.bw_hierarchy.specs.Faults.{IsRefusal}
 use Rattle.bw_hierarchy.specs.declared.fault.Fault.{Fault}
-use Rattle.bw_hierarchy.specs.declared.fault.Fault.TheVariants.{Tree, File, NoSuchFile, ReadOnly, PeriodDiffers}
+use Rattle.bw_hierarchy.specs.declared.fault.Fault.TheVariants.{Tree, File, NoSuchFile, ReadOnly, BurstAboveQuota}
 use Rattle.bw_shell.specs.State.{State}
 use Rattle.bw_shell.specs.Fault.{error_line}
 use Rattle.bw_shell.specs.Script.{IsOutcome, call_outcome}
@@ -40,4 +40,4 @@ call_outcome-IsRefusal s text after r (Tree DemandTooLarge) h = call_outcome-ref
 call_outcome-IsRefusal s text after r (File f) h = call_outcome-refused s text after r _ (h (λ e. cc))
 call_outcome-IsRefusal s text after r NoSuchFile h = call_outcome-refused s text after r _ (h (λ e. cc))
 call_outcome-IsRefusal s text after r ReadOnly h = call_outcome-refused s text after r _ (h (λ e. cc))
-call_outcome-IsRefusal s text after r PeriodDiffers h = call_outcome-refused s text after r _ (h (λ e. cc))
+call_outcome-IsRefusal s text after r BurstAboveQuota h = call_outcome-refused s text after r _ (h (λ e. cc))

@@ -65,7 +65,7 @@ read_outcome s path file = call_outcome s (λ text. text) (λ text. s) (read_of 
 
 -- `write P FILE TEXT`
 unfoldable pub write_outcome : State → List ℕ → List ℕ → List ℕ → Outcome
-write_outcome s path file text = call_outcome s (λ tree. ok_line) (λ tree. with_hierarchy s (with_tree s.hierarchy tree)) (write_of s.hierarchy.tree s.hierarchy.shape.period_us path file text)
+write_outcome s path file text = call_outcome s (λ tree. ok_line) (λ tree. with_hierarchy s (with_tree s.hierarchy tree)) (write_of s.hierarchy.tree path file text)
 
 -- ---- lines
 

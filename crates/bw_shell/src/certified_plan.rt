@@ -5,11 +5,13 @@ ghost use Rattle.bw_shell.specs.CertifiedPlan.{IsCertifiedPlan};
 
 use bw_cert::{certify, write_certified};
 use bw_hierarchy::Hierarchy;
-use bw_plan::plan;
+use bw_plan::plan_levels;
 use std::alloc::{AllocError, Global};
+use std::thread::Threads;
 
 /// Appends the answer to `cert`: the certified text of the plan. It fails for want of memory alone.
-pub fn put_certified(
+pub fn put_certified<H: Threads + Sync>(
+    rt: &H,
     alloc: Global,
     hierarchy: &Hierarchy,
     answer: &mut Vec<u8>,
@@ -17,10 +19,10 @@ pub fn put_certified(
     ensures ok { OnOk result ((text : List ℕ) × IsCertifiedPlan hierarchy.now text × (answer.new.items ≡ answer.old.items ++ text)) }
     ensures room { vec_capacity answer.old ≤ vec_capacity answer.new }
 {
-    let Ok((instance, _)) = hierarchy.snapshot() else {
+    let Ok((instance, _, _)) = hierarchy.snapshot() else {
         return Err(AllocError);
     };
-    let plan = plan(alloc, &instance)?;
+    let plan = plan_levels(rt, alloc, &instance)?;
     let amounts = plan.amounts.as_slice();
     let certificate = certify(alloc, &instance, &plan)?;
     let text = write_certified(alloc, &instance, amounts, &certificate)?;

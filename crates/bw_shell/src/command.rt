@@ -111,24 +111,34 @@ impl<'a, G: Gate> Commands<'a, G> {
     }
 
     // `plan`
-    fn plan(&self, alloc: Global, answer: &mut Vec<u8>) -> Result<(), ScriptFault>
+    fn plan<H: Threads + Sync>(
+        &self,
+        rt: &H,
+        alloc: Global,
+        answer: &mut Vec<u8>,
+    ) -> Result<(), ScriptFault>
         requires { answer.old.items ≡ [] }
         ensures outcome { Performs (state_of G.used self.now) Plan result answer.new.items (state_of G.used self.now) }
         ensures room { vec_capacity answer.old ≤ vec_capacity answer.new }
     {
-        match put_plan(alloc, &self.hierarchy, answer) {
+        match put_plan(rt, alloc, &self.hierarchy, answer) {
             Ok(()) => Ok(()),
             Err(_) => Err(ScriptFault::OutOfMemory),
         }
     }
 
     // `cert`
-    fn cert(&self, alloc: Global, answer: &mut Vec<u8>) -> Result<(), ScriptFault>
+    fn cert<H: Threads + Sync>(
+        &self,
+        rt: &H,
+        alloc: Global,
+        answer: &mut Vec<u8>,
+    ) -> Result<(), ScriptFault>
         requires { answer.old.items ≡ [] }
         ensures outcome { Performs (state_of G.used self.now) Cert result answer.new.items (state_of G.used self.now) }
         ensures room { vec_capacity answer.old ≤ vec_capacity answer.new }
     {
-        match put_certified(alloc, &self.hierarchy, answer) {
+        match put_certified(rt, alloc, &self.hierarchy, answer) {
             Ok(()) => Ok(()),
             Err(_) => Err(ScriptFault::OutOfMemory),
         }
@@ -181,9 +191,9 @@ impl<'a, G: Gate> Commands<'a, G> {
         if verb == "total" {
             self.total(alloc, answer)
         } else if verb == "plan" {
-            self.plan(alloc, answer)
+            self.plan(rt, alloc, answer)
         } else if verb == "cert" {
-            self.cert(alloc, answer)
+            self.cert(rt, alloc, answer)
         } else if verb == "period" {
             self.period(rt, alloc, answer)
         } else if verb == "report" {

@@ -6,14 +6,14 @@ ghost use Rattle.bw_shell.specs.Period.{IsPeriod};
 use crate::put_text::put_number_line;
 use bw_demand::gather;
 use bw_hierarchy::Hierarchy;
-use bw_plan::plan;
+use bw_plan::plan_levels;
 use bw_workers::{Gate, ServeFault, serve};
 use std::alloc::Global;
 use std::sync::Wait;
 use std::thread::Threads;
 
 /// Serves one period, appends the answer, the slices that its workers drew at the root, and then counts the period for
-/// each group. An `Err` changes no counter.
+/// each group and notes what it left of its limit. An `Err` changes neither.
 pub fn serve_period<G: Gate, H: Threads + Wait + Sync>(
     rt: &H,
     alloc: Global,
@@ -25,14 +25,14 @@ pub fn serve_period<G: Gate, H: Threads + Wait + Sync>(
     ensures err { OnErr result (hierarchy.new ≡ hierarchy.old) }
     ensures room { vec_capacity answer.old ≤ vec_capacity answer.new }
 {
-    let Ok((instance, ids)) = hierarchy.snapshot() else {
+    let Ok((instance, ids, base)) = hierarchy.snapshot() else {
         return Err(ServeFault::OutOfMemory);
     };
     let gathered = gather(alloc, &instance)?;
-    let plan = plan(alloc, &instance)?;
+    let plan = plan_levels(rt, alloc, &instance)?;
     let served = serve(rt, alloc, &instance, &plan, gate)?;
     put_number_line(alloc, b"served ", served.drawn[0], answer)?;
-    match hierarchy.book(&instance, &ids, &gathered, &served.drawn) {
+    match hierarchy.book(&instance, &ids, &base, &gathered, &served.drawn) {
         Ok(()) => Ok(()),
         Err(_) => Err(ServeFault::OutOfMemory),
     }

@@ -8,13 +8,15 @@ ghost use Rattle.bw_shell.specs.Planned.{IsPlanText, amount_line};
 
 use crate::put_text::{put_number, put_path};
 use bw_hierarchy::Hierarchy;
-use bw_plan::plan;
+use bw_plan::plan_levels;
 use bw_tree::{GroupId, Tree};
 use std::alloc::{AllocError, Global};
+use std::thread::Threads;
 
 /// Appends the answer to `plan`: for each group, in order of creation, what it gets in slices of one
 /// period, and its path. It fails for want of memory alone.
-pub fn put_plan(
+pub fn put_plan<H: Threads + Sync>(
+    rt: &H,
     alloc: Global,
     hierarchy: &Hierarchy,
     answer: &mut Vec<u8>,
@@ -22,10 +24,10 @@ pub fn put_plan(
     ensures ok { OnOk result ((text : List ℕ) × IsPlanText hierarchy.now text × (answer.new.items ≡ answer.old.items ++ text)) }
     ensures room { vec_capacity answer.old ≤ vec_capacity answer.new }
 {
-    let Ok((instance, ids)) = hierarchy.snapshot() else {
+    let Ok((instance, ids, _base)) = hierarchy.snapshot() else {
         return Err(AllocError);
     };
-    let plan = plan(alloc, &instance)?;
+    let plan = plan_levels(rt, alloc, &instance)?;
     put_amounts(
         alloc,
         hierarchy.tree(),

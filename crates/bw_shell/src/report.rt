@@ -21,7 +21,7 @@ pub fn put_report(
     ensures ok { OnOk result ((text : List ℕ) × IsReport hierarchy.now text × (answer.new.items ≡ answer.old.items ++ text)) }
     ensures room { vec_capacity answer.old ≤ vec_capacity answer.new }
 {
-    let Ok((_instance, ids)) = hierarchy.snapshot() else {
+    let Ok((_instance, ids, _base)) = hierarchy.snapshot() else {
         return Err(AllocError);
     };
     answer.extend_from_slice(report_head().as_bytes())?;

@@ -26,7 +26,7 @@ pub fn put_total(
     ensures ok { OnOk result ((text : List ℕ) × IsTotal hierarchy.now text × (answer.new.items ≡ answer.old.items ++ text)) }
     ensures room { vec_capacity answer.old ≤ vec_capacity answer.new }
 {
-    let Ok((instance, ids)) = hierarchy.snapshot() else {
+    let Ok((instance, ids, _base)) = hierarchy.snapshot() else {
         return Err(AllocError);
     };
     let gathered = gather(alloc, &instance)?;

@@ -152,7 +152,7 @@ fn other_texts(rt: HostRuntime) -> Result<(), Fail> {
             "accepted\n",
         ),
         (
-            "bw 1 1 100000 5000 4097\n- 100 max 0 20 1 13/100@0\n",
+            "bw 1 1 100000 5000 16385\n- 100 max 0 20 1 13/100@0\n",
             "error 4 TooMany\n",
         ),
     ] {

@@ -60,7 +60,7 @@ fn counters_of_one_period(rt: HostRuntime) -> Result<(), Fail> {
             ("period", "served 20"),
             (
                 "read pod cpu.stat",
-                "usage_usec 50000\nnr_periods 1\nnr_throttled 1\nthrottled_usec 150000",
+                "usage_usec 50000\nnr_periods 1\nnr_throttled 1\nthrottled_usec 150000\nnr_bursts 0\nburst_usec 0",
             ),
             (
                 "report",
@@ -75,7 +75,8 @@ fn counters_of_one_period(rt: HostRuntime) -> Result<(), Fail> {
     )
 }
 
-const ZEROS: &str = "usage_usec 0\nnr_periods 0\nnr_throttled 0\nthrottled_usec 0";
+const ZEROS: &str =
+    "usage_usec 0\nnr_periods 0\nnr_throttled 0\nthrottled_usec 0\nnr_bursts 0\nburst_usec 0";
 
 // A group counts the periods since it was made, and one made again under the same name begins anew.
 #[test]
@@ -92,11 +93,11 @@ fn counters_of_groups_that_come_and_go(rt: HostRuntime) -> Result<(), Fail> {
             ("period", "served 4"),
             (
                 "read b cpu.stat",
-                "usage_usec 0\nnr_periods 1\nnr_throttled 0\nthrottled_usec 0",
+                "usage_usec 0\nnr_periods 1\nnr_throttled 0\nthrottled_usec 0\nnr_bursts 0\nburst_usec 0",
             ),
             (
                 "read a cpu.stat",
-                "usage_usec 60000\nnr_periods 3\nnr_throttled 0\nthrottled_usec 0",
+                "usage_usec 60000\nnr_periods 3\nnr_throttled 0\nthrottled_usec 0\nnr_bursts 0\nburst_usec 0",
             ),
             ("demand a 0", "ok"),
             ("rmdir a", "ok"),
@@ -113,6 +114,76 @@ fn counters_of_groups_that_come_and_go(rt: HostRuntime) -> Result<(), Fail> {
                    0          0          0                    0 a",
             ),
             ("report .", "error 80 BadCommand"),
+        ],
+    )
+}
+
+// What a group leaves of its limit comes on top of its quota in the next period, up to its burst.
+#[test]
+fn bursts(rt: HostRuntime) -> Result<(), Fail> {
+    for max in ["write a cpu.max 50000", "write a cpu.max 100000 200000"] {
+        let burst = if max == "write a cpu.max 50000" {
+            "write a cpu.max.burst 25000"
+        } else {
+            "write a cpu.max.burst 50000"
+        };
+        assert_answers(
+            &rt,
+            &[
+                ("mkdir a", "ok"),
+                (max, "ok"),
+                (burst, "ok"),
+                ("demand a 4", "ok"),
+                ("period", "served 4"),
+                ("demand a 20", "ok"),
+                ("total", "total 15\nlimit 15 a\ndemand 0"),
+                ("period", "served 15"),
+                (
+                    "read a cpu.stat",
+                    "usage_usec 95000\nnr_periods 2\nnr_throttled 1\nthrottled_usec 25000\nnr_bursts 1\nburst_usec 25000",
+                ),
+                ("total", "total 10\nlimit 10 a\ndemand 0"),
+                ("period", "served 10"),
+                (
+                    "read a cpu.stat",
+                    "usage_usec 145000\nnr_periods 3\nnr_throttled 2\nthrottled_usec 75000\nnr_bursts 1\nburst_usec 25000",
+                ),
+            ],
+        )?;
+    }
+    Ok(())
+}
+
+// Only a period changes what is left over, and a group made again has nothing left.
+#[test]
+fn carries(rt: HostRuntime) -> Result<(), Fail> {
+    assert_answers(
+        &rt,
+        &[
+            ("mkdir a", "ok"),
+            ("write a cpu.max 50000", "ok"),
+            ("period", "served 0"),
+            ("write a cpu.max.burst 25000", "ok"),
+            ("demand a 20", "ok"),
+            ("total", "total 15\nlimit 15 a\ndemand 0"),
+            ("write a cpu.max max", "ok"),
+            ("write a cpu.max 25000", "ok"),
+            ("total", "total 10\nlimit 10 a\ndemand 0"),
+            ("write a cpu.max 50000 200000", "ok"),
+            ("total", "total 7\nlimit 7 a\ndemand 0"),
+            ("write a cpu.max max 100000", "ok"),
+            ("period", "served 20"),
+            ("write a cpu.max 50000", "ok"),
+            ("total", "total 10\nlimit 10 a\ndemand 0"),
+            ("demand a 0", "ok"),
+            ("period", "served 0"),
+            ("rmdir a", "ok"),
+            ("mkdir a", "ok"),
+            ("read a cpu.max.burst", "0"),
+            ("write a cpu.max 50000", "ok"),
+            ("write a cpu.max.burst 50000", "ok"),
+            ("demand a 20", "ok"),
+            ("total", "total 10\nlimit 10 a\ndemand 0"),
         ],
     )
 }

@@ -263,13 +263,13 @@ fn a_writer_that_fails_or_stalls(rt: HostRuntime) -> Result<(), Fail> {
     Ok(())
 }
 
-// Groups g0 to g4094 with a demand of one slice each, and a total.
+// Groups g0 to g16382 with a demand of one slice each, and a total.
 fn large_script(rt: &HostRuntime) -> Result<String, Fail> {
     let mut script = String::new(rt.alloc());
-    for i in 0..4095u32 {
+    for i in 0..16383u32 {
         write!(script, "mkdir g{i}\n")?;
     }
-    for i in 0..4095u32 {
+    for i in 0..16383u32 {
         write!(script, "demand g{i} 1\n")?;
     }
     script.push_str("total\n")?;
@@ -281,7 +281,7 @@ fn a_full_tree(rt: HostRuntime) -> Result<(), Fail> {
     let script = large_script(&rt)?;
     let out = written(&rt, script.as_bytes())?;
     let mut wanted = String::new(rt.alloc());
-    for _ in 0..8190u32 {
+    for _ in 0..32766u32 {
         wanted.push_str("ok\n")?;
     }
     wanted.push_str("total 20\nlimit 20 .\ndemand 0\n")?;

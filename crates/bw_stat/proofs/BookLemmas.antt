@@ -13,16 +13,17 @@ use Rattle.bw_stat.specs.Books.{Share, added, or_zeros, share_of, shares_of, sta
 use Rattle.bw_stat.specs.Counters.{HasOneEach, share_in}
 
 -- the next group's share, and those after it
-pub shares_more : (s i : ℕ) (rows : List Row) (ids ws ds : List ℕ) (row : Row)
-    → i < length rows → i < length ids → i < length ws → i < length ds → row ≡ get_or rows i row
-    → shares_of s (drop i rows) (drop i ids) (drop i ws) (drop i ds)
-    ≡ (get_or ids i 0, share_of s row (get_or ws i 0) (get_or ds i 0)) ∷ shares_of s (drop (suc i) rows) (drop (suc i) ids) (drop (suc i) ws) (drop (suc i) ds)
-shares_more s i rows ids ws ds row hr hi hw hd is =
-    ap (λ xs. shares_of s xs (drop i ids) (drop i ws) (drop i ds)) (drop-cons rows i row hr)
-    ∙ ap (λ xs. shares_of s (get_or rows i row ∷ drop (suc i) rows) xs (drop i ws) (drop i ds)) (drop-cons ids i 0 hi)
-    ∙ ap (λ xs. shares_of s (get_or rows i row ∷ drop (suc i) rows) (get_or ids i 0 ∷ drop (suc i) ids) xs (drop i ds)) (drop-cons ws i 0 hw)
-    ∙ ap (λ xs. shares_of s (get_or rows i row ∷ drop (suc i) rows) (get_or ids i 0 ∷ drop (suc i) ids) (get_or ws i 0 ∷ drop (suc i) ws) xs) (drop-cons ds i 0 hd)
-    ∙ ap (λ r. (get_or ids i 0, share_of s r (get_or ws i 0) (get_or ds i 0)) ∷ shares_of s (drop (suc i) rows) (drop (suc i) ids) (drop (suc i) ws) (drop (suc i) ds)) (sym is)
+pub shares_more : (s i : ℕ) (rows : List Row) (ids : List ℕ) (qs : List (Option ℕ)) (ws ds : List ℕ) (row : Row)
+    → i < length rows → i < length ids → i < length qs → i < length ws → i < length ds → row ≡ get_or rows i row
+    → shares_of s (drop i rows) (drop i ids) (drop i qs) (drop i ws) (drop i ds)
+    ≡ (get_or ids i 0, share_of s row (get_or qs i None) (get_or ws i 0) (get_or ds i 0)) ∷ shares_of s (drop (suc i) rows) (drop (suc i) ids) (drop (suc i) qs) (drop (suc i) ws) (drop (suc i) ds)
+shares_more s i rows ids qs ws ds row hr hi hq hw hd is =
+    ap (λ xs. shares_of s xs (drop i ids) (drop i qs) (drop i ws) (drop i ds)) (drop-cons rows i row hr)
+    ∙ ap (λ xs. shares_of s (get_or rows i row ∷ drop (suc i) rows) xs (drop i qs) (drop i ws) (drop i ds)) (drop-cons ids i 0 hi)
+    ∙ ap (λ xs. shares_of s (get_or rows i row ∷ drop (suc i) rows) (get_or ids i 0 ∷ drop (suc i) ids) xs (drop i ws) (drop i ds)) (drop-cons qs i None hq)
+    ∙ ap (λ xs. shares_of s (get_or rows i row ∷ drop (suc i) rows) (get_or ids i 0 ∷ drop (suc i) ids) (get_or qs i None ∷ drop (suc i) qs) xs (drop i ds)) (drop-cons ws i 0 hw)
+    ∙ ap (λ xs. shares_of s (get_or rows i row ∷ drop (suc i) rows) (get_or ids i 0 ∷ drop (suc i) ids) (get_or qs i None ∷ drop (suc i) qs) (get_or ws i 0 ∷ drop (suc i) ws) xs) (drop-cons ds i 0 hd)
+    ∙ ap (λ r. (get_or ids i 0, share_of s r (get_or qs i None) (get_or ws i 0) (get_or ds i 0)) ∷ shares_of s (drop (suc i) rows) (drop (suc i) ids) (drop (suc i) qs) (drop (suc i) ws) (drop (suc i) ds)) (sym is)
 
 -- no id stands twice
 abbrev pub AreApart : List (ℕ × Stat) → Type 0
@@ -103,18 +104,20 @@ pub booked_AreApart : (shares : List (ℕ × Share)) (books : List (ℕ × Stat)
 booked_AreApart [] books apart = apart
 booked_AreApart (e ∷ es) books apart = booked_AreApart es (with_share books e.0 e.1) (insert_AreApart books e.0 (added (or_zeros (stat_at books e.0)) e.1) apart)
 
-absent_share : (s : ℕ) (rows : List Row) (ids ws ds : List ℕ) (id : ℕ) → AllByRecursion (λ y. eqb id y ≡ false) ids → share_in (shares_of s rows ids ws ds) id ≡ None
-absent_share s [] ids ws ds id apart = refl
-absent_share s (r ∷ rs) [] ws ds id apart = refl
-absent_share s (r ∷ rs) (i ∷ is) [] ds id apart = refl
-absent_share s (r ∷ rs) (i ∷ is) (w ∷ ws) [] id apart = refl
-absent_share s (r ∷ rs) (i ∷ is) (w ∷ ws) (d ∷ ds) id apart =
-    ap (λ b. cond b (Some (share_of s r w d)) (share_in (shares_of s rs is ws ds) id)) apart.0 ∙ absent_share s rs is ws ds id apart.1
+absent_share : (s : ℕ) (rows : List Row) (ids : List ℕ) (qs : List (Option ℕ)) (ws ds : List ℕ) (id : ℕ) → AllByRecursion (λ y. eqb id y ≡ false) ids → share_in (shares_of s rows ids qs ws ds) id ≡ None
+absent_share s [] ids qs ws ds id apart = refl
+absent_share s (r ∷ rs) [] qs ws ds id apart = refl
+absent_share s (r ∷ rs) (i ∷ is) [] ws ds id apart = refl
+absent_share s (r ∷ rs) (i ∷ is) (q ∷ qs) [] ds id apart = refl
+absent_share s (r ∷ rs) (i ∷ is) (q ∷ qs) (w ∷ ws) [] id apart = refl
+absent_share s (r ∷ rs) (i ∷ is) (q ∷ qs) (w ∷ ws) (d ∷ ds) id apart =
+    ap (λ b. cond b (Some (share_of s r q w d)) (share_in (shares_of s rs is qs ws ds) id)) apart.0 ∙ absent_share s rs is qs ws ds id apart.1
 
 -- where the ids are distinct, each group has one share
-pub one_each : (s : ℕ) (rows : List Row) (ids ws ds : List ℕ) → IsDistinct eqb ids → HasOneEach (shares_of s rows ids ws ds)
-one_each s [] ids ws ds apart = tt
-one_each s (r ∷ rs) [] ws ds apart = tt
-one_each s (r ∷ rs) (i ∷ is) [] ds apart = tt
-one_each s (r ∷ rs) (i ∷ is) (w ∷ ws) [] apart = tt
-one_each s (r ∷ rs) (i ∷ is) (w ∷ ws) (d ∷ ds) apart = (absent_share s rs is ws ds i (IsDistinct-head eqb i is apart), one_each s rs is ws ds (IsDistinct-tail eqb i is apart))
+pub one_each : (s : ℕ) (rows : List Row) (ids : List ℕ) (qs : List (Option ℕ)) (ws ds : List ℕ) → IsDistinct eqb ids → HasOneEach (shares_of s rows ids qs ws ds)
+one_each s [] ids qs ws ds apart = tt
+one_each s (r ∷ rs) [] qs ws ds apart = tt
+one_each s (r ∷ rs) (i ∷ is) [] ws ds apart = tt
+one_each s (r ∷ rs) (i ∷ is) (q ∷ qs) [] ds apart = tt
+one_each s (r ∷ rs) (i ∷ is) (q ∷ qs) (w ∷ ws) [] apart = tt
+one_each s (r ∷ rs) (i ∷ is) (q ∷ qs) (w ∷ ws) (d ∷ ds) apart = (absent_share s rs is qs ws ds i (IsDistinct-head eqb i is apart), one_each s rs is qs ws ds (IsDistinct-tail eqb i is apart))

@@ -7,8 +7,8 @@ use Rattle.bw_stat.specs.Counters.{Call, after_calls, share_in, onto, shares_for
 use Rattle.bw_stat.specs.Counters.Call.{Book, Forget}
 use Rattle.bw_stat.proofs.BookLemmas.{AreApart, cond_none, stat_remove, remove_AreApart, then_share, booked_at, booked_AreApart}
 
-abbrev four : ℕ → ℕ → ℕ → ℕ → Stat
-four a b c d = record { usage_usec = a; nr_periods = b; nr_throttled = c; throttled_usec = d }
+abbrev six : ℕ → ℕ → ℕ → ℕ → ℕ → ℕ → Stat
+six a b c d e f = record { usage_usec = a; nr_periods = b; nr_throttled = c; throttled_usec = d; nr_bursts = e; burst_usec = f }
 
 -- shares counted one after another
 abbrev pub counted : Option Stat → List Share → Option Stat
@@ -18,28 +18,30 @@ counted o (share ∷ shares) = counted (Some (added (or_zeros o) share)) shares
 cut_cut : (a x : ℕ) → cut (cut a + x) ≡ cut (a + x)
 cut_cut a x = omega arith
 
-added_four : (u p t w : ℕ) (s : Share) → added (four (cut u) (cut p) (cut t) (cut w)) s ≡ four (cut (u + s.usage_usec)) (cut (p + 1)) (cut (t + one_if s.is_throttled)) (cut (w + s.withheld_usec))
-added_four u p t w s =
-    ap (λ n. four n (cut (cut p + 1)) (cut (cut t + one_if s.is_throttled)) (cut (cut w + s.withheld_usec))) (cut_cut u s.usage_usec)
-    ∙ ap (λ n. four (cut (u + s.usage_usec)) n (cut (cut t + one_if s.is_throttled)) (cut (cut w + s.withheld_usec))) (cut_cut p 1)
-    ∙ ap (λ n. four (cut (u + s.usage_usec)) (cut (p + 1)) n (cut (cut w + s.withheld_usec))) (cut_cut t (one_if s.is_throttled))
-    ∙ ap (λ n. four (cut (u + s.usage_usec)) (cut (p + 1)) (cut (t + one_if s.is_throttled)) n) (cut_cut w s.withheld_usec)
+added_six : (u p t w b x : ℕ) (s : Share) → added (six (cut u) (cut p) (cut t) (cut w) (cut b) (cut x)) s ≡ six (cut (u + s.usage_usec)) (cut (p + 1)) (cut (t + one_if s.is_throttled)) (cut (w + s.withheld_usec)) (cut (b + one_if s.is_burst)) (cut (x + s.burst_usec))
+added_six u p t w b x s =
+    ap (λ n. six n (cut (cut p + 1)) (cut (cut t + one_if s.is_throttled)) (cut (cut w + s.withheld_usec)) (cut (cut b + one_if s.is_burst)) (cut (cut x + s.burst_usec))) (cut_cut u s.usage_usec)
+    ∙ ap (λ n. six (cut (u + s.usage_usec)) n (cut (cut t + one_if s.is_throttled)) (cut (cut w + s.withheld_usec)) (cut (cut b + one_if s.is_burst)) (cut (cut x + s.burst_usec))) (cut_cut p 1)
+    ∙ ap (λ n. six (cut (u + s.usage_usec)) (cut (p + 1)) n (cut (cut w + s.withheld_usec)) (cut (cut b + one_if s.is_burst)) (cut (cut x + s.burst_usec))) (cut_cut t (one_if s.is_throttled))
+    ∙ ap (λ n. six (cut (u + s.usage_usec)) (cut (p + 1)) (cut (t + one_if s.is_throttled)) n (cut (cut b + one_if s.is_burst)) (cut (cut x + s.burst_usec))) (cut_cut w s.withheld_usec)
+    ∙ ap (λ n. six (cut (u + s.usage_usec)) (cut (p + 1)) (cut (t + one_if s.is_throttled)) (cut (w + s.withheld_usec)) n (cut (cut x + s.burst_usec))) (cut_cut b (one_if s.is_burst))
+    ∙ ap (λ n. six (cut (u + s.usage_usec)) (cut (p + 1)) (cut (t + one_if s.is_throttled)) (cut (w + s.withheld_usec)) (cut (b + one_if s.is_burst)) n) (cut_cut x s.burst_usec)
 
-counted_four : (ss : List Share) (u p t w : ℕ) → counted (Some (four (cut u) (cut p) (cut t) (cut w))) ss
-    ≡ Some (four (cut (fold (λ a (s : Share). a + s.usage_usec) u ss)) (cut (p + length ss)) (cut (fold (λ a (s : Share). a + cond s.is_throttled 1 0) t ss)) (cut (fold (λ a (s : Share). a + s.withheld_usec) w ss)))
-counted_four [] u p t w = let e : p ≡ p + 0 = omega arith in ap (λ n. Some (four (cut u) (cut n) (cut t) (cut w))) e
-counted_four (s ∷ ss) u p t w =
+counted_six : (ss : List Share) (u p t w b x : ℕ) → counted (Some (six (cut u) (cut p) (cut t) (cut w) (cut b) (cut x))) ss
+    ≡ Some (six (cut (fold (λ a (s : Share). a + s.usage_usec) u ss)) (cut (p + length ss)) (cut (fold (λ a (s : Share). a + cond s.is_throttled 1 0) t ss)) (cut (fold (λ a (s : Share). a + s.withheld_usec) w ss)) (cut (fold (λ a (s : Share). a + cond s.is_burst 1 0) b ss)) (cut (fold (λ a (s : Share). a + s.burst_usec) x ss)))
+counted_six [] u p t w b x = let e : p ≡ p + 0 = omega arith in ap (λ n. Some (six (cut u) (cut n) (cut t) (cut w) (cut b) (cut x))) e
+counted_six (s ∷ ss) u p t w b x =
     let e : p + 1 + length ss ≡ p + suc (length ss) = omega arith in
-    ap (λ x. counted (Some x) ss) (added_four u p t w s)
-    ∙ counted_four ss (u + s.usage_usec) (p + 1) (t + cond s.is_throttled 1 0) (w + s.withheld_usec)
-    ∙ ap (λ n. Some (four (cut (fold (λ a (s : Share). a + s.usage_usec) (u + s.usage_usec) ss)) (cut n) (cut (fold (λ a (s : Share). a + cond s.is_throttled 1 0) (t + cond s.is_throttled 1 0) ss)) (cut (fold (λ a (s : Share). a + s.withheld_usec) (w + s.withheld_usec) ss)))) e
+    ap (λ y. counted (Some y) ss) (added_six u p t w b x s)
+    ∙ counted_six ss (u + s.usage_usec) (p + 1) (t + cond s.is_throttled 1 0) (w + s.withheld_usec) (b + cond s.is_burst 1 0) (x + s.burst_usec)
+    ∙ ap (λ n. Some (six (cut (fold (λ a (s : Share). a + s.usage_usec) (u + s.usage_usec) ss)) (cut n) (cut (fold (λ a (s : Share). a + cond s.is_throttled 1 0) (t + cond s.is_throttled 1 0) ss)) (cut (fold (λ a (s : Share). a + s.withheld_usec) (w + s.withheld_usec) ss)) (cut (fold (λ a (s : Share). a + cond s.is_burst 1 0) (b + cond s.is_burst 1 0) ss)) (cut (fold (λ a (s : Share). a + s.burst_usec) (x + s.burst_usec) ss)))) e
 
 counted_sums : (ss : List Share) → counted None ss ≡ counters_of ss
 counted_sums [] = refl
 counted_sums (s ∷ ss) =
     let e : 1 + length ss ≡ suc (length ss) = omega arith in
-    counted_four ss (0 + s.usage_usec) 1 (0 + cond s.is_throttled 1 0) (0 + s.withheld_usec)
-    ∙ ap (λ n. Some (four (cut (fold (λ a (s : Share). a + s.usage_usec) (0 + s.usage_usec) ss)) (cut n) (cut (fold (λ a (s : Share). a + cond s.is_throttled 1 0) (0 + cond s.is_throttled 1 0) ss)) (cut (fold (λ a (s : Share). a + s.withheld_usec) (0 + s.withheld_usec) ss)))) e
+    counted_six ss (0 + s.usage_usec) 1 (0 + cond s.is_throttled 1 0) (0 + s.withheld_usec) (0 + cond s.is_burst 1 0) (0 + s.burst_usec)
+    ∙ ap (λ n. Some (six (cut (fold (λ a (s : Share). a + s.usage_usec) (0 + s.usage_usec) ss)) (cut n) (cut (fold (λ a (s : Share). a + cond s.is_throttled 1 0) (0 + cond s.is_throttled 1 0) ss)) (cut (fold (λ a (s : Share). a + s.withheld_usec) (0 + s.withheld_usec) ss)) (cut (fold (λ a (s : Share). a + cond s.is_burst 1 0) (0 + cond s.is_burst 1 0) ss)) (cut (fold (λ a (s : Share). a + s.burst_usec) (0 + s.burst_usec) ss)))) e
 
 counted_onto : (o : Option Stat) (m : Option Share) (ss : List Share) → counted (then_share o m) ss ≡ counted o (onto m ss)
 counted_onto o None ss = refl

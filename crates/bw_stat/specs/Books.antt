@@ -10,6 +10,8 @@ pub record Share : Type 0 where
   pub usage_usec : ℕ
   pub is_throttled : Bool
   pub withheld_usec : ℕ
+  pub is_burst : Bool
+  pub burst_usec : ℕ
 
 -- the slices that a group wanted above its limit; nothing is counted for the root, which has no parent
 abbrev pub short : Option ℕ → Option ℕ → ℕ → ℕ
@@ -17,27 +19,36 @@ short None limit want = 0
 short (Some parent) None want = 0
 short (Some parent) (Some limit) want = want - limit
 
-abbrev pub share_of : ℕ → Row → ℕ → ℕ → Share
-share_of slice_us row want drawn = record {
+-- the slices that a group drew above its quota; nothing is counted for the root, which has no parent
+abbrev pub burst : Option ℕ → Option ℕ → ℕ → ℕ
+burst None quota drawn = 0
+burst (Some parent) None drawn = 0
+burst (Some parent) (Some quota) drawn = drawn - quota
+
+abbrev pub share_of : ℕ → Row → Option ℕ → ℕ → ℕ → Share
+share_of slice_us row quota want drawn = record {
   usage_usec = drawn * slice_us;
   is_throttled = nat_lt 0 (short row.parent row.limit want);
   withheld_usec = short row.parent row.limit want * slice_us;
+  is_burst = nat_lt 0 (burst row.parent quota drawn);
+  burst_usec = burst row.parent quota drawn * slice_us;
 }
 
--- what a period adds for each group: its rows, with the ids, the wants and the drawn slices of the same groups
-abbrev pub shares_of : ℕ → List Row → List ℕ → List ℕ → List ℕ → List (ℕ × Share)
-shares_of slice_us [] ids wants drawn = []
-shares_of slice_us (row ∷ rows) [] wants drawn = []
-shares_of slice_us (row ∷ rows) (id ∷ ids) [] drawn = []
-shares_of slice_us (row ∷ rows) (id ∷ ids) (w ∷ ws) [] = []
-shares_of slice_us (row ∷ rows) (id ∷ ids) (w ∷ ws) (d ∷ ds) = (id, share_of slice_us row w d) ∷ shares_of slice_us rows ids ws ds
+-- what a period adds for each group: its rows, with the ids, the quotas, the wants and the drawn slices of the same groups
+abbrev pub shares_of : ℕ → List Row → List ℕ → List (Option ℕ) → List ℕ → List ℕ → List (ℕ × Share)
+shares_of slice_us [] ids base wants drawn = []
+shares_of slice_us (row ∷ rows) [] base wants drawn = []
+shares_of slice_us (row ∷ rows) (id ∷ ids) [] wants drawn = []
+shares_of slice_us (row ∷ rows) (id ∷ ids) (q ∷ qs) [] drawn = []
+shares_of slice_us (row ∷ rows) (id ∷ ids) (q ∷ qs) (w ∷ ws) [] = []
+shares_of slice_us (row ∷ rows) (id ∷ ids) (q ∷ qs) (w ∷ ws) (d ∷ ds) = (id, share_of slice_us row q w d) ∷ shares_of slice_us rows ids qs ws ds
 
 -- the counters kept for a group
 abbrev pub stat_at : List (ℕ × Stat) → ℕ → Option Stat
 stat_at books id = lookup (nat_eq id) books
 
 abbrev pub zeros : Stat
-zeros = record { usage_usec = 0; nr_periods = 0; nr_throttled = 0; throttled_usec = 0 }
+zeros = record { usage_usec = 0; nr_periods = 0; nr_throttled = 0; throttled_usec = 0; nr_bursts = 0; burst_usec = 0 }
 
 abbrev pub or_zeros : Option Stat → Stat
 or_zeros None = zeros
@@ -56,6 +67,8 @@ added s share = record {
   nr_periods = cut (s.nr_periods + 1);
   nr_throttled = cut (s.nr_throttled + one_if share.is_throttled);
   throttled_usec = cut (s.throttled_usec + share.withheld_usec);
+  nr_bursts = cut (s.nr_bursts + one_if share.is_burst);
+  burst_usec = cut (s.burst_usec + share.burst_usec);
 }
 
 -- one group's share is booked

@@ -50,6 +50,8 @@ sums_of shares = record {
   nr_periods = cut (length shares);
   nr_throttled = cut (count_by (λ (s : Share). s.is_throttled) shares);
   throttled_usec = cut (sum_by (λ (s : Share). s.withheld_usec) shares);
+  nr_bursts = cut (count_by (λ (s : Share). s.is_burst) shares);
+  burst_usec = cut (sum_by (λ (s : Share). s.burst_usec) shares);
 }
 
 -- what is kept for a group with these shares: nothing where it has none

@@ -3,7 +3,7 @@ ghost use Rattle.std.specs.Prelude.{◌≡◌, ◌+◌, ◌*◌, ◌<◌, ◌≤
 ghost use Rattle.std.specs.Option.{option_copied};
 ghost use Rattle.std.specs.List.{IsDistinct};
 ghost use Rattle.indexmap.specs.IndexMap.{spare};
-ghost use Rattle.bw_stat.specs.Books.{short, cut, one_if, added, share_of, shares_of, stat_at, or_zeros, with_share, booked, forgotten};
+ghost use Rattle.bw_stat.specs.Books.{short, burst, cut, one_if, added, share_of, shares_of, stat_at, or_zeros, with_share, booked, forgotten};
 
 use bw_demand::Gathered;
 use bw_model::{Instance, Row, Stat};
@@ -50,22 +50,25 @@ impl Books {
         or_zeros(self.of(id))
     }
 
-    /// Counts one period for each group of an instance: the ids of its rows, what they wanted and what
-    /// they drew, both in slices. `Err` is want of memory alone, and the books are then as before.
+    /// Counts one period for each group of an instance: the ids of its rows, their quotas, what they wanted and what
+    /// they drew, all three in slices. `Err` is want of memory alone, and the books are then as before.
     ///
-    /// A group other than the root is throttled where its limit is below its want (sched-bwc.rst, Statistics).
+    /// A group other than the root is throttled where its limit is below its want, and used its burst where it drew more
+    /// than its quota (sched-bwc.rst, "Statistics").
     pub fn book(
         &mut self,
         instance: &Instance,
         ids: &[u64],
+        base: &[Option<u64>],
         gathered: &Gathered,
         drawn: &[u64],
     ) -> Result<(), AllocError>
         requires ids { length ids.now ≡ length instance.now.rows }
+        requires base { length base.now ≡ length instance.now.rows }
         requires wants { length gathered.now.want.items ≡ length instance.now.rows }
         requires drawn { length drawn.now ≡ length instance.now.rows }
         requires distinct { IsDistinct nat_eq ids.now }
-        ensures booked { OnOk result (self.new ≡ booked self.old (shares_of instance.now.shape.slice_us instance.now.rows ids.now gathered.now.want.items drawn.now)) }
+        ensures booked { OnOk result (self.new ≡ booked self.old (shares_of instance.now.shape.slice_us instance.now.rows ids.now base.now gathered.now.want.items drawn.now)) }
         ensures err { OnErr result (self.new ≡ self.old) }
     {
         let slice_us = instance.shape().slice_us();
@@ -76,6 +79,7 @@ impl Books {
             slice_us,
             rows,
             ids,
+            base,
             gathered.want.as_slice(),
             drawn,
         );
@@ -96,17 +100,21 @@ fn book_rows(
     slice_us: u64,
     rows: &[Row],
     ids: &[u64],
+    base: &[Option<u64>],
     wants: &[u64],
     drawn: &[u64],
 )
     requires room { length rows.now ≤ spare stats.old }
     requires ids { length ids.now ≡ length rows.now }
+    requires base { length base.now ≡ length rows.now }
     requires wants { length wants.now ≡ length rows.now }
     requires drawn { length drawn.now ≡ length rows.now }
-    ensures { stats.new.entries ≡ booked stats.old.entries (shares_of slice_us rows.now ids.now wants.now drawn.now) }
+    ensures { stats.new.entries ≡ booked stats.old.entries (shares_of slice_us rows.now ids.now base.now wants.now drawn.now) }
 {
     for i in 0..rows.len() {
-        book_row(stats, ids[i], slice_us, &rows[i], wants[i], drawn[i]);
+        book_row(
+            stats, ids[i], slice_us, &rows[i], base[i], wants[i], drawn[i],
+        );
     }
 }
 
@@ -115,15 +123,16 @@ fn book_row(
     id: u64,
     slice_us: u64,
     row: &Row,
+    quota: Option<u64>,
     want: u64,
     drawn: u64,
 )
     requires { 0 < spare stats.old }
-    ensures entries { stats.new.entries ≡ with_share stats.old.entries id (share_of slice_us row.now want drawn) }
+    ensures entries { stats.new.entries ≡ with_share stats.old.entries id (share_of slice_us row.now quota want drawn) }
     ensures room { spare stats.old ≤ spare stats.new + 1 }
 {
     let stat = or_zeros(stats.get(&id).copied());
-    let stat = added(stat, slice_us, row, want, drawn);
+    let stat = added(stat, slice_us, row, quota, want, drawn);
     let _old = stats.insert(id, stat).unwrap();
 }
 
@@ -136,6 +145,8 @@ fn or_zeros(stat: Option<Stat>) -> Stat
             nr_periods: 0,
             nr_throttled: 0,
             throttled_usec: 0,
+            nr_bursts: 0,
+            burst_usec: 0,
         },
         Some(stat) => stat,
     }
@@ -151,6 +162,16 @@ fn short(row: &Row, want: u64) -> u64
     }
 }
 
+// The slices that a group drew above its quota. Nothing is counted for the root.
+fn burst(row: &Row, quota: Option<u64>, drawn: u64) -> u64
+    ensures { result ≡ burst row.now.parent quota drawn }
+{
+    match (row.parent, quota) {
+        (Some(_), Some(quota)) => drawn.saturating_sub(quota),
+        _ => 0,
+    }
+}
+
 // A counter with some slices more, in microseconds.
 fn more(counter: u64, slices: u64, slice_us: u64) -> u64
     ensures { result ≡ cut (counter + slices * slice_us) }
@@ -158,14 +179,17 @@ fn more(counter: u64, slices: u64, slice_us: u64) -> u64
     counter.saturating_add(slices.saturating_mul(slice_us))
 }
 
-fn added(stat: Stat, slice_us: u64, row: &Row, want: u64, drawn: u64) -> Stat
-    ensures { result ≡ added stat (share_of slice_us row.now want drawn) }
+fn added(stat: Stat, slice_us: u64, row: &Row, quota: Option<u64>, want: u64, drawn: u64) -> Stat
+    ensures { result ≡ added stat (share_of slice_us row.now quota want drawn) }
 {
     let short = short(row, want);
+    let burst = burst(row, quota, drawn);
     Stat {
         usage_usec: more(stat.usage_usec, drawn, slice_us),
         nr_periods: stat.nr_periods.saturating_add(1),
         nr_throttled: stat.nr_throttled.saturating_add(u64::from(short > 0)),
         throttled_usec: more(stat.throttled_usec, short, slice_us),
+        nr_bursts: stat.nr_bursts.saturating_add(u64::from(burst > 0)),
+        burst_usec: more(stat.burst_usec, burst, slice_us),
     }
 }

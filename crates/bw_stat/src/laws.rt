@@ -1,5 +1,5 @@
 //! What the counters are after any list of calls, each law the contract of a function that does nothing.
-ghost use Rattle.std.specs.Prelude.{ℕ, List, nat_eq};
+ghost use Rattle.std.specs.Prelude.{ℕ, List, Option, nat_eq};
 ghost use Rattle.std.specs.List.{IsDistinct};
 ghost use Rattle.bw_model.specs.declared.row.Row.{Row};
 ghost use Rattle.bw_stat.specs.Books.{shares_of};
@@ -13,5 +13,5 @@ pub fn counters_are_sums()
 
 /// What one call of `book` counts has one share for each group, as the law on sums asks.
 pub fn has_one_each()
-    ensures { (slice_us : ℕ) (rows : List Row) (ids wants drawn : List ℕ) → IsDistinct nat_eq ids → HasOneEach (shares_of slice_us rows ids wants drawn) }
+    ensures { (slice_us : ℕ) (rows : List Row) (ids : List ℕ) (base : List (Option ℕ)) (wants drawn : List ℕ) → IsDistinct nat_eq ids → HasOneEach (shares_of slice_us rows ids base wants drawn) }
 {}

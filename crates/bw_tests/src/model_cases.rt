@@ -1,4 +1,5 @@
 //! Hosts, instances and marks, against worked values.
+use bw_model::limits::{MAX_PERIOD_US, MAX_QUOTA_US, MIN_PERIOD_US};
 use bw_model::{HostFault, HostShape, Instance, InstanceFault, Mark, Quota, Row};
 use std::alloc::{AllocError, Global};
 use std::process::Abort;
@@ -45,28 +46,36 @@ fn hosts(rt: HostRuntime) -> Result<(), Fail> {
 }
 
 #[test]
-fn quotas(rt: HostRuntime) {
-    let cases = [
-        (Quota::Max, true, None),
-        (Quota::Micros(999), false, Some(0)),
-        (Quota::Micros(1_000), true, Some(0)),
-        (Quota::Micros(14_999), true, Some(2)),
-        (Quota::Micros(15_000), true, Some(3)),
-        (
-            Quota::Micros(1_000_000_000_000_000),
-            true,
-            Some(200_000_000_000),
-        ),
-        (
-            Quota::Micros(1_000_000_000_000_001),
-            false,
-            Some(200_000_000_000),
-        ),
+fn quotas(rt: HostRuntime) -> Result<(), Fail> {
+    let valid = [
+        (Quota::Max, true),
+        (Quota::Micros(999), false),
+        (Quota::Micros(1_000), true),
+        (Quota::Micros(1_000_000_000_000_000), true),
+        (Quota::Micros(1_000_000_000_000_001), false),
     ];
-    for (quota, valid, slices) in cases {
-        assert_eq!(rt; quota.is_valid(), valid);
-        assert_eq!(rt; quota.slices(5_000), slices);
+    for (quota, wanted) in valid {
+        assert_eq!(rt; quota.is_valid(), wanted);
     }
+    let host = HostShape::new(1, 100_000, 5_000)?;
+    let short = HostShape::new(2, 5_000, 5_000)?;
+    let cases: [(HostShape, u64, u64, u64); 10] = [
+        (host, 1_000, 100_000, 0),
+        (host, 14_999, 100_000, 2),
+        (host, 15_000, 100_000, 3),
+        (host, 1_000_000_000_000_000, 100_000, 200_000_000_000),
+        (host, 50_000, 200_000, 5),
+        (host, 25_000, 200_000, 2),
+        (host, 1_000, 1_000, 20),
+        (host, 1_000, 1_000_000, 0),
+        (host, 1_000_000_000_000_000, 1_000, 20_000_000_000_000),
+        (short, 50_000, 100_000, 0),
+    ];
+    for (shape, us, period_us, slices) in cases {
+        assert!(rt; us <= MAX_QUOTA_US && MIN_PERIOD_US <= period_us && period_us <= MAX_PERIOD_US);
+        assert_eq!(rt; shape.slices(us, period_us), slices);
+    }
+    Ok(())
 }
 
 /// A group of weight 100 that wants nothing.
@@ -198,11 +207,11 @@ fn refused_rows(rt: HostRuntime) -> Result<(), Fail> {
 fn long_and_deep_rows(rt: HostRuntime) -> Result<(), Fail> {
     let alloc = rt.alloc();
     let mut flat = listed(alloc, &[idle(None)])?;
-    for _ in 1..4096u32 {
+    for _ in 1..16384u32 {
         flat.push(idle(Some(0)))?;
     }
     let instance = made(alloc, flat.as_slice())?;
-    assert_eq!(rt; instance.rows().len(), 4096);
+    assert_eq!(rt; instance.rows().len(), 16384);
     flat.push(Row {
         weight: 0,
         ..idle(None)
@@ -216,13 +225,13 @@ fn long_and_deep_rows(rt: HostRuntime) -> Result<(), Fail> {
         "TooMany",
     )?;
     let mut chain = listed(alloc, &[idle(None)])?;
-    for above in 0..32u32 {
+    for above in 0..64u32 {
         chain.push(idle(Some(above)))?;
     }
     let instance = made(alloc, chain.as_slice())?;
-    assert!(rt; instance.rows().len() == 33);
-    assert_eq!(rt; instance.path_up(32).len(), 33);
-    chain.push(idle(Some(32)))?;
+    assert!(rt; instance.rows().len() == 65);
+    assert_eq!(rt; instance.path_up(64).len(), 65);
+    chain.push(idle(Some(64)))?;
     assert_refused(
         &rt,
         alloc,

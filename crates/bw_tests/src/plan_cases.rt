@@ -1,10 +1,15 @@
-//! Plans and their certificates, against worked values.
+//! Plans, by both calls, and their certificates, against worked values.
+ghost use Rattle.std.specs.Prelude.{IfOk};
+ghost use Rattle.bw_model.specs.Plan.{IsPlan};
+
 use bw_cert::certify;
+use bw_demand::levels;
 use bw_model::{HostShape, Instance, InstanceFault, Row};
-use bw_plan::plan;
+use bw_plan::{Plan, plan, plan_levels};
 use std::alloc::{AllocError, Global};
 use std::process::Abort;
 use std::test::Fail;
+use std::thread::Threads;
 
 /// The parent, weight, limit and demand of a row.
 type Shown = (Option<u32>, u64, Option<u64>, u64);
@@ -30,8 +35,22 @@ fn rows_of(alloc: Global, shown: &[Shown]) -> Result<Vec<Row>, AllocError> {
     Ok(rows)
 }
 
-fn assert_once(
-    rt: &impl Abort,
+/// The plan, which both calls give.
+fn planned_by_both<R: Threads + Abort + Sync>(
+    rt: &R,
+    alloc: Global,
+    instance: &Instance,
+) -> Result<Plan, AllocError>
+    ensures { IfOk result (λ plan. IsPlan instance.now plan.amounts.items) }
+{
+    let planned = plan(alloc, instance)?;
+    let by_level = plan_levels(rt, alloc, instance)?;
+    assert_eq!(rt; by_level.amounts.as_slice(), planned.amounts.as_slice());
+    Ok(planned)
+}
+
+fn assert_once<R: Threads + Abort + Sync>(
+    rt: &R,
     alloc: Global,
     shape: HostShape,
     rows: &[Shown],
@@ -40,7 +59,7 @@ fn assert_once(
     levels: &[Level],
 ) -> Result<(), InstanceFault> {
     let instance = Instance::new(alloc, rows_of(alloc, rows)?, shape)?;
-    let planned = plan(alloc, &instance)?;
+    let planned = planned_by_both(rt, alloc, &instance)?;
     assert_eq!(rt; planned.amounts.as_slice(), amounts);
     let certificate = certify(alloc, &instance, &planned)?;
     assert_eq!(rt; certificate.tight.as_slice(), tight);
@@ -56,8 +75,8 @@ fn assert_once(
 
 /// Asserts the plan and its certificate on so many processors of 20 slices each. Where memory was refused the case is
 /// run again: that left nothing behind.
-fn assert_plan(
-    rt: &impl Abort,
+fn assert_plan<R: Threads + Abort + Sync>(
+    rt: &R,
     alloc: Global,
     processors: u64,
     rows: &[Shown],
@@ -172,67 +191,72 @@ fn worked_limited_plans(rt: HostRuntime) -> Result<(), Fail> {
     Ok(())
 }
 
-/// A chain of 32 groups with a demand at its end.
-fn chain(alloc: Global) -> Result<Vec<Row>, AllocError> {
+/// A chain of so many groups, with a demand at its end.
+fn chain(alloc: Global, depth: u32) -> Result<Vec<Row>, AllocError> {
     let mut rows = rows_of(alloc, &[(None, 100, None, 0)])?;
-    for parent in 0..32u32 {
-        rows.push(row((Some(parent), 100, None, if parent == 31 { 5 } else { 0 })))?;
+    for parent in 0..depth {
+        let demand = if parent + 1 == depth { 5 } else { 0 };
+        rows.push(row((Some(parent), 100, None, demand)))?;
     }
     Ok(rows)
 }
 
-/// 4095 groups under the root.
-fn flat(alloc: Global) -> Result<Vec<Row>, AllocError> {
+/// So many groups under the root.
+fn flat(alloc: Global, groups: u32) -> Result<Vec<Row>, AllocError> {
     let mut rows = rows_of(alloc, &[(None, 100, None, 0)])?;
-    for _group in 0..4095u32 {
+    for _group in 0..groups {
         rows.push(row((Some(0), 100, None, 20)))?;
     }
     Ok(rows)
 }
 
-/// 2047 groups under the root, and then one child of each.
-fn pairs(alloc: Global) -> Result<Vec<Row>, AllocError> {
+/// So many groups under the root, and then one child of each.
+fn pairs(alloc: Global, groups: u32) -> Result<Vec<Row>, AllocError> {
     let mut rows = rows_of(alloc, &[(None, 100, None, 0)])?;
-    for _group in 0..2047u32 {
+    for _group in 0..groups {
         rows.push(row((Some(0), 100, None, 0)))?;
     }
-    for group in 1..2048u32 {
-        rows.push(row((Some(group), 100, None, 40)))?;
+    for group in 0..groups {
+        rows.push(row((Some(group + 1), 100, None, 40)))?;
     }
     Ok(rows)
 }
 
-fn wanted_in_flat(g: usize) -> u64 {
-    match g {
-        0 => 64000,
-        1..=2575 => 16,
-        _ => 15,
+/// That the root has 64000 slices, the first so many groups this many, and the others one less.
+fn assert_shared(rt: &impl Abort, amounts: &[u64], first: usize, most: u64) {
+    for (g, amount) in amounts.iter().enumerate() {
+        let wanted = match g {
+            0 => 64000,
+            _ if g <= first => most,
+            _ => most - 1,
+        };
+        assert_eq!(rt; *amount, wanted);
     }
 }
 
-fn wanted_in_pairs(g: usize) -> u64 {
-    match g {
-        0 => 64000,
-        1..=543 => 32,
-        2048..=2590 => 32,
-        _ => 31,
+/// The amounts of deep and wide trees on the largest host.
+fn assert_amounts<R: Threads + Abort + Sync>(
+    rt: &R,
+    alloc: Global,
+    shape: HostShape,
+) -> Result<(), InstanceFault> {
+    for depth in [32u32, 64] {
+        let planned = planned_by_both(rt, alloc, &Instance::new(alloc, chain(alloc, depth)?, shape)?)?;
+        assert_eq!(rt; planned.amounts.len(), depth as usize + 1);
+        assert!(rt; planned.amounts.iter().all(|amount| *amount == 5));
     }
-}
-
-/// The amounts of wide and deep trees on the largest host.
-fn assert_amounts(rt: &impl Abort, alloc: Global, shape: HostShape) -> Result<(), InstanceFault> {
-    let planned = plan(alloc, &Instance::new(alloc, chain(alloc)?, shape)?)?;
-    assert_eq!(rt; planned.amounts.len(), 33);
-    assert!(rt; planned.amounts.iter().all(|amount| *amount == 5));
-    let planned = plan(alloc, &Instance::new(alloc, flat(alloc)?, shape)?)?;
-    assert_eq!(rt; planned.amounts.len(), 4096);
-    for (g, amount) in planned.amounts.iter().enumerate() {
-        assert_eq!(rt; *amount, wanted_in_flat(g));
+    for (groups, first, most) in [(4095u32, 2575usize, 16u64), (16383, 14851, 4)] {
+        let planned = planned_by_both(rt, alloc, &Instance::new(alloc, flat(alloc, groups)?, shape)?)?;
+        assert_eq!(rt; planned.amounts.len(), groups as usize + 1);
+        assert_shared(rt, planned.amounts.as_slice(), first, most);
     }
-    let planned = plan(alloc, &Instance::new(alloc, pairs(alloc)?, shape)?)?;
-    assert_eq!(rt; planned.amounts.len(), 4095);
-    for (g, amount) in planned.amounts.iter().enumerate() {
-        assert_eq!(rt; *amount, wanted_in_pairs(g));
+    for (groups, first, most) in [(2047u32, 543usize, 32u64), (8191, 6663, 8)] {
+        let planned = planned_by_both(rt, alloc, &Instance::new(alloc, pairs(alloc, groups)?, shape)?)?;
+        let (above, below) = planned.amounts.as_slice().split_at(groups as usize + 1);
+        assert_shared(rt, above, first, most);
+        for (g, amount) in below.iter().enumerate() {
+            assert_eq!(rt; *amount, if g < first { most } else { most - 1 });
+        }
     }
     Ok(())
 }
@@ -244,4 +268,36 @@ fn large_trees(rt: HostRuntime) -> Result<(), Fail> {
         Ok(()) => Ok(()),
         Err(_) => Ok(assert_amounts(&rt, rt.alloc(), shape)?),
     }
+}
+
+/// The rows of each depth of a group over two leaves, and a leaf beside it that was made last.
+fn assert_levels(rt: &impl Abort, alloc: Global) -> Result<(), InstanceFault> {
+    let rows = rows_of(
+        alloc,
+        &[
+            (None, 100, None, 0),
+            (Some(0), 100, Some(10), 0),
+            (Some(1), 100, None, 20),
+            (Some(1), 300, None, 20),
+            (Some(0), 100, None, 20),
+        ],
+    )?;
+    let Ok(shape) = HostShape::new(1, 100_000, 5_000) else {
+        panic!(rt; "no host")
+    };
+    let found = levels(alloc, &Instance::new(alloc, rows, shape)?)?;
+    assert_eq!(rt; found.len(), 3);
+    let wanted: [&[u32]; 3] = [&[0], &[1, 4], &[2, 3]];
+    for (depth, level) in found.iter().enumerate() {
+        assert_eq!(rt; level.as_slice(), wanted[depth], "at {depth}");
+    }
+    Ok(())
+}
+
+#[test]
+fn levels_of_a_small_tree(rt: HostRuntime) -> Result<(), Fail> {
+    if assert_levels(&rt, rt.alloc()).is_err() {
+        assert_levels(&rt, rt.alloc())?;
+    }
+    Ok(())
 }

@@ -1,6 +1,6 @@
 //! The texts of a group's files, against worked values.
 //! Where an allocation is refused a call is made once more, so that each case holds with any one of its allocations failing.
-use bw_files::{MaxWrite, read_max, read_weight, write_max, write_stat, write_weight};
+use bw_files::{MaxWrite, read_max, read_weight, write_burst, write_max, write_stat, write_weight};
 use bw_model::{Quota, Stat};
 use std::alloc::{AllocError, Global};
 use std::test::Fail;
@@ -111,6 +111,8 @@ fn written_texts(rt: HostRuntime) -> Result<(), Fail> {
     let alloc = rt.alloc();
     let weight = settled(write_weight(alloc, 100), write_weight(alloc, 100))?;
     assert_eq!(rt; weight.as_str(), "100\n");
+    let burst = settled(write_burst(alloc, 25_000), write_burst(alloc, 25_000))?;
+    assert_eq!(rt; burst.as_str(), "25000\n");
     let none = settled(
         write_max(alloc, Quota::Max, 100_000),
         write_max(alloc, Quota::Max, 100_000),
@@ -127,6 +129,8 @@ fn written_texts(rt: HostRuntime) -> Result<(), Fail> {
         nr_periods: 1,
         nr_throttled: 1,
         throttled_usec: 150_000,
+        nr_bursts: 2,
+        burst_usec: 25_000,
     };
     let root = settled(
         write_stat(alloc, &stat, true),
@@ -139,7 +143,7 @@ fn written_texts(rt: HostRuntime) -> Result<(), Fail> {
     )?;
     assert_eq!(rt;
         group.as_str(),
-        "usage_usec 50000\nnr_periods 1\nnr_throttled 1\nthrottled_usec 150000\n"
+        "usage_usec 50000\nnr_periods 1\nnr_throttled 1\nthrottled_usec 150000\nnr_bursts 2\nburst_usec 25000\n"
     );
     Ok(())
 }

@@ -4,7 +4,7 @@
 use bw_demand::gather;
 use bw_hierarchy::{Cgroup, CgroupBuilder, Fault, Hierarchy};
 use bw_model::HostShape;
-use bw_tree::TreeFault;
+use bw_tree::{TreeFault, is_drawn_within};
 use std::alloc::Global;
 use std::process::Abort;
 use std::test::Fail;
@@ -73,8 +73,8 @@ fn assert_reads(
 
 /// The limit in slices of the last group.
 fn last_limit(hierarchy: &Hierarchy) -> Result<Option<u64>, Fault> {
-    let (instance, _ids) = match hierarchy.snapshot() {
-        Ok(pair) => pair,
+    let (instance, _ids, _base) = match hierarchy.snapshot() {
+        Ok(snapshot) => snapshot,
         Err(_) => hierarchy.snapshot()?,
     };
     match instance.rows().last() {
@@ -129,7 +129,7 @@ fn paths(rt: HostRuntime) -> Result<(), Fail> {
 fn files(rt: HostRuntime) -> Result<(), Fail> {
     let mut hierarchy = new_hierarchy(rt.alloc())?;
     assert_answers(&rt, &mut hierarchy, &[("a", Ask::Mkdir, 0)]);
-    let limits: [(&[u8], u8, &str, Option<u64>); 8] = [
+    let limits: [(&[u8], u8, &str, Option<u64>); 13] = [
         (b"1000 100000", 0, "1000 100000\n", Some(0)),
         (b"999", 13, "1000 100000\n", Some(0)),
         (
@@ -147,6 +147,16 @@ fn files(rt: HostRuntime) -> Result<(), Fail> {
         (b"50000", 0, "50000 100000\n", Some(10)),
         (b"50000 999", 15, "50000 100000\n", Some(10)),
         (b"1 2 3", 16, "50000 100000\n", Some(10)),
+        (b"50000 200000", 0, "50000 200000\n", Some(5)),
+        (b"1000 1000", 0, "1000 1000\n", Some(20)),
+        (b"1000 1000000", 0, "1000 1000000\n", Some(0)),
+        (
+            b"1000000000000000 1000",
+            0,
+            "1000000000000000 1000\n",
+            Some(20_000_000_000_000),
+        ),
+        (b"max 100000", 0, "max 100000\n", None),
         (b"max", 0, "max 100000\n", None),
     ];
     for (text, wanted, after, slices) in limits {
@@ -158,8 +168,7 @@ fn files(rt: HostRuntime) -> Result<(), Fail> {
         assert_reads(&rt, &hierarchy, "a", "cpu.max", Ok(after));
         assert_eq!(rt; last_limit(&hierarchy)?, slices);
     }
-    let others: [(&str, Ask, u8); 12] = [
-        ("a", Ask::Write("cpu.max", b"50000 200000"), 32),
+    let others: [(&str, Ask, u8); 11] = [
         ("a", Ask::Write("cpu.weight", b"0"), 12),
         ("a", Ask::Write("cpu.weight", b"10001"), 12),
         ("a", Ask::Write("cpu.weight", b"0100"), 11),
@@ -168,7 +177,7 @@ fn files(rt: HostRuntime) -> Result<(), Fail> {
         ("a", Ask::Write("cpu.weight", b" 100\n"), 0),
         ("a", Ask::Write("cpu.idle", b"1"), 30),
         ("a", Ask::Write("cpu.stat", b"1"), 31),
-        ("a", Ask::Write("cpu.max.burst", b"1"), 30),
+        (".", Ask::Write("cpu.max.burst", b"1"), 30),
         (".", Ask::Write("cpu.weight", b"1"), 30),
         ("z", Ask::Write("cpu.idle", b""), 20),
     ];
@@ -224,9 +233,16 @@ fn builders(rt: HostRuntime) -> Result<(), Fail> {
     assert_reads(&rt, &hierarchy, "p", "cpu.max", Ok("max 100000\n"));
     assert_reads(&rt, &hierarchy, "p/q", "cpu.weight", Ok("300\n"));
     assert_reads(&rt, &hierarchy, "p/q", "cpu.max", Ok("50000 100000\n"));
-    assert!(rt; built(&mut hierarchy, "r/s", None, None, Some(200_000)) == Err(32));
+    assert!(rt; built(&mut hierarchy, "r/s", None, None, Some(999)) == Err(15));
     assert_reads(&rt, &hierarchy, "r", "cpu.weight", Err(20));
-    assert!(rt; built(&mut hierarchy, "r", Some(0), None, None) == Err(12));
+    assert!(rt; built(&mut hierarchy, "r/s", None, None, Some(200_000)).is_ok());
+    assert_reads(&rt, &hierarchy, "r/s", "cpu.max", Ok("max 200000\n"));
+    let burst = ("p/q", Ask::Write("cpu.max.burst", b"50000"), 0);
+    assert_answers(&rt, &mut hierarchy, &[burst]);
+    assert!(rt; built(&mut hierarchy, "p/q", Some(5), Some(49_999), None) == Err(33));
+    assert!(rt; built(&mut hierarchy, "p/q", Some(0), Some(49_999), None) == Err(12));
+    assert_reads(&rt, &hierarchy, "p/q", "cpu.weight", Ok("300\n"));
+    assert!(rt; built(&mut hierarchy, "u", Some(0), None, None) == Err(12));
     assert!(rt; built(&mut hierarchy, ".", Some(5), None, None) == Err(26));
     assert!(rt; built(&mut hierarchy, "./x/y", None, None, None) == Err(20));
     assert!(rt; built(&mut hierarchy, "t//u", None, None, None) == Err(22));
@@ -251,26 +267,28 @@ fn controllers(rt: HostRuntime) -> Result<(), Fail> {
     );
     let group = Cgroup::load(&hierarchy, "a/b")?;
     let cpu = group.cpu();
-    let settings: [(Option<i64>, Option<u64>, u8, i64); 10] = [
-        (Some(50_000), None, 0, 50_000),
-        (Some(999), None, 13, 50_000),
-        (Some(-2), None, 13, 50_000),
-        (Some(i64::MIN), Some(999), 13, 50_000),
-        (Some(1_000_000_000_000_001), None, 14, 50_000),
-        (None, Some(999), 15, 50_000),
-        (None, Some(200_000), 32, 50_000),
-        (None, None, 0, 50_000),
-        (None, Some(100_000), 0, 50_000),
-        (Some(-1), None, 0, -1),
+    let settings: [(Option<i64>, Option<u64>, u8, i64, u64); 12] = [
+        (None, Some(200_000), 0, -1, 200_000),
+        (Some(50_000), None, 0, 50_000, 200_000),
+        (Some(999), None, 13, 50_000, 200_000),
+        (Some(-2), None, 13, 50_000, 200_000),
+        (Some(i64::MIN), Some(999), 13, 50_000, 200_000),
+        (Some(1_000_000_000_000_001), None, 14, 50_000, 200_000),
+        (None, Some(999), 15, 50_000, 200_000),
+        (None, Some(1_000_001), 15, 50_000, 200_000),
+        (None, Some(1_000), 0, 50_000, 1_000),
+        (None, None, 0, 50_000, 1_000),
+        (None, Some(100_000), 0, 50_000, 100_000),
+        (Some(-1), None, 0, -1, 100_000),
     ];
-    for (quota, period, wanted, after) in settings {
+    for (quota, period, wanted, after, own) in settings {
         let number = match cpu.set_cfs_quota_and_period(&mut hierarchy, quota, period) {
             Ok(()) => 0,
             Err(fault) => fault.number(),
         };
         assert_eq!(rt; number, wanted);
         assert!(rt; cpu.cfs_quota(&hierarchy) == Ok(after));
-        assert!(rt; cpu.cfs_period(&hierarchy) == Ok(100_000));
+        assert!(rt; cpu.cfs_period(&hierarchy) == Ok(own));
     }
     assert_reads(&rt, &hierarchy, "a/b", "cpu.max", Ok("max 100000\n"));
     assert!(rt; cpu.set_shares(&mut hierarchy, 300) == Ok(()));
@@ -320,13 +338,14 @@ fn controllers(rt: HostRuntime) -> Result<(), Fail> {
     Ok(())
 }
 
-const ZEROS: &str = "usage_usec 0\nnr_periods 0\nnr_throttled 0\nthrottled_usec 0\n";
+const ZEROS: &str =
+    "usage_usec 0\nnr_periods 0\nnr_throttled 0\nthrottled_usec 0\nnr_bursts 0\nburst_usec 0\n";
 
 fn book_once(alloc: Global, hierarchy: &mut Hierarchy, drawn: &[u64]) -> Result<(), Fault> {
-    let (instance, ids) = hierarchy.snapshot()?;
+    let (instance, ids, base) = hierarchy.snapshot()?;
     let gathered = gather(alloc, &instance)?;
-    if drawn.len() == instance.rows().len() {
-        hierarchy.book(&instance, ids.as_slice(), &gathered, drawn)?;
+    if drawn.len() == instance.rows().len() && is_drawn_within(instance.rows(), drawn) {
+        hierarchy.book(&instance, ids.as_slice(), base.as_slice(), &gathered, drawn)?;
     }
     Ok(())
 }
@@ -374,7 +393,8 @@ fn counters_of_a_limited_group(rt: HostRuntime) -> Result<(), Fail> {
     ];
     assert_answers(&rt, &mut hierarchy, &cases);
     book(alloc, &mut hierarchy, &[20, 10, 3, 7, 10])?;
-    let pod = "usage_usec 50000\nnr_periods 1\nnr_throttled 1\nthrottled_usec 150000\n";
+    let pod =
+        "usage_usec 50000\nnr_periods 1\nnr_throttled 1\nthrottled_usec 150000\nnr_bursts 0\nburst_usec 0\n";
     assert_reads(&rt, &hierarchy, "pod", "cpu.stat", Ok(pod));
     // the root wants 30 slices of 20, which isn't counted
     assert_reads(&rt, &hierarchy, ".", "cpu.stat", Ok("usage_usec 100000\n"));
@@ -390,7 +410,8 @@ fn counters_of_a_later_group(rt: HostRuntime) -> Result<(), Fail> {
     assert_answers(&rt, &mut hierarchy, &[("a", Ask::Mkdir, 0)]);
     assert_reads(&rt, &hierarchy, "a", "cpu.stat", Ok(ZEROS));
     book(alloc, &mut hierarchy, &[20, 20])?;
-    let once = "usage_usec 100000\nnr_periods 1\nnr_throttled 0\nthrottled_usec 0\n";
+    let once =
+        "usage_usec 100000\nnr_periods 1\nnr_throttled 0\nthrottled_usec 0\nnr_bursts 0\nburst_usec 0\n";
     assert_reads(&rt, &hierarchy, "a", "cpu.stat", Ok(once));
     Ok(())
 }

@@ -54,7 +54,8 @@ fn book_once(
     let gathered = gather(alloc, instance)?;
     let count = instance.rows().len();
     if ids.len() == count && drawn.len() == count {
-        books.book(instance, ids, &gathered, drawn)?;
+        let base: Vec<Option<u64>> = instance.rows().iter().map(|row| row.limit).collect(alloc)?;
+        books.book(instance, ids, base.as_slice(), &gathered, drawn)?;
     }
     Ok(())
 }
@@ -108,6 +109,8 @@ fn counters(
         nr_periods,
         nr_throttled,
         throttled_usec,
+        nr_bursts: 0,
+        burst_usec: 0,
     })
 }
 
@@ -204,6 +207,8 @@ fn report_lines(rt: HostRuntime) -> Result<(), Fail> {
             nr_periods,
             nr_throttled,
             throttled_usec,
+            nr_bursts: 7,
+            burst_usec: 8,
         };
         let line = match report_line(alloc, &stat, path) {
             Ok(line) => line,

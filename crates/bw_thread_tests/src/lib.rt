@@ -8,4 +8,6 @@ mod lock_cases;
 #[cfg(test)]
 mod script_cases;
 #[cfg(test)]
+mod storm_cases;
+#[cfg(test)]
 mod workers_cases;

@@ -58,7 +58,7 @@ fn planned(
 }
 
 // On four processors pod, which has 10 slices, over x and y, and job.
-fn pod_and_job(rt: &impl Abort, alloc: Global) -> Result<(Instance, Plan), AllocError>
+pub(crate) fn pod_and_job(rt: &impl Abort, alloc: Global) -> Result<(Instance, Plan), AllocError>
     ensures { IfOk result (λ t. IsPlan t.0 t.1.amounts.items) }
 {
     let groups = [
@@ -337,7 +337,7 @@ fn ask_two<R: Wait + Abort>(
 }
 
 // A pool of the plan, one amount for each row.
-fn pool_of<A: Abort>(
+pub(crate) fn pool_of<A: Abort>(
     rt: &A,
     alloc: Global,
     instance: &Instance,

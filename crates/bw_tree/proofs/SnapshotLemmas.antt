@@ -5,10 +5,10 @@ use Rattle.std.proofs.lemmas.List.{get_or-map, length-map}
 use Rattle.indexmap.proofs.MapLemmas.{some_index}
 use Rattle.std.proofs.lemmas.List.FromFn.{get_or-enumerate_from, length-enumerate_from}
 use Rattle.std.proofs.lemmas.List.Quantifiers.{position-Some}
-use Rattle.std.specs.List.{list_any, list_all, enumerate_from}
+use Rattle.std.specs.List.{list_any, list_all, enumerate_from, AllByRecursion}
 use Rattle.std.specs.Map.{keys_of, values_of}
 use Rattle.bw_model.specs.declared.row.Row.{Row}
-use Rattle.bw_model.specs.Quota.{slices_of}
+use Rattle.bw_model.specs.Quota.{in_slices, slices_of}
 use Rattle.bw_model.specs.declared.limits.TheConstants.{MAX_GROUPS, MIN_WEIGHT, MAX_WEIGHT, MAX_DEMAND, MAX_DEPTH, MAX_PATH}
 use Rattle.bw_model.specs.Groups.{no_row, IsInstance, depth_of, IsTree as IsTreeOfRows, parent_of as parent_row}
 use Rattle.bw_model.specs.Refusal.{is_earlier, are_earlier, depths_of, is_root_limited, refusal, demand_above, IsRefused}
@@ -19,11 +19,12 @@ use Rattle.std.proofs.lemmas.List.FromFn.{get_or-map-range_with_len, length-map-
 use Rattle.bw_model.specs.declared.quota.Quota.TheVariants.{Max}
 use Rattle.bw_model.specs.declared.instance_fault.InstanceFault.{InstanceFault}
 use Rattle.bw_model.specs.declared.instance_fault.InstanceFault.TheVariants.{TooMany, BadParent, BadWeight, TooDeep, InnerDemand, DemandTooLarge, RootLimited, OutOfMemory}
-use Rattle.bw_tree.specs.Groups.{GroupFields, TreeState, group_at, has_group, has_children, demand_at, demand_of, above, parent_of, IsTree, AllAfter, AreRising}
-use Rattle.bw_tree.specs.Snapshot.{place_of, row_of, rows_of, instance_of}
+use Rattle.bw_tree.specs.Groups.{GroupFields, TreeState, group_at, has_group, has_children, demand_at, demand_of, above, parent_of, IsTree, IsSound, AllAfter, AreRising}
+use Rattle.bw_tree.specs.Snapshot.{place_of, bursting, row_of, rows_of, instance_of}
 use Rattle.bw_tree.specs.Tree.{root_group}
 use Rattle.bw_tree.proofs.GroupLemmas.{above_more, above_here, some_of}
 use Rattle.bw_tree.proofs.RemoveLemmas.{children_found}
+use Rattle.bw_tree.proofs.IndexLemmas.{at_more}
 
 -- a test of each element, from a test at each place
 pub all_places : {X : Type 0} (p : X → Bool) (xs : List X) (d : X) → ((i : ℕ) → i < length xs → p (get_or xs i d) ≡ true) → list_all p xs ≡ true
@@ -69,13 +70,19 @@ found_at (e ∷ es) (suc i) d up lt =
 pub place_found : (gs : List (ℕ × GroupFields)) (id : ℕ) → has_group gs id ≡ true → (i : ℕ) × (position (eqb id) (keys_of gs) ≡ Some i)
 place_found gs id there = some_of (position (eqb id) (keys_of gs)) (some_index (eqb id) gs ∙ there)
 
+-- the values of each group are in range
+pub all_sound : (gs : List (ℕ × GroupFields)) → AreRising gs → ((id : ℕ) (g : GroupFields) → group_at gs id ≡ Some g → IsSound g) → AllByRecursion IsSound (values_of gs)
+all_sound [] up each = tt
+all_sound (e ∷ es) up each =
+    (each e.0 e.1 (ap (λ b. cond b (Some e.1) (group_at es e.0)) (eq-eqb e.0 e.0 refl)), all_sound es up.1 (λ id g at. each id g (at_more e es id g up.0 at)))
+
 -- the row at a place
-pub row_at : (gs : List (ℕ × GroupFields)) (s i : ℕ) (d : ℕ × GroupFields) (r : Row) → i < length gs → get_or (rows_of gs s) i r ≡ row_of gs s (get_or gs i d).1
+pub row_at : (gs : List (ℕ × GroupFields)) (s : Shape) (i : ℕ) (d : ℕ × GroupFields) (r : Row) → i < length gs → get_or (rows_of gs s) i r ≡ row_of gs s (get_or gs i d).1
 row_at gs s i d r within =
     get_or-map (row_of gs s) (values_of gs) i d.1 r (omega (arith, within, length-map gs (λ (e : ℕ × GroupFields). e.1)))
     ∙ ap (row_of gs s) (get_or-map (λ (e : ℕ × GroupFields). e.1) gs i d d.1 within)
 
-pub length_rows : (gs : List (ℕ × GroupFields)) (s : ℕ) → length (rows_of gs s) ≡ length gs
+pub length_rows : (gs : List (ℕ × GroupFields)) (s : Shape) → length (rows_of gs s) ≡ length gs
 length_rows gs s = length-map (values_of gs) (row_of gs s) ∙ length-map gs (λ (e : ℕ × GroupFields). e.1)
 
 first_limit : (rows : List Row) (r : Row) → 0 < length rows → is_root_limited rows ≡ is_some (get_or rows 0 r).limit
@@ -86,7 +93,7 @@ clear : {F : Type 0} (b : Bool) (f : F) (rest : Option F) → b ≡ false → re
 clear true f rest h e = cc
 clear false f rest h e = e
 
-module _ (t : TreeState) (ok : IsTree t) (s : ℕ) (d : ℕ × GroupFields) (r : Row) where
+module _ (t : TreeState) (ok : IsTree t) (s : Shape) (d : ℕ × GroupFields) (r : Row) where
   -- the parent stands before
   pub record HasPlace (i p : ℕ) : Type 0 where
     pub place : ℕ
@@ -232,7 +239,7 @@ module _ (t : TreeState) (ok : IsTree t) (s : ℕ) (d : ℕ × GroupFields) (r :
       let inside : 0 < length (rows_of t.groups s) = omega (arith, root.some, length_rows t.groups s) in
       let is : (get_or t.groups 0 d).1 ≡ ok.root.0 = unwrapped (sym (found_at t.groups 0 d ok.rising root.some) ∙ ap (group_at t.groups) root.key ∙ ok.root.1) in
       let quota : (get_or t.groups 0 d).1.quota ≡ Max = ap (λ g. g.quota) is ∙ ok.root.3 in
-      first_limit (rows_of t.groups s) r inside ∙ ap (λ (q : Row). is_some q.limit) (row_at t.groups s 0 d r root.some) ∙ ap (λ q. is_some (slices_of s q)) quota
+      first_limit (rows_of t.groups s) r inside ∙ ap (λ (q : Row). is_some q.limit) (row_at t.groups s 0 d r root.some) ∙ ap (λ q. is_some (bursting (get_or t.groups 0 d).1.carry (in_slices s (get_or t.groups 0 d).1.period (get_or t.groups 0 d).1.burst) (slices_of s (get_or t.groups 0 d).1.period q))) quota
     where
       unwrapped : {A : Type 0} {a b : A} → Some a ≡ Some b → a ≡ b
       unwrapped e = cc
@@ -263,4 +270,4 @@ only_memory o OutOfMemory none h = refl
 -- a snapshot is an instance
 pub snapshot_IsInstance : (t : TreeState) → IsTree t → (shape : Shape) → IsHost shape → IsInstance (instance_of t shape)
 snapshot_IsInstance t ok shape host =
-    refused_none-IsInstance (instance_of t shape) host (rows_valid t ok shape.slice_us (0, root_group) (row_of t.groups shape.slice_us root_group))
+    refused_none-IsInstance (instance_of t shape) host (rows_valid t ok shape (0, root_group) (row_of t.groups shape root_group))

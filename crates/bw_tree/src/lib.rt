@@ -11,4 +11,4 @@ mod tree;
 pub use fault::TreeFault;
 pub use group::{Group, GroupId};
 pub use laws::paths_are_exact;
-pub use tree::Tree;
+pub use tree::{Snapshot, Tree, is_drawn_within};

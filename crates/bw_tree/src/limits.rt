@@ -6,5 +6,8 @@ pub const MAX_NAME: usize = 255;
 /// The weight of a new group (`cpu.weight` in cgroup-v2.rst, "CPU Interface Files").
 pub const DEFAULT_WEIGHT: u64 = 100;
 
+/// The period of a new group in microseconds, on every host (`cpu.max` in cgroup-v2.rst, "CPU Interface Files").
+pub const DEFAULT_PERIOD_US: u64 = 100_000;
+
 /// The id that the first group of a new tree gets. The root has 0.
 pub const FIRST_ID: u64 = 1;

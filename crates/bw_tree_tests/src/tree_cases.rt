@@ -1,6 +1,6 @@
 //! Trees of groups, against worked values, and where memory is refused.
 use bw_model::{HostShape, Quota};
-use bw_tree::{GroupId, Tree, TreeFault};
+use bw_tree::{GroupId, Tree, TreeFault, is_drawn_within};
 use std::process::Abort;
 use std::test::Fail;
 
@@ -67,7 +67,7 @@ fn ends_of_ranges(rt: HostRuntime) -> Result<(), Fail> {
     assert!(rt; make(&mut last, 0, "a") == Err(TreeFault::IdsSpent));
     let mut tree = small_tree(&rt)?;
     let mut at = 0;
-    for _ in 0..32u32 {
+    for _ in 0..64u32 {
         at = make(&mut tree, at, "deep")?;
     }
     assert!(rt; make(&mut tree, at, "deep") == Err(TreeFault::TooDeep));
@@ -220,11 +220,12 @@ fn tree_with_a_gap(rt: &HostRuntime) -> Result<Tree, TreeFault> {
 fn rows_of_a_snapshot(rt: HostRuntime) -> Result<(), Fail> {
     let tree = tree_with_a_gap(&rt)?;
     let shape = HostShape::new(1, 100_000, 5_000)?;
-    let (instance, ids) = match tree.snapshot(shape) {
+    let (instance, ids, base) = match tree.snapshot(shape) {
         Err(_) => tree.snapshot(shape)?,
         Ok(snapshot) => snapshot,
     };
     assert_eq!(rt; ids.as_slice(), [0, 2, 3].as_slice());
+    assert_eq!(rt; base.as_slice(), [None, None, Some(2)].as_slice());
     let wanted = [
         (None, 100, None, 0),
         (Some(0), 100, None, 0),
@@ -238,19 +239,51 @@ fn rows_of_a_snapshot(rt: HostRuntime) -> Result<(), Fail> {
     Ok(())
 }
 
+/// What a group leaves of its limit comes on top of its quota in the next period, up to its burst.
+#[test]
+fn carries(rt: HostRuntime) -> Result<(), Fail> {
+    let mut tree = Tree::new(rt.alloc())?;
+    let id = make(&mut tree, 0, "a")?;
+    assert!(rt; tree.set_limit(id, Quota::Micros(100_000)) == Ok(()));
+    assert!(rt; tree.set_period(id, 200_000) == Ok(()));
+    assert!(rt; tree.set_burst(id, 50_000) == Ok(()));
+    assert!(rt; tree.set_burst(0, 1) == Err(TreeFault::RootFixed));
+    assert!(rt; tree.set_period(7, 1_000) == Err(TreeFault::NotFound));
+    let shape = HostShape::new(1, 100_000, 5_000)?;
+    for (limit, drawn) in [(10, [4u64, 4]), (15, [15, 15]), (10, [0, 0]), (15, [1, 1])] {
+        let (instance, ids, base) = match tree.snapshot(shape) {
+            Err(_) => tree.snapshot(shape)?,
+            Ok(snapshot) => snapshot,
+        };
+        let limits: Vec<Option<u64>> = instance
+            .rows()
+            .iter()
+            .map(|row| row.limit)
+            .collect(rt.alloc())?;
+        assert_eq!(rt; limits.as_slice(), [None, Some(limit)].as_slice());
+        assert_eq!(rt; base.as_slice(), [None, Some(10)].as_slice());
+        assert!(rt;
+            instance.rows().len() == 2 && !is_drawn_within(instance.rows(), &[0, limit + 1])
+        );
+        assert!(rt; is_drawn_within(instance.rows(), &drawn));
+        tree.carry_over(&instance, ids.as_slice(), &drawn);
+    }
+    Ok(())
+}
+
 #[test]
 fn full_tree(rt: HostRuntime) -> Result<(), Fail> {
     let mut tree = Tree::new(rt.alloc())?;
-    for i in 1..4096u32 {
+    for i in 1..16384u32 {
         let name = format!(in rt.alloc(); "g{i}")?;
         make(&mut tree, 0, name.as_str())?;
     }
     assert!(rt; make(&mut tree, 0, "one more") == Err(TreeFault::TreeFull));
-    for i in 1..4096u32 {
+    for i in 1..16384u32 {
         let name = format!(in rt.alloc(); "g{i}")?;
         assert!(rt; tree.find(name.as_str()) == Ok(u64::from(i)));
     }
     assert!(rt; tree.rmdir(17) == Ok(()));
-    assert!(rt; make(&mut tree, 0, "one more") == Ok(4096));
+    assert!(rt; make(&mut tree, 0, "one more") == Ok(16384));
     Ok(())
 }

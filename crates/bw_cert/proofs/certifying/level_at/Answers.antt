@@ -1,4 +1,4 @@
-use Rattle.std.proofs.Common.{◌≡◌, ◌≤◌, ℕ, length, ap, sym, ◌∙◌, arith}
+use Rattle.std.proofs.Common.{◌≡◌, ◌<◌, ◌≤◌, ℕ, length, ap, sym, ◌∙◌, arith}
 use Rattle.std.specs.Prelude.{map, slice_index}
 use Rattle.std.proofs.lemmas.List.{length-map}
 use Rattle.bw_model.specs.declared.limits.TheConstants.{MAX_GROUPS}
@@ -15,7 +15,7 @@ pub level_of-requires-clause-few : goal.level_of-requires-clause-few
 level_of-requires-clause-few c =
     let e : length c.as_slice.result.now ≡ length (children_of c.args.instance.now.rows c.args.g) =
     ap (length {A = ℕ}) (c.as_slice.ensures.value ∙ c.in_ok-parts.ensures) ∙ length-map (children_of c.args.instance.now.rows c.args.g) (slice_index c.args.amounts.now) in
-    let le : length (children_of c.args.instance.now.rows c.args.g) ≤ length c.args.instance.now.rows = few_children c.args.instance.now.rows c.args.g in
+    let le : length (children_of c.args.instance.now.rows c.args.g) < length c.args.instance.now.rows = few_children c.args.instance.now.rows c.args.g c.rows-rows.ensures.valid.tree in
     let few : length c.args.instance.now.rows ≤ MAX_GROUPS = c.rows-rows.ensures.valid.few in
     omega (arith, e, le, few)
 

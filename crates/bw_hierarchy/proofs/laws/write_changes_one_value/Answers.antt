@@ -1,4 +1,4 @@
-use Rattle.bw_hierarchy.proofs.Writes.{weight_read, max_read, other_files_stay, other_groups_stay, counters_stay}
+use Rattle.bw_hierarchy.proofs.Writes.{weight_read, max_read, burst_read, other_files_stay, other_groups_stay, counters_stay}
 use Rattle.bw_hierarchy.proofs.laws.write_changes_one_value.Goals as goal
 
 pub returns-clause-weight : goal.returns-clause-weight
@@ -6,6 +6,9 @@ returns-clause-weight c = weight_read
 
 pub returns-clause-max : goal.returns-clause-max
 returns-clause-max c = max_read
+
+pub returns-clause-burst : goal.returns-clause-burst
+returns-clause-burst c = burst_read
 
 pub returns-clause-other_files : goal.returns-clause-other_files
 returns-clause-other_files c = other_files_stay

@@ -1,11 +1,11 @@
-use Rattle.std.proofs.Common.{◌≡◌, ◌<◌, ◌+◌, ℕ, List, length, get_or, replicate, set, ap, sym, ◌∙◌, arith, rules}
+use Rattle.std.proofs.Common.{◌≡◌, ◌<◌, ◌≤◌, ◌+◌, ℕ, suc, true, List, length, get_or, replicate, set, ap, sym, subst, ◌∙◌, arith, rules}
+use Rattle.std.proofs.lemmas.Bool.{lt-ltb, le-ltb}
 use Rattle.bw_model.specs.declared.row.Row.{Row}
 use Rattle.bw_model.proofs.Mosts.{AreMosts-capped}
 use Rattle.bw_demand.proofs.Passed.{get_or_within}
-use Rattle.bw_plan.specs.Shared.{IsShared}
-use Rattle.bw_plan.proofs.Shares.{begun, enough, shared_more, leaf_more, all_planned}
+use Rattle.bw_plan.specs.Shared.{IsPlanning, CanShare, AreParts}
+use Rattle.bw_plan.proofs.Shares.{rows_before, begun, can_share, given_more, all_planned, next_fresh, next_marks, before_closed, parent_done}
 use Rattle.bw_plan.proofs.downward.plan.Goals as goal
-use Rattle.bw_plan.proofs.downward.plan.Goals.{then-not-is_leaf+in_ok-share_out, else-not-is_leaf}
 
 pub loop-g-init : goal.loop-g-init
 loop-g-init c =
@@ -16,38 +16,43 @@ loop-g-init c =
     let zeros : c.in_ok-amounts.amounts.items ≡ replicate {A = ℕ} (length c.rows-count.result.now) 0 = search rules in
     begun c.args.instance.now c.rows-count.ensures.valid c.in_ok-gathered.gathered.most.items
     (AreMosts-capped c.args.instance.now c.rows-count.ensures.valid.tree c.in_ok-gathered.gathered.most.items c.in_ok-gathered.ensures.mosts)
+    (rows_before 0) (λ h _. le-ltb h 0 (omega arith))
     (length c.rows-count.result.now) c.index.result.now (set c.in_ok-amounts.amounts.items 0 c.index.result.now) long read
     (ap (λ (xs : List ℕ). set xs 0 c.index.result.now) zeros)
 
-pub share_out-requires-clause-enough : goal.share_out-requires-clause-enough
-share_out-requires-clause-enough c =
-    let long : length c.rows-count.result.now ≡ length c.args.instance.now.rows = ap (length {A = Row}) c.rows-count.ensures.rows in
-    rw c.as_slice.ensures.value
-    (enough c.args.instance.now c.rows-count.ensures.valid c.in_ok-gathered.gathered.most.items
-    (AreMosts-capped c.args.instance.now c.rows-count.ensures.valid.tree c.in_ok-gathered.gathered.most.items c.in_ok-gathered.ensures.mosts)
-    c.loop-g.g c.loop-g.amounts.items (omega (arith, long, c.loop-g-test.true)) (sym c.if-not-is_leaf.ensures) c.loop-g.invariant)
+pub parts_of-requires-clause-can_share : goal.parts_of-requires-clause-can_share
+parts_of-requires-clause-can_share c =
+    let groups = c.args.instance.now in
+    let valid = c.rows-count.ensures.valid in
+    let most = c.in_ok-gathered.gathered.most.items in
+    let long : length c.rows-count.result.now ≡ length groups.rows = ap (length {A = Row}) c.rows-count.ensures.rows in
+    let inside : c.loop-g.g < length groups.rows = omega (arith, long, c.loop-g-test.true) in
+    rw (c.as_slice-most.ensures.value, c.as_slice.ensures.value)
+    (can_share groups valid most (AreMosts-capped groups valid.tree most c.in_ok-gathered.ensures.mosts)
+    (rows_before c.loop-g.g) c.loop-g.g c.loop-g.amounts.items inside c.loop-g.invariant (parent_done groups valid.tree c.loop-g.g))
 
 pub loop-g-preserved : goal.loop-g-preserved
-loop-g-preserved c = elim c.if-not-is_leaf.branch [
-  | then-not-is_leaf+in_ok-share_out w ↦
-      let long : length c.rows-count.result.now ≡ length c.args.instance.now.rows = ap (length {A = Row}) c.rows-count.ensures.rows in
-      let shared : IsShared c.args.instance.now w.as_slice.result.now c.loop-g.g c.loop-g.amounts.items w.share_out.new.amounts.items = w.in_ok-share_out.ensures in
-      let now' : IsShared c.args.instance.now c.in_ok-gathered.gathered.most.items c.loop-g.g c.loop-g.amounts.items w.share_out.new.amounts.items =
-      rw w.as_slice.ensures.value at shared in
-      rw w.amounts-is
-      (shared_more c.args.instance.now c.rows-count.ensures.valid c.in_ok-gathered.gathered.most.items
-      (AreMosts-capped c.args.instance.now c.rows-count.ensures.valid.tree c.in_ok-gathered.gathered.most.items c.in_ok-gathered.ensures.mosts)
-      c.loop-g.g (c.loop-g.g + 1) c.loop-g.amounts.items w.share_out.new.amounts.items (omega arith) (omega (arith, long, c.loop-g-test.true)) c.loop-g.invariant now')
-  | else-not-is_leaf w ↦
-      rw w.amounts-is
-      (leaf_more c.args.instance.now c.rows-count.ensures.valid c.in_ok-gathered.gathered.most.items
-      (AreMosts-capped c.args.instance.now c.rows-count.ensures.valid.tree c.in_ok-gathered.gathered.most.items c.in_ok-gathered.ensures.mosts)
-      c.loop-g.g (c.loop-g.g + 1) c.loop-g.amounts.items (omega arith) (sym c.is_leaf.ensures ∙ w.if-not-is_leaf.false) c.loop-g.invariant)
-]
+loop-g-preserved c =
+    let groups = c.args.instance.now in
+    let valid = c.rows-count.ensures.valid in
+    let most = c.in_ok-gathered.gathered.most.items in
+    let before = c.loop-g.amounts.items in
+    let long : length c.rows-count.result.now ≡ length groups.rows = ap (length {A = Row}) c.rows-count.ensures.rows in
+    let inside : c.loop-g.g < length groups.rows = omega (arith, long, c.loop-g-test.true) in
+    let parts : AreParts groups most before c.loop-g.g c.as_slice-in-loop-g.result.now =
+    rw c.as_slice-in-loop-g.ensures.value (rw (c.as_slice-most.ensures.value, c.as_slice.ensures.value) at c.in_ok-parts.ensures) in
+    let next : suc c.loop-g.g ≡ c.loop-g.g + 1 = omega arith in
+    subst (λ (n : ℕ). IsPlanning groups most (rows_before n) c.give.new.amounts.items) next
+    (given_more groups valid most (AreMosts-capped groups valid.tree most c.in_ok-gathered.ensures.mosts)
+    (rows_before c.loop-g.g) (rows_before (suc c.loop-g.g)) c.loop-g.g inside (next_fresh groups valid.tree c.loop-g.g)
+    (next_marks groups valid.tree c.loop-g.g) (before_closed groups valid.tree c.loop-g.g) (parent_done groups valid.tree c.loop-g.g)
+    c.as_slice-in-loop-g.result.now before c.give.new.amounts.items c.loop-g.invariant parts c.give.ensures)
 
 pub returns : goal.returns
 returns c =
-    let long : length c.rows-count.result.now ≡ length c.args.instance.now.rows = ap (length {A = Row}) c.rows-count.ensures.rows in
-    all_planned c.args.instance.now c.rows-count.ensures.valid c.in_ok-gathered.gathered.most.items
-    (AreMosts-capped c.args.instance.now c.rows-count.ensures.valid.tree c.in_ok-gathered.gathered.most.items c.in_ok-gathered.ensures.mosts)
-    c.loop-g.g c.loop-g.amounts.items (omega (arith, long)) c.loop-g.invariant
+    let groups = c.args.instance.now in
+    let valid = c.rows-count.ensures.valid in
+    let most = c.in_ok-gathered.gathered.most.items in
+    let long : length c.rows-count.result.now ≡ length groups.rows = ap (length {A = Row}) c.rows-count.ensures.rows in
+    all_planned groups valid most (AreMosts-capped groups valid.tree most c.in_ok-gathered.ensures.mosts)
+    (rows_before c.loop-g.g) c.loop-g.amounts.items (λ h below _. lt-ltb h c.loop-g.g (omega (arith, long, below, c.loop-g-test.false))) c.loop-g.invariant

@@ -10,16 +10,19 @@ use Rattle.bw_tree.proofs.tree.Tree.snapshot.Goals as goal
 pub memory_fault-requires : goal.memory_fault-requires
 memory_fault-requires c =
     let t : TreeState = record { groups = c.self.inside.groups.entries; next = c.self.inside.next_id } in
-    let slice_us = c.slice_us.result in
-    let valid = rows_valid t c.self.invariant.tree slice_us (0, root_group) (row_of t.groups slice_us root_group) in
-    let same : rows_of t.groups slice_us ≡ c.in_ok-rows.rows.items = ap (λ (s : TreeState). rows_of s.groups slice_us) c.self.view_is ∙ sym c.in_ok-rows.ensures in
+    let shape = c.args.shape in
+    let valid = rows_valid t c.self.invariant.tree shape (0, root_group) (row_of t.groups shape root_group) in
+    let same : rows_of t.groups shape ≡ c.in_ok-rows.rows.items = ap (λ (s : TreeState). rows_of s.groups shape) c.self.view_is ∙ sym c.in_ok-rows.ensures in
     only_memory (refusal c.in_ok-rows.rows.items) c.in-Err.fault (sym (ap refusal same) ∙ valid) c.in-Err.ensures.err
 
 pub returns-in_err-rows-clause-valid : goal.returns-in_err-rows-clause-valid
-returns-in_err-rows-clause-valid c = subst (λ t. IsInstance (instance_of t c.args.shape)) c.self.view_is (snapshot_IsInstance _ c.self.invariant.tree c.args.shape c.slice_us.ensures.valid)
+returns-in_err-rows-clause-valid c = subst (λ t. IsInstance (instance_of t c.args.shape)) c.self.view_is (snapshot_IsInstance _ c.self.invariant.tree c.args.shape c.slice_us-slice_us.ensures.valid)
 
 pub returns-in_err-ids-clause-valid : goal.returns-in_err-ids-clause-valid
-returns-in_err-ids-clause-valid c = subst (λ t. IsInstance (instance_of t c.args.shape)) c.self.view_is (snapshot_IsInstance _ c.self.invariant.tree c.args.shape c.slice_us.ensures.valid)
+returns-in_err-ids-clause-valid c = subst (λ t. IsInstance (instance_of t c.args.shape)) c.self.view_is (snapshot_IsInstance _ c.self.invariant.tree c.args.shape c.slice_us-slice_us.ensures.valid)
 
 pub returns-in-Err-clause-valid : goal.returns-in-Err-clause-valid
-returns-in-Err-clause-valid c = subst (λ t. IsInstance (instance_of t c.args.shape)) c.self.view_is (snapshot_IsInstance _ c.self.invariant.tree c.args.shape c.slice_us.ensures.valid)
+returns-in-Err-clause-valid c = subst (λ t. IsInstance (instance_of t c.args.shape)) c.self.view_is (snapshot_IsInstance _ c.self.invariant.tree c.args.shape c.slice_us-slice_us.ensures.valid)
+
+pub returns-in_err-base-clause-valid : goal.returns-in_err-base-clause-valid
+returns-in_err-base-clause-valid c = subst (λ t. IsInstance (instance_of t c.args.shape)) c.self.view_is (snapshot_IsInstance _ c.self.invariant.tree c.args.shape c.slice_us-slice_us.ensures.valid)

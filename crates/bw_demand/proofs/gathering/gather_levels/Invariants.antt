@@ -1,0 +1,14 @@
+use Rattle.std.proofs.Common.{◌≡◌}
+use Rattle.bw_demand.specs.Levels.{level_of}
+use Rattle.bw_demand.proofs.Passed.{IsGathering}
+use Rattle.bw_demand.proofs.Seen.{seen_from, seen_at}
+use Rattle.bw_demand.proofs.gathering.gather_levels.Given as goal
+
+abbrev pub invariant-loop-depth : goal.invariant-loop-depth
+invariant-loop-depth l = IsGathering l.instance (seen_from l.instance.rows l.depth) l.want.items l.most.items l.tight.items
+
+abbrev pub invariant-loop-k : goal.invariant-loop-k
+invariant-loop-k l = record {
+  level : l.level ≡ level_of l.instance.rows l.depth;
+  gathering : IsGathering l.instance (seen_at l.instance.rows l.depth l.k) l.want.items l.most.items l.tight.items;
+}

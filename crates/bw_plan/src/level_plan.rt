@@ -1,0 +1,106 @@
+//! The plan, one level after another, and the groups of a level side by side.
+ghost use Rattle.std.specs.Prelude.{◌≡◌, ◌+◌, ◌<◌, length, All, IfOk, OnOk, slice_index};
+ghost use Rattle.std.specs.List.{AllZip};
+ghost use Rattle.bw_model.specs.Plan.{IsPlan};
+ghost use Rattle.bw_demand.specs.Demands.{demands_of, IsGathered};
+ghost use Rattle.bw_demand.specs.Levels.{AreLevels};
+ghost use Rattle.bw_plan.specs.Shared.{CanShare, AreParts, IsPlanning, is_above};
+
+use crate::amounts::Plan;
+use crate::sharing::{give, parts_of};
+use bw_demand::{Gathered, gather_levels, levels};
+use bw_model::Instance;
+use rayon::prelude::*;
+use std::alloc::{AllocError, Global};
+use std::thread::Threads;
+
+// So many children of the groups of a level are worth a thread of their own.
+const PIECE_CHILDREN: usize = 2048;
+
+// How many groups of a level have so many children, where they have as many each.
+fn least_piece(groups: usize, children: usize) -> usize {
+    groups.saturating_mul(PIECE_CHILDREN) / children.max(1)
+}
+
+// What `parts_of` gives for each row of a level, in order, from several threads where the level has more rows than a piece.
+fn parts_of_level(
+    rt: &(impl Threads + Sync),
+    alloc: Global,
+    instance: &Instance,
+    most: &[u64],
+    amounts: &[u64],
+    level: &[u32],
+    piece: usize,
+) -> Result<Vec<Vec<u64>>, AllocError>
+    requires most_each { length most.now ≡ length instance.now.rows }
+    requires amount_each { length amounts.now ≡ length instance.now.rows }
+    requires can_share { All (CanShare instance.now most.now amounts.now) level.now }
+    ensures { IfOk result (λ parts. AllZip (λ g v. AreParts instance.now most.now amounts.now g v.items) level.now parts.items) }
+{
+    level
+        .par_iter()
+        .with_min_len(piece)
+        .map(
+            |g: &u32| -> Result<Vec<u64>, AllocError>
+                requires { (length most.now ≡ length instance.now.rows) × (length amounts.now ≡ length instance.now.rows) × CanShare instance.now most.now amounts.now g.now }
+                ensures { IfOk result (λ v. AreParts instance.entry.now most.entry.now amounts.entry.now g.now v.items) }
+            { parts_of(alloc, instance, most, amounts, *g) },
+        )
+        .collect::<Result<Vec<Vec<u64>>, AllocError>>(rt, alloc)?
+}
+
+// The groups of one depth share out what they have.
+fn share_level(
+    rt: &(impl Threads + Sync),
+    alloc: Global,
+    instance: &Instance,
+    gathered: &Gathered,
+    levels: &[Vec<u32>],
+    depth: usize,
+    amounts: &mut Vec<u64>,
+) -> Result<(), AllocError>
+    requires gathered { IsGathered instance.now (demands_of gathered.now) }
+    requires levels { AreLevels instance.now.rows levels.now }
+    requires depth { depth + 1 < length levels.now }
+    requires planning { IsPlanning instance.now gathered.now.most.items (is_above instance.now.rows depth) amounts.old.items }
+    ensures { OnOk result (IsPlanning instance.now gathered.now.most.items (is_above instance.now.rows (depth + 1)) amounts.new.items) }
+{
+    // its contract says that the rows are a tree
+    let _rows = instance.rows();
+    let most = gathered.most.as_slice();
+    let level = levels[depth].as_slice();
+    let piece = least_piece(level.len(), levels[depth + 1].len());
+    let parts = parts_of_level(rt, alloc, instance, most, amounts.as_slice(), level, piece)?;
+    for k in 0..level.len() {
+        give(instance, level[k], parts[k].as_slice(), amounts);
+    }
+    Ok(())
+}
+
+/// The one plan of an instance, as [`plan`](crate::plan) gives it, one level after another from the root down. The groups
+/// of a level are split in several threads where they have many children. Refused for want of memory alone.
+pub fn plan_levels(
+    rt: &(impl Threads + Sync),
+    alloc: Global,
+    instance: &Instance,
+) -> Result<Plan, AllocError>
+    ensures { IfOk result (λ plan. IsPlan instance.now plan.amounts.items) }
+{
+    let levels = levels(alloc, instance)?;
+    let gathered = gather_levels(alloc, instance, levels.as_slice())?;
+    let mut amounts = vec![in alloc; 0u64; instance.rows().len()]?;
+    amounts[0] = gathered.most[0];
+    // the groups of the deepest level are leaves
+    for below in 1..levels.len() {
+        share_level(
+            rt,
+            alloc,
+            instance,
+            &gathered,
+            levels.as_slice(),
+            below - 1,
+            &mut amounts,
+        )?;
+    }
+    Ok(Plan { amounts })
+}

@@ -1,0 +1,202 @@
+-- What a period leaves over changes no group's place, and nothing else of it.
+use Rattle.std.proofs.Common.{◌≡◌, ◌≢◌, ◌⊎◌, ℕ, zero, suc, ◌<◌, ◌≤◌, Bool, true, false, cond, ◌||◌, List, [], ◌∷◌, length, get_or, take, Option, Some, None, is_some, refl, sym, ap, subst, ◌∙◌, arith, eqb}
+use Rattle.std.proofs.lemmas.Bool.{eq-eqb, ne_eqb}
+use Rattle.std.specs.Map.{keys_of, set_value}
+use Rattle.bw_model.specs.declared.row.Row.{Row}
+use Rattle.bw_model.specs.declared.limits.TheConstants.{MAX_PATH}
+use Rattle.bw_tree.specs.declared.child_index.ChildIndex.{ChildIndex}
+use Rattle.bw_tree.specs.Children.{IsIndexOf}
+use Rattle.bw_tree.specs.Groups.{GroupFields, TreeState, group_at, has_group, has_children, is_parent, is_child_named, demand_at, demand_of, child_of, parent_of, is_name, IsTree, AllBefore, AllAfter, AreRising, IsSound}
+use Rattle.bw_tree.specs.Tree.{changed, changed_at, set_carry}
+use Rattle.bw_tree.specs.Snapshot.{carried, left_of, left_over}
+use Rattle.bw_tree.proofs.GroupLemmas.{above_same, some_of}
+
+pub length_carried : (gs : List (ℕ × GroupFields)) (cs : List ℕ) → length (carried gs cs) ≡ length gs
+length_carried gs [] = refl
+length_carried [] (c ∷ cs) = refl
+length_carried (e ∷ es) (c ∷ cs) = ap suc (length_carried es cs)
+
+pub keys_carried : (gs : List (ℕ × GroupFields)) (cs : List ℕ) → keys_of (carried gs cs) ≡ keys_of gs
+keys_carried gs [] = refl
+keys_carried [] (c ∷ cs) = refl
+keys_carried (e ∷ es) (c ∷ cs) = ap (λ (xs : List ℕ). e.0 ∷ xs) (keys_carried es cs)
+
+before_carried : (gs : List (ℕ × GroupFields)) (cs : List ℕ) (next : ℕ) → AllBefore next gs → AllBefore next (carried gs cs)
+before_carried gs [] next all = all
+before_carried [] (c ∷ cs) next all = tt
+before_carried (e ∷ es) (c ∷ cs) next all = (all.0, before_carried es cs next all.1)
+
+after_carried : (gs : List (ℕ × GroupFields)) (cs : List ℕ) (low : ℕ) → AllAfter low gs → AllAfter low (carried gs cs)
+after_carried gs [] low all = all
+after_carried [] (c ∷ cs) low all = tt
+after_carried (e ∷ es) (c ∷ cs) low all = (all.0, after_carried es cs low all.1)
+
+rising_carried : (gs : List (ℕ × GroupFields)) (cs : List ℕ) → AreRising gs → AreRising (carried gs cs)
+rising_carried gs [] up = up
+rising_carried [] (c ∷ cs) up = tt
+rising_carried (e ∷ es) (c ∷ cs) up = (after_carried es cs e.0 up.0, rising_carried es cs up.1)
+
+pub child_carried : (gs : List (ℕ × GroupFields)) (cs : List ℕ) (p : ℕ) (n : List ℕ) → child_of (carried gs cs) p n ≡ child_of gs p n
+child_carried gs [] p n = refl
+child_carried [] (c ∷ cs) p n = refl
+child_carried (e ∷ es) (c ∷ cs) p n = ap (λ o. cond (is_child_named e.1 p n) (Some e.0) o) (child_carried es cs p n)
+
+pub children_carried : (gs : List (ℕ × GroupFields)) (cs : List ℕ) (p : ℕ) → has_children (carried gs cs) p ≡ has_children gs p
+children_carried gs [] p = refl
+children_carried [] (c ∷ cs) p = refl
+children_carried (e ∷ es) (c ∷ cs) p = ap (λ b. is_parent e.1.parent p || b) (children_carried es cs p)
+
+-- a group that is found is the old one, but for what it left over
+abbrev pub IsKept : Option GroupFields → Option GroupFields → Type 0
+IsKept None None = Unit {0}
+IsKept None (Some g) = ⊥
+IsKept (Some h) None = ⊥
+IsKept (Some h) (Some g) = (carry : ℕ) × (h ≡ set_carry carry g)
+
+kept_same : (o : Option GroupFields) → IsKept o o
+kept_same None = tt
+kept_same (Some g) = (g.carry, refl)
+
+pub look_carried : (gs : List (ℕ × GroupFields)) (cs : List ℕ) (q : ℕ) → IsKept (group_at (carried gs cs) q) (group_at gs q)
+look_carried gs [] q = kept_same (group_at gs q)
+look_carried [] (c ∷ cs) q = tt
+look_carried (e ∷ es) (c ∷ cs) q = onto (eqb q e.0) (look_carried es cs q)
+  where
+    onto : (b : Bool) → IsKept (group_at (carried es cs) q) (group_at es q) → IsKept (cond b (Some (set_carry c e.1)) (group_at (carried es cs) q)) (cond b (Some e.1) (group_at es q))
+    onto true rest = (c, refl)
+    onto false rest = rest
+
+there_kept : (o p : Option GroupFields) → IsKept o p → is_some o ≡ is_some p
+there_kept None None k = refl
+there_kept None (Some g) k = absurd k
+there_kept (Some h) None k = absurd k
+there_kept (Some h) (Some g) k = refl
+
+parent_kept : (o p : Option GroupFields) → IsKept o p → parent_of o ≡ parent_of p
+parent_kept None None k = refl
+parent_kept None (Some g) k = absurd k
+parent_kept (Some h) None k = absurd k
+parent_kept (Some h) (Some g) k = ap (λ (x : GroupFields). x.parent) k.1
+
+demand_kept : (o p : Option GroupFields) → IsKept o p → demand_of o ≡ demand_of p
+demand_kept None None k = refl
+demand_kept None (Some g) k = absurd k
+demand_kept (Some h) None k = absurd k
+demand_kept (Some h) (Some g) k = ap (λ (x : GroupFields). x.demand) k.1
+
+-- the old group of one that is found
+pub record WasGroup (gs : List (ℕ × GroupFields)) (q : ℕ) (h : GroupFields) : Type 0 where
+  pub g : GroupFields
+  pub carry : ℕ
+  pub at : group_at gs q ≡ Some g
+  pub is : h ≡ set_carry carry g
+
+pub was_group : (gs : List (ℕ × GroupFields)) (cs : List ℕ) (q : ℕ) (h : GroupFields) → group_at (carried gs cs) q ≡ Some h → WasGroup gs q h
+was_group gs cs q h found = by (group_at gs q) refl (subst (λ o. IsKept o (group_at gs q)) found (look_carried gs cs q))
+  where
+    by : (o : Option GroupFields) → group_at gs q ≡ o → IsKept (Some h) o → WasGroup gs q h
+    by None at k = absurd k
+    by (Some g) at k = record { g = g; carry = k.0; at = at; is = k.1 }
+
+-- the tree stays a tree
+module _ (t : TreeState) (cs : List ℕ) (ok : IsTree t) where
+  there_stays : (q : ℕ) → has_group (carried t.groups cs) q ≡ has_group t.groups q
+  there_stays q = there_kept (group_at (carried t.groups cs) q) (group_at t.groups q) (look_carried t.groups cs q)
+
+  new_root : (r : GroupFields) → group_at t.groups 0 ≡ Some r → (h : GroupFields) × (group_at (carried t.groups cs) 0 ≡ Some h) × (carry : ℕ) × (h ≡ set_carry carry r)
+  new_root r at = by (group_at (carried t.groups cs) 0) refl (subst (λ o. IsKept (group_at (carried t.groups cs) 0) o) at (look_carried t.groups cs 0))
+    where
+      by : (o : Option GroupFields) → group_at (carried t.groups cs) 0 ≡ o → IsKept o (Some r) → (h : GroupFields) × (group_at (carried t.groups cs) 0 ≡ Some h) × (carry : ℕ) × (h ≡ set_carry carry r)
+      by None found k = absurd k
+      by (Some h) found k = (h, found, k.0, k.1)
+
+  pub carried_IsTree : IsTree (record { groups = carried t.groups cs; next = t.next })
+  carried_IsTree =
+      let root = new_root ok.root.0 ok.root.1 in
+      record {
+        count = omega (arith, length_carried t.groups cs, ok.count);
+        rising = rising_carried t.groups cs ok.rising;
+        below_next = before_carried t.groups cs t.next ok.below_next;
+        root = (root.0, root.1, ap (λ (x : GroupFields). x.parent) root.3 ∙ ok.root.2, ap (λ (x : GroupFields). x.quota) root.3 ∙ ok.root.3);
+        one_root = λ q h found lacks. let was = was_group t.groups cs q h found in ok.one_root q was.g was.at (sym (ap (λ (x : GroupFields). x.parent) was.is) ∙ lacks);
+        parents = λ q p h found up.
+            let was = was_group t.groups cs q h found in
+            let old = ok.parents q p was.g was.at (sym (ap (λ (x : GroupFields). x.parent) was.is) ∙ up) in
+            (old.0, there_stays p ∙ old.1);
+        named = λ q p h found up.
+            let was = was_group t.groups cs q h found in
+            child_carried t.groups cs p h.name ∙ ap (child_of t.groups p) (ap (λ (x : GroupFields). x.name) was.is) ∙ ok.named q p was.g was.at (sym (ap (λ (x : GroupFields). x.parent) was.is) ∙ up);
+        spelled = λ q p h found up.
+            let was = was_group t.groups cs q h found in
+            ap is_name (ap (λ (x : GroupFields). x.name) was.is) ∙ ok.spelled q p was.g was.at (sym (ap (λ (x : GroupFields). x.parent) was.is) ∙ up);
+        shallow = λ q there.
+            above_same t.groups (carried t.groups cs) (λ _. Unit {0}) (λ k _. parent_kept (group_at (carried t.groups cs) k) (group_at t.groups k) (look_carried t.groups cs k)) (λ _ _ _ _. tt) MAX_PATH q tt
+            ∙ ok.shallow q (sym (there_stays q) ∙ there);
+        leaves = λ q some. children_carried t.groups cs q ∙ ok.leaves q (omega (arith, some, demand_kept (group_at (carried t.groups cs) q) (group_at t.groups q) (look_carried t.groups cs q)));
+        sound = λ q h found.
+            let was = was_group t.groups cs q h found in
+            let old = ok.sound q was.g was.at in
+            subst IsSound (sym was.is) (record { some_weight = old.some_weight; weight = old.weight; quota = old.quota; long_period = old.long_period; short_period = old.short_period; burst = old.burst; demand = old.demand });
+      }
+
+-- the index stays theirs
+pub index_carried : (gs : List (ℕ × GroupFields)) (cs : List ℕ) (index : ChildIndex) → IsIndexOf gs index → IsIndexOf (carried gs cs) index
+index_carried gs cs index is = record { children = λ p n. is.children p n ∙ sym (child_carried gs cs p n); listed = λ p. is.listed p ∙ sym (children_carried gs cs p) }
+
+-- ---- one group after another
+
+key_after : (gs : List (ℕ × GroupFields)) (low i : ℕ) → AllAfter low gs → i < length gs → low < get_or (keys_of gs) i 0
+key_after [] low i all lt = absurd (omega (arith, lt))
+key_after (e ∷ es) low zero all lt = all.0
+key_after (e ∷ es) low (suc i) all lt = key_after es low i all.1 (omega (arith, lt))
+
+key_found : (gs : List (ℕ × GroupFields)) (i : ℕ) → i < length (keys_of gs) → has_group gs (get_or (keys_of gs) i 0) ≡ true
+key_found [] i lt = absurd (omega (arith, lt))
+key_found (e ∷ es) zero lt = ap (λ b. is_some (cond b (Some e.1) (group_at es e.0))) (eq-eqb e.0 e.0 refl)
+key_found (e ∷ es) (suc i) lt = onto (eqb (get_or (keys_of es) i 0) e.0) (key_found es i (omega (arith, lt)))
+  where
+    onto : (b : Bool) → has_group es (get_or (keys_of es) i 0) ≡ true → is_some (cond b (Some e.1) (group_at es (get_or (keys_of es) i 0))) ≡ true
+    onto true there = refl
+    onto false there = there
+
+-- each key of the groups finds one, whatever they left over
+pub key_there : (gs : List (ℕ × GroupFields)) (cs : List ℕ) (i : ℕ) → i < length (keys_of gs) → has_group (carried gs cs) (get_or (keys_of gs) i 0) ≡ true
+key_there gs cs i lt =
+    there_kept (group_at (carried gs cs) (get_or (keys_of gs) i 0)) (group_at gs (get_or (keys_of gs) i 0)) (look_carried gs cs (get_or (keys_of gs) i 0))
+    ∙ key_found gs i lt
+
+-- a change of a later group
+changed_later : (f : GroupFields → GroupFields) (e : ℕ × GroupFields) (gs : List (ℕ × GroupFields)) (id : ℕ) → eqb id e.0 ≡ false → changed_at f (e ∷ gs) id ≡ e ∷ changed_at f gs id
+changed_later f e gs id apart = ap (λ b. changed f (e ∷ gs) id (cond b (Some e.1) (group_at gs id))) apart ∙ by (group_at gs id)
+  where
+    by : (o : Option GroupFields) → changed f (e ∷ gs) id o ≡ e ∷ changed f gs id o
+    by None = refl
+    by (Some g) = ap (λ b. cond b ((e.0, f g) ∷ gs) (e ∷ set_value (eqb id) gs (f g))) apart
+
+-- a change of the first group
+changed_first : (f : GroupFields → GroupFields) (e : ℕ × GroupFields) (gs : List (ℕ × GroupFields)) → changed_at f (e ∷ gs) e.0 ≡ (e.0, f e.1) ∷ gs
+changed_first f e gs =
+    ap (λ b. changed f (e ∷ gs) e.0 (cond b (Some e.1) (group_at gs e.0))) (eq-eqb e.0 e.0 refl)
+    ∙ ap (λ b. cond b ((e.0, f e.1) ∷ gs) (e ∷ set_value (eqb e.0) gs (f e.1))) (eq-eqb e.0 e.0 refl)
+
+-- the next group keeps what it left over
+pub carry_next : (gs : List (ℕ × GroupFields)) (cs : List ℕ) (i : ℕ) → AreRising gs → i < length gs → i < length cs
+    → changed_at (set_carry (get_or cs i 0)) (carried gs (take i cs)) (get_or (keys_of gs) i 0) ≡ carried gs (take (suc i) cs)
+carry_next [] cs i up lt within = absurd (omega (arith, lt))
+carry_next (e ∷ es) [] i up lt within = absurd (omega (arith, within))
+carry_next (e ∷ es) (c ∷ cs) zero up lt within = changed_first (set_carry c) e es
+carry_next (e ∷ es) (c ∷ cs) (suc i) up lt within =
+    let after = key_after es e.0 i up.0 (omega (arith, lt)) in
+    changed_later (set_carry (get_or cs i 0)) (e.0, set_carry c e.1) (carried es (take i cs)) (get_or (keys_of es) i 0) (ne_eqb (get_or (keys_of es) i 0) e.0 (λ same. omega (arith, after, same)))
+    ∙ ap (λ (xs : List (ℕ × GroupFields)). (e.0, set_carry c e.1) ∷ xs) (carry_next es cs i up.1 (omega (arith, lt)) (omega (arith, within)))
+
+pub length_left_over : (rows : List Row) (drawn : List ℕ) → length drawn ≡ length rows → length (left_over rows drawn) ≡ length rows
+length_left_over [] drawn same = refl
+length_left_over (row ∷ rows) [] same = absurd (omega (arith, same))
+length_left_over (row ∷ rows) (d ∷ ds) same = ap suc (length_left_over rows ds (omega (arith, same)))
+
+pub left_over_at : (rows : List Row) (drawn : List ℕ) (i : ℕ) (r : Row) → i < length rows → length drawn ≡ length rows → get_or (left_over rows drawn) i 0 ≡ left_of (get_or rows i r).limit (get_or drawn i 0)
+left_over_at [] drawn i r lt same = absurd (omega (arith, lt))
+left_over_at (row ∷ rows) [] i r lt same = absurd (omega (arith, same))
+left_over_at (row ∷ rows) (d ∷ ds) zero r lt same = refl
+left_over_at (row ∷ rows) (d ∷ ds) (suc i) r lt same = left_over_at rows ds i r (omega (arith, lt)) (omega (arith, same))
