@@ -1,10 +1,10 @@
 -- What a group draws over many periods is bounded by its quota and its burst.
-use Rattle.std.proofs.Common.{◌≡◌, ◌≢◌, ◌⊎◌, inl, inr, ℕ, zero, suc, ◌+◌, ◌*◌, ◌-◌, ◌/◌, ◌≤◌, ◌<◌, min, Bool, true, false, cond, List, [], ◌∷◌, ◌++◌, length, map, Option, Some, None, refl, sym, ap, subst, ◌∙◌, arith, eqb, position}
+use Rattle.std.proofs.Common.{◌≡◌, ◌≢◌, ◌⊎◌, inl, inr, ℕ, suc, ◌+◌, ◌*◌, ◌-◌, ◌/◌, ◌≤◌, min, Bool, true, false, cond, List, [], ◌∷◌, ◌++◌, length, map, Option, Some, None, refl, sym, ap, subst, ◌∙◌, arith, eqb, position}
 use Rattle.std.specs.Prelude.{IfSome}
 use Rattle.std.proofs.lemmas.Bool.{ne_eqb}
 use Rattle.std.proofs.lemmas.Bool.Decides.{eqb_tells}
 use Rattle.std.proofs.Math.Nat.{zero-div}
-use Rattle.std.specs.Map.{keys_of, values_of, set_value}
+use Rattle.std.specs.Map.{values_of, set_value}
 use Rattle.bw_model.specs.declared.row.Row.{Row}
 use Rattle.bw_model.specs.Host.{Shape}
 use Rattle.bw_model.specs.Quota.{in_slices}
@@ -28,7 +28,7 @@ left_at s all (e ∷ es) (d ∷ ds) id same = onto (eqb id e.0) (left_at s all e
   where
     onto : (b : Bool) → group_at (carried es (left_over (map (row_of all s) (values_of es)) ds)) id ≡ with_left s (drawn_at es ds id) (group_at es id)
         → cond b (Some (set_carry (left_of (period_limit s e.1) d) e.1)) (group_at (carried es (left_over (map (row_of all s) (values_of es)) ds)) id)
-          ≡ with_left s (cond b d (drawn_at es ds id)) (cond b (Some e.1) (group_at es id))
+        ≡ with_left s (cond b d (drawn_at es ds id)) (cond b (Some e.1) (group_at es id))
     onto true rest = refl
     onto false rest = rest
 
