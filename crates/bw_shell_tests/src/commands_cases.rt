@@ -28,7 +28,10 @@ fn lacks_memory(out: &[u8]) -> bool {
 }
 
 // The lines of a script, and their answers.
-fn joined(alloc: Global, cases: &[(&str, &str)]) -> Result<(String, String), AllocError> {
+pub(crate) fn joined(
+    alloc: Global,
+    cases: &[(&str, &str)],
+) -> Result<(String, String), AllocError> {
     let mut script = String::new(alloc);
     let mut wanted = String::new(alloc);
     for (line, answer) in cases {
@@ -40,13 +43,12 @@ fn joined(alloc: Global, cases: &[(&str, &str)]) -> Result<(String, String), All
     Ok((script, wanted))
 }
 
-// Asserts the answers to the lines of one script, on a host whose processors have 20 slices of 5 ms each.
-pub(crate) fn assert_answers_on<R: AllocGlobal + Threads + Wait + Abort + Sync>(
+// Asserts the answers to the lines of one script.
+pub(crate) fn assert_answers_of<R: AllocGlobal + Threads + Wait + Abort + Sync>(
     rt: &R,
-    processors: u64,
+    shape: HostShape,
     cases: &[(&str, &str)],
 ) -> Result<(), Fail> {
-    let shape = HostShape::new(processors, 100000, 5000)?;
     let (script, wanted) = match joined(rt.alloc(), cases) {
         Ok(texts) => texts,
         Err(_) => joined(rt.alloc(), cases)?,
@@ -57,6 +59,15 @@ pub(crate) fn assert_answers_on<R: AllocGlobal + Threads + Wait + Abort + Sync>(
     };
     assert_eq!(rt; str::from_utf8(out.as_slice()), Ok(wanted.as_str()));
     Ok(())
+}
+
+// The same on so many processors of 20 slices of 5 ms each.
+pub(crate) fn assert_answers_on<R: AllocGlobal + Threads + Wait + Abort + Sync>(
+    rt: &R,
+    processors: u64,
+    cases: &[(&str, &str)],
+) -> Result<(), Fail> {
+    assert_answers_of(rt, HostShape::new(processors, 100000, 5000)?, cases)
 }
 
 // The same on one processor.

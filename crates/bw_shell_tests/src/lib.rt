@@ -9,3 +9,5 @@ mod commands_cases;
 mod period_cases;
 #[cfg(test)]
 mod shell_cases;
+#[cfg(test)]
+mod stream_cases;

@@ -1,5 +1,6 @@
 //! Periods by script lines, and the counters after them.
-use crate::commands_cases::{assert_answers, assert_answers_on};
+use crate::commands_cases::{assert_answers, assert_answers_of, assert_answers_on};
+use bw_model::HostShape;
 use std::test::Fail;
 
 #[test]
@@ -40,39 +41,39 @@ fn periods_of_one_processor(rt: HostRuntime) -> Result<(), Fail> {
     )
 }
 
-// One period of one processor, byte for byte.
-#[test]
-fn counters_of_one_period(rt: HostRuntime) -> Result<(), Fail> {
-    assert_answers(
-        &rt,
-        &[
-            ("mkdir pod", "ok"),
-            ("mkdir pod/x", "ok"),
-            ("mkdir pod/y", "ok"),
-            ("mkdir job", "ok"),
-            ("write pod cpu.max 50000 100000", "ok"),
-            ("write pod/y cpu.weight 300", "ok"),
-            ("demand pod/x 20", "ok"),
-            ("demand pod/y 20", "ok"),
-            ("demand job 20", "ok"),
-            ("total", "total 20\nlimit 20 .\ndemand 0"),
-            ("plan", "20 .\n10 pod\n3 pod/x\n7 pod/y\n10 job"),
-            ("period", "served 20"),
-            (
-                "read pod cpu.stat",
-                "usage_usec 50000\nnr_periods 1\nnr_throttled 1\nthrottled_usec 150000\nnr_bursts 0\nburst_usec 0",
-            ),
-            (
-                "report",
-                "          usage_usec    periods  throttled       throttled_usec group
+// The lines of one period of one processor, and their answers.
+pub(crate) const ONE_PERIOD: [(&str, &str); 14] = [
+    ("mkdir pod", "ok"),
+    ("mkdir pod/x", "ok"),
+    ("mkdir pod/y", "ok"),
+    ("mkdir job", "ok"),
+    ("write pod cpu.max 50000 100000", "ok"),
+    ("write pod/y cpu.weight 300", "ok"),
+    ("demand pod/x 20", "ok"),
+    ("demand pod/y 20", "ok"),
+    ("demand job 20", "ok"),
+    ("total", "total 20\nlimit 20 .\ndemand 0"),
+    ("plan", "20 .\n10 pod\n3 pod/x\n7 pod/y\n10 job"),
+    ("period", "served 20"),
+    (
+        "read pod cpu.stat",
+        "usage_usec 50000\nnr_periods 1\nnr_throttled 1\nthrottled_usec 150000\nnr_bursts 0\nburst_usec 0",
+    ),
+    (
+        "report",
+        "          usage_usec    periods  throttled       throttled_usec group
               100000          1          0                    0 .
                50000          1          1               150000 pod
                15000          1          0                    0 pod/x
                35000          1          0                    0 pod/y
                50000          1          0                    0 job",
-            ),
-        ],
-    )
+    ),
+];
+
+// One period of one processor, byte for byte.
+#[test]
+fn counters_of_one_period(rt: HostRuntime) -> Result<(), Fail> {
+    assert_answers(&rt, &ONE_PERIOD)
 }
 
 const ZEROS: &str =
@@ -184,6 +185,86 @@ fn carries(rt: HostRuntime) -> Result<(), Fail> {
             ("write a cpu.max.burst 50000", "ok"),
             ("demand a 20", "ok"),
             ("total", "total 10\nlimit 10 a\ndemand 0"),
+        ],
+    )
+}
+
+// A burst above the quota is refused in the microseconds that are written, by either file, and changes nothing.
+#[test]
+fn bursts_above_quotas(rt: HostRuntime) -> Result<(), Fail> {
+    assert_answers(
+        &rt,
+        &[
+            ("mkdir a", "ok"),
+            ("write a cpu.max 50000", "ok"),
+            ("write a cpu.max.burst 25000", "ok"),
+            ("read a cpu.max.burst", "25000"),
+            ("period", "served 0"),
+            ("demand a 20", "ok"),
+            ("total", "total 15\nlimit 15 a\ndemand 0"),
+            ("write a cpu.max.burst 50001", "error 33 BurstAboveQuota"),
+            ("write a cpu.max 20000", "error 33 BurstAboveQuota"),
+            ("write a cpu.max 20000 1000", "error 33 BurstAboveQuota"),
+            ("read a cpu.max", "50000 100000"),
+            ("read a cpu.max.burst", "25000"),
+            ("total", "total 15\nlimit 15 a\ndemand 0"),
+            ("write a cpu.max.burst 50000", "ok"),
+            ("write a cpu.max max", "ok"),
+            ("write a cpu.max.burst 60000", "ok"),
+            ("write a cpu.max 50000", "error 33 BurstAboveQuota"),
+            ("read a cpu.max", "max 100000"),
+            ("read a cpu.max.burst", "60000"),
+        ],
+    )
+}
+
+// A quota and a burst in slices by the period of the group.
+#[test]
+fn own_periods(rt: HostRuntime) -> Result<(), Fail> {
+    assert_answers(
+        &rt,
+        &[
+            ("mkdir a", "ok"),
+            ("demand a 40", "ok"),
+            ("write a cpu.max 50000 200000", "ok"),
+            ("read a cpu.max", "50000 200000"),
+            ("total", "total 5\nlimit 5 a\ndemand 0"),
+            ("write a cpu.max 1000 1000", "ok"),
+            ("total", "total 20\nlimit 20 a\ndemand 0"),
+            ("write a cpu.max 1000 1000000", "ok"),
+            ("total", "total 0\nlimit 0 a\ndemand 0"),
+            ("write a cpu.max 1000 999", "error 15 PeriodOutOfRange"),
+            ("write a cpu.max 1000 1000001", "error 15 PeriodOutOfRange"),
+            ("read a cpu.max", "1000 1000000"),
+            ("write a cpu.max 100000 200000", "ok"),
+            ("write a cpu.max.burst 25000", "ok"),
+            ("total", "total 10\nlimit 10 a\ndemand 0"),
+            ("demand a 0", "ok"),
+            ("period", "served 0"),
+            ("demand a 40", "ok"),
+            ("total", "total 12\nlimit 12 a\ndemand 0"),
+        ],
+    )
+}
+
+// A new group has a period of 100 ms on every host.
+#[test]
+fn own_periods_on_a_host_of_short_periods(rt: HostRuntime) -> Result<(), Fail> {
+    assert_answers_of(
+        &rt,
+        HostShape::new(2, 5000, 5000)?,
+        &[
+            ("mkdir a", "ok"),
+            ("read a cpu.max", "max 100000"),
+            ("demand a 3", "ok"),
+            ("total", "total 2\nlimit 2 .\ndemand 0"),
+            ("write a cpu.max 50000", "ok"),
+            ("total", "total 0\nlimit 0 a\ndemand 0"),
+            ("write a cpu.max 100000", "ok"),
+            ("total", "total 1\nlimit 1 a\ndemand 0"),
+            ("write a cpu.max 50000 50000", "ok"),
+            ("read a cpu.max", "50000 50000"),
+            ("total", "total 1\nlimit 1 a\ndemand 0"),
         ],
     )
 }

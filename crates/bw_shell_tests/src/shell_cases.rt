@@ -1,8 +1,8 @@
-//! Scripts and their answers, and runs over readers and writers that fail.
+//! Scripts and their answers, and a reader and a writer that fail.
 ghost use Rattle.std.specs.Prelude.{◌<◌, Some};
 
 use bw_model::HostShape;
-use bw_shell::{RunFault, Watched, run, status_of_run};
+use bw_shell::{Watched, run};
 use std::io;
 use std::io::{Read, Write};
 use std::sync::Wait;
@@ -69,12 +69,8 @@ impl Write for Choked {
     }
 }
 
-const SCRIPT: &str = "mkdir a\nmkdir b\ndemand a 20\ndemand b 20\ntotal\n";
-
-const ANSWERS: &str = "ok\nok\nok\nok\ntotal 20\nlimit 20 .\ndemand 0\n";
-
 // One processor, a period of 100 ms and slices of 5 ms: 20 slices.
-fn host() -> Result<HostShape, Fail> {
+pub(crate) fn host() -> Result<HostShape, Fail> {
     Ok(HostShape::new(1, 100000, 5000)?)
 }
 
@@ -87,21 +83,16 @@ fn written<R: AllocGlobal + Threads + Wait + Sync>(rt: &R, script: &[u8]) -> Res
     Ok(out)
 }
 
-// The front of a text that ends in its last newline.
-fn whole_lines(text: &[u8]) -> &[u8] {
-    match text.iter().rposition(|b| *b == b'\n') {
-        Some(i) => text.split_at(i + 1).0,
-        None => b"",
-    }
-}
-
 #[test]
 fn scripts_have_these_answers(rt: HostRuntime) -> Result<(), Fail> {
     let ones =
         "1111111111111111111111111111111111111111111111111111111111111111111111111111111111111111111111111111";
     let large = format!(in rt.alloc(); "mkdir a\ndemand a {ones}\n")?;
     for (script, answers) in [
-        (SCRIPT, ANSWERS),
+        (
+            "mkdir a\nmkdir b\ndemand a 20\ndemand b 20\ntotal\n",
+            "ok\nok\nok\nok\ntotal 20\nlimit 20 .\ndemand 0\n",
+        ),
         ("", ""),
         ("total\n", "total 0\ndemand 0\n"),
         (
@@ -191,79 +182,7 @@ fn bad_text_and_long_lines(rt: HostRuntime) -> Result<(), Fail> {
     Ok(())
 }
 
-#[test]
-fn a_reader_in_pieces_or_failing(rt: HostRuntime) -> Result<(), Fail> {
-    let whole = SCRIPT.len();
-    for most in 1..50usize {
-        for left in 0..whole + 1 {
-            if left < whole && most > 1 && most != 7 {
-                continue;
-            }
-            let mut out = Vec::new(rt.alloc());
-            let mut reader = Watched::new(Broken {
-                bytes: SCRIPT.as_bytes(),
-                most,
-                left: if left < whole { left } else { 1000 },
-                kind: if most == 1 {
-                    io::ErrorKind::Interrupted
-                } else {
-                    io::ErrorKind::Other
-                },
-            });
-            let mut writer = Watched::new(&mut out);
-            let result = run(&rt, &mut reader, &mut writer, host()?);
-            let failed = reader.failed();
-            if left < whole {
-                assert_eq!(rt; result, Err(RunFault::Read), "at {left}");
-                assert!(rt; failed);
-                let wanted = written(&rt, whole_lines(SCRIPT.as_bytes().split_at(left).0))?;
-                assert_eq!(rt; out.as_slice(), wanted.as_slice(), "at {left}");
-            } else {
-                assert_eq!(rt; result, Ok(()), "at {most}");
-                assert_eq!(rt; status_of_run(&result), 0);
-                assert!(rt; !failed);
-                assert_eq!(rt; out.as_slice(), ANSWERS.as_bytes(), "at {most}");
-            }
-        }
-    }
-    Ok(())
-}
-
-#[test]
-fn a_writer_that_fails_or_stalls(rt: HostRuntime) -> Result<(), Fail> {
-    for (most, calls) in [(1, 41), (5, 10), (100, 5)] {
-        for stalls in [false, true] {
-            for left in 0..100usize {
-                let mut out = Choked {
-                    bytes: Vec::new(rt.alloc()),
-                    most,
-                    left,
-                    stalls,
-                };
-                let mut reader = Watched::new(SCRIPT.as_bytes());
-                let mut writer = Watched::new(&mut out);
-                let result = run(&rt, &mut reader, &mut writer, host()?);
-                let failed = writer.failed();
-                let stalled = writer.stalled();
-                if left < calls {
-                    assert_eq!(rt; result, Err(RunFault::Write), "at {left}");
-                    assert_eq!(rt; status_of_run(&result), 1);
-                    assert_eq!(rt; stalled, stalls);
-                    assert_eq!(rt; failed, !stalls);
-                } else {
-                    assert_eq!(rt; result, Ok(()), "at {left}");
-                }
-                assert!(rt;
-                    ANSWERS.as_bytes().starts_with(out.bytes.as_slice()),
-                    "at {left}"
-                );
-            }
-        }
-    }
-    Ok(())
-}
-
-// Groups g0 to g16382 with a demand of one slice each, and a total.
+// Groups g0 to g16382 with a demand of one slice each, a total, and one group more.
 fn large_script(rt: &HostRuntime) -> Result<String, Fail> {
     let mut script = String::new(rt.alloc());
     for i in 0..16383u32 {
@@ -272,7 +191,7 @@ fn large_script(rt: &HostRuntime) -> Result<String, Fail> {
     for i in 0..16383u32 {
         write!(script, "demand g{i} 1\n")?;
     }
-    script.push_str("total\n")?;
+    script.push_str("total\nmkdir one\n")?;
     Ok(script)
 }
 
@@ -284,7 +203,25 @@ fn a_full_tree(rt: HostRuntime) -> Result<(), Fail> {
     for _ in 0..32766u32 {
         wanted.push_str("ok\n")?;
     }
-    wanted.push_str("total 20\nlimit 20 .\ndemand 0\n")?;
+    wanted.push_str("total 20\nlimit 20 .\ndemand 0\nerror 27 TreeFull\n")?;
     assert_eq!(rt; out.as_slice(), wanted.as_bytes());
+    Ok(())
+}
+
+// A chain of 64 groups, and one group below it.
+#[test]
+fn a_deep_tree(rt: HostRuntime) -> Result<(), Fail> {
+    let mut script = String::new(rt.alloc());
+    let mut path = String::new(rt.alloc());
+    let mut wanted = String::new(rt.alloc());
+    for _ in 0..64u32 {
+        write!(script, "mkdir {path}d\n")?;
+        path.push_str("d/")?;
+        wanted.push_str("ok\n")?;
+    }
+    write!(script, "mkdir {path}d\n")?;
+    wanted.push_str("error 7 TooDeep\n")?;
+    let out = written(&rt, script.as_bytes())?;
+    assert_eq!(rt; str::from_utf8(out.as_slice()), Ok(wanted.as_str()));
     Ok(())
 }

@@ -191,6 +191,17 @@ fn worked_limited_plans(rt: HostRuntime) -> Result<(), Fail> {
     Ok(())
 }
 
+/// The plan of these rows, which both calls give.
+fn plan_of<R: Threads + Abort + Sync>(
+    rt: &R,
+    alloc: Global,
+    shape: HostShape,
+    rows: Vec<Row>,
+) -> Result<Plan, InstanceFault> {
+    let instance = Instance::new(alloc, rows, shape)?;
+    Ok(planned_by_both(rt, alloc, &instance)?)
+}
+
 /// A chain of so many groups, with a demand at its end.
 fn chain(alloc: Global, depth: u32) -> Result<Vec<Row>, AllocError> {
     let mut rows = rows_of(alloc, &[(None, 100, None, 0)])?;
@@ -222,41 +233,61 @@ fn pairs(alloc: Global, groups: u32) -> Result<Vec<Row>, AllocError> {
     Ok(rows)
 }
 
-/// That the root has 64000 slices, the first so many groups this many, and the others one less.
-fn assert_shared(rt: &impl Abort, amounts: &[u64], first: usize, most: u64) {
+/// That the root has 64000 slices, and of so many groups at each depth below it the first so many get this many, and the
+/// others one less.
+fn assert_shared(rt: &impl Abort, amounts: &[u64], groups: usize, first: usize, most: u64) {
     for (g, amount) in amounts.iter().enumerate() {
-        let wanted = match g {
-            0 => 64000,
-            _ if g <= first => most,
-            _ => most - 1,
+        let wanted = match g.checked_sub(1) {
+            None => 64000,
+            Some(place) if place % groups.max(1) < first => most,
+            Some(_) => most.saturating_sub(1),
         };
-        assert_eq!(rt; *amount, wanted);
+        assert_eq!(rt; *amount, wanted, "at {g}");
     }
 }
 
-/// The amounts of deep and wide trees on the largest host.
-fn assert_amounts<R: Threads + Abort + Sync>(
+/// The amounts of chains.
+fn assert_chains<R: Threads + Abort + Sync>(
     rt: &R,
     alloc: Global,
     shape: HostShape,
 ) -> Result<(), InstanceFault> {
     for depth in [32u32, 64] {
-        let planned = planned_by_both(rt, alloc, &Instance::new(alloc, chain(alloc, depth)?, shape)?)?;
+        let planned = plan_of(rt, alloc, shape, chain(alloc, depth)?)?;
         assert_eq!(rt; planned.amounts.len(), depth as usize + 1);
         assert!(rt; planned.amounts.iter().all(|amount| *amount == 5));
     }
+    Ok(())
+}
+
+#[test]
+fn deep_trees(rt: HostRuntime) -> Result<(), Fail> {
+    for (processors, period_us, slice_us) in [(1, 100_000, 5_000), (64, 1_000_000, 1_000)] {
+        let shape = HostShape::new(processors, period_us, slice_us)?;
+        if assert_chains(&rt, rt.alloc(), shape).is_err() {
+            assert_chains(&rt, rt.alloc(), shape)?;
+        }
+    }
+    Ok(())
+}
+
+/// The amounts of wide trees on the largest host.
+fn assert_amounts<R: Threads + Abort + Sync>(
+    rt: &R,
+    alloc: Global,
+    shape: HostShape,
+) -> Result<(), InstanceFault> {
     for (groups, first, most) in [(4095u32, 2575usize, 16u64), (16383, 14851, 4)] {
-        let planned = planned_by_both(rt, alloc, &Instance::new(alloc, flat(alloc, groups)?, shape)?)?;
-        assert_eq!(rt; planned.amounts.len(), groups as usize + 1);
-        assert_shared(rt, planned.amounts.as_slice(), first, most);
+        let planned = plan_of(rt, alloc, shape, flat(alloc, groups)?)?;
+        let amounts = planned.amounts.as_slice();
+        assert_eq!(rt; amounts.len(), groups as usize + 1);
+        assert_shared(rt, amounts, groups as usize, first, most);
     }
     for (groups, first, most) in [(2047u32, 543usize, 32u64), (8191, 6663, 8)] {
-        let planned = planned_by_both(rt, alloc, &Instance::new(alloc, pairs(alloc, groups)?, shape)?)?;
-        let (above, below) = planned.amounts.as_slice().split_at(groups as usize + 1);
-        assert_shared(rt, above, first, most);
-        for (g, amount) in below.iter().enumerate() {
-            assert_eq!(rt; *amount, if g < first { most } else { most - 1 });
-        }
+        let planned = plan_of(rt, alloc, shape, pairs(alloc, groups)?)?;
+        let amounts = planned.amounts.as_slice();
+        assert_eq!(rt; amounts.len(), 2 * groups as usize + 1);
+        assert_shared(rt, amounts, groups as usize, first, most);
     }
     Ok(())
 }
@@ -288,8 +319,8 @@ fn assert_levels(rt: &impl Abort, alloc: Global) -> Result<(), InstanceFault> {
     let found = levels(alloc, &Instance::new(alloc, rows, shape)?)?;
     assert_eq!(rt; found.len(), 3);
     let wanted: [&[u32]; 3] = [&[0], &[1, 4], &[2, 3]];
-    for (depth, level) in found.iter().enumerate() {
-        assert_eq!(rt; level.as_slice(), wanted[depth], "at {depth}");
+    for (level, rows) in found.iter().zip(wanted) {
+        assert_eq!(rt; level.as_slice(), rows);
     }
     Ok(())
 }

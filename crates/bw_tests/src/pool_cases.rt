@@ -151,8 +151,9 @@ fn shared_leaf(rt: HostRuntime) -> Result<(), Fail> {
     Ok(())
 }
 
+/// Either seat lowers a group, which takes no processor of its own.
 #[test]
-fn ceilings_and_holdings(rt: HostRuntime) -> Result<(), Fail> {
+fn ceilings(rt: HostRuntime) -> Result<(), Fail> {
     let chain = Setting {
         processors: 1,
         period_us: 100_000,
@@ -160,12 +161,19 @@ fn ceilings_and_holdings(rt: HostRuntime) -> Result<(), Fail> {
         amounts: &[3, 3, 3],
     };
     let lowered = PoolReply::Lowered { ceiling: 1 };
-    let calls = [
-        (0, PoolCall::Lower { group: 1, to: 1 }, lowered),
-        (0, draw(2, 2), granted(1, Some(Short::Group(1)))),
-        (0, PoolCall::Lower { group: 1, to: 0 }, lowered),
-    ];
-    assert_case(&rt, rt.alloc(), &chain, &calls, &[1, 1, 1])?;
+    for seat in [0, 1] {
+        let calls = [
+            (seat, PoolCall::Lower { group: 1, to: 1 }, lowered),
+            (0, draw(2, 2), granted(1, Some(Short::Group(1)))),
+            (seat, PoolCall::Lower { group: 1, to: 0 }, lowered),
+        ];
+        assert_case(&rt, rt.alloc(), &chain, &calls, &[1, 1, 1])?;
+    }
+    Ok(())
+}
+
+#[test]
+fn holdings(rt: HostRuntime) -> Result<(), Fail> {
     let calls = [
         (0, draw(1, 2), granted(2, None)),
         (0, give_back(1, 3), PoolReply::NotHeld { held: 2 }),

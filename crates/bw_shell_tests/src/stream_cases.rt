@@ -1,0 +1,145 @@
+//! The script of one period over readers and writers that fail.
+ghost use Rattle.std.specs.Prelude.{◌<◌};
+
+use crate::commands_cases::joined;
+use crate::period_cases::ONE_PERIOD;
+use crate::shell_cases::{Broken, Choked, host};
+use bw_shell::{RunFault, Watched, run, status_of_run};
+use std::alloc::{AllocError, Global};
+use std::io;
+use std::process::Abort;
+use std::sync::Wait;
+use std::test::Fail;
+use std::thread::Threads;
+
+// The answers to the lines that lie whole within so many bytes of the script.
+fn answers_within(alloc: Global, bytes: usize) -> Result<String, AllocError> {
+    let mut answers = String::new(alloc);
+    let mut end = 0usize;
+    for (line, answer) in ONE_PERIOD {
+        end = end.saturating_add(line.len()).saturating_add(1);
+        if end <= bytes {
+            answers.push_str(answer)?;
+            answers.push('\n')?;
+        }
+    }
+    Ok(answers)
+}
+
+// A run over a reader that gives at most so many bytes a call, and fails after so many in all.
+fn assert_read<R: AllocGlobal + Threads + Wait + Abort + Sync>(
+    rt: &R,
+    script: &str,
+    most: usize,
+    left: usize,
+    kind: io::ErrorKind,
+) -> Result<(), Fail>
+    requires { 0 < most }
+{
+    let mut out = Vec::new(rt.alloc());
+    let mut reader = Watched::new(Broken {
+        bytes: script.as_bytes(),
+        most,
+        left,
+        kind,
+    });
+    let mut writer = Watched::new(&mut out);
+    let result = run(rt, &mut reader, &mut writer, host()?);
+    let failed = reader.failed();
+    let answers = answers_within(rt.alloc(), left)?;
+    assert_eq!(rt;
+        str::from_utf8(out.as_slice()),
+        Ok(answers.as_str()),
+        "at {left}"
+    );
+    assert_eq!(rt; failed, left <= script.len(), "at {left}");
+    if failed {
+        assert_eq!(rt; result, Err(RunFault::Read), "at {left}");
+        assert_eq!(rt; status_of_run(&result), 1);
+    } else {
+        assert_eq!(rt; result, Ok(()), "at {most}");
+        assert_eq!(rt; status_of_run(&result), 0);
+    }
+    Ok(())
+}
+
+#[test]
+fn a_reader_in_pieces(rt: HostRuntime) -> Result<(), Fail> {
+    let (script, _answers) = joined(rt.alloc(), &ONE_PERIOD)?;
+    for most in 1..50usize {
+        assert_read(&rt, script.as_str(), most, 1000, io::ErrorKind::Other)?;
+    }
+    Ok(())
+}
+
+#[test]
+fn a_reader_that_fails(rt: HostRuntime) -> Result<(), Fail> {
+    let (script, _answers) = joined(rt.alloc(), &ONE_PERIOD)?;
+    for left in 0..script.len() + 1 {
+        assert_read(&rt, script.as_str(), 1, left, io::ErrorKind::Interrupted)?;
+        assert_read(&rt, script.as_str(), 7, left, io::ErrorKind::Other)?;
+    }
+    Ok(())
+}
+
+// A run over a writer that takes at most so many bytes a call, and fails, or takes none, after so many calls.
+fn assert_written<R: AllocGlobal + Threads + Wait + Abort + Sync>(
+    rt: &R,
+    script: &str,
+    answers: &str,
+    out: &mut Choked,
+    calls: usize,
+) -> Result<(), Fail> {
+    let left = out.left;
+    let stalls = out.stalls;
+    let mut reader = Watched::new(script.as_bytes());
+    let mut writer = Watched::new(&mut *out);
+    let result = run(rt, &mut reader, &mut writer, host()?);
+    let failed = writer.failed();
+    let stalled = writer.stalled();
+    let is_cut = left < calls;
+    assert_eq!(rt; failed, is_cut && !stalls, "at {left}");
+    assert_eq!(rt; stalled, is_cut && stalls, "at {left}");
+    if is_cut {
+        assert_eq!(rt; result, Err(RunFault::Write), "at {left}");
+        assert_eq!(rt; status_of_run(&result), 1);
+        assert!(rt;
+            answers.as_bytes().starts_with(out.bytes.as_slice()),
+            "at {left}"
+        );
+    } else {
+        assert_eq!(rt; result, Ok(()), "at {left}");
+        assert_eq!(rt;
+            str::from_utf8(out.bytes.as_slice()),
+            Ok(answers),
+            "at {left}"
+        );
+    }
+    Ok(())
+}
+
+#[test]
+fn a_writer_that_fails_or_stalls(rt: HostRuntime) -> Result<(), Fail> {
+    let (script, answers) = joined(rt.alloc(), &ONE_PERIOD)?;
+    for (most, stalls, calls) in [
+        (1, false, 605),
+        (2, true, 308),
+        (5, false, 126),
+        (1000, false, 14),
+        (1000, true, 14),
+    ] {
+        for left in 0..calls + 2usize {
+            let mut out = Choked {
+                bytes: Vec::new(rt.alloc()),
+                most,
+                left,
+                stalls,
+            };
+            assert_written(&rt, script.as_str(), answers.as_str(), &mut out, calls)?;
+            if most == 1 {
+                assert_eq!(rt; out.bytes.len(), left.min(calls), "at {left}");
+            }
+        }
+    }
+    Ok(())
+}
