@@ -3,6 +3,7 @@
 Each file of cases takes the program's path as its first word, or else takes the one that the gate built.
 """
 import concurrent.futures
+import functools
 import multiprocessing
 import os
 import re
@@ -13,10 +14,19 @@ import sys
 TOP = os.path.dirname(os.path.dirname(os.path.abspath(__file__)))
 PROGRAM = os.path.abspath(sys.argv[1]) if len(sys.argv) > 1 else f"{TOP}/crates/arbiter/out/arbiter"
 SECONDS = 60
+AT_ONCE = 64
 
 MEMORY = (1, b"", b"arbiter: out of memory\n")
 READ_FAULT = b"arbiter: read fault\n"
 WRITE_FAULT = b"arbiter: write fault\n"
+CERTIFIED = {
+    "the root alone": b"bw 1 1 100000 5000 1\n- 100 max 0 0 0 -\n",
+    "two groups": b"bw 1 1 100000 5000 3\n- 100 max 0 20 1 13/100@0\n0 100 max 20 7 0 -\n0 200 max 20 13 0 -\n",
+    "a pod and a job": b"bw 1 1 100000 5000 5\n- 100 max 0 20 1 19/100@1\n0 100 10 0 10 1 5/100@0\n"
+    b"1 100 max 20 3 0 -\n1 300 max 20 7 0 -\n0 100 max 20 10 0 -\n",
+    "two processors": b"bw 1 2 100000 5000 4\n- 100 max 0 20 0 39/100@0\n0 100 20 0 20 1 19/100@1\n"
+    b"1 100 15 30 10 1 -\n1 100 15 30 10 1 -\n",
+}
 NO_THREAD = b"error 70 NotStarted\n"
 NO_MEMORY = b"error 71 OutOfMemory\n"
 
@@ -64,6 +74,24 @@ def each(function, items):
     size = max(1, len(items) // (8 * workers))
     with concurrent.futures.ProcessPoolExecutor(workers, multiprocessing.get_context("fork")) as pool:
         return list(pool.map(function, items, chunksize=size))
+
+
+def refused_one(library, words, given, number):
+    """A run in which the allocation of this number is refused."""
+    return refused_run(library, words, given, REFUSE_ALLOCATION=number)
+
+
+def refused_in_turn(library, words, given=b""):
+    """The answers of the runs in which an allocation was refused, by its number, until 64 runs in a row refuse none."""
+    answers, first = {}, 1
+    while True:
+        numbers = range(first, first + AT_ONCE)
+        runs = each(functools.partial(refused_one, library, words, given), numbers)
+        refused = {number: answer for number, (answer, told) in zip(numbers, runs) if b"a" in told}
+        if not refused:
+            return answers
+        answers.update(refused)
+        first += AT_ONCE
 
 
 def transcript(words, lines):

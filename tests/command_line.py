@@ -229,7 +229,7 @@ def main():
     for name, check in rows:
         try:
             wrong = check()
-        except (OSError, subprocess.SubprocessError) as error:
+        except (OSError, ValueError, subprocess.SubprocessError) as error:
             wrong = f"{name}: {error}"
         if wrong:
             print(f"FAILED: {wrong}")

@@ -5,23 +5,27 @@ are the plan of the text's own instance, as the model gives it slice by slice.
 The last line is 'N passed, M failed'.
 """
 import collections
-import functools
 import random
 import sys
 
-from cases import Cases, each, run
+from cases import CERTIFIED, Cases, each, run
 from plan_model import Host, line_for
 
-CERTIFIED = {
-    "the root alone": b"bw 1 1 100000 5000 1\n- 100 max 0 0 0 -\n",
-    "two groups": b"bw 1 1 100000 5000 3\n- 100 max 0 20 1 13/100@0\n0 100 max 20 7 0 -\n0 200 max 20 13 0 -\n",
-    "a pod and a job": b"bw 1 1 100000 5000 5\n- 100 max 0 20 1 19/100@1\n0 100 10 0 10 1 5/100@0\n"
-    b"1 100 max 20 3 0 -\n1 300 max 20 7 0 -\n0 100 max 20 10 0 -\n",
-    "two processors": b"bw 1 2 100000 5000 4\n- 100 max 0 20 0 39/100@0\n0 100 20 0 20 1 19/100@1\n"
-    b"1 100 15 30 10 1 -\n1 100 15 30 10 1 -\n",
-}
 TELLING = b"019 \n-@/x\xff"
 CUT_SHORT = (3, b"error 42 CutShort\n", b"")
+
+# Changes of the text of two groups, and the line for each.
+CHANGES = [
+    (b" 13 0 -\n", b" 18446744073709551615 0 -\n", b"refused 52 OverDemand 2\n"),
+    (b" 13 0 -\n", b" 18446744073709551616 0 -\n", b"error 41 BadField\n"),
+    (b"0 100 max 20", b"0 100 0 20", b"refused 51 OverLimit 1\n"),
+    (b"13/100@0", b"18446744073709551615/1@0", b"refused 58 NextMarkNotAbove 1\n"),
+    (b"13/100@0", b"1/18446744073709551615@0", b"refused 57 LastMarkAbove 1\n"),
+    (b"13/100@0", b"13/100@4294967295", b"accepted\n"),
+    (b"13/100@0", b"13/100@4294967296", b"error 41 BadField\n"),
+    (b"5000 3\n", b"5000 16385\n", b"error 4 TooMany\n"),
+    (b"0 200 max", b"2 200 max", b"error 5 BadParent\n"),
+]
 
 HOSTS = [(1, 100000, 5000), (2, 100000, 5000), (4, 50000, 10000), (3, 200000, 50000), (2, 5000, 5000), (64, 1000, 1000), (1, 100000, 1000)]
 WEIGHTS = [1, 2, 3, 7, 99, 100, 101, 300, 9999, 10000]
@@ -52,6 +56,22 @@ def all_answers(texts):
     return (f"{len(wrong)} wrong: {wrong[0]}" if wrong else None), words
 
 
+def whole(text):
+    answer = checked(text)
+    return wrong_answer(text, answer) or (None if answer[1] == b"accepted\n" else f"{answer}")
+
+
+def changes():
+    """The worked changes, each judged as it stands beside it."""
+    for old, new, line in CHANGES:
+        text = CERTIFIED["two groups"].replace(old, new)
+        answer = checked(text)
+        told = wrong_answer(text, answer) or (None if answer[1] == line else f"{answer} and not {line!r}: {text!r}")
+        if told:
+            return told
+    return None
+
+
 def fronts(text):
     answers = each(checked, [text[:end] for end in range(len(text))])
     wrong = [(end, answer) for end, answer in enumerate(answers) if answer != CUT_SHORT]
@@ -63,11 +83,11 @@ def changed(text):
     return [text[:at] + bytes([byte]) + text[at + 1:] for at in range(len(text)) for byte in TELLING if byte != text[at]]
 
 
-def bytes_changed(name, text, accepted):
+def bytes_changed(name, text):
     texts = changed(text)
     wrong, words = all_answers(texts)
     print(f"  {name}: {len(texts)} texts with a byte changed: " + ", ".join(f"{word} {number}" for word, number in sorted(words.items())), flush=True)
-    missing = [word for word in ["error", "refused", "accepted"][:3 if accepted else 2] if not words[word]]
+    missing = [word for word in ["error", "refused", "accepted"] if not words[word]]
     return wrong or (f"never answered: {missing}" if missing else None)
 
 
@@ -152,9 +172,10 @@ def moved(chance, text):
 def main():
     cases = Cases()
     for name, text in CERTIFIED.items():
-        cases.case(f"the whole text, {name}", lambda text=text: wrong_answer(text, checked(text)))
+        cases.case(f"the whole text, {name}", whole, text)
         cases.case(f"every front, {name}", fronts, text)
-        cases.case(f"each byte changed, {name}", functools.partial(bytes_changed, name, text, True))
+        cases.case(f"each byte changed, {name}", bytes_changed, name, text)
+    cases.case("worked changes", changes)
     cases.case("random scripts", scripts)
     return cases.end()
 

@@ -7,18 +7,19 @@ left to refuse, and fails where too few were refused, or where a command that ta
 The last line is 'N passed, M failed'.
 """
 import collections
-import functools
 import sys
 import tempfile
 
-from cases import MEMORY, NO_MEMORY, NO_THREAD, Cases, each, in_place_of_a_line, refused_run, refusing_library, run, script, transcript
+from cases import CERTIFIED, MEMORY, NO_MEMORY, NO_THREAD, Cases, in_place_of_a_line, refused_in_turn, refusing_library, run, script, transcript
 
 # What the program answers where memory is refused while the words of the command line are read.
 WORDS_REFUSED = (2, b"", b"arbiter: bad arguments\n")
 
 # A sweep that refuses fewer allocations than this has fallen to nothing.
 LEAST_REFUSED = {"run": 150, "check": 40, "words": 20}
-AT_ONCE = 64
+
+# The commands that take memory. `rmdir`, `demand` and `write` take none, and so are never refused for it.
+TAKE_MEMORY = ["mkdir", "read", "total", "plan", "cert", "period", "report"]
 
 EVERY_COMMAND = b"""mkdir pod
 mkdir pod/x
@@ -56,36 +57,9 @@ period
 report
 """.splitlines(keepends=True)
 
-CERTIFIED = {
-    "the root alone": b"bw 1 1 100000 5000 1\n- 100 max 0 0 0 -\n",
-    "two groups": b"bw 1 1 100000 5000 3\n- 100 max 0 20 1 13/100@0\n0 100 max 20 7 0 -\n0 200 max 20 13 0 -\n",
-    "a pod and a job": b"bw 1 1 100000 5000 5\n- 100 max 0 20 1 19/100@1\n0 100 10 0 10 1 5/100@0\n"
-    b"1 100 max 20 3 0 -\n1 300 max 20 7 0 -\n0 100 max 20 10 0 -\n",
-    "two processors": b"bw 1 2 100000 5000 4\n- 100 max 0 20 0 39/100@0\n0 100 20 0 20 1 19/100@1\n"
-    b"1 100 15 30 10 1 -\n1 100 15 30 10 1 -\n",
-}
-
-
-def refused_runs(library, words, given):
-    """The answers of the runs in which an allocation was refused, by its number, until 64 runs in a row refuse none."""
-    answers, first = {}, 1
-    while True:
-        numbers = range(first, first + AT_ONCE)
-        runs = each(functools.partial(one_refused, library, words, given), numbers)
-        refused = {number: answer for number, (answer, told) in zip(numbers, runs) if b"a" in told}
-        if not refused:
-            return answers
-        answers.update(refused)
-        first += AT_ONCE
-
-
-def one_refused(library, words, given, number):
-    return refused_run(library, words, given, REFUSE_ALLOCATION=number)
-
-
 def swept(name, job, library, words, given, allowed, wanted):
     """Refuses each allocation of one run; answers what is wrong. `allowed` has each answer that may come, with its kind."""
-    answers = refused_runs(library, words, given)
+    answers = refused_in_turn(library, words, given)
     kinds = collections.Counter(allowed.get(answer, "wrong") for answer in answers.values())
     told = ", ".join(f"{kind} {number}" for kind, number in sorted(kinds.items()))
     print(f"  {name}: {len(answers)} allocations refused: {told}", flush=True)
@@ -99,17 +73,18 @@ def swept(name, job, library, words, given, allowed, wanted):
     return f"never seen: {missing}" if missing else None
 
 
-def run_swept(name, library, words, lines, wanted):
-    """`run` on a script, each of its allocations refused."""
+def run_swept(name, library, words, lines):
+    """`run` on a script, each of its allocations refused. Each of its commands that take memory has to be the one once."""
     given = b"".join(lines)
     allowed = {(0, transcript(words, lines), b""): "the same answer"}
-    verbs = {line.split()[0].decode() for line in lines}
-    for verb, answer in in_place_of_a_line(words, lines, NO_MEMORY, verbs).values():
+    for verb, answer in in_place_of_a_line(words, lines, NO_MEMORY, TAKE_MEMORY).values():
         allowed.setdefault((0, answer, b""), f"71 at {verb}")
     for _, answer in in_place_of_a_line(words, lines, NO_THREAD, {"period"}).values():
         allowed.setdefault((0, answer, b""), "70 at period")
     allowed.update({WORDS_REFUSED: "words not read", MEMORY: "ended for want of memory"})
-    return swept(name, "run", library, words, given, allowed, wanted)
+    verbs = {line.split()[0].decode() for line in lines}
+    wanted = [f"71 at {verb}" for verb in TAKE_MEMORY if verb in verbs]
+    return swept(name, "run", library, words, given, allowed, ["ended for want of memory", "70 at period", *wanted])
 
 
 def answer_swept(name, job, library, words, given, ended):
@@ -125,14 +100,12 @@ def main():
     cases = Cases()
     with tempfile.TemporaryDirectory() as folder:
         library = refusing_library(folder)
-        some = ["ended for want of memory", "70 at period", *(f"71 at {verb}" for verb in ["mkdir", "total", "plan", "period", "report"])]
-        every = [*some, *(f"71 at {verb}" for verb in ["cert", "read"])]
-        for name, words, lines, wanted in [
-            ("run, one processor", ["run"], script("counters.script"), some),
-            ("run, four processors, every command", ["run", "--processors", "4"], EVERY_COMMAND, every),
-            ("run, 64 processors", ["run", "--processors", "64"], script("counters.script"), some),
+        for name, words, lines in [
+            ("run, one processor", ["run"], script("counters.script")),
+            ("run, four processors, every command", ["run", "--processors", "4"], EVERY_COMMAND),
+            ("run, 64 processors", ["run", "--processors", "64"], script("counters.script")),
         ]:
-            cases.case(name, run_swept, name, library, words, lines, wanted)
+            cases.case(name, run_swept, name, library, words, lines)
         pod = CERTIFIED["a pod and a job"]
         texts = [(f"check, {name}", text, 0) for name, text in CERTIFIED.items()]
         texts.append(("check, a text that is refused", pod.replace(b"300 max 20 7", b"300 max 20 8"), 3))
