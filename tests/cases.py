@@ -10,6 +10,7 @@ import re
 import shutil
 import subprocess
 import sys
+import tempfile
 
 TOP = os.path.dirname(os.path.dirname(os.path.abspath(__file__)))
 PROGRAM = os.path.abspath(sys.argv[1]) if len(sys.argv) > 1 else f"{TOP}/crates/arbiter/out/arbiter"
@@ -47,11 +48,10 @@ def run(words, given=b"", seconds=SECONDS, **how):
 
 def refused_run(library, words, given, **refused):
     """Runs the program with calls refused, named as tests/refuse.c names them: its answer, and a letter for each."""
-    told, tell = os.pipe()
-    with os.fdopen(told, "rb") as told:
+    with tempfile.TemporaryFile() as told:
         named = {name: str(value) for name, value in refused.items()}
-        answer = run(words, given, env={"LD_PRELOAD": library, "TELL": str(tell), **named}, pass_fds=[tell])
-        os.close(tell)
+        answer = run(words, given, env={"LD_PRELOAD": library, "TELL": str(told.fileno()), **named}, pass_fds=[told.fileno()])
+        told.seek(0)
         return answer, told.read()
 
 
@@ -81,13 +81,17 @@ def refused_one(library, words, given, number):
     return refused_run(library, words, given, REFUSE_ALLOCATION=number)
 
 
-def refused_in_turn(library, words, given=b""):
-    """The answers of the runs in which an allocation was refused, by its number, until 64 runs in a row refuse none."""
+def refused_each(library, words, given, numbers):
+    """The answers of the runs in which the allocation of one of these numbers was refused, by its number."""
+    runs = each(functools.partial(refused_one, library, words, given), numbers)
+    return {number: answer for number, (answer, told) in zip(numbers, runs) if b"a" in told}
+
+
+def refused_in_turn(library, words, given):
+    """The same for all numbers, until 64 runs in a row refuse none: threads may make the number of allocations differ."""
     answers, first = {}, 1
     while True:
-        numbers = range(first, first + AT_ONCE)
-        runs = each(functools.partial(refused_one, library, words, given), numbers)
-        refused = {number: answer for number, (answer, told) in zip(numbers, runs) if b"a" in told}
+        refused = refused_each(library, words, given, range(first, first + AT_ONCE))
         if not refused:
             return answers
         answers.update(refused)

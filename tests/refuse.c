@@ -3,6 +3,7 @@
    REFUSE_ALLOCATION=N  refuses the Nth call of malloc, calloc or realloc, counted from 1
    REFUSE_START=N       refuses the Nth start of a thread, counted from 1; `each` refuses all
    TELL=FD              where one byte is written for each: 'a' an allocation refused, 's' a start made, 'r' one refused
+   TELL_ALL=1           'm' is written there for each allocation that is not refused
 
    Built by the tests with the kit's clang, without headers. Calls of the dynamic loader before `begin` do not count. */
 
@@ -21,7 +22,7 @@ enum { OUT_OF_MEMORY = 12, TRY_AGAIN = 11 };
 
 static unsigned long allocations, starts;
 static unsigned long refused_allocation, refused_start;
-static int counts, refuses_each_start, told = -1;
+static int counts, refuses_each_start, tells_all, told = -1;
 static start_of_thread *next_start;
 
 static unsigned long number_in(const char *name) {
@@ -39,12 +40,17 @@ __attribute__((constructor)) static void begin(void) {
     refuses_each_start = start && *start == 'e';
     refused_start = number_in("REFUSE_START");
     refused_allocation = number_in("REFUSE_ALLOCATION");
+    tells_all = getenv("TELL_ALL") != 0;
     if (getenv("TELL")) told = (int)number_in("TELL");
     counts = 1;
 }
 
 static int is_refused(void) {
-    if (!counts || __atomic_add_fetch(&allocations, 1, __ATOMIC_SEQ_CST) != refused_allocation) return 0;
+    if (!counts) return 0;
+    if (__atomic_add_fetch(&allocations, 1, __ATOMIC_SEQ_CST) != refused_allocation) {
+        if (tells_all) tell('m');
+        return 0;
+    }
     tell('a');
     *__errno_location() = OUT_OF_MEMORY;
     return 1;
