@@ -12,28 +12,10 @@ import subprocess
 import sys
 import tempfile
 
-from cases import PROGRAM, READ_FAULT, SECONDS, TOP, WRITE_FAULT, Cases, each, run, transcript
+from cases import CERTIFIED, PROGRAM, READ_FAULT, SECONDS, TOP, WRITE_FAULT, Cases, each, run, script, transcript
 
-SCRIPT = b"""mkdir pod
-mkdir pod/x
-mkdir pod/y
-mkdir job
-write pod cpu.max 50000 100000
-write pod/y cpu.weight 300
-demand pod/x 20
-demand pod/y 20
-demand job 20
-total
-plan
-period
-read pod cpu.stat
-report
-"""
-TWO_CERTIFIED = b"""bw 1 1 100000 5000 3
-- 100 max 0 20 1 13/100@0
-0 100 max 20 7 0 -
-0 200 max 20 13 0 -
-"""
+SCRIPT = b"".join(script("counters.script"))
+TWO_CERTIFIED = CERTIFIED["two groups"]
 MOST_TEXT = 4194304
 READ_FAILED = (1, b"", READ_FAULT)
 WRITE_FAILED = (1, b"", WRITE_FAULT)
@@ -55,13 +37,13 @@ def closed(words, streams, given, wanted):
     return differs((process.returncode, out, err), wanted)
 
 
-def cut(taken):
-    """`run` on a pipe that holds this much of the script, stays open and does not wait."""
+def cut(words, given, taken):
+    """The program on a pipe that holds this many bytes of what is given, stays open and does not wait."""
     read, write = os.pipe()
     try:
-        os.write(write, SCRIPT[:taken])
+        os.write(write, given[:taken])
         os.set_blocking(read, False)
-        return run(["run"], stdin=read)
+        return run(words, stdin=read)
     finally:
         os.close(read)
         os.close(write)
@@ -69,7 +51,7 @@ def cut(taken):
 
 def reader_fails():
     """After every number of bytes: the answers of the whole lines among them, and a line that is cut is not run."""
-    answers = each(cut, range(len(SCRIPT) + 1))
+    answers = each(functools.partial(cut, ["run"], SCRIPT), range(len(SCRIPT) + 1))
     lines = SCRIPT.splitlines(keepends=True)
     fronts = [transcript(["run"], lines[:number]) for number in range(len(lines) + 1)]
     for taken, answer in enumerate(answers):
@@ -80,20 +62,10 @@ def reader_fails():
     return None
 
 
-def check_cut(taken):
-    """`check` on a pipe that holds this much of a text."""
-    read, write = os.pipe()
-    try:
-        os.write(write, TWO_CERTIFIED[:taken])
-        os.set_blocking(read, False)
-        return run(["check"], stdin=read)
-    finally:
-        os.close(read)
-        os.close(write)
-
-
 def check_reader_fails():
-    for taken, answer in enumerate(each(check_cut, range(len(TWO_CERTIFIED) + 1))):
+    """After every number of bytes: nothing is written, also where all of the text was there."""
+    answers = each(functools.partial(cut, ["check"], TWO_CERTIFIED), range(len(TWO_CERTIFIED) + 1))
+    for taken, answer in enumerate(answers):
         if answer != READ_FAILED:
             return f"after {taken} bytes: {differs(answer, READ_FAILED)}"
     return None
