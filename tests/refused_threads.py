@@ -4,6 +4,7 @@ A `period` whose thread is refused answers so and changes nothing: the rest of t
 not stand there. All other commands answer as ever, also where a tree is so large that `plan` asks for threads.
 The last line is 'N passed, M failed'.
 """
+import functools
 import os
 import resource
 import select
@@ -12,7 +13,7 @@ import sys
 import tempfile
 import time
 
-from cases import NO_THREAD, PROGRAM, SECONDS, Cases, in_place_of_a_line, refused_run, refusing_library, run, transcript
+from cases import NO_THREAD, PROGRAM, SECONDS, Cases, each, in_place_of_a_line, refused_run, refusing_library, run, transcript
 
 # A stack that no address space has room for: the C library asks for as much for each thread.
 STACK_BYTES = 1 << 40
@@ -135,25 +136,26 @@ def each_refused(library, words):
     return differs(answer, without_periods(words, PERIODS))
 
 
-def nth_refused(library, processors):
-    """Each start of the script refused alone: the period that it belongs to answers so, and the next one serves."""
+def one_refused(library, words, nth):
+    return refused_run(library, words, b"".join(PERIODS), REFUSE_START=nth)
+
+
+def nth_refused(library, processors, step):
+    """Starts of the script refused, each alone: the period that it belongs to answers so, and the next one serves."""
     words = ["run", "--processors", str(processors)]
     served = transcript(words, PERIODS)
-    starts = processors * len(PERIOD_LINES)
     refused = in_place_of_a_line(words, PERIODS, NO_THREAD, {"period"})
     if served in [out for _, out in refused.values()]:
         return "a period that is refused cannot be told from one that is served"
-    for nth in range(1, starts + 2):
-        answer, told = refused_run(library, words, b"".join(PERIODS), REFUSE_START=nth)
-        at = (nth - 1) // processors
-        wanted = refused[PERIOD_LINES[at]][1] if nth <= starts else served
-        if told.count(b"r") != (1 if nth <= starts else 0):
-            return f"start {nth}: {told!r}"
-        wrong = differs(answer, wanted)
-        if wrong:
-            return f"start {nth}: {wrong}"
-    print(f"  {processors} processors: {starts} starts refused, each alone", flush=True)
-    return None
+    starts = processors * len(PERIOD_LINES)
+    numbers = range(1, starts + 1, step)
+    for nth, (answer, told) in zip(numbers, each(functools.partial(one_refused, library, words), numbers)):
+        wrong = differs(answer, refused[PERIOD_LINES[(nth - 1) // processors]][1])
+        if wrong or told.count(b"r") != 1:
+            return f"start {nth}: {told!r}: {wrong}"
+    answer, told = one_refused(library, words, starts + 1)
+    print(f"  {processors} processors: {len(numbers)} of {starts} starts refused, each alone", flush=True)
+    return differs(answer, served) if told == b"s" * starts else f"{told!r} and not {starts} starts"
 
 
 def booked_after_serving(library):
@@ -241,8 +243,8 @@ def main():
             words = ["run", "--processors", str(processors)]
             cases.case(f"all refused by limits, {processors} processors", each_refused_by_limits, words)
             cases.case(f"all refused, {processors} processors", each_refused, library, words)
-        for processors in (1, 4):
-            cases.case(f"one start refused, {processors} processors", nth_refused, library, processors)
+        for processors, step in ((1, 1), (4, 1), (64, 5)):
+            cases.case(f"one start refused, {processors} processors", nth_refused, library, processors, step)
         cases.case("booked after serving", booked_after_serving, library)
         cases.case("no thread left", no_thread_left, library)
         for inner, each_has in ((127, 128), (5461, 2)):

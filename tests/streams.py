@@ -7,6 +7,7 @@ The last line is 'N passed, M failed'.
 import functools
 import os
 import resource
+import select
 import signal
 import subprocess
 import sys
@@ -115,7 +116,7 @@ def reader_goes_away():
     with subprocess.Popen([PROGRAM, "run"], stdin=subprocess.PIPE, stdout=subprocess.PIPE, stderr=subprocess.PIPE) as talk:
         talk.stdin.write(b"mkdir a\n")
         talk.stdin.flush()
-        first = os.read(talk.stdout.fileno(), 3)
+        first = os.read(talk.stdout.fileno(), 3) if select.select([talk.stdout], [], [], SECONDS)[0] else b"no answer"
         talk.stdout.close()
         talk.stdin.write(b"mkdir b\n")
         talk.stdin.flush()
