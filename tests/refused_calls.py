@@ -3,6 +3,7 @@
 The tests of the crates named here make a call again where it says that memory was refused, and compare what it left and what
 it gives then. The gate builds them as programs; here each test runs once for each of its allocations, which is refused,
 and has to pass. Of a test with many allocations the first are refused, and of the others some, evenly spread.
+Programs of tests that are named take the place of those of the crates named here.
 The last line is 'N passed, M failed'.
 """
 import os
@@ -58,14 +59,11 @@ def main():
     counted = cases.Cases()
     with tempfile.TemporaryDirectory() as folder:
         library = cases.refusing_library(folder)
-        for crate in CRATES:
-            program = f"{cases.TOP}/crates/{crate}/out/{crate}_tests"
-            if sys.argv[1:]:
-                program = os.path.abspath(f"{sys.argv[1]}/{crate}_tests")
+        for program in sys.argv[1:] or [f"{cases.TOP}/crates/{crate}/out/{crate}_tests" for crate in CRATES]:
             if os.path.isfile(program):
-                crate_swept(counted, library, crate, program)
+                crate_swept(counted, library, os.path.basename(program), os.path.abspath(program))
             else:
-                counted.case(crate, lambda program=program: f"{program} is not built; ./test builds it")
+                counted.case(program, lambda program=program: f"{program} is not built; ./test builds it")
     return counted.end()
 
 

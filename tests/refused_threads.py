@@ -208,7 +208,8 @@ def large_tree(inner, each_has):
 
 
 def large_planned(library, inner, each_has):
-    """The greatest tree is planned by threads, and answers the same where each, or one, is refused."""
+    """The greatest tree is planned by threads where there are two processors, and answers the same where each, or one,
+    is refused."""
     words = ["run", "--processors", "64", "--slice", "1000"]
     given = large_tree(inner, each_has)
     status, whole, err = run(words, given)
@@ -223,7 +224,7 @@ def large_planned(library, inner, each_has):
     answer, told = refused_run(library, words, given, REFUSE_START="each")
     starts = told.count(b"r")
     print(f"  {inner} groups of {each_has}: {starts} starts refused by plan and cert", flush=True)
-    if starts == 0 or b"s" in told:
+    if b"s" in told or starts == 0 and len(os.sched_getaffinity(0)) > 1:
         return f"starts refused and made: {told[:50]!r}"
     wrong = differs(answer, whole)
     for nth in range(1, min(4, starts) + 1):
