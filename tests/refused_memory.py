@@ -12,8 +12,10 @@ import tempfile
 
 from cases import CERTIFIED, MEMORY, NO_MEMORY, NO_THREAD, Cases, in_place_of_a_line, refused_in_turn, refusing_library, run, script, transcript
 
-# What the program answers where memory is refused while the words of the command line are read.
-WORDS_REFUSED = (2, b"", b"arbiter: bad arguments\n")
+# What the program answers where memory is refused while the words of the command line are read: as before any first read.
+WORDS_REFUSED = MEMORY
+
+ENDED = "ended for want of memory"
 
 # A sweep that refuses fewer allocations than this has fallen to nothing.
 LEAST_REFUSED = {"run": 150, "check": 40, "words": 20}
@@ -57,6 +59,7 @@ period
 report
 """.splitlines(keepends=True)
 
+
 def swept(name, job, library, words, given, allowed, wanted):
     """Refuses each allocation of one run; answers what is wrong. `allowed` has each answer that may come, with its kind."""
     answers = refused_in_turn(library, words, given)
@@ -81,10 +84,10 @@ def run_swept(name, library, words, lines):
         allowed.setdefault((0, answer, b""), f"71 at {verb}")
     for _, answer in in_place_of_a_line(words, lines, NO_THREAD, {"period"}).values():
         allowed.setdefault((0, answer, b""), "70 at period")
-    allowed.update({WORDS_REFUSED: "words not read", MEMORY: "ended for want of memory"})
+    allowed.update({WORDS_REFUSED: "words not read", MEMORY: ENDED})
     verbs = {line.split()[0].decode() for line in lines}
     wanted = [f"71 at {verb}" for verb in TAKE_MEMORY if verb in verbs]
-    return swept(name, "run", library, words, given, allowed, ["ended for want of memory", "70 at period", *wanted])
+    return swept(name, "run", library, words, given, allowed, [ENDED, "70 at period", *wanted])
 
 
 def answer_swept(name, job, library, words, given, ended):
@@ -92,8 +95,8 @@ def answer_swept(name, job, library, words, given, ended):
     answer = run(words, given)
     if answer[0] != ended or MEMORY == answer or WORDS_REFUSED == answer:
         return f"status {answer[0]}, {answer[1][:200]!r}, {answer[2][:200]!r}"
-    allowed = {answer: "the same answer", WORDS_REFUSED: "words not read", MEMORY: "ended for want of memory"}
-    return swept(name, job, library, words, given, allowed, ["ended for want of memory"])
+    allowed = {answer: "the same answer", WORDS_REFUSED: "words not read", MEMORY: ENDED}
+    return swept(name, job, library, words, given, allowed, [ENDED])
 
 
 def main():
