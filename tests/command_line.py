@@ -106,8 +106,11 @@ CASES = [
     ("number above 32 bits", ["run", "--processors", "4294967296"], b"", NOTHING, holds(b"4294967296"), 2),
     ("no words", [], b"", NOTHING, holds(b"Usage"), 2),
     ("unknown command", ["frob"], b"", NOTHING, holds(b"frob"), 2),
+    ("a word that is no text", ["run", b"\xff"], b"", NOTHING, same(b"arbiter: bad arguments\n"), 2),
     ("help", ["--help"], b"", holds(b"Usage"), NOTHING, 0),
+    ("help has the exit statuses", ["--help"], b"", holds(b"  3  the certified text was refused\n"), NOTHING, 0),
     ("help of run", ["run", "--help"], b"", holds(b"--processors"), NOTHING, 0),
+    ("help of run has the commands", ["run", "--help"], b"", holds(b"  write P FILE TEXT   FILE is cpu.weight, cpu.max or cpu.max.burst\n"), NOTHING, 0),
     ("version", ["--version"], b"", holds(b"arbiter"), NOTHING, 0),
 ]
 
