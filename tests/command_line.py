@@ -4,6 +4,8 @@ Proofs speak of readers and writers; these cases show the program itself on real
 The last line is 'N passed, M failed'.
 """
 import os
+import select
+import signal
 import subprocess
 import sys
 import time
@@ -104,14 +106,26 @@ CASES = [
     ("number above 32 bits", ["run", "--processors", "4294967296"], b"", NOTHING, holds(b"4294967296"), 2),
     ("no words", [], b"", NOTHING, holds(b"Usage"), 2),
     ("unknown command", ["frob"], b"", NOTHING, holds(b"frob"), 2),
+    ("a word that is no text", ["run", b"\xff"], b"", NOTHING, same(b"arbiter: bad arguments\n"), 2),
     ("help", ["--help"], b"", holds(b"Usage"), NOTHING, 0),
+    ("help has the exit statuses", ["--help"], b"", holds(b"  3  the certified text was refused\n"), NOTHING, 0),
     ("help of run", ["run", "--help"], b"", holds(b"--processors"), NOTHING, 0),
+    ("help of run has the commands", ["run", "--help"], b"", holds(b"  write P FILE TEXT   FILE is cpu.weight, cpu.max or cpu.max.burst\n"), NOTHING, 0),
     ("version", ["--version"], b"", holds(b"arbiter"), NOTHING, 0),
 ]
 
 
 def run(arguments, **how):
-    return subprocess.run([*ARBITER, *arguments], stdout=how.pop("stdout", subprocess.PIPE), stderr=subprocess.PIPE, timeout=SECONDS, **how)
+    """Runs ./arbiter. One that does not end is killed with all that it started, and is a failed case."""
+    given = how.pop("input", None)
+    streams = {"stdin": None if given is None else subprocess.PIPE, "stdout": subprocess.PIPE, "stderr": subprocess.PIPE, **how}
+    with subprocess.Popen([*ARBITER, *arguments], start_new_session=True, **streams) as process:
+        try:
+            out, err = process.communicate(given, timeout=SECONDS)
+        except subprocess.TimeoutExpired:
+            os.killpg(process.pid, signal.SIGKILL)
+            raise
+    return subprocess.CompletedProcess(process.args, process.returncode, out, err)
 
 
 def told(name, ended, out, err, status):
@@ -161,19 +175,37 @@ def counters_script():
         return told("counters.script", run(["run"], input=script.read()), same(COUNTERS_SAID), NOTHING, 0)
 
 
+def line_in_time(stream, until):
+    """What a pipe gives up to the end of a line, its end, or the time until which it is waited for."""
+    said = b""
+    while not said.endswith(b"\n"):
+        if not select.select([stream], [], [], max(0, until - time.monotonic()))[0]:
+            return said + b"<no more in time>"
+        piece = os.read(stream.fileno(), 4096)
+        if not piece:
+            break
+        said += piece
+    return said
+
+
 def line_by_line():
     """A program that talks over pipes gets the answer to each line before it writes the next."""
-    with subprocess.Popen([*ARBITER, "run"], stdin=subprocess.PIPE, stdout=subprocess.PIPE) as talk:
-        for line, answer in [(b"mkdir a\n", b"ok\n"), (b"demand a 7\n", b"ok\n"), (b"frob\n", b"error 80 BadCommand\n")]:
-            talk.stdin.write(line)
-            talk.stdin.flush()
-            said = talk.stdout.readline()
-            if said != answer:
-                talk.kill()
-                return f"line by line: {said!r} for {line!r}"
-        talk.stdin.close()
-        rest = talk.stdout.read()
-    return None if rest == b"" and talk.wait() == 0 else f"line by line: {rest!r} at the end"
+    until = time.monotonic() + SECONDS
+    pipes = {"stdin": subprocess.PIPE, "stdout": subprocess.PIPE, "bufsize": 0, "start_new_session": True}
+    with subprocess.Popen([*ARBITER, "run"], **pipes) as talk:
+        try:
+            for line, answer in [(b"mkdir a\n", b"ok\n"), (b"demand a 7\n", b"ok\n"), (b"frob\n", b"error 80 BadCommand\n")]:
+                talk.stdin.write(line)
+                said = line_in_time(talk.stdout, until)
+                if said != answer:
+                    return f"line by line: {said!r} for {line!r}"
+            talk.stdin.close()
+            rest = line_in_time(talk.stdout, until)
+            status = talk.wait(max(0, until - time.monotonic()))
+        finally:
+            if talk.poll() is None:
+                os.killpg(talk.pid, signal.SIGKILL)
+    return None if (rest, status) == (b"", 0) else f"line by line: {rest!r} and status {status} at the end"
 
 
 def many_lines():
@@ -200,7 +232,7 @@ def main():
     for name, check in rows:
         try:
             wrong = check()
-        except (OSError, subprocess.SubprocessError) as error:
+        except (OSError, ValueError, subprocess.SubprocessError) as error:
             wrong = f"{name}: {error}"
         if wrong:
             print(f"FAILED: {wrong}")

@@ -39,7 +39,7 @@ fn listed(alloc: Global) -> Result<Vec<Row>, AllocError> {
     }
 }
 
-fn made(rt: &impl Abort, alloc: Global) -> Result<Instance, Fail> {
+pub(crate) fn made(rt: &impl Abort, alloc: Global) -> Result<Instance, Fail> {
     let shape = HostShape::new(1, 100_000, 5_000)?;
     match Instance::new(alloc, listed(alloc)?, shape) {
         Err(fault) => {

@@ -3,6 +3,8 @@
 #![tactic(auto)]
 
 #[cfg(test)]
+mod core_cases;
+#[cfg(test)]
 mod hierarchy_cases;
 #[cfg(test)]
 mod instance_cases;
