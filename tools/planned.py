@@ -5,10 +5,12 @@ Nothing here is proved. What the tools say of a plan is read from its certified 
 import os
 import subprocess
 import sys
+import tempfile
+import threading
 
 TOP = os.path.dirname(os.path.dirname(os.path.abspath(__file__)))
-MARK = "demand . 0"
-MARKED = b"error 26 RootFixed"
+MARK = b"demand . 0"
+MARKED = b"error 26 RootFixed\n"
 MAX_LINE = 65536
 
 
@@ -69,26 +71,50 @@ def run_program(program, words, text):
     return ended
 
 
-def answers(program, words, lines):
-    """The answers of `arbiter run` to some lines that each print something, one list of lines for each.
+def write_all(pipe, text):
+    """Writes to a program that may end before it has read all."""
+    try:
+        with pipe:
+            pipe.write(text)
+    except OSError:
+        pass
+
+
+def talk(program, words, lines):
+    """The answers of `arbiter run` to some lines that each print something, one list of lines after another.
 
     After each line stands `demand . 0`, which is refused and changes nothing: its answer is the end mark. The first line
     of an answer is always the answer's own.
     """
-    text = b"".join(line + b"\n" + MARK.encode() + b"\n" for line in lines)
-    ended = run_program(program, ["run", *words], text)
-    if ended.returncode != 0:
-        raise ToolFault(ended.stderr.decode(errors="replace").strip() or f"{program} ended with status {ended.returncode}")
-    found, answer = [], []
-    for line in ended.stdout.split(b"\n")[:-1]:
-        if answer and line == MARKED:
-            found.append([each.decode() for each in answer])
-            answer = []
-        else:
-            answer.append(line)
-    if len(found) != len(lines) or answer:
-        raise ToolFault(f"{program} gave {len(found)} answers to {len(lines)} lines")
-    return found
+    text = b"".join(line + b"\n" + MARK + b"\n" for line in lines)
+    with tempfile.TemporaryFile() as told:
+        try:
+            running = subprocess.Popen([program, "run", *words], stdin=subprocess.PIPE, stdout=subprocess.PIPE, stderr=told)
+        except OSError as error:
+            raise ToolFault(f"{program}: {error.strerror}") from error
+        writer = threading.Thread(target=write_all, args=(running.stdin, text))
+        writer.start()
+        with running.stdout:
+            count, answer = 0, []
+            for line in running.stdout:
+                if answer and line == MARKED:
+                    yield [each[:-1].decode() for each in answer]
+                    count, answer = count + 1, []
+                else:
+                    answer.append(line)
+        writer.join()
+        status = running.wait()
+        told.seek(0)
+        said = told.read().decode(errors="replace").strip()
+    if status != 0:
+        raise ToolFault(said or f"{program} ended with status {status}")
+    if count != len(lines) or answer:
+        raise ToolFault(f"{program} gave {count} answers to {len(lines)} lines")
+
+
+def answers(program, words, lines):
+    """All of them."""
+    return list(talk(program, words, lines))
 
 
 class Group:
