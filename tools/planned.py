@@ -9,6 +9,7 @@ import tempfile
 import threading
 
 TOP = os.path.dirname(os.path.dirname(os.path.abspath(__file__)))
+WRAPPER, NATIVE = f"{TOP}/arbiter", f"{TOP}/crates/arbiter/out/arbiter"
 MARK = b"demand . 0"
 MARKED = b"error 26 RootFixed\n"
 MAX_LINE = 65536
@@ -20,7 +21,7 @@ class ToolFault(Exception):
 
 def program_options(parser):
     """The options that all tools have: the program, and the host."""
-    found = os.environ.get("ARBITER") or f"{TOP}/arbiter"
+    found = os.environ.get("ARBITER") or WRAPPER
     parser.add_argument("--program", default=found, metavar="PATH", help="the program to run (default: $ARBITER, else ./arbiter of this repository)")
     host_options(parser)
 
@@ -80,6 +81,15 @@ def write_all(pipe, text):
         pass
 
 
+def started(program, words, told):
+    if program == WRAPPER and not os.path.exists(NATIVE):
+        print("no native program: each run of ./arbiter takes about half a minute; ./build makes it", file=sys.stderr)
+    try:
+        return subprocess.Popen([program, *words], stdin=subprocess.PIPE, stdout=subprocess.PIPE, stderr=told)
+    except OSError as error:
+        raise ToolFault(f"{program}: {error.strerror}") from error
+
+
 def talk(program, words, lines):
     """The answers of `arbiter run` to some lines that each print something, one list of lines after another.
 
@@ -87,23 +97,22 @@ def talk(program, words, lines):
     of an answer is always the answer's own.
     """
     text = b"".join(line + b"\n" + MARK + b"\n" for line in lines)
+    count, answer = 0, []
     with tempfile.TemporaryFile() as told:
+        running = started(program, ["run", *words], told)
+        threading.Thread(target=write_all, args=(running.stdin, text), daemon=True).start()
         try:
-            running = subprocess.Popen([program, "run", *words], stdin=subprocess.PIPE, stdout=subprocess.PIPE, stderr=told)
-        except OSError as error:
-            raise ToolFault(f"{program}: {error.strerror}") from error
-        writer = threading.Thread(target=write_all, args=(running.stdin, text))
-        writer.start()
-        with running.stdout:
-            count, answer = 0, []
             for line in running.stdout:
                 if answer and line == MARKED:
                     yield [each[:-1].decode() for each in answer]
                     count, answer = count + 1, []
                 else:
                     answer.append(line)
-        writer.join()
-        status = running.wait()
+            status = running.wait()
+        finally:
+            running.kill()
+            running.stdout.close()
+            running.wait()
         told.seek(0)
         said = told.read().decode(errors="replace").strip()
     if status != 0:
