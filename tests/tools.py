@@ -12,6 +12,7 @@ import re
 import stat
 import sys
 import tempfile
+import xml.etree.ElementTree
 
 import native
 
@@ -470,9 +471,139 @@ def reads_a_real_mount(tools):
         all_ok(tools, out)
 
 
+# picture
+
+SVG = "{http://www.w3.org/2000/svg}"
+GETS, WANTS, RED = "#2b6cb0", "#bcd4ec", "#b4231f"
+BARS = 420
+
+
+def drawn(text):
+    """A picture's elements: its boxes by colour, in order, and its texts."""
+    root = xml.etree.ElementTree.fromstring(text)
+    boxes = {}
+    for each in root.iter(f"{SVG}rect"):
+        boxes.setdefault(each.get("fill"), []).append({key: float(each.get(key)) for key in ("x", "y", "width", "height")})
+    return boxes, [each.text for each in root.iter(f"{SVG}text")], root
+
+
+def picture_to_scale(tools):
+    """Each bar is as long as its number says, from one edge, one row below the other in the order of the tree."""
+    boxes, texts, _ = drawn(tools.said(["picture", "-"], REASONS.encode()))
+    groups, _ = tools.explained(REASONS)
+    for colour, field in ((GETS, "gets"), (WANTS, "wants")):
+        bars = boxes[colour][1:]
+        wanted = [BARS * min(group[field], 40) / 40 for group in groups.values()]
+        if len(bars) != len(wanted) or any(abs(bar["width"] - width) > 0.06 for bar, width in zip(bars, wanted)):
+            raise AssertionError(f"{field}: {[bar['width'] for bar in bars]} and not {wanted}")
+        same(len({bar["x"] for bar in bars}), 1, "the edge")
+        same([bar["y"] for bar in bars], sorted(bar["y"] for bar in bars), "the rows")
+    same([text for text in texts if text in ("held", "one", "two", "idle", "small", "big", "calm", "none")],
+         ["held", "one", "two", "idle", "small", "big", "calm", "none"], "the names")
+    for text in ("20 of 44, at most 20; limits the sum", "0 of 20; starved", "14 of 20, at most 18; throttled, not by its limit", "5 of 40, at most 5"):
+        same(texts.count(text), 1, text)
+    same(sum("limits the sum" in text for text in texts), 2, "one mark and the legend")
+
+
+def picture_of_odd_trees(tools):
+    """Names that XML does not hold, a demand far above the capacity, no groups, a part of the tree, too many groups."""
+    script = 'mkdir a<b>&"c\nmkdir a<b>&"c/x\x01y\ndemand a<b>&"c/x\x01y 1000000\n'
+    boxes, texts, _ = drawn(tools.said(["picture", "-"], script.encode()))
+    for text in ('a<b>&"c', "x\ufffdy", "20 of 1000000"):
+        holds(text, texts, "texts")
+    same({bar["width"] for bar in boxes[WANTS][1:]}, {float(BARS)}, "bars that are cut")
+    drawn(tools.said(["picture", "-"]))
+    _, texts, _ = drawn(tools.said(["picture", "--depth", "1", "-"], b"mkdir a\nmkdir a/b\n"))
+    same(("a" in texts, "b" in texts), (True, False), "depth")
+    _, err = tools.run(["picture", "-"], "".join(f"mkdir g{number}\n" for number in range(2000)).encode(), status=1)
+    holds("too many", err, "2001 groups")
+    _, err = tools.run(["picture", "-"], b"mkdir a\nmkdir a\n")
+    same(err, "picture: line 2: error 21 Exists: mkdir a\n", "a refused line")
+
+
+# series
+
+SAVING = "mkdir a\nmkdir b\nwrite a cpu.max 50000\nwrite a cpu.max.burst 25000\nwrite b cpu.weight 1\n"
+# a: 4 of at most 10; 15 of at most min(6 + 10, 15); 10 of 10, b having the rest; then c, 10000 times as heavy, takes all or half
+
+
+def write_file(folder, name, text):
+    with open(f"{folder}/{name}", "w", encoding="utf-8") as file:
+        file.write(text)
+    return f"{folder}/{name}"
+
+
+def cells_of(out):
+    """The rows of a table, without how it is aligned."""
+    return [line.split() for line in out.split("\n\n")[0].split("\n") if line]
+
+
+def series_by_hand(tools):
+    """Three periods of a group that saves up, as a list, as CSV, in thousandths of a CPU and in microseconds."""
+    wanted = [["period", "a", "b"], ["1", "4/4", "16/30"], ["2", "15/20TB", "5/30"], ["3", "10/20T", "10/30"], ["4", "0/0", "0/30S"], ["5", "10/10", "0/30S"]]
+    with tempfile.TemporaryDirectory() as folder:
+        script = write_file(folder, "script", SAVING + "mkdir c\nwrite c cpu.weight 10000\n")
+        listed = "# a comment\na 4 b 30\na 20\n\na 0 c 20\na 10 c 10\n"
+        rows = [("4", "30", "0"), ("20", "", ""), ("", "", ""), ("0", "", "20"), ("10", "", "10")]
+        units = {"slices": 1, "m": 50, "usec": 5000}
+        outs = [tools.said(["series", script, write_file(folder, "list", listed), "--groups", "a,b"])]
+        for unit, factor in units.items():
+            text = "a,b,c\n" + "".join(",".join(str(int(cell) * factor) if cell else "" for cell in row) + "\n" for row in rows)
+            outs.append(tools.said(["series", script, write_file(folder, f"{unit}.csv", text), "--groups", "a,b", "--unit", unit]))
+        for out in outs:
+            same(cells_of(out), wanted, "the table")
+        sums = {line.split()[0]: line.split()[1:] for line in outs[0].split("\n\n")[1].split("\n")[1:] if line}
+        same(sums, {"a": ["54", "39", "72%", "2", "0", "75000", "1", "0", "0"], "b": ["150", "31", "21%", "0", "0", "0", "0", "2", "2"]}, "the sums")
+        only = tools.said(["series", script, f"{folder}/list", "--groups", "a,b", "--summary"])
+        same(only, outs[0].split("\n\n")[1], "the sums alone")
+        out, err = tools.run(["series", script, f"{folder}/list", "--groups", ".", "--progress"])
+        same([row[1] for row in cells_of(out)], [".", "20/34", "20/45", "20/40", "20/50", "20/50"], "the root")
+        holds("] 5 of 5 periods\n", err, "the bar")
+
+
+def series_picture(tools):
+    """The boxes of a picture stand under the periods that they are of."""
+    with tempfile.TemporaryDirectory() as folder:
+        script = write_file(folder, "script", SAVING)
+        demands = write_file(folder, "day.csv", "time,a\n00:00,4\n01:00,20\n02:00,20\n03:00,0\n")
+        tools.said(["series", script, demands, "--svg", f"{folder}/day.svg"])
+        with open(f"{folder}/day.svg", encoding="utf-8") as file:
+            boxes, texts, root = drawn(file.read())
+        same([(box["x"], box["width"]) for box in boxes[RED][1:]], [(60 + 190, 380)], "throttled in the second and third of four")
+        for text in ("a", "00:00", "03:00", "throttled"):
+            holds(text, texts, "texts")
+        # gets: 4, 15, 10, 0 of 20, 84 pixels tall, 190 wide each
+        gets = next(each.get("d") for each in root.iter(f"{SVG}path") if each.get("fill") == GETS)
+        same(gets, "M60 170 L60 153.2 L250 153.2 L250 107 L440 107 L440 128 L630 128 L630 170 L820 170 L820 170", "the stairs")
+        _, err = tools.run(["series", script, demands, "--svg", f"{folder}/no/day.svg"], status=1)
+        holds("day.svg", err, "a folder that is not there")
+
+
+def series_refuses(tools):
+    """What is wrong is told with its line, and no table is printed."""
+    cases = [("list", "a 4\nzz 3\n", ":2: zz: error 20 NotFound"), ("list", "a\n", ":1: not pairs"), ("list", "a x\n", ":1: 'x' is no number"),
+             ("list", "a 1.5\n", ":1: '1.5' is no demand"), ("list", "a -1\n", ":1: '-1' is no demand"), ("list", "a nan\n", "'nan' is no demand"),
+             ("one.csv", "a,b\n1\n", ":2: 1 cells and not 2"), ("one.csv", "a\n", "no period"), ("list", "# none\n", "no period"),
+             ("list", "a 1000001\n", "error 9 DemandTooLarge")]
+    with tempfile.TemporaryDirectory() as folder:
+        script = write_file(folder, "script", SAVING)
+        for name, text, part in cases:
+            out, err = tools.run(["series", script, write_file(folder, name, text)], status=1)
+            same(out, "", text)
+            holds(part, err, text)
+        good = write_file(folder, "good", "a 4\n")
+        _, err = tools.run(["series", write_file(folder, "bad", "mkdir a\nfrob\n"), good], status=1)
+        holds(":2: frob: error 80 BadCommand", err, "a script with a refused line")
+        _, err = tools.run(["series", script, good, "--groups", "zz"], status=1)
+        holds("--groups: zz: error 20 NotFound", err, "a group that is not there")
+        tools.environment = {**tools.environment, "REAL": tools.program}
+        _, err = tools.run(["series", "--program", stub(folder, "sed 's/^usage_usec 20000$/usage_usec 25000/'"), script, good], status=1)
+        holds("cpu.stat rose by (25000, 0), the plan gives 4 slices", err, "wrong counters")
+
+
 CHECKS = [are_programs, needs_a_program, explain_reasons, explain_limiting, explain_carry, explain_refused, explain_names,
           explain_compare, explain_believes_nothing, explain_random, systemd_host, kubernetes_node, odd_names, waits_and_refuses,
-          reads_a_real_mount]
+          reads_a_real_mount, picture_to_scale, picture_of_odd_trees, series_by_hand, series_picture, series_refuses]
 
 
 def checked(check, tools):
