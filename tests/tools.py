@@ -62,6 +62,12 @@ def holds(part, text, what):
         raise AssertionError(f"{what}: {part!r} is not in {text[:800]!r}")
 
 
+def write_file(folder, name, text):
+    with open(f"{folder}/{name}", "w", encoding="utf-8") as file:
+        file.write(text)
+    return f"{folder}/{name}"
+
+
 # all tools
 
 
@@ -178,9 +184,8 @@ def explain_names(tools):
 def explain_compare(tools):
     """A group that is only in one, one that changes, one that does not."""
     with tempfile.TemporaryDirectory() as folder:
-        for name, text in (("one", "mkdir a\nmkdir b\nmkdir c\ndemand a 3\ndemand b 2\n"), ("two", "mkdir a\nmkdir b\nmkdir d\ndemand a 5\ndemand b 2\ndemand d 1\n")):
-            with open(f"{folder}/{name}", "w", encoding="utf-8") as file:
-                file.write(text)
+        write_file(folder, "one", "mkdir a\nmkdir b\nmkdir c\ndemand a 3\ndemand b 2\n")
+        write_file(folder, "two", "mkdir a\nmkdir b\nmkdir d\ndemand a 5\ndemand b 2\ndemand d 1\n")
         out = tools.said(["explain", f"{folder}/one", "--compare", f"{folder}/two"])
         data = json.loads(tools.said(["explain", f"{folder}/one", "--compare", f"{folder}/two", "--json"]))
     rows = [" ".join(line.split()) for line in out.split("\n")]
@@ -525,12 +530,6 @@ def picture_of_odd_trees(tools):
 
 SAVING = "mkdir a\nmkdir b\nwrite a cpu.max 50000\nwrite a cpu.max.burst 25000\nwrite b cpu.weight 1\n"
 # a: 4 of at most 10; 15 of at most min(6 + 10, 15); 10 of 10, b having the rest; then c, 10000 times as heavy, takes all or half
-
-
-def write_file(folder, name, text):
-    with open(f"{folder}/{name}", "w", encoding="utf-8") as file:
-        file.write(text)
-    return f"{folder}/{name}"
 
 
 def cells_of(out):

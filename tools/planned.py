@@ -29,7 +29,8 @@ def program_options(parser):
 def host_options(parser, processors=1, slice_us=5000, whose=""):
     parser.add_argument("--processors", type=int, default=processors, metavar="N", help=f"processors of the host, 1 to 64 (default {processors}{whose})")
     parser.add_argument("--period", type=int, default=100000, metavar="U", help="the host's period in microseconds, 1000 to 1000000 (default 100000)")
-    parser.add_argument("--slice", type=int, default=slice_us, metavar="U", help=f"the slice in microseconds, 1000 to the period, which it divides (default {slice_us})")
+    parser.add_argument("--slice", type=int, default=slice_us, metavar="U",
+                        help=f"the slice in microseconds, 1000 to the period, which it divides (default {slice_us})")
 
 
 def host_words(options):

@@ -1,6 +1,7 @@
 """Shared by tools/picture and tools/series: pictures as SVG text, each number with at most one decimal."""
 from xml.sax.saxutils import escape, quoteattr
 
+TYPEFACE = "DejaVu Sans Mono, Menlo, Consolas, monospace"
 CHAR = 7.3  # how wide a letter of the typeface is, about, at 12 pixels
 INK, FAINT, GRID, BRANCH = "#1f2933", "#616e7c", "#d9dee4", "#9aa5b1"
 GETS, WANTS, LIMIT, MARK = "#2b6cb0", "#bcd4ec", "#8a5a00", "#b4231f"
@@ -31,7 +32,8 @@ def path(points, colour, width=1.5, fill="none", dash=""):
 def words(x, y, text, colour=INK, size=12, anchor="start", bold=False, title=""):
     weight = ' font-weight="bold"' if bold else ""
     whole = f"<title>{escape(title)}</title>" if title else ""
-    return f'<text x="{n(x)}" y="{n(y)}" fill="{colour}" font-size="{n(size)}" text-anchor="{anchor}"{weight} xml:space="preserve">{escape(printable(text))}{whole}</text>'
+    place = f'x="{n(x)}" y="{n(y)}" fill="{colour}" font-size="{n(size)}" text-anchor="{anchor}"{weight}'
+    return f'<text {place} xml:space="preserve">{escape(printable(text))}{whole}</text>'
 
 
 def printable(text):
@@ -57,5 +59,6 @@ def steps(most, about):
 
 
 def document(width, height, title, parts):
-    head = f'<svg xmlns="http://www.w3.org/2000/svg" width="{n(width)}" height="{n(height)}" viewBox="0 0 {n(width)} {n(height)}" font-family="DejaVu Sans Mono, Menlo, Consolas, monospace" role="img" aria-label={quoteattr(printable(title))}>'
+    size = f'width="{n(width)}" height="{n(height)}" viewBox="0 0 {n(width)} {n(height)}"'
+    head = f'<svg xmlns="http://www.w3.org/2000/svg" {size} font-family="{TYPEFACE}" role="img" aria-label={quoteattr(printable(title))}>'
     return "\n".join([head, f"<title>{escape(printable(title))}</title>", box(0, 0, width, height, "#ffffff"), *parts, "</svg>"]) + "\n"
