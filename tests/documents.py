@@ -194,6 +194,60 @@ def numbers_agree():
     return f"docs/NUMBERS.md: {'; '.join(wrong)}" if wrong else None
 
 
+TWO = "bw 1 1 100000 5000 3\n- 100 max 0 20 1 13/100@0\n0 100 max 20 7 0 -\n0 200 max 20 13 0 -\n"
+POD = "bw 1 1 100000 5000 5\n- 100 max 0 20 1 19/100@1\n0 100 10 0 10 1 15/300@1\n1 100 max 20 2 0 -\n1 300 max 20 8 0 -\n0 100 max 20 10 0 -\n"
+CHAIN = "".join(f"mkdir {'/'.join('a' * depth)}\n" for depth in range(1, 66))
+DEEP = "bw 1 1 100000 5000 66\n- 100 max 0 0 0 -\n" + "".join(f"{row} 100 max 0 0 0 -\n" for row in range(65))
+FULL = "".join(f"mkdir g{number}\n" for number in range(16384))
+
+# how each number is met: by a script that ends with it, a text, or options; `A` is a group without children
+A = "mkdir a\n"
+MET = [
+    *((number, "host", words) for number, words in ((1, "--processors 0"), (2, "--period 999"), (3, "--slice 3000"))),
+    *((number, "run", text) for number, text in (
+        (7, CHAIN), (8, f"{A}mkdir a/b\ndemand a 1"), (9, f"{A}demand a 1000001"), (11, f"{A}demand a 007"), (11, f"{A}write a cpu.weight max"),
+        (12, f"{A}write a cpu.weight 10001"), (13, f"{A}write a cpu.max 999"), (14, f"{A}write a cpu.max 1000000000000001"),
+        (14, f"{A}write a cpu.max.burst 1000000000000001"), (15, f"{A}write a cpu.max max 999"), (16, f"{A}write a cpu.max 1 2 3"),
+        (16, f"{A}write a cpu.max.burst 1 2"), (17, f"{A}write a cpu.max"), (20, "rmdir a"), (20, "mkdir a/b"), (20, "mkdir /a"), (21, A + A),
+        (22, f"{A}mkdir a/"), (22, f"{A}mkdir a/.."), (22, f"mkdir {'x' * 256}"), (22, "mkdir a\0b"), (23, f"{A}mkdir a/b\nrmdir a"),
+        (24, f"{A}demand a 1\nrmdir a"), (25, f"{A}demand a 1\nmkdir a/b"), (26, "rmdir ."), (26, "demand . 0"), (27, FULL),
+        (30, "read . cpu.max"), (30, f"{A}read a cpu.idle"), (31, f"{A}write a cpu.stat 1"),
+        (33, f"{A}write a cpu.max 50000\nwrite a cpu.max.burst 50001"), (33, f"{A}write a cpu.max.burst 60000\nwrite a cpu.max 50000"),
+        (80, "frob"), (80, "plan\r"), (80, "mkdir a b"), (81, "mkdir \udcff"), (82, "#" + "x" * 65536))),
+    *((number, "check", text) for number, text in (
+        (1, TWO.replace("1 1 100000", "1 65 100000")), (2, TWO.replace("100000", "1000001")), (3, TWO.replace("5000", "3000")), (4, "bw 1 1 100000 5000 16385\n"),
+        (5, "bw 1 1 100000 5000 0\n"), (5, TWO.replace("0 200", "2 200")), (6, TWO.replace(" 200 ", " 0 ")), (7, DEEP), (8, TWO.replace("max 0 20", "max 1 20")),
+        (9, TWO.replace("max 20 7", "max 1000001 7")), (10, TWO.replace("- 100 max", "- 100 20")), (40, TWO.replace("0 100", "0  100")),
+        (41, TWO.replace(" 200 ", " 0200 ")), (42, TWO[:-1]), (42, ""), (43, TWO + "x"), (51, TWO.replace("0 20 1", "0 21 1").replace("13 0", "14 0")),
+        (52, TWO.replace("20 7", "6 7")), (53, TWO.replace("13 0", "12 0")), (54, TWO.replace("7 0", "7 1")),
+        (55, TWO.replace("0 20 1", "0 19 1").replace("7 0", "6 0")), (56, TWO.replace("13/100@0", "-")),
+        (57, TWO.replace("7 0", "6 0").replace("13 0", "14 0")), (58, POD))),
+]
+# refused threads, refused memory and 2^64 groups are not met here
+NOT_MET = {28: {"run"}, 70: {"run"}, 71: {"run"}}
+
+
+def meets(program, number, kind, text):
+    """Whether the program prints a number last, or first where it is the check."""
+    if kind == "host":
+        return f"error {number} " in native.run([program, "run", *text.split()], b"", SECONDS).stderr.decode()
+    said = native.run([program, kind], text.encode(errors="surrogateescape"), SECONDS).stdout.decode().split("\n")
+    return re.match(rf"(error|refused) {number} ", said[-2] if len(said) > 1 else "") is not None
+
+
+def numbers_are_met(program):
+    """Each number of the table is met by those that the table says."""
+    wrong, by = [], {number: set(kinds) for number, kinds in NOT_MET.items()}
+    for number, kind, text in MET:
+        by.setdefault(number, set()).add(kind)
+        if not meets(program, number, kind, text):
+            wrong.append(f"{number} by {kind} of {text[-60:]!r}")
+    for row in in_the_table():
+        if by.get(row[0], {"crates"}) != set(row[2].split(", ")):
+            wrong.append(f"{row[0]} {row[1]} says {row[2]}")
+    return f"numbers that are not met: {'; '.join(wrong)}" if wrong else None
+
+
 def numbers_are_on_pages():
     """A number that another page names has the name that the table gives it."""
     names = {row[0]: row[1] for row in in_the_table()}
@@ -230,11 +284,11 @@ def main():
     program = native.program(words)
     found, failed = [], []
     checks = [lambda page=page: page_blocks(page, found) for page in PAGES]
-    checks += [numbers_agree, numbers_are_on_pages, links_stand]
+    checks += [numbers_agree, lambda: numbers_are_met(program), numbers_are_on_pages, links_stand]
     for check in checks:
         try:
             failed.append(check())
-        except (OSError, ValueError) as error:
+        except (OSError, ValueError, subprocess.SubprocessError) as error:
             failed.append(str(error))
     with concurrent.futures.ThreadPoolExecutor(4) as pool:
         results = list(zip(found, pool.map(lambda block: run_block(block, program), found)))
