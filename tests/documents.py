@@ -215,8 +215,10 @@ MET = [
         (33, f"{A}write a cpu.max 50000\nwrite a cpu.max.burst 50001"), (33, f"{A}write a cpu.max.burst 60000\nwrite a cpu.max 50000"),
         (80, "frob"), (80, "plan\r"), (80, "mkdir a b"), (81, "mkdir \udcff"), (82, "#" + "x" * 65536))),
     *((number, "check", text) for number, text in (
-        (1, TWO.replace("1 1 100000", "1 65 100000")), (2, TWO.replace("100000", "1000001")), (3, TWO.replace("5000", "3000")), (4, "bw 1 1 100000 5000 16385\n"),
-        (5, "bw 1 1 100000 5000 0\n"), (5, TWO.replace("0 200", "2 200")), (6, TWO.replace(" 200 ", " 0 ")), (7, DEEP), (8, TWO.replace("max 0 20", "max 1 20")),
+        (1, TWO.replace("1 1 100000", "1 65 100000")), (2, TWO.replace("100000", "1000001")),
+        (3, TWO.replace("5000", "3000")), (4, "bw 1 1 100000 5000 16385\n"),
+        (5, "bw 1 1 100000 5000 0\n"),
+        (5, TWO.replace("0 200", "2 200")), (6, TWO.replace(" 200 ", " 0 ")), (7, DEEP), (8, TWO.replace("max 0 20", "max 1 20")),
         (9, TWO.replace("max 20 7", "max 1000001 7")), (10, TWO.replace("- 100 max", "- 100 20")), (40, TWO.replace("0 100", "0  100")),
         (41, TWO.replace(" 200 ", " 0200 ")), (42, TWO[:-1]), (42, ""), (43, TWO + "x"), (51, TWO.replace("0 20 1", "0 21 1").replace("13 0", "14 0")),
         (52, TWO.replace("20 7", "6 7")), (53, TWO.replace("13 0", "12 0")), (54, TWO.replace("7 0", "7 1")),

@@ -138,7 +138,8 @@ class Group:
         self.demand, self.gets = int(words[3]), int(words[4])
         self.tight, self.level = words[5] == "1", words[6]
         self.children = []
-        self.want = self.most = 0
+        # what it wants, what its own limit lets through of it, and the children that can use a slice at all
+        self.want = self.most = self.active = self.active_weight = 0
 
 
 class Plan:
@@ -155,6 +156,8 @@ class Plan:
         for group in reversed(self.groups):
             group.want = sum(child.most for child in group.children) if group.children else group.demand
             group.most = min(group.want, self.limit(group)) if self.limit(group) is not None else group.want
+            usable = [child.weight for child in group.children if child.most > 0]
+            group.active, group.active_weight = len(usable), sum(usable)
 
     def limit(self, group):
         return self.capacity if group.parent is None else group.limit
@@ -173,11 +176,6 @@ class Plan:
                 found.append(group)
                 under.add(group.row)
         return found
-
-
-def active(group):
-    """Whether a group can use a slice at all."""
-    return group.most > 0
 
 
 def cause(plan, group):
@@ -202,10 +200,9 @@ def reason(plan, group):
     name = full if cut.parent is None else "limit above"
     words = full if cut.parent is None else f"the limit of {cut.path} above it"
     above = plan.groups[group.parent]
-    weights = [child.weight for child in above.children if active(child)]
-    if len(weights) == 1:
+    if above.active == 1:
         return name, f"{words}: it has all of {above.path}"
-    return name, f"{words}: weight {group.weight} of {sum(weights)} among the active in {above.path}"
+    return name, f"{words}: weight {group.weight} of {above.active_weight} among the active in {above.path}"
 
 
 def is_starved(group):
