@@ -84,7 +84,7 @@ def blocks(page):
 def said(block, program):
     """What the program prints for a block."""
     with tempfile.TemporaryDirectory() as folder:
-        how = {"seconds": SECONDS, "cwd": TOP, "env": {**os.environ, "TMPDIR": folder, "ARBITER": program, "LC_ALL": "C.UTF-8"}}
+        how = {"seconds": SECONDS, "cwd": TOP, "env": {**os.environ, "TMPDIR": folder, "ARBITER": program, "LC_ALL": "C"}}
         text = block.text
         if block.kind == "script":
             ended = native.run([program, "run", *block.words.split()], text.encode(), **how)

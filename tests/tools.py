@@ -26,7 +26,7 @@ class Tools:
 
     def __init__(self, program):
         self.program = program
-        self.environment = {**os.environ, "ARBITER": program, "LC_ALL": "C.UTF-8"}
+        self.environment = {**os.environ, "ARBITER": program, "LC_ALL": "C"}
 
     def run(self, words, given=b"", status=0, cwd=TOP):
         """The standard output and error of a tool that ends with a status."""
@@ -447,6 +447,8 @@ def waits_and_refuses(tools):
         out, _ = tools.run(["from-cgroup", f"{folder}/one", "--interval", "0.05"])
         same(out.count("mkdir "), 8, "groups")
         same(before, {name: os.stat(f"{folder}/one/system.slice/{name}").st_mtime_ns for name in before}, "the files")
+        part, _ = tools.run(["from-cgroup", f"{folder}/one/system.slice/web.service", "--interval", "0.05"])
+        holds("# ! .: cpu.max of this folder itself is 30500 100000: the root has no limit but its processors\n", part, "a limited folder")
         os.mkdir(f"{folder}/none")
         for words, part in ((["none"], "no cgroup v2 tree"), (["no-such"], "no folder"), (["one", "--later", "no-such"], "no folder")):
             _, err = node_script(tools, folder, *words, status=1)

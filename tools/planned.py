@@ -250,6 +250,8 @@ def plan_of(program, planned, certified, refused):
 def run_tool(work):
     """Runs a tool: a fault is one line on standard error and status 1."""
     name = os.path.basename(sys.argv[0])
+    # names are UTF-8, whatever the locale is
+    sys.stdout.reconfigure(encoding="utf-8", errors="backslashreplace")
     try:
         status = work()
         sys.stdout.flush()
