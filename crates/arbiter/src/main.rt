@@ -97,10 +97,19 @@ fn no_job(rt: &HostRuntime, fault: WordsFault) -> ExitCode {
     }
 }
 
+// The words themselves cannot be read: memory was refused, or one of them is no text.
+fn bad_arguments(rt: &HostRuntime, kind: io::ErrorKind) -> ExitCode {
+    if kind == io::ErrorKind::OutOfMemory {
+        return no_job(rt, WordsFault::Memory);
+    }
+    let _ = eprintln!(rt; "arbiter: bad arguments");
+    ExitCode::from(USAGE_STATUS)
+}
+
 fn main(rt: HostRuntime) -> ExitCode {
-    let Ok(args) = std::env::args(&rt) else {
-        let _ = eprintln!(rt; "arbiter: bad arguments");
-        return ExitCode::from(USAGE_STATUS);
+    let args = match std::env::args(&rt) {
+        Ok(args) => args,
+        Err(error) => return bad_arguments(&rt, error.kind()),
     };
     let Ok(words) = args.skip(1).collect::<Vec<String>>(rt.alloc()) else {
         return no_job(&rt, WordsFault::Memory);

@@ -4,6 +4,7 @@ ghost use Rattle.clap.specs.Words.{app_of, found_of, kind_of, one_of, rows_of, r
 ghost use Rattle.clap.specs.declared.builder.Command.TheViews.{out-Command as fields_of};
 ghost use Rattle.arbiter.specs.CommandLine.{arbiter_app, number_rule, run_app};
 ghost use Rattle.arbiter.specs.Found.{HasNumbers};
+ghost use Rattle.arbiter.specs.Status.{is_shown, IsHelpUnlessMemory, IsUsageUnlessMemory};
 ghost use Rattle.arbiter.specs.Words.{is_number, job_named, number_in, plain_job, run_job};
 ghost use Rattle.arbiter.specs.declared.words.Job.{Job};
 
@@ -14,22 +15,54 @@ use std::alloc::{AllocError, Global};
 /// What the program is to do.
 #[derive(Clone, Copy, Debug, PartialEq, Eq)]
 pub enum Job {
+    /// `arbiter run`, with the processors of the host, and its period and slice in microseconds.
     Run {
         processors: u32,
         period_us: u32,
         slice_us: u32,
     },
+    /// `arbiter check`
     Check,
 }
 
 /// Why there is no job: help was asked for, the words are wrong, or memory is wanting.
 #[derive(Debug, Drop)]
 pub enum WordsFault {
+    /// Help or the version was asked for: its text.
     Help(String),
+    /// The words name no job: `clap`'s text.
     Usage(String),
+    /// Memory was refused.
     Memory,
 }
 
+// What `arbiter --help` says after the commands.
+const STATUSES: &str = "\
+Exit status:
+  0  the script was read to its end, refused lines included; the text is accepted; help
+  1  standard input or output failed, or memory was refused
+  2  the command line or the host was refused
+  3  the certified text was refused
+
+Example:
+  arbiter run --processors 2 < examples/two-groups.script";
+
+// What `arbiter run --help` says after the options.
+const COMMANDS: &str = "\
+Commands of a script, one a line (P is a path: . for the root, else names joined by /):
+  mkdir P             a new group
+  rmdir P             takes out a group without children and without a demand
+  demand P N          a group without children asks for N slices in each period
+  write P FILE TEXT   FILE is cpu.weight, cpu.max or cpu.max.burst
+  read P FILE         or cpu.stat
+  total               the slices that can be served, and what limits them
+  plan                the slices that each group gets in one period
+  cert                the certified text of the plan, for `arbiter check`
+  period              serves one period by a thread for each processor, and counts it
+  report              the counters of each group
+A refused line prints `error N NAME`, changes nothing, and the script goes on.";
+
+// An option `--name N`.
 fn number<'a>(alloc: Global, name: &'a str, default: &'a str) -> Arg<'a>
     ensures rule { rule_of result ≡ number_rule name.entry.now default.entry.now }
     ensures local { result.global ≡ false }
@@ -41,15 +74,30 @@ fn number<'a>(alloc: Global, name: &'a str, default: &'a str) -> Arg<'a>
         .default_value(default)
 }
 
+// The same with what help says of it, which changes nothing that is read.
+fn described<'a>(option: Arg<'a>, help: &'a str) -> Arg<'a>
+    ensures rule { rule_of result ≡ rule_of option.entry }
+    ensures local { result.global ≡ option.entry.global }
+{
+    option.help(help)
+}
+
 fn run_command<'a>(alloc: Global) -> Result<Command<'a>, AllocError>
     ensures app { IfOk result (λ c. app_of c ≡ run_app) }
     ensures local { IfOk result (λ c. (fields_of c).has_globals ≡ false) }
 {
     let processors = number(alloc, "processors", "1");
+    let processors = described(processors, "Processors of the host, 1 to 64");
     let period = number(alloc, "period", "100000");
+    let period = described(period, "Its period in microseconds, 1000 to 1000000");
     let slice = number(alloc, "slice", "5000");
+    let slice = described(
+        slice,
+        "Its slice in microseconds, 1000 to the period, which it divides",
+    );
     let run = Command::new(alloc, "run")
-        .about("Reads a script on standard input")
+        .about("Reads a script on standard input and answers each line")
+        .after_help(COMMANDS)
         .arg(processors)?
         .arg(period)?
         .arg(slice)?;
@@ -60,10 +108,14 @@ fn arbiter_command<'a>(alloc: Global) -> Result<Command<'a>, AllocError>
     ensures app { IfOk result (λ c. app_of c ≡ arbiter_app) }
 {
     let run = run_command(alloc)?;
-    let check = Command::new(alloc, "check").about("Reads one certified text on standard input");
+    let check = Command::new(alloc, "check").about(
+        "Reads one certified text on standard input: whether its amounts are the plan",
+    );
     let arbiter = Command::new(alloc, "arbiter")
         .bin_name("arbiter")?
         .version("1")
+        .about("A proved arbiter of CPU bandwidth over a tree of groups")
+        .after_help(STATUSES)
         .no_binary_name(true)
         .subcommand_required(true)
         .subcommand(run)?
@@ -72,7 +124,9 @@ fn arbiter_command<'a>(alloc: Global) -> Result<Command<'a>, AllocError>
 }
 
 fn fault(alloc: Global, error: Error) -> WordsFault
-    ensures { kind_of error ≡ ErrorKind.OutOfMemory → result ≡ WordsFault.Memory }
+    ensures memory { kind_of error ≡ ErrorKind.OutOfMemory → result ≡ WordsFault.Memory }
+    ensures shown { is_shown (kind_of error) ≡ true → IsHelpUnlessMemory result }
+    ensures refused { is_shown (kind_of error) ≡ false → IsUsageUnlessMemory result }
 {
     match error.kind() {
         ErrorKind::OutOfMemory => WordsFault::Memory,

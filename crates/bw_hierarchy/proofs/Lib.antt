@@ -1,3 +1,4 @@
 pub mod LastSlash
 pub mod Writes
 pub mod Settings
+pub mod Unwritten

@@ -6,7 +6,7 @@ use Rattle.bw_model.specs.declared.quota.Quota.TheVariants.{Max, Micros}
 use Rattle.bw_tree.specs.declared.fault.TreeFault.{TreeFault}
 use Rattle.bw_tree.specs.declared.fault.TreeFault.TheVariants.{NotFound, RootFixed}
 use Rattle.bw_tree.specs.Groups.{GroupFields, TreeState, group_at, find_path}
-use Rattle.bw_tree.specs.Tree.{mkdir_refusal, with_group, setting_refusal, with_setting, set_weight, set_quota, set_max}
+use Rattle.bw_tree.specs.Tree.{mkdir_refusal, with_group, setting_refusal, with_setting, set_weight, set_max}
 use Rattle.bw_files.specs.declared.fault.FileFault.{FileFault}
 use Rattle.bw_files.specs.declared.fault.FileFault.TheVariants.{QuotaTooSmall}
 use Rattle.bw_files.specs.Reading.{◌>>=◌, weight_in, quota_in, period_in}

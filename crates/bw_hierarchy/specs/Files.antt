@@ -1,5 +1,5 @@
 -- The files of a group.
-use Rattle.std.specs.Prelude.{ℕ, ◌==◌, not, if◌then◌else◌, List, codes, Option, Some, None, Result, Ok, Err}
+use Rattle.std.specs.Prelude.{ℕ, ◌==◌, not, if◌then◌else◌, List, map, codes, Option, Some, None, Result, Ok, Err}
 use Rattle.std.specs.Str.{bytes_eq}
 use Rattle.bw_text.specs.Words.{words}
 use Rattle.bw_model.specs.declared.stat.Stat.{Stat}
@@ -58,6 +58,21 @@ max_write t id text = and_then (from_file (max_of (words text))) (λ (m : MaxWri
 abbrev pub burst_write : TreeState → ℕ → List ℕ → Result TreeState Fault
 burst_write t id text =
     and_then (from_file (burst_of (words text))) (λ n. fitting n (quota_at (group_at t.groups id)) (with_setting (set_burst n) t id))
+
+-- what no file of a group sets: its place, its demand, and what it left over in the last booked period
+pub record Unwritten : Type 0 where
+  pub parent : Option ℕ
+  pub name : List ℕ
+  pub demand : ℕ
+  pub carry : ℕ
+
+-- that part of a group
+abbrev pub unwritten : GroupFields → Unwritten
+unwritten g = record { parent = g.parent; name = g.name; demand = g.demand; carry = g.carry }
+
+-- that part of each group, with its id
+abbrev pub unwritten_parts : TreeState → List (ℕ × Unwritten)
+unwritten_parts t = map (λ (e : ℕ × GroupFields). (e.0, unwritten e.1)) t.groups
 
 -- what a text that is written into a group's file changes; the counters are read alone
 abbrev pub write_at : TreeState → ℕ → List ℕ → List ℕ → Result TreeState Fault

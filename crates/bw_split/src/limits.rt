@@ -1,8 +1,8 @@
 //! The limits of a split, and the numbers of its search.
-use bw_model::limits::{MAX_CAPACITY, MAX_WEIGHT};
+use bw_model::limits::{MAX_CAPACITY, MAX_GROUPS, MAX_WEIGHT};
 
-/// The most children of one split.
-pub const MAX_CHILDREN: usize = 16_383;
+/// The most children of one split: all groups of a host but the root may be children of one.
+pub const MAX_CHILDREN: usize = MAX_GROUPS - 1;
 
 /// The most levels that one split tests on all children. As many halvings cut the greatest level down to one step.
 pub const MAX_ROUNDS: u64 = 44;

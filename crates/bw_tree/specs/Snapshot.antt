@@ -1,5 +1,5 @@
 -- A tree as an instance has it: a row for each group, in order of creation.
-use Rattle.std.specs.Prelude.{ℕ, ◌+◌, ◌-◌, ◌<◌, ◌≤◌, min, nat_eq, List, [], ◌∷◌, map, zip, length, slice_index, Option, Some, None, IfSome, position}
+use Rattle.std.specs.Prelude.{ℕ, ◌+◌, ◌-◌, ◌<◌, ◌≤◌, min, nat_eq, List, [], ◌∷◌, map, length, slice_index, Option, Some, None, IfSome, position}
 use Rattle.std.specs.Map.{keys_of, values_of}
 use Rattle.bw_model.specs.Host.{Shape}
 use Rattle.bw_model.specs.Quota.{in_slices, slices_of}

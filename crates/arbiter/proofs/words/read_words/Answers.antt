@@ -27,7 +27,7 @@ returns-in-Err c =
     let app = c.in-Ok.ensures.app in
     let kinds : HasKind (fault_of arbiter_app words) c.in-Err.error = subst (λ (a : App). HasKind (fault_of a words) c.in-Err.error) app (c.in-Err.ensures.kinds (ap is_simple_and_free app)) in
     record {
-      named = λ j e. c.fault.ensures (memory_alone (fault_of arbiter_app words) c.in-Err.error (named_gives words j e).0 kinds);
-      plain = λ j e. c.fault.ensures (memory_alone (fault_of arbiter_app words) c.in-Err.error (named_gives words j (plain_named words j e)).0 kinds);
+      named = λ j e. c.fault.ensures.memory (memory_alone (fault_of arbiter_app words) c.in-Err.error (named_gives words j e).0 kinds);
+      plain = λ j e. c.fault.ensures.memory (memory_alone (fault_of arbiter_app words) c.in-Err.error (named_gives words j (plain_named words j e)).0 kinds);
       ok = tt;
     }

@@ -1,4 +1,4 @@
-use Rattle.std.proofs.Common.{◌≡◌, Some, sym, ap, ◌∙◌}
+use Rattle.std.proofs.Common.{sym, ap, ◌∙◌}
 use Rattle.bw_tree.specs.Tree.{with_setting, set_max, set_quota, set_period}
 use Rattle.bw_tree.proofs.SetLemmas.{settings_join}
 use Rattle.bw_hierarchy.proofs.Settings.{never_refused}

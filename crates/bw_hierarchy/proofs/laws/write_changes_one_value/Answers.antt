@@ -1,4 +1,5 @@
 use Rattle.bw_hierarchy.proofs.Writes.{weight_read, max_read, burst_read, other_files_stay, other_groups_stay, counters_stay}
+use Rattle.bw_hierarchy.proofs.Unwritten.{rest_stays}
 use Rattle.bw_hierarchy.proofs.laws.write_changes_one_value.Goals as goal
 
 pub returns-clause-weight : goal.returns-clause-weight
@@ -18,3 +19,6 @@ returns-clause-other_groups c = other_groups_stay
 
 pub returns-clause-counters : goal.returns-clause-counters
 returns-clause-counters c = counters_stay
+
+pub returns-clause-rest : goal.returns-clause-rest
+returns-clause-rest c = rest_stays

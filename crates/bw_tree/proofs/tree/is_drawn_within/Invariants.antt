@@ -1,4 +1,4 @@
-use Rattle.std.proofs.Common.{ℕ, ◌<◌, ◌≤◌, length}
+use Rattle.std.proofs.Common.{ℕ, ◌<◌, ◌≤◌}
 use Rattle.std.specs.Prelude.{IfSome, slice_index}
 use Rattle.bw_model.specs.Groups.{row_of}
 use Rattle.bw_tree.proofs.tree.is_drawn_within.Given as goal

@@ -1,5 +1,4 @@
 use Rattle.std.proofs.Common.{◌≡◌, ◌+◌, ◌<◌, ℕ, suc, true, List, length, get_or, take, sym, ap, subst, ◌∙◌, arith}
-use Rattle.std.specs.Map.{keys_of}
 use Rattle.std.proofs.lemmas.List.{take_all, length-map}
 use Rattle.bw_model.specs.Groups.{no_row}
 use Rattle.bw_tree.specs.Groups.{GroupFields, has_group}

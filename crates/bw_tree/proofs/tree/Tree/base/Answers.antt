@@ -1,6 +1,5 @@
-use Rattle.std.proofs.Common.{rules, ◌≡◌, sym, subst, ◌∙◌}
+use Rattle.std.proofs.Common.{rules, sym, subst, ◌∙◌}
 use Rattle.std.specs.List.{AllByRecursion}
-use Rattle.std.specs.Map.{values_of}
 use Rattle.bw_tree.specs.Groups.{IsSound}
 use Rattle.bw_tree.proofs.SnapshotLemmas.{all_sound}
 use Rattle.bw_tree.proofs.tree.Tree.base.Goals as goal
