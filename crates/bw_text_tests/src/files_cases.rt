@@ -1,6 +1,8 @@
 //! The texts of a group's files, against worked values.
 //! Where an allocation is refused a call is made once more, so that each case holds with any one of its allocations failing.
-use bw_files::{MaxWrite, read_max, read_weight, write_burst, write_max, write_stat, write_weight};
+use bw_files::{
+    MaxWrite, read_burst, read_max, read_weight, write_burst, write_max, write_stat, write_weight,
+};
 use bw_model::{Quota, Stat};
 use std::alloc::{AllocError, Global};
 use std::test::Fail;
@@ -103,6 +105,28 @@ fn limits(rt: HostRuntime) {
     ];
     for (text, wanted) in cases {
         assert_eq!(rt; read_max(text).map_err(|fault| fault.number()), wanted);
+    }
+}
+
+#[test]
+fn bursts(rt: HostRuntime) {
+    let cases: [(&[u8], Result<u64, u8>); 13] = [
+        (b"0", Ok(0)),
+        (b"1", Ok(1)),
+        (b"\t25000 \n", Ok(25_000)),
+        (b"1000000000000000", Ok(1_000_000_000_000_000)),
+        (b"1000000000000001", Err(14)),
+        (HUNDRED_NINES, Err(14)),
+        (b"max", Err(11)),
+        (b"025000", Err(11)),
+        (b"-1", Err(11)),
+        (b"1 2", Err(16)),
+        (b"max 1", Err(16)),
+        (b"", Err(17)),
+        (b" \t\n", Err(17)),
+    ];
+    for (text, wanted) in cases {
+        assert_eq!(rt; read_burst(text).map_err(|fault| fault.number()), wanted);
     }
 }
 

@@ -2,7 +2,7 @@
 //! A call that runs out of memory is made once more on the same hierarchy, which it has not changed,
 //! so that each case holds with any one of its allocations failing.
 use bw_demand::gather;
-use bw_hierarchy::{Cgroup, CgroupBuilder, Fault, Hierarchy};
+use bw_hierarchy::{Cgroup, CgroupBuilder, CpuController, Fault, Hierarchy};
 use bw_model::HostShape;
 use bw_tree::{TreeFault, is_drawn_within};
 use std::alloc::Global;
@@ -11,20 +11,25 @@ use std::test::Fail;
 
 /// What a line of a script may ask of a group.
 #[derive(Clone, Copy)]
-enum Ask<'a> {
+pub(crate) enum Ask<'a> {
     Mkdir,
     Rmdir,
     Demand(u64),
     Write(&'a str, &'a [u8]),
 }
 
-/// The root of a host with one processor of 20 slices of 5000 microseconds.
-fn new_hierarchy(alloc: Global) -> Result<Hierarchy, Fail> {
-    let shape = HostShape::new(1, 100_000, 5000)?;
+/// The root of a host.
+pub(crate) fn hierarchy_on(alloc: Global, shape: HostShape) -> Result<Hierarchy, Fault> {
     match Hierarchy::new(alloc, shape) {
-        Ok(hierarchy) => Ok(hierarchy),
-        Err(_) => Ok(Hierarchy::new(alloc, shape)?),
+        Err(_) => Hierarchy::new(alloc, shape),
+        made => made,
     }
+}
+
+/// The root of a host with one processor of 20 slices of 5000 microseconds.
+pub(crate) fn new_hierarchy(alloc: Global) -> Result<Hierarchy, Fail> {
+    let shape = HostShape::new(1, 100_000, 5000)?;
+    Ok(hierarchy_on(alloc, shape)?)
 }
 
 fn once(hierarchy: &mut Hierarchy, path: &str, ask: Ask) -> Result<(), Fault> {
@@ -40,7 +45,11 @@ fn once(hierarchy: &mut Hierarchy, path: &str, ask: Ask) -> Result<(), Fault> {
 }
 
 /// Asserts the number of the refusal, 0 for none.
-fn assert_answers(rt: &impl Abort, hierarchy: &mut Hierarchy, cases: &[(&str, Ask, u8)]) {
+pub(crate) fn assert_answers(
+    rt: &impl Abort,
+    hierarchy: &mut Hierarchy,
+    cases: &[(&str, Ask, u8)],
+) {
     for (path, ask, wanted) in cases {
         let answer = match once(hierarchy, path, *ask) {
             Err(Fault::Tree(TreeFault::OutOfMemory)) => once(hierarchy, path, *ask),
@@ -54,7 +63,7 @@ fn assert_answers(rt: &impl Abort, hierarchy: &mut Hierarchy, cases: &[(&str, As
     }
 }
 
-fn assert_reads(
+pub(crate) fn assert_reads(
     rt: &impl Abort,
     hierarchy: &Hierarchy,
     path: &str,
@@ -72,7 +81,7 @@ fn assert_reads(
 }
 
 /// The limit in slices of the last group.
-fn last_limit(hierarchy: &Hierarchy) -> Result<Option<u64>, Fault> {
+pub(crate) fn last_limit(hierarchy: &Hierarchy) -> Result<Option<u64>, Fault> {
     let (instance, _ids, _base) = match hierarchy.snapshot() {
         Ok(snapshot) => snapshot,
         Err(_) => hierarchy.snapshot()?,
@@ -168,6 +177,13 @@ fn files(rt: HostRuntime) -> Result<(), Fail> {
         assert_reads(&rt, &hierarchy, "a", "cpu.max", Ok(after));
         assert_eq!(rt; last_limit(&hierarchy)?, slices);
     }
+    Ok(())
+}
+
+#[test]
+fn refused_texts(rt: HostRuntime) -> Result<(), Fail> {
+    let mut hierarchy = new_hierarchy(rt.alloc())?;
+    assert_answers(&rt, &mut hierarchy, &[("a", Ask::Mkdir, 0)]);
     let others: [(&str, Ask, u8); 11] = [
         ("a", Ask::Write("cpu.weight", b"0"), 12),
         ("a", Ask::Write("cpu.weight", b"10001"), 12),
@@ -216,40 +232,88 @@ fn built(
     answer.map_err(|fault| fault.number())
 }
 
+/// What is built at a path, or a file that is read, and what is to come of it.
+#[derive(Clone, Copy)]
+enum Build<'a> {
+    /// Shares, quota and period, and the number of the refusal, 0 for none.
+    Makes(&'a str, Option<u64>, Option<i64>, Option<u64>, u8),
+    /// A file, and its text or the number of the refusal.
+    Reads(&'a str, &'a str, Result<&'a str, u8>),
+}
+
+fn assert_builds(rt: &impl Abort, hierarchy: &mut Hierarchy, steps: &[Build]) {
+    for step in steps {
+        match *step {
+            Build::Makes(path, shares, quota, period, wanted) => {
+                let number = match built(hierarchy, path, shares, quota, period) {
+                    Ok(_) => 0,
+                    Err(number) => number,
+                };
+                assert_eq!(rt; number, wanted, "{path}");
+            }
+            Build::Reads(path, file, wanted) => assert_reads(rt, hierarchy, path, file, wanted),
+        }
+    }
+}
+
 #[test]
 fn builders(rt: HostRuntime) -> Result<(), Fail> {
     let mut hierarchy = new_hierarchy(rt.alloc())?;
-    assert!(rt;
-        built(
-            &mut hierarchy,
-            "p/q",
-            Some(300),
-            Some(50_000),
-            Some(100_000)
-        )
-        .is_ok()
+    let steps = [
+        Build::Makes("p/q", Some(300), Some(50_000), Some(100_000), 0),
+        Build::Reads("p", "cpu.weight", Ok("100\n")),
+        Build::Reads("p", "cpu.max", Ok("max 100000\n")),
+        Build::Reads("p/q", "cpu.weight", Ok("300\n")),
+        Build::Reads("p/q", "cpu.max", Ok("50000 100000\n")),
+        Build::Makes("r/s", None, None, Some(999), 15),
+        Build::Reads("r", "cpu.weight", Err(20)),
+        Build::Makes("r/s", None, None, Some(200_000), 0),
+        Build::Reads("r/s", "cpu.max", Ok("max 200000\n")),
+        Build::Makes("r", Some(0), None, None, 12),
+        Build::Makes("u", Some(0), None, None, 12),
+        Build::Reads("u", "cpu.weight", Err(20)),
+        Build::Makes(".", Some(5), None, None, 26),
+        Build::Makes("./x/y", None, None, None, 20),
+        Build::Makes("t//u", None, None, None, 22),
+        Build::Reads("t", "cpu.weight", Err(20)),
+        Build::Makes("p/q", None, Some(-1), None, 0),
+        Build::Reads("p/q", "cpu.weight", Ok("300\n")),
+        Build::Reads("p/q", "cpu.max", Ok("max 100000\n")),
+    ];
+    assert_builds(&rt, &mut hierarchy, &steps);
+    Ok(())
+}
+
+/// Where the path is there already, its burst is looked at last, and a refused builder changes nothing.
+#[test]
+fn builders_below_a_burst(rt: HostRuntime) -> Result<(), Fail> {
+    let mut hierarchy = new_hierarchy(rt.alloc())?;
+    assert_answers(
+        &rt,
+        &mut hierarchy,
+        &[
+            ("p", Ask::Mkdir, 0),
+            ("p", Ask::Write("cpu.max.burst", b"50000"), 0),
+        ],
     );
-    assert_reads(&rt, &hierarchy, "p", "cpu.weight", Ok("100\n"));
-    assert_reads(&rt, &hierarchy, "p", "cpu.max", Ok("max 100000\n"));
-    assert_reads(&rt, &hierarchy, "p/q", "cpu.weight", Ok("300\n"));
-    assert_reads(&rt, &hierarchy, "p/q", "cpu.max", Ok("50000 100000\n"));
-    assert!(rt; built(&mut hierarchy, "r/s", None, None, Some(999)) == Err(15));
-    assert_reads(&rt, &hierarchy, "r", "cpu.weight", Err(20));
-    assert!(rt; built(&mut hierarchy, "r/s", None, None, Some(200_000)).is_ok());
-    assert_reads(&rt, &hierarchy, "r/s", "cpu.max", Ok("max 200000\n"));
-    let burst = ("p/q", Ask::Write("cpu.max.burst", b"50000"), 0);
-    assert_answers(&rt, &mut hierarchy, &[burst]);
-    assert!(rt; built(&mut hierarchy, "p/q", Some(5), Some(49_999), None) == Err(33));
-    assert!(rt; built(&mut hierarchy, "p/q", Some(0), Some(49_999), None) == Err(12));
-    assert_reads(&rt, &hierarchy, "p/q", "cpu.weight", Ok("300\n"));
-    assert!(rt; built(&mut hierarchy, "u", Some(0), None, None) == Err(12));
-    assert!(rt; built(&mut hierarchy, ".", Some(5), None, None) == Err(26));
-    assert!(rt; built(&mut hierarchy, "./x/y", None, None, None) == Err(20));
-    assert!(rt; built(&mut hierarchy, "t//u", None, None, None) == Err(22));
-    assert_reads(&rt, &hierarchy, "t", "cpu.weight", Err(20));
-    assert!(rt; built(&mut hierarchy, "p/q", None, Some(-1), None).is_ok());
-    assert_reads(&rt, &hierarchy, "p/q", "cpu.weight", Ok("300\n"));
-    assert_reads(&rt, &hierarchy, "p/q", "cpu.max", Ok("max 100000\n"));
+    let steps = [
+        Build::Makes("p", Some(5), Some(49_999), None, 33),
+        Build::Makes("p", Some(0), Some(49_999), None, 12),
+        Build::Makes("p", Some(5), Some(49_999), Some(999), 15),
+        Build::Makes("p", Some(5), Some(49_999), Some(200_000), 33),
+        Build::Reads("p", "cpu.weight", Ok("100\n")),
+        Build::Reads("p", "cpu.max", Ok("max 100000\n")),
+        Build::Makes("p", Some(5), Some(50_000), Some(200_000), 0),
+        Build::Reads("p", "cpu.weight", Ok("5\n")),
+        Build::Reads("p", "cpu.max", Ok("50000 200000\n")),
+    ];
+    assert_builds(&rt, &mut hierarchy, &steps);
+    Ok(())
+}
+
+#[test]
+fn builder_of_the_root(rt: HostRuntime) -> Result<(), Fail> {
+    let mut hierarchy = new_hierarchy(rt.alloc())?;
     match built(&mut hierarchy, ".", None, None, None) {
         Ok(root) => assert_eq!(rt; root.id, hierarchy.root_control_group().id),
         Err(number) => assert_eq!(rt; number, 0),
@@ -257,17 +321,42 @@ fn builders(rt: HostRuntime) -> Result<(), Fail> {
     Ok(())
 }
 
-#[test]
-fn controllers(rt: HostRuntime) -> Result<(), Fail> {
-    let mut hierarchy = new_hierarchy(rt.alloc())?;
+/// A quota and a period that are set, the number of the refusal, 0 for none, and both as they are then.
+pub(crate) type Setting = (Option<i64>, Option<u64>, u8, i64, u64);
+
+pub(crate) fn assert_settings(
+    rt: &impl Abort,
+    hierarchy: &mut Hierarchy,
+    cpu: CpuController,
+    settings: &[Setting],
+) {
+    for (quota, period, wanted, after, own) in settings {
+        let number = match cpu.set_cfs_quota_and_period(hierarchy, *quota, *period) {
+            Ok(()) => 0,
+            Err(fault) => fault.number(),
+        };
+        assert_eq!(rt; number, *wanted);
+        assert!(rt; cpu.cfs_quota(hierarchy) == Ok(*after));
+        assert!(rt; cpu.cfs_period(hierarchy) == Ok(*own));
+    }
+}
+
+/// The root, `a` and `a/b`.
+fn two_groups(rt: &impl Abort, alloc: Global) -> Result<Hierarchy, Fail> {
+    let mut hierarchy = new_hierarchy(alloc)?;
     assert_answers(
-        &rt,
+        rt,
         &mut hierarchy,
         &[("a", Ask::Mkdir, 0), ("a/b", Ask::Mkdir, 0)],
     );
-    let group = Cgroup::load(&hierarchy, "a/b")?;
-    let cpu = group.cpu();
-    let settings: [(Option<i64>, Option<u64>, u8, i64, u64); 12] = [
+    Ok(hierarchy)
+}
+
+#[test]
+fn controllers(rt: HostRuntime) -> Result<(), Fail> {
+    let mut hierarchy = two_groups(&rt, rt.alloc())?;
+    let cpu = Cgroup::load(&hierarchy, "a/b")?.cpu();
+    let settings: [Setting; 12] = [
         (None, Some(200_000), 0, -1, 200_000),
         (Some(50_000), None, 0, 50_000, 200_000),
         (Some(999), None, 13, 50_000, 200_000),
@@ -281,80 +370,84 @@ fn controllers(rt: HostRuntime) -> Result<(), Fail> {
         (None, Some(100_000), 0, 50_000, 100_000),
         (Some(-1), None, 0, -1, 100_000),
     ];
-    for (quota, period, wanted, after, own) in settings {
-        let number = match cpu.set_cfs_quota_and_period(&mut hierarchy, quota, period) {
-            Ok(()) => 0,
-            Err(fault) => fault.number(),
-        };
-        assert_eq!(rt; number, wanted);
-        assert!(rt; cpu.cfs_quota(&hierarchy) == Ok(after));
-        assert!(rt; cpu.cfs_period(&hierarchy) == Ok(own));
-    }
+    assert_settings(&rt, &mut hierarchy, cpu, &settings);
     assert_reads(&rt, &hierarchy, "a/b", "cpu.max", Ok("max 100000\n"));
+    Ok(())
+}
+
+#[test]
+fn shares_by_a_controller(rt: HostRuntime) -> Result<(), Fail> {
+    let mut hierarchy = two_groups(&rt, rt.alloc())?;
+    let cpu = Cgroup::load(&hierarchy, "a/b")?.cpu();
     assert!(rt; cpu.set_shares(&mut hierarchy, 300) == Ok(()));
-    assert!(rt;
-        cpu.set_shares(&mut hierarchy, 10_001)
-            .map_err(|fault| fault.number())
-            == Err(12)
-    );
+    assert!(rt; number_of(cpu.set_shares(&mut hierarchy, 10_001)) == 12);
     assert!(rt; cpu.shares(&hierarchy) == Ok(300));
-    let root = hierarchy.root_control_group().cpu();
-    let above = Cgroup::load(&hierarchy, "a")?;
-    assert!(rt;
-        above
-            .delete(&mut hierarchy)
-            .map_err(|kept| (kept.fault.number(), kept.cgroup.id))
-            == Err((23, 1))
-    );
-    assert!(rt; group.delete(&mut hierarchy) == Ok(()));
-    for (removed, wanted) in [(cpu, 20), (root, 26)] {
-        assert!(rt; removed.shares(&hierarchy).map_err(|fault| fault.number()) == Err(wanted));
-        assert!(rt;
-            removed
-                .set_shares(&mut hierarchy, 0)
-                .map_err(|fault| fault.number())
-                == Err(wanted)
-        );
-        assert!(rt;
-            removed
-                .cfs_quota(&hierarchy)
-                .map_err(|fault| fault.number())
-                == Err(wanted)
-        );
-        assert!(rt;
-            removed
-                .cfs_period(&hierarchy)
-                .map_err(|fault| fault.number())
-                == Err(wanted)
-        );
-        assert!(rt;
-            removed
-                .set_cfs_quota_and_period(&mut hierarchy, None, None)
-                .map_err(|fault| fault.number())
-                == Err(wanted)
-        );
+    Ok(())
+}
+
+/// The number of the refusal, 0 for none.
+fn number_of<T: Drop>(answer: Result<T, Fault>) -> u8 {
+    match answer {
+        Ok(_) => 0,
+        Err(fault) => fault.number(),
     }
-    assert!(rt; Cgroup::load(&hierarchy, "a/b").map_err(|fault| fault.number()) == Err(20));
+}
+
+/// Asserts that each call of a controller is refused with this number.
+fn assert_refuses_all(rt: &impl Abort, hierarchy: &mut Hierarchy, cpu: CpuController, wanted: u8) {
+    assert_eq!(rt; number_of(cpu.shares(hierarchy)), wanted);
+    assert_eq!(rt; number_of(cpu.set_shares(hierarchy, 0)), wanted);
+    assert_eq!(rt; number_of(cpu.cfs_quota(hierarchy)), wanted);
+    assert_eq!(rt; number_of(cpu.cfs_period(hierarchy)), wanted);
+    let set = cpu.set_cfs_quota_and_period(hierarchy, None, None);
+    assert_eq!(rt; number_of(set), wanted);
+}
+
+#[test]
+fn deleted_groups(rt: HostRuntime) -> Result<(), Fail> {
+    let mut hierarchy = two_groups(&rt, rt.alloc())?;
+    let group = Cgroup::load(&hierarchy, "a/b")?;
+    let cpu = group.cpu();
+    let above = Cgroup::load(&hierarchy, "a")?;
+    match above.delete(&mut hierarchy) {
+        Ok(()) => assert!(rt; false),
+        Err(kept) => assert_eq!(rt; (kept.fault.number(), kept.cgroup.id), (23, 1)),
+    }
+    assert!(rt; group.delete(&mut hierarchy) == Ok(()));
+    assert_refuses_all(&rt, &mut hierarchy, cpu, 20);
+    let root = hierarchy.root_control_group().cpu();
+    assert_refuses_all(&rt, &mut hierarchy, root, 26);
+    assert_eq!(rt; number_of(Cgroup::load(&hierarchy, "a/b")), 20);
     Ok(())
 }
 
 const ZEROS: &str =
     "usage_usec 0\nnr_periods 0\nnr_throttled 0\nthrottled_usec 0\nnr_bursts 0\nburst_usec 0\n";
 
-fn book_once(alloc: Global, hierarchy: &mut Hierarchy, drawn: &[u64]) -> Result<(), Fault> {
+fn book_once(
+    rt: &impl Abort,
+    alloc: Global,
+    hierarchy: &mut Hierarchy,
+    drawn: &[u64],
+) -> Result<(), Fault> {
     let (instance, ids, base) = hierarchy.snapshot()?;
     let gathered = gather(alloc, &instance)?;
-    if drawn.len() == instance.rows().len() && is_drawn_within(instance.rows(), drawn) {
-        hierarchy.book(&instance, ids.as_slice(), base.as_slice(), &gathered, drawn)?;
-    }
-    Ok(())
+    assert!(rt; drawn.len() == instance.rows().len());
+    assert!(rt; is_drawn_within(instance.rows(), drawn));
+    hierarchy.book(&instance, ids.as_slice(), base.as_slice(), &gathered, drawn)
 }
 
-/// Counts one period in which the groups draw these slices, in order of creation, one amount for each of them.
-fn book(alloc: Global, hierarchy: &mut Hierarchy, drawn: &[u64]) -> Result<(), Fault> {
-    match book_once(alloc, hierarchy, drawn) {
+/// Counts one period in which the groups draw these slices, in order of creation, one amount for each of them and at most
+/// its limit.
+pub(crate) fn book(
+    rt: &impl Abort,
+    alloc: Global,
+    hierarchy: &mut Hierarchy,
+    drawn: &[u64],
+) -> Result<(), Fault> {
+    match book_once(rt, alloc, hierarchy, drawn) {
         Ok(()) => Ok(()),
-        Err(_) => book_once(alloc, hierarchy, drawn),
+        Err(_) => book_once(rt, alloc, hierarchy, drawn),
     }
 }
 
@@ -392,7 +485,7 @@ fn counters_of_a_limited_group(rt: HostRuntime) -> Result<(), Fail> {
         ("job", Ask::Demand(20), 0),
     ];
     assert_answers(&rt, &mut hierarchy, &cases);
-    book(alloc, &mut hierarchy, &[20, 10, 3, 7, 10])?;
+    book(&rt, alloc, &mut hierarchy, &[20, 10, 3, 7, 10])?;
     let pod =
         "usage_usec 50000\nnr_periods 1\nnr_throttled 1\nthrottled_usec 150000\nnr_bursts 0\nburst_usec 0\n";
     assert_reads(&rt, &hierarchy, "pod", "cpu.stat", Ok(pod));
@@ -405,11 +498,11 @@ fn counters_of_a_limited_group(rt: HostRuntime) -> Result<(), Fail> {
 fn counters_of_a_later_group(rt: HostRuntime) -> Result<(), Fail> {
     let alloc = rt.alloc();
     let mut hierarchy = new_hierarchy(alloc)?;
-    book(alloc, &mut hierarchy, &[0])?;
-    book(alloc, &mut hierarchy, &[0])?;
+    book(&rt, alloc, &mut hierarchy, &[0])?;
+    book(&rt, alloc, &mut hierarchy, &[0])?;
     assert_answers(&rt, &mut hierarchy, &[("a", Ask::Mkdir, 0)]);
     assert_reads(&rt, &hierarchy, "a", "cpu.stat", Ok(ZEROS));
-    book(alloc, &mut hierarchy, &[20, 20])?;
+    book(&rt, alloc, &mut hierarchy, &[20, 20])?;
     let once =
         "usage_usec 100000\nnr_periods 1\nnr_throttled 0\nthrottled_usec 0\nnr_bursts 0\nburst_usec 0\n";
     assert_reads(&rt, &hierarchy, "a", "cpu.stat", Ok(once));
@@ -421,7 +514,7 @@ fn counters_of_a_group_made_again(rt: HostRuntime) -> Result<(), Fail> {
     let alloc = rt.alloc();
     let mut hierarchy = new_hierarchy(alloc)?;
     assert_answers(&rt, &mut hierarchy, &[("a", Ask::Mkdir, 0)]);
-    book(alloc, &mut hierarchy, &[20, 20])?;
+    book(&rt, alloc, &mut hierarchy, &[20, 20])?;
     assert_answers(
         &rt,
         &mut hierarchy,
@@ -437,7 +530,7 @@ fn counters_at_their_greatest_value(rt: HostRuntime) -> Result<(), Fail> {
     let alloc = rt.alloc();
     let mut hierarchy = new_hierarchy(alloc)?;
     for drawn in [u64::MAX, 20] {
-        book(alloc, &mut hierarchy, &[drawn])?;
+        book(&rt, alloc, &mut hierarchy, &[drawn])?;
         assert_reads(
             &rt,
             &hierarchy,
@@ -477,9 +570,9 @@ fn making_without_memory(rt: HostRuntime) -> Result<(), Fail> {
 fn counting_without_memory(rt: HostRuntime) -> Result<(), Fail> {
     let alloc = rt.alloc();
     let mut hierarchy = new_hierarchy(alloc)?;
-    if book_once(alloc, &mut hierarchy, &[20]).is_err() {
+    if book_once(&rt, alloc, &mut hierarchy, &[20]).is_err() {
         assert_reads(&rt, &hierarchy, ".", "cpu.stat", Ok("usage_usec 0\n"));
-        book_once(alloc, &mut hierarchy, &[20])?;
+        book_once(&rt, alloc, &mut hierarchy, &[20])?;
     }
     assert_reads(&rt, &hierarchy, ".", "cpu.stat", Ok("usage_usec 100000\n"));
     Ok(())

@@ -2,6 +2,8 @@
 #![tactic(auto)]
 
 #[cfg(test)]
+mod burst_cases;
+#[cfg(test)]
 mod cert_cases;
 #[cfg(test)]
 mod files_cases;

@@ -7,6 +7,7 @@ use bw_demand::gather;
 use bw_model::{HostShape, Instance, InstanceFault, Row, Stat};
 use bw_stat::{Books, report_head, report_line};
 use std::alloc::{AllocError, Global};
+use std::process::Abort;
 use std::test::Fail;
 
 fn row(parent: Option<u32>, weight: u64, limit: Option<u64>, demand: u64) -> Row {
@@ -43,36 +44,37 @@ fn pod(alloc: Global, processors: u64) -> Result<Instance, Fail> {
 }
 
 fn book_once(
+    rt: &impl Abort,
     alloc: Global,
     books: &mut Books,
     instance: &Instance,
     ids: &[u64],
+    base: &[Option<u64>],
     drawn: &[u64],
 ) -> Result<(), AllocError>
     requires { IsDistinct nat_eq ids.now }
 {
     let gathered = gather(alloc, instance)?;
     let count = instance.rows().len();
-    if ids.len() == count && drawn.len() == count {
-        let base: Vec<Option<u64>> = instance.rows().iter().map(|row| row.limit).collect(alloc)?;
-        books.book(instance, ids, base.as_slice(), &gathered, drawn)?;
-    }
-    Ok(())
+    assert!(rt; ids.len() == count && base.len() == count && drawn.len() == count);
+    books.book(instance, ids, base, &gathered, drawn)
 }
 
-// Counts one period, where there is one id and one amount drawn for each row.
+// Counts one period, with one id, quota and amount drawn for each row.
 fn book(
+    rt: &impl Abort,
     alloc: Global,
     books: &mut Books,
     instance: &Instance,
     ids: &[u64],
+    base: &[Option<u64>],
     drawn: &[u64],
 ) -> Result<(), AllocError>
     requires { IsDistinct nat_eq ids.now }
 {
-    match book_once(alloc, books, instance, ids, drawn) {
+    match book_once(rt, alloc, books, instance, ids, base, drawn) {
         Ok(()) => Ok(()),
-        Err(_) => book_once(alloc, books, instance, ids, drawn),
+        Err(_) => book_once(rt, alloc, books, instance, ids, base, drawn),
     }
 }
 
@@ -83,17 +85,22 @@ fn ids_of_pod() -> [u64; 5]
     [0, 7, 3, 9, 4]
 }
 
+// The quota of each row, where no limit is above the quota.
+const QUOTAS: [Option<u64>; 5] = [None, Some(10), None, None, None];
+
 fn book_pod(
+    rt: &impl Abort,
     alloc: Global,
     books: &mut Books,
     processors: u64,
     periods: u64,
+    base: &[Option<u64>],
     drawn: &[u64],
 ) -> Result<(), Fail> {
     let instance = pod(alloc, processors)?;
     let ids = ids_of_pod();
     for _ in 0..periods {
-        book(alloc, books, &instance, ids.as_slice(), drawn)?;
+        book(rt, alloc, books, &instance, ids.as_slice(), base, drawn)?;
     }
     Ok(())
 }
@@ -104,13 +111,24 @@ fn counters(
     nr_throttled: u64,
     throttled_usec: u64,
 ) -> Option<Stat> {
+    bursting(usage_usec, nr_periods, nr_throttled, throttled_usec, 0, 0)
+}
+
+fn bursting(
+    usage_usec: u64,
+    nr_periods: u64,
+    nr_throttled: u64,
+    throttled_usec: u64,
+    nr_bursts: u64,
+    burst_usec: u64,
+) -> Option<Stat> {
     Some(Stat {
         usage_usec,
         nr_periods,
         nr_throttled,
         throttled_usec,
-        nr_bursts: 0,
-        burst_usec: 0,
+        nr_bursts,
+        burst_usec,
     })
 }
 
@@ -119,7 +137,7 @@ fn counters(
 fn fifty_periods(rt: HostRuntime) -> Result<(), Fail> {
     let alloc = rt.alloc();
     let mut books = Books::new(alloc);
-    book_pod(alloc, &mut books, 4, 50, &[30, 10, 3, 7, 20])?;
+    book_pod(&rt, alloc, &mut books, 4, 50, &QUOTAS, &[30, 10, 3, 7, 20])?;
     assert_eq!(rt; books.of(0), counters(7_500_000, 50, 0, 0));
     assert_eq!(rt; books.of(7), counters(2_500_000, 50, 50, 7_500_000));
     assert_eq!(rt; books.of(3), counters(750_000, 50, 0, 0));
@@ -133,7 +151,7 @@ fn fifty_periods(rt: HostRuntime) -> Result<(), Fail> {
 fn unused_slices(rt: HostRuntime) -> Result<(), Fail> {
     let alloc = rt.alloc();
     let mut books = Books::new(alloc);
-    book_pod(alloc, &mut books, 1, 1, &[10, 10, 3, 7, 0])?;
+    book_pod(&rt, alloc, &mut books, 1, 1, &QUOTAS, &[10, 10, 3, 7, 0])?;
     assert_eq!(rt; books.of(0), counters(50_000, 1, 0, 0));
     assert_eq!(rt; books.of(7), counters(50_000, 1, 1, 150_000));
     assert_eq!(rt; books.of(4), counters(0, 1, 0, 0));
@@ -145,14 +163,48 @@ fn unused_slices(rt: HostRuntime) -> Result<(), Fail> {
 fn forgotten_groups(rt: HostRuntime) -> Result<(), Fail> {
     let alloc = rt.alloc();
     let mut books = Books::new(alloc);
-    book_pod(alloc, &mut books, 1, 2, &[20, 10, 3, 7, 10])?;
+    book_pod(&rt, alloc, &mut books, 1, 2, &QUOTAS, &[20, 10, 3, 7, 10])?;
     books.forget(4);
     books.forget(8);
     assert_eq!(rt; books.of(4), None);
     assert_eq!(rt; books.of(3), counters(30_000, 2, 0, 0));
-    book_pod(alloc, &mut books, 1, 1, &[20, 10, 3, 7, 10])?;
+    book_pod(&rt, alloc, &mut books, 1, 1, &QUOTAS, &[20, 10, 3, 7, 10])?;
     assert_eq!(rt; books.of(4), counters(50_000, 1, 0, 0));
     assert_eq!(rt; books.of(3), counters(45_000, 3, 0, 0));
+    Ok(())
+}
+
+// Two periods in which groups draw more than their quotas. The root counts none of it, nor does a group without quota.
+#[test]
+fn bursts(rt: HostRuntime) -> Result<(), Fail> {
+    let alloc = rt.alloc();
+    let mut books = Books::new(alloc);
+    let base = [Some(1), Some(6), None, Some(2), Some(10)];
+    book_pod(&rt, alloc, &mut books, 1, 2, &base, &[20, 10, 3, 7, 10])?;
+    assert_eq!(rt; books.of(0), counters(200_000, 2, 0, 0));
+    assert_eq!(rt; books.of(7), bursting(100_000, 2, 2, 300_000, 2, 40_000));
+    assert_eq!(rt; books.of(3), counters(30_000, 2, 0, 0));
+    assert_eq!(rt; books.of(9), bursting(70_000, 2, 0, 0, 2, 50_000));
+    assert_eq!(rt; books.of(4), counters(100_000, 2, 0, 0));
+    Ok(())
+}
+
+// The slices drawn above a quota of 0, in microseconds, stay at their greatest value.
+#[test]
+fn greatest_burst(rt: HostRuntime) -> Result<(), Fail> {
+    let alloc = rt.alloc();
+    let mut books = Books::new(alloc);
+    let base = [None, Some(10), Some(0), None, None];
+    book_pod(
+        &rt,
+        alloc,
+        &mut books,
+        1,
+        2,
+        &base,
+        &[20, 10, u64::MAX, 7, 10],
+    )?;
+    assert_eq!(rt; books.of(3), bursting(u64::MAX, 2, 0, 0, 2, u64::MAX));
     Ok(())
 }
 
@@ -161,9 +213,17 @@ fn forgotten_groups(rt: HostRuntime) -> Result<(), Fail> {
 fn greatest_counters(rt: HostRuntime) -> Result<(), Fail> {
     let alloc = rt.alloc();
     let mut books = Books::new(alloc);
-    book_pod(alloc, &mut books, 1, 1, &[u64::MAX, 10, 3, 7, 10])?;
+    book_pod(
+        &rt,
+        alloc,
+        &mut books,
+        1,
+        1,
+        &QUOTAS,
+        &[u64::MAX, 10, 3, 7, 10],
+    )?;
     assert_eq!(rt; books.of(0), counters(u64::MAX, 1, 0, 0));
-    book_pod(alloc, &mut books, 1, 1, &[20, 10, 3, 7, 10])?;
+    book_pod(&rt, alloc, &mut books, 1, 1, &QUOTAS, &[20, 10, 3, 7, 10])?;
     assert_eq!(rt; books.of(0), counters(u64::MAX, 2, 0, 0));
     Ok(())
 }

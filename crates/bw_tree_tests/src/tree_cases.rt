@@ -1,5 +1,5 @@
 //! Trees of groups, against worked values, and where memory is refused.
-use bw_model::{HostShape, Quota};
+use bw_model::{HostShape, Instance, Quota};
 use bw_tree::{GroupId, Tree, TreeFault, is_drawn_within};
 use std::process::Abort;
 use std::test::Fail;
@@ -164,6 +164,16 @@ fn refused_settings(rt: HostRuntime) -> Result<(), Fail> {
 }
 
 #[test]
+fn refused_periods_and_bursts(rt: HostRuntime) -> Result<(), Fail> {
+    let mut tree = small_tree(&rt)?;
+    assert!(rt; tree.set_period(0, 1_000) == Err(TreeFault::RootFixed));
+    assert!(rt; tree.set_period(9, 1_000) == Err(TreeFault::NotFound));
+    assert!(rt; tree.set_burst(0, 1) == Err(TreeFault::RootFixed));
+    assert!(rt; tree.set_burst(9, 1) == Err(TreeFault::NotFound));
+    Ok(())
+}
+
+#[test]
 fn paths(rt: HostRuntime) -> Result<(), Fail> {
     let tree = small_tree(&rt)?;
     for (id, path) in [(0, "."), (1, "a"), (2, "a/b")] {
@@ -239,51 +249,75 @@ fn rows_of_a_snapshot(rt: HostRuntime) -> Result<(), Fail> {
     Ok(())
 }
 
+fn assert_limits(rt: &impl Abort, instance: &Instance, wanted: &[Option<u64>]) {
+    assert_eq!(rt; instance.rows().len(), wanted.len());
+    for (row, limit) in instance.rows().iter().zip(wanted.iter()) {
+        assert!(rt; row.limit == *limit);
+    }
+}
+
+/// Whether no row of an instance has drawn more than its limit.
+fn may_draw(rt: &impl Abort, instance: &Instance, drawn: &[u64]) -> bool {
+    assert!(rt; drawn.len() == instance.rows().len());
+    is_drawn_within(instance.rows(), drawn)
+}
+
+/// A period in which the root and a group with ten slices of quota draw these slices, where the group has this limit. A call
+/// that is refused memory has changed nothing.
+fn period(
+    rt: &impl Abort,
+    tree: &mut Tree,
+    shape: HostShape,
+    limit: u64,
+    drawn: &[u64],
+) -> Result<(), TreeFault> {
+    let (instance, ids, base) = tree.snapshot(shape)?;
+    assert_eq!(rt; base.as_slice(), [None, Some(10)].as_slice());
+    assert_limits(rt, &instance, &[None, Some(limit)]);
+    assert!(rt; !may_draw(rt, &instance, &[0, limit.saturating_add(1)]));
+    assert!(rt; drawn.len() == instance.rows().len());
+    assert!(rt; is_drawn_within(instance.rows(), drawn));
+    tree.carry_over(&instance, ids.as_slice(), drawn);
+    Ok(())
+}
+
 /// What a group leaves of its limit comes on top of its quota in the next period, up to its burst.
 #[test]
 fn carries(rt: HostRuntime) -> Result<(), Fail> {
-    let mut tree = Tree::new(rt.alloc())?;
-    let id = make(&mut tree, 0, "a")?;
-    assert!(rt; tree.set_limit(id, Quota::Micros(100_000)) == Ok(()));
-    assert!(rt; tree.set_period(id, 200_000) == Ok(()));
-    assert!(rt; tree.set_burst(id, 50_000) == Ok(()));
-    assert!(rt; tree.set_burst(0, 1) == Err(TreeFault::RootFixed));
-    assert!(rt; tree.set_period(7, 1_000) == Err(TreeFault::NotFound));
+    let mut tree = small_tree(&rt)?;
+    tree.set_demand(2, 0)?;
+    tree.rmdir(2)?;
+    assert!(rt; tree.set_limit(1, Quota::Micros(100_000)) == Ok(()));
+    assert!(rt; tree.set_period(1, 200_000) == Ok(()));
+    assert!(rt; tree.set_burst(1, 50_000) == Ok(()));
     let shape = HostShape::new(1, 100_000, 5_000)?;
-    for (limit, drawn) in [(10, [4u64, 4]), (15, [15, 15]), (10, [0, 0]), (15, [1, 1])] {
-        let (instance, ids, base) = match tree.snapshot(shape) {
-            Err(_) => tree.snapshot(shape)?,
-            Ok(snapshot) => snapshot,
-        };
-        let limits: Vec<Option<u64>> = instance
-            .rows()
-            .iter()
-            .map(|row| row.limit)
-            .collect(rt.alloc())?;
-        assert_eq!(rt; limits.as_slice(), [None, Some(limit)].as_slice());
-        assert_eq!(rt; base.as_slice(), [None, Some(10)].as_slice());
-        assert!(rt;
-            instance.rows().len() == 2 && !is_drawn_within(instance.rows(), &[0, limit + 1])
-        );
-        assert!(rt; is_drawn_within(instance.rows(), &drawn));
-        tree.carry_over(&instance, ids.as_slice(), &drawn);
+    for (limit, drawn) in [(10, [4, 4]), (15, [15, 15]), (10, [0, 0]), (15, [1, 1])] {
+        if period(&rt, &mut tree, shape, limit, &drawn).is_err() {
+            period(&rt, &mut tree, shape, limit, &drawn)?;
+        }
     }
     Ok(())
 }
 
+/// A chain of 64 groups, and so many beside it that the tree is full: too deep is answered before full.
 #[test]
 fn full_tree(rt: HostRuntime) -> Result<(), Fail> {
     let mut tree = Tree::new(rt.alloc())?;
-    for i in 1..16384u32 {
+    let mut at = 0;
+    for _ in 0..64u32 {
+        at = make(&mut tree, at, "deep")?;
+    }
+    for i in 65..16384u32 {
         let name = format!(in rt.alloc(); "g{i}")?;
         make(&mut tree, 0, name.as_str())?;
     }
     assert!(rt; make(&mut tree, 0, "one more") == Err(TreeFault::TreeFull));
-    for i in 1..16384u32 {
+    assert!(rt; make(&mut tree, at, "deep") == Err(TreeFault::TooDeep));
+    for i in 65..16384u32 {
         let name = format!(in rt.alloc(); "g{i}")?;
         assert!(rt; tree.find(name.as_str()) == Ok(u64::from(i)));
     }
-    assert!(rt; tree.rmdir(17) == Ok(()));
+    assert!(rt; tree.rmdir(70) == Ok(()));
     assert!(rt; make(&mut tree, 0, "one more") == Ok(16384));
     Ok(())
 }
