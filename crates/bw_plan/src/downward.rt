@@ -3,7 +3,7 @@ ghost use Rattle.std.specs.Prelude.{IfOk};
 ghost use Rattle.bw_model.specs.Plan.{IsPlan};
 
 use crate::amounts::Plan;
-use crate::sharing::{give, parts_of};
+use crate::sharing::share_out;
 use bw_demand::gather;
 use bw_model::Instance;
 use std::alloc::{AllocError, Global};
@@ -20,8 +20,7 @@ pub fn plan(alloc: Global, instance: &Instance) -> Result<Plan, AllocError>
     amounts[0] = gathered.most[0];
     for g in 0..count {
         let most = gathered.most.as_slice();
-        let parts = parts_of(alloc, instance, most, amounts.as_slice(), g as u32)?;
-        give(instance, g as u32, parts.as_slice(), &mut amounts);
+        share_out(alloc, instance, most, g as u32, &mut amounts)?;
     }
     Ok(Plan { amounts })
 }

@@ -3,11 +3,11 @@ ghost use Rattle.std.specs.Prelude.{◌≡◌, ◌+◌, ◌<◌, length, All, If
 ghost use Rattle.std.specs.List.{AllZip};
 ghost use Rattle.bw_model.specs.Plan.{IsPlan};
 ghost use Rattle.bw_demand.specs.Demands.{demands_of, IsGathered};
-ghost use Rattle.bw_demand.specs.Levels.{AreLevels};
+ghost use Rattle.bw_demand.specs.Levels.{AreLevels, level_of};
 ghost use Rattle.bw_plan.specs.Shared.{CanShare, AreParts, IsPlanning, is_above};
 
 use crate::amounts::Plan;
-use crate::sharing::{give, parts_of};
+use crate::sharing::{give, parts_of, share_out};
 use bw_demand::{Gathered, gather_levels, levels};
 use bw_model::Instance;
 use rayon::prelude::*;
@@ -49,7 +49,83 @@ fn parts_of_level(
         .collect::<Result<Vec<Vec<u64>>, AllocError>>(rt, alloc)?
 }
 
-// The groups of one depth share out what they have.
+// The rows of one depth.
+fn level_at<'a>(instance: &Instance, levels: &'a [Vec<u32>], depth: usize) -> &'a [u32]
+    requires levels { AreLevels instance.now.rows levels.now }
+    requires depth { depth < length levels.now }
+    ensures { result.now ≡ level_of instance.now.rows depth }
+{
+    levels[depth].as_slice()
+}
+
+// How many children the groups of a level have that have more than one: what they have is split.
+fn split_children(instance: &Instance, level: &[u32]) -> usize
+    requires { All (λ g. g < length instance.now.rows) level.now }
+{
+    let mut count = 0usize;
+    for g in level {
+        let children = instance.children(*g).len();
+        if children > 1 {
+            count = count.saturating_add(children);
+        }
+    }
+    count
+}
+
+// The groups of one depth share out what they have, one after another.
+fn share_in_place(
+    alloc: Global,
+    instance: &Instance,
+    gathered: &Gathered,
+    levels: &[Vec<u32>],
+    depth: usize,
+    amounts: &mut Vec<u64>,
+) -> Result<(), AllocError>
+    requires gathered { IsGathered instance.now (demands_of gathered.now) }
+    requires levels { AreLevels instance.now.rows levels.now }
+    requires depth { depth < length levels.now }
+    requires planning { IsPlanning instance.now gathered.now.most.items (is_above instance.now.rows depth) amounts.old.items }
+    ensures { OnOk result (IsPlanning instance.now gathered.now.most.items (is_above instance.now.rows (depth + 1)) amounts.new.items) }
+{
+    // its contract says that the rows are a tree
+    let _rows = instance.rows();
+    let most = gathered.most.as_slice();
+    let level = level_at(instance, levels, depth);
+    for k in 0..level.len() {
+        share_out(alloc, instance, most, level[k], amounts)?;
+    }
+    Ok(())
+}
+
+// As `share_in_place`, with the splits side by side in pieces of so many groups, and one thread that writes them.
+fn share_in_pieces(
+    rt: &(impl Threads + Sync),
+    alloc: Global,
+    instance: &Instance,
+    gathered: &Gathered,
+    levels: &[Vec<u32>],
+    depth: usize,
+    piece: usize,
+    amounts: &mut Vec<u64>,
+) -> Result<(), AllocError>
+    requires gathered { IsGathered instance.now (demands_of gathered.now) }
+    requires levels { AreLevels instance.now.rows levels.now }
+    requires depth { depth < length levels.now }
+    requires planning { IsPlanning instance.now gathered.now.most.items (is_above instance.now.rows depth) amounts.old.items }
+    ensures { OnOk result (IsPlanning instance.now gathered.now.most.items (is_above instance.now.rows (depth + 1)) amounts.new.items) }
+{
+    // its contract says that the rows are a tree
+    let _rows = instance.rows();
+    let most = gathered.most.as_slice();
+    let level = level_at(instance, levels, depth);
+    let parts = parts_of_level(rt, alloc, instance, most, amounts.as_slice(), level, piece)?;
+    for k in 0..level.len() {
+        give(instance, level[k], parts[k].as_slice(), amounts);
+    }
+    Ok(())
+}
+
+// The groups of one depth, which is not the deepest, share out what they have.
 fn share_level(
     rt: &(impl Threads + Sync),
     alloc: Global,
@@ -65,20 +141,42 @@ fn share_level(
     requires planning { IsPlanning instance.now gathered.now.most.items (is_above instance.now.rows depth) amounts.old.items }
     ensures { OnOk result (IsPlanning instance.now gathered.now.most.items (is_above instance.now.rows (depth + 1)) amounts.new.items) }
 {
-    // its contract says that the rows are a tree
-    let _rows = instance.rows();
-    let most = gathered.most.as_slice();
-    let level = levels[depth].as_slice();
-    let piece = least_piece(level.len(), levels[depth + 1].len());
-    let parts = parts_of_level(rt, alloc, instance, most, amounts.as_slice(), level, piece)?;
-    for k in 0..level.len() {
-        give(instance, level[k], parts[k].as_slice(), amounts);
+    // the next level has all children of this one
+    if levels[depth + 1].len() < 2 * PIECE_CHILDREN {
+        return share_in_place(alloc, instance, gathered, levels, depth, amounts);
     }
-    Ok(())
+    let level = level_at(instance, levels, depth);
+    let children = split_children(instance, level);
+    if children < 2 * PIECE_CHILDREN {
+        return share_in_place(alloc, instance, gathered, levels, depth, amounts);
+    }
+    let piece = least_piece(level.len(), children);
+    share_in_pieces(rt, alloc, instance, gathered, levels, depth, piece, amounts)
 }
 
-/// The one plan of an instance, as [`plan`](crate::plan) gives it, one level after another from the root down. The groups
-/// of a level are split in several threads where they have many children. Refused for want of memory alone.
+/// As [`plan_levels`], for a caller that has the levels and what is gathered over them.
+pub fn plan_gathered(
+    rt: &(impl Threads + Sync),
+    alloc: Global,
+    instance: &Instance,
+    levels: &[Vec<u32>],
+    gathered: &Gathered,
+) -> Result<Plan, AllocError>
+    requires levels { AreLevels instance.now.rows levels.now }
+    requires gathered { IsGathered instance.now (demands_of gathered.now) }
+    ensures { IfOk result (λ plan. IsPlan instance.now plan.amounts.items) }
+{
+    let mut amounts = vec![in alloc; 0u64; instance.rows().len()]?;
+    amounts[0] = gathered.most[0];
+    // the groups of the deepest level are leaves
+    for below in 1..levels.len() {
+        share_level(rt, alloc, instance, gathered, levels, below - 1, &mut amounts)?;
+    }
+    Ok(Plan { amounts })
+}
+
+/// The one plan of an instance, as [`plan`](crate::plan) gives it, one level after another from the root down. A level
+/// whose groups have many children to split among is split in several threads. Refused for want of memory alone.
 pub fn plan_levels(
     rt: &(impl Threads + Sync),
     alloc: Global,
@@ -88,19 +186,5 @@ pub fn plan_levels(
 {
     let levels = levels(alloc, instance)?;
     let gathered = gather_levels(alloc, instance, levels.as_slice())?;
-    let mut amounts = vec![in alloc; 0u64; instance.rows().len()]?;
-    amounts[0] = gathered.most[0];
-    // the groups of the deepest level are leaves
-    for below in 1..levels.len() {
-        share_level(
-            rt,
-            alloc,
-            instance,
-            &gathered,
-            levels.as_slice(),
-            below - 1,
-            &mut amounts,
-        )?;
-    }
-    Ok(Plan { amounts })
+    plan_gathered(rt, alloc, instance, levels.as_slice(), &gathered)
 }

@@ -1,7 +1,7 @@
 use Rattle.std.proofs.Common.{◌≡◌, ◌<◌, ℕ, length, get_or}
 use Rattle.bw_plan.specs.Shared.{IsPlanning}
 use Rattle.bw_plan.proofs.Done.{done_at}
-use Rattle.bw_plan.proofs.level_plan.share_level.Given as goal
+use Rattle.bw_plan.proofs.level_plan.share_in_pieces.Given as goal
 
 abbrev pub invariant-loop-k : goal.invariant-loop-k
 invariant-loop-k g l = record {

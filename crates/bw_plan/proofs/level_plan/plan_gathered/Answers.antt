@@ -6,14 +6,14 @@ use Rattle.bw_demand.specs.Levels.{AreLevels}
 use Rattle.bw_plan.specs.Shared.{IsPlanning, is_above}
 use Rattle.bw_plan.proofs.Shares.{begun, all_planned}
 use Rattle.bw_plan.proofs.Done.{none_above, inner_above}
-use Rattle.bw_plan.proofs.level_plan.plan_levels.Goals as goal
+use Rattle.bw_plan.proofs.level_plan.plan_gathered.Goals as goal
 
 pub loop-below-init : goal.loop-below-init
 loop-below-init g c =
     let groups = c.args.instance.now in
     let valid = c.rows.ensures.valid in
-    let most = c.in_ok-gathered.gathered.most.items in
-    let known = c.in_ok-gathered.ensures in
+    let most = c.args.gathered.now.most.items in
+    let known = c.requires.gathered in
     let long : length c.rows.result.now ≡ length groups.rows = ap (length {A = Row}) c.rows.ensures.rows in
     let root : 0 < length groups.rows = valid.tree.has_root in
     let read : c.index.result.now ≡ get_or most 0 0 =
@@ -27,16 +27,16 @@ loop-below-init g c =
 pub loop-below-preserved : goal.loop-below-preserved
 loop-below-preserved g c =
     let next : c.loop-below.below - 1 + 1 ≡ c.loop-below.below + 1 - 1 = omega arith in
-    subst (λ (n : ℕ). IsPlanning c.args.instance.now c.in_ok-gathered.gathered.most.items (is_above c.args.instance.now.rows n) c.share_level.new.amounts.items) next
+    subst (λ (n : ℕ). IsPlanning c.args.instance.now c.args.gathered.now.most.items (is_above c.args.instance.now.rows n) c.share_level.new.amounts.items) next
     c.in_ok-share_level.ensures
 
 pub returns : goal.returns
 returns g c =
     let groups = c.args.instance.now in
     let valid = c.rows.ensures.valid in
-    let most = c.in_ok-gathered.gathered.most.items in
-    let known = c.in_ok-gathered.ensures in
+    let most = c.args.gathered.now.most.items in
+    let known = c.requires.gathered in
     all_planned groups valid most (AreMosts-capped groups valid.tree most known.mosts)
     (is_above groups.rows (c.loop-below.below - 1)) c.loop-below.amounts.items
-    (λ h _ inner. inner_above groups.rows valid.tree c.in_ok-levels.levels.items (c.loop-below.below - 1) c.in_ok-levels.ensures (omega (arith, c.loop-below-test.false, c.loop-below.auto.below-end)) h inner)
+    (λ h _ inner. inner_above groups.rows valid.tree c.args.levels.now (c.loop-below.below - 1) c.requires.levels (omega (arith, c.loop-below-test.false, c.loop-below.auto.below-end)) h inner)
     c.loop-below.invariant
