@@ -1,6 +1,7 @@
 //! The plan, one level after another, and the groups of a level side by side.
 ghost use Rattle.std.specs.Prelude.{◌≡◌, ◌+◌, ◌<◌, length, All, IfOk, OnOk, slice_index};
 ghost use Rattle.std.specs.List.{AllZip};
+ghost use Rattle.bw_model.specs.Demand.{AreMosts};
 ghost use Rattle.bw_model.specs.Plan.{IsPlan};
 ghost use Rattle.bw_demand.specs.Demands.{demands_of, IsGathered};
 ghost use Rattle.bw_demand.specs.Levels.{AreLevels, level_of};
@@ -76,20 +77,19 @@ fn split_children(instance: &Instance, level: &[u32]) -> usize
 fn share_in_place(
     alloc: Global,
     instance: &Instance,
-    gathered: &Gathered,
+    most: &[u64],
     levels: &[Vec<u32>],
     depth: usize,
     amounts: &mut Vec<u64>,
 ) -> Result<(), AllocError>
-    requires gathered { IsGathered instance.now (demands_of gathered.now) }
+    requires mosts { AreMosts instance.now most.now }
     requires levels { AreLevels instance.now.rows levels.now }
     requires depth { depth < length levels.now }
-    requires planning { IsPlanning instance.now gathered.now.most.items (is_above instance.now.rows depth) amounts.old.items }
-    ensures { OnOk result (IsPlanning instance.now gathered.now.most.items (is_above instance.now.rows (depth + 1)) amounts.new.items) }
+    requires planning { IsPlanning instance.now most.now (is_above instance.now.rows depth) amounts.old.items }
+    ensures { OnOk result (IsPlanning instance.now most.now (is_above instance.now.rows (depth + 1)) amounts.new.items) }
 {
     // its contract says that the rows are a tree
     let _rows = instance.rows();
-    let most = gathered.most.as_slice();
     let level = level_at(instance, levels, depth);
     for k in 0..level.len() {
         share_out(alloc, instance, most, level[k], amounts)?;
@@ -102,21 +102,20 @@ fn share_in_pieces(
     rt: &(impl Threads + Sync),
     alloc: Global,
     instance: &Instance,
-    gathered: &Gathered,
+    most: &[u64],
     levels: &[Vec<u32>],
     depth: usize,
     piece: usize,
     amounts: &mut Vec<u64>,
 ) -> Result<(), AllocError>
-    requires gathered { IsGathered instance.now (demands_of gathered.now) }
+    requires mosts { AreMosts instance.now most.now }
     requires levels { AreLevels instance.now.rows levels.now }
     requires depth { depth < length levels.now }
-    requires planning { IsPlanning instance.now gathered.now.most.items (is_above instance.now.rows depth) amounts.old.items }
-    ensures { OnOk result (IsPlanning instance.now gathered.now.most.items (is_above instance.now.rows (depth + 1)) amounts.new.items) }
+    requires planning { IsPlanning instance.now most.now (is_above instance.now.rows depth) amounts.old.items }
+    ensures { OnOk result (IsPlanning instance.now most.now (is_above instance.now.rows (depth + 1)) amounts.new.items) }
 {
     // its contract says that the rows are a tree
     let _rows = instance.rows();
-    let most = gathered.most.as_slice();
     let level = level_at(instance, levels, depth);
     let parts = parts_of_level(rt, alloc, instance, most, amounts.as_slice(), level, piece)?;
     for k in 0..level.len() {
@@ -130,28 +129,28 @@ fn share_level(
     rt: &(impl Threads + Sync),
     alloc: Global,
     instance: &Instance,
-    gathered: &Gathered,
+    most: &[u64],
     levels: &[Vec<u32>],
     depth: usize,
     amounts: &mut Vec<u64>,
 ) -> Result<(), AllocError>
-    requires gathered { IsGathered instance.now (demands_of gathered.now) }
+    requires mosts { AreMosts instance.now most.now }
     requires levels { AreLevels instance.now.rows levels.now }
     requires depth { depth + 1 < length levels.now }
-    requires planning { IsPlanning instance.now gathered.now.most.items (is_above instance.now.rows depth) amounts.old.items }
-    ensures { OnOk result (IsPlanning instance.now gathered.now.most.items (is_above instance.now.rows (depth + 1)) amounts.new.items) }
+    requires planning { IsPlanning instance.now most.now (is_above instance.now.rows depth) amounts.old.items }
+    ensures { OnOk result (IsPlanning instance.now most.now (is_above instance.now.rows (depth + 1)) amounts.new.items) }
 {
     // the next level has all children of this one
     if levels[depth + 1].len() < 2 * PIECE_CHILDREN {
-        return share_in_place(alloc, instance, gathered, levels, depth, amounts);
+        return share_in_place(alloc, instance, most, levels, depth, amounts);
     }
     let level = level_at(instance, levels, depth);
     let children = split_children(instance, level);
     if children < 2 * PIECE_CHILDREN {
-        return share_in_place(alloc, instance, gathered, levels, depth, amounts);
+        return share_in_place(alloc, instance, most, levels, depth, amounts);
     }
     let piece = least_piece(level.len(), children);
-    share_in_pieces(rt, alloc, instance, gathered, levels, depth, piece, amounts)
+    share_in_pieces(rt, alloc, instance, most, levels, depth, piece, amounts)
 }
 
 /// As [`plan_levels`], for a caller that has the levels and what is gathered over them.
@@ -166,11 +165,12 @@ pub fn plan_gathered(
     requires gathered { IsGathered instance.now (demands_of gathered.now) }
     ensures { IfOk result (λ plan. IsPlan instance.now plan.amounts.items) }
 {
+    let most = gathered.most.as_slice();
     let mut amounts = vec![in alloc; 0u64; instance.rows().len()]?;
-    amounts[0] = gathered.most[0];
+    amounts[0] = most[0];
     // the groups of the deepest level are leaves
     for below in 1..levels.len() {
-        share_level(rt, alloc, instance, gathered, levels, below - 1, &mut amounts)?;
+        share_level(rt, alloc, instance, most, levels, below - 1, &mut amounts)?;
     }
     Ok(Plan { amounts })
 }
