@@ -7,6 +7,7 @@ use Rattle.std.proofs.lemmas.List.{take_all}
 use Rattle.std.proofs.lemmas.List.Folds.{list_any_more, list_any_at}
 use Rattle.bw_model.specs.declared.row.Row.{Row}
 use Rattle.bw_model.specs.Groups.{IsTree, parent_of, depth_of}
+use Rattle.bw_model.proofs.Under.{parent_lt}
 use Rattle.bw_model.proofs.Paths.{depth_of-step}
 use Rattle.bw_demand.specs.Levels.{level_of, AreLevels}
 use Rattle.bw_demand.proofs.ByDepth.{IsAtDepth, level_row, level_rises, level_has}
@@ -93,3 +94,34 @@ parent_unseen rows tree d k g p lt is e =
     let r : (j : ℕ) × (j < k) × (j < length (level_of rows d)) × (get_or (level_of rows d) j 0 ≡ p) = among (level_of rows d) k p f in
     let level : depth_of rows p ≡ d = rw r.3 at (level_row rows d r.0 r.2).depth in
     omega (arith, level, at, up)))
+
+-- the groups from this row on
+abbrev pub rows_from : ℕ → ℕ → Bool
+rows_from n c = not (ltb c n)
+
+-- before the last row
+pub no_rows : (n c : ℕ) → c < n → rows_from n c ≡ false
+no_rows n c lt = ap not (lt-ltb c n lt)
+
+-- after the first row
+pub all_rows : (n c : ℕ) → n ≡ 0 → rows_from n c ≡ true
+all_rows n c is = rw is (ap not (le-ltb c 0 (omega arith)))
+
+-- one row more
+pub next_row : (g c : ℕ) → rows_from g c ≡ (rows_from (g + 1) c || eqb g c)
+next_row g c = elim (cases_lt c g) [
+  | inl lt ↦ ap not (lt-ltb c g lt) ∙ sym (rw (lt-ltb c (g + 1) (omega (arith, lt))) (ne_eqb g c (λ e. omega (arith, e, lt))))
+  | inr ge ↦ ap not (le-ltb c g ge) ∙ sym (elim (cases_eq g c) [
+    | inl same ↦ rw (lt-ltb c (g + 1) (omega (arith, same))) (eq-eqb g c same)
+    | inr other ↦ rw (le-ltb c (g + 1) (omega (arith, ge, other))) refl
+  ])
+]
+
+-- it had not been seen, nor had its parent
+pub fresh_row : (g : ℕ) → rows_from (g + 1) g ≡ false
+fresh_row g = no_rows (g + 1) g (omega arith)
+
+pub parent_row_unseen : (rows : List Row) → IsTree rows → (g p : ℕ) → parent_of rows g ≡ Some p → rows_from (g + 1) p ≡ false
+parent_row_unseen rows tree g p e =
+    let up : p < g = parent_lt rows tree g p e in
+    no_rows (g + 1) p (omega (arith, up))

@@ -73,3 +73,24 @@ pub fn gather(alloc: Global, instance: &Instance) -> Result<Gathered, AllocError
     let levels = levels(alloc, instance)?;
     gather_levels(alloc, instance, levels.as_slice())
 }
+
+/// As [`gather`], row by row from the last one up, which makes no levels: each row comes after its parent.
+pub fn gather_rows(alloc: Global, instance: &Instance) -> Result<Gathered, AllocError>
+    ensures { IfOk result (λ gathered. IsGathered instance.now (demands_of gathered)) }
+{
+    let rows = instance.rows();
+    let mut want = demands_of(alloc, rows)?;
+    let mut most = vec![in alloc; 0u64; rows.len()]?;
+    let mut tight = vec![in alloc; false; rows.len()]?;
+    for g in (0..rows.len()).rev() {
+        let wanted = want[g];
+        let limit = instance.limit(g as u32);
+        let given = cut_at(limit, wanted);
+        most[g] = given;
+        tight[g] = is_below(limit, wanted);
+        if let Some(parent) = rows[g].parent {
+            want[parent as usize] += given;
+        }
+    }
+    Ok(Gathered { want, most, tight })
+}

@@ -9,7 +9,7 @@ mod limits;
 mod listed;
 
 pub use gathered::Gathered;
-pub use gathering::{gather, gather_levels};
+pub use gathering::{gather, gather_levels, gather_rows};
 pub use laws::{allocations_join, amounts_are_reached, bounds_hold, most_is_the_want_cut};
 pub use leveled::levels;
 pub use limits::limiting;

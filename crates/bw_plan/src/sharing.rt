@@ -94,7 +94,11 @@ pub fn share_out(
     requires can_share { CanShare instance.now most.now amounts.old.items g }
     ensures { OnOk result ((parts : List ℕ) × AreParts instance.now most.now amounts.old.items g parts × IsGiven instance.now.rows g parts amounts.old.items amounts.new.items) }
 {
-    let parts = parts_of(alloc, instance, most, amounts.as_slice(), g)?;
+    if amounts[g as usize] == 0 || instance.children(g).len() < 2 {
+        give(instance, g, &[], amounts);
+        return Ok(());
+    }
+    let parts = split_among(alloc, instance, most, amounts.as_slice(), g)?;
     give(instance, g, parts.as_slice(), amounts);
     Ok(())
 }
