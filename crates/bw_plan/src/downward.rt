@@ -4,7 +4,7 @@ ghost use Rattle.bw_model.specs.Plan.{IsPlan};
 
 use crate::amounts::Plan;
 use crate::sharing::share_out;
-use bw_demand::gather;
+use bw_demand::gather_rows;
 use bw_model::Instance;
 use std::alloc::{AllocError, Global};
 
@@ -14,7 +14,7 @@ use std::alloc::{AllocError, Global};
 pub fn plan(alloc: Global, instance: &Instance) -> Result<Plan, AllocError>
     ensures { IfOk result (λ plan. IsPlan instance.now plan.amounts.items) }
 {
-    let gathered = gather(alloc, instance)?;
+    let gathered = gather_rows(alloc, instance)?;
     let count = instance.rows().len();
     let mut amounts = vec![in alloc; 0u64; count]?;
     amounts[0] = gathered.most[0];

@@ -8,6 +8,7 @@ ghost use Rattle.bw_demand.specs.Levels.{AreLevels, level_of};
 ghost use Rattle.bw_plan.specs.Shared.{CanShare, AreParts, IsPlanning, is_above};
 
 use crate::amounts::Plan;
+use crate::downward::plan;
 use crate::sharing::{give, parts_of, share_out};
 use bw_demand::{Gathered, gather_levels, levels};
 use bw_model::Instance;
@@ -59,18 +60,34 @@ fn level_at<'a>(instance: &Instance, levels: &'a [Vec<u32>], depth: usize) -> &'
     levels[depth].as_slice()
 }
 
-// How many children the groups of a level have that have more than one: what they have is split.
-fn split_children(instance: &Instance, level: &[u32]) -> usize
+// The children of a group that has several, among whom what it has is split; else none.
+fn to_split(instance: &Instance, g: u32) -> usize
+    requires { g < length instance.now.rows }
+{
+    match instance.children(g).len() {
+        0 | 1 => 0,
+        several => several,
+    }
+}
+
+// Whether the groups of a level have so many children to split among that they are worth several threads.
+fn is_worth_cutting(instance: &Instance, level: &[u32]) -> bool
     requires { All (λ g. g < length instance.now.rows) level.now }
 {
-    let mut count = 0usize;
+    let mut children = 0usize;
     for g in level {
-        let children = instance.children(*g).len();
-        if children > 1 {
-            count = count.saturating_add(children);
-        }
+        children = children.saturating_add(to_split(instance, *g));
     }
-    count
+    level.len() > 1 && children >= 2 * PIECE_CHILDREN
+}
+
+// Whether the groups below the root, at whichever depth, have so many children to split among. The root is alone at its depth.
+fn may_be_worth_cutting(instance: &Instance) -> bool {
+    let mut children = 0usize;
+    for g in 1..instance.rows().len() {
+        children = children.saturating_add(to_split(instance, g as u32));
+    }
+    children >= 2 * PIECE_CHILDREN
 }
 
 // The groups of one depth share out what they have, one after another.
@@ -140,16 +157,12 @@ fn share_level(
     requires planning { IsPlanning instance.now most.now (is_above instance.now.rows depth) amounts.old.items }
     ensures { OnOk result (IsPlanning instance.now most.now (is_above instance.now.rows (depth + 1)) amounts.new.items) }
 {
-    // the next level has all children of this one
-    if levels[depth + 1].len() < 2 * PIECE_CHILDREN {
-        return share_in_place(alloc, instance, most, levels, depth, amounts);
-    }
     let level = level_at(instance, levels, depth);
-    let children = split_children(instance, level);
-    if children < 2 * PIECE_CHILDREN {
+    if !is_worth_cutting(instance, level) {
         return share_in_place(alloc, instance, most, levels, depth, amounts);
     }
-    let piece = least_piece(level.len(), children);
+    // the next level has all children of this one
+    let piece = least_piece(level.len(), levels[depth + 1].len());
     share_in_pieces(rt, alloc, instance, most, levels, depth, piece, amounts)
 }
 
@@ -175,8 +188,9 @@ pub fn plan_gathered(
     Ok(Plan { amounts })
 }
 
-/// The one plan of an instance, as [`plan`](crate::plan) gives it, one level after another from the root down. A level
-/// whose groups have many children to split among is split in several threads. Refused for want of memory alone.
+/// The one plan of an instance, as [`plan`] gives it, one level after another from the root down. The groups of a level
+/// with many children to split among are split in several threads, and where no level can have so many, this is [`plan`].
+/// Refused for want of memory alone.
 pub fn plan_levels(
     rt: &(impl Threads + Sync),
     alloc: Global,
@@ -184,6 +198,9 @@ pub fn plan_levels(
 ) -> Result<Plan, AllocError>
     ensures { IfOk result (λ plan. IsPlan instance.now plan.amounts.items) }
 {
+    if !may_be_worth_cutting(instance) {
+        return plan(alloc, instance);
+    }
     let levels = levels(alloc, instance)?;
     let gathered = gather_levels(alloc, instance, levels.as_slice())?;
     plan_gathered(rt, alloc, instance, levels.as_slice(), &gathered)

@@ -2,7 +2,7 @@ use Rattle.std.proofs.lemmas.List.{get_or_default}
 use Rattle.bw_demand.proofs.ByDepth.{level_within}
 use Rattle.bw_plan.proofs.level_plan.share_level.Goals as goal
 
-pub split_children-children-requires : goal.split_children-children-requires
-split_children-children-requires g c = λ k d lt.
+pub is_worth_cutting-requires : goal.is_worth_cutting-requires
+is_worth_cutting-requires g c = λ k d lt.
     rw (get_or_default c.level_at-level.result.now k d 0 lt)
     (level_within c.args.instance.now.rows c.args.depth k c.level_at-level.result.now c.level_at-level.ensures lt)

@@ -6,7 +6,7 @@ use Rattle.bw_model.proofs.Under.{parent_lt}
 use Rattle.bw_model.proofs.Reach.{capped}
 use Rattle.bw_demand.proofs.Seen.{rows_from, no_rows, all_rows, next_row, fresh_row, parent_row_unseen}
 use Rattle.bw_demand.proofs.Passed.{IsGathering, nothing_gathered, sum_fits, gathered_child, gathered_root, all_gathered, no_parent, cut-capped, get_or_within}
-use Rattle.bw_demand.proofs.gathering.gather_rows.Goals as goal
+use Rattle.bw_demand.proofs.row_gathering.gather_rows.Goals as goal
 
 pub loop-g-init : goal.loop-g-init
 loop-g-init c =
