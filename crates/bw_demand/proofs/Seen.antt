@@ -2,6 +2,7 @@
 use Rattle.std.proofs.Common.{◌≡◌, ℕ, zero, suc, ◌+◌, ◌<◌, ◌≤◌, ◌==◌, ◌||◌, Bool, true, false, not, true≢false, eqb, ltb, List, [], ◌∷◌, take, length, get_or, Some, Vec, refl, sym, ap, ◌∙◌, arith, inl, inr}
 use Rattle.std.specs.List.{list_any}
 use Rattle.std.specs.declared.alloc.Global.{Global}
+use Rattle.std.proofs.Math.Bool.{or-false, or_assoc}
 use Rattle.std.proofs.lemmas.Bool.{cases_lt, cases_eq, cases_Bool, eq-eqb, ne_eqb, eqb-true, lt-ltb, le-ltb, or_cases, false_from_ne_true}
 use Rattle.std.proofs.lemmas.List.{take_all}
 use Rattle.std.proofs.lemmas.List.Folds.{list_any_more, list_any_at}
@@ -31,14 +32,6 @@ among (x ∷ xs) (suc k) c e = elim (or_cases (x == c) (list_any (λ h. h == c) 
       (suc r.0, omega (arith, r.1), omega (arith, r.2), r.3)
 ]
 
-or_false : (b : Bool) → (b || false) ≡ b
-or_false true = refl
-or_false false = refl
-
-or_assoc : (a b c : Bool) → (a || (b || c)) ≡ ((a || b) || c)
-or_assoc true b c = refl
-or_assoc false b c = refl
-
 -- before the deepest level
 pub none_seen : (rows : List Row) (levels : List (Vec ℕ Global)) (d : ℕ) → AreLevels rows levels → d ≡ length levels →
     (c : ℕ) → c < length rows → seen_from rows d c ≡ false
@@ -50,7 +43,7 @@ all_seen rows d c is = rw is (ap not (le-ltb (depth_of rows c) 0 (omega arith)))
 
 -- before the first of a level
 pub first_seen : (rows : List Row) (d c : ℕ) → seen_at rows d 0 c ≡ seen_from rows (d + 1) c
-first_seen rows d c = or_false (seen_from rows (d + 1) c)
+first_seen rows d c = or-false (seen_from rows (d + 1) c)
 
 -- after the last of a level
 pub last_seen : (rows : List Row) (d k c : ℕ) → c < length rows → length (level_of rows d) ≤ k → seen_from rows d c ≡ seen_at rows d k c
@@ -74,7 +67,7 @@ pub next_seen : (rows : List Row) (d k g c : ℕ) → k < length (level_of rows 
     seen_at rows d (k + 1) c ≡ (seen_at rows d k c || eqb g c)
 next_seen rows d k g c lt is =
     rw is (ap (λ (b : Bool). seen_from rows (d + 1) c || b) (list_any_more (λ h. h == c) (level_of rows d) k 0 lt)
-    ∙ or_assoc (seen_from rows (d + 1) c) (list_any (λ h. h == c) (take k (level_of rows d))) (get_or (level_of rows d) k 0 == c))
+    ∙ sym (or_assoc (seen_from rows (d + 1) c) (list_any (λ h. h == c) (take k (level_of rows d))) (get_or (level_of rows d) k 0 == c)))
 
 -- it had not been seen, nor had the one above it
 pub fresh : (rows : List Row) (d k g : ℕ) → k < length (level_of rows d) → g ≡ get_or (level_of rows d) k 0 → seen_at rows d k g ≡ false
