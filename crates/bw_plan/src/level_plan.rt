@@ -12,6 +12,7 @@ use crate::downward::plan;
 use crate::sharing::{give, parts_of, share_out};
 use bw_demand::{Gathered, gather_levels, levels};
 use bw_model::Instance;
+use rayon::current_num_threads;
 use rayon::prelude::*;
 use std::alloc::{AllocError, Global};
 use std::thread::Threads;
@@ -88,6 +89,19 @@ fn may_be_worth_cutting(instance: &Instance) -> bool {
         children = children.saturating_add(to_split(instance, g as u32));
     }
     children >= 2 * PIECE_CHILDREN
+}
+
+// Whether some level is worth several threads.
+fn is_any_worth_cutting(instance: &Instance, levels: &[Vec<u32>]) -> bool
+    requires { AreLevels instance.now.rows levels.now }
+{
+    for depth in 0..levels.len() {
+        let level = level_at(instance, levels, depth);
+        if is_worth_cutting(instance, level) {
+            return true;
+        }
+    }
+    false
 }
 
 // The groups of one depth share out what they have, one after another.
@@ -202,6 +216,10 @@ pub fn plan_levels(
         return plan(alloc, instance);
     }
     let levels = levels(alloc, instance)?;
+    // on one processor pieces take turns
+    if !is_any_worth_cutting(instance, levels.as_slice()) || current_num_threads(rt) < 2 {
+        return plan(alloc, instance);
+    }
     let gathered = gather_levels(alloc, instance, levels.as_slice())?;
     plan_gathered(rt, alloc, instance, levels.as_slice(), &gathered)
 }

@@ -81,6 +81,25 @@ pub fn give(instance: &Instance, g: u32, parts: &[u64], amounts: &mut Vec<u64>)
     }
 }
 
+// Splits what a group has among its children, and writes the parts.
+fn share_among(
+    alloc: Global,
+    instance: &Instance,
+    most: &[u64],
+    g: u32,
+    amounts: &mut Vec<u64>,
+) -> Result<(), AllocError>
+    requires most_each { length most.now ≡ length instance.now.rows }
+    requires amount_each { length amounts.old.items ≡ length instance.now.rows }
+    requires can_share { CanShare instance.now most.now amounts.old.items g }
+    requires inner { is_leaf instance.now.rows g ≡ false }
+    ensures { OnOk result ((parts : List ℕ) × AreParts instance.now most.now amounts.old.items g parts × IsGiven instance.now.rows g parts amounts.old.items amounts.new.items) }
+{
+    let parts = split_among(alloc, instance, most, amounts.as_slice(), g)?;
+    give(instance, g, parts.as_slice(), amounts);
+    Ok(())
+}
+
 /// Splits what a group has among its children, in place. It takes memory where it has something and more than one child.
 pub fn share_out(
     alloc: Global,
@@ -98,7 +117,5 @@ pub fn share_out(
         give(instance, g, &[], amounts);
         return Ok(());
     }
-    let parts = split_among(alloc, instance, most, amounts.as_slice(), g)?;
-    give(instance, g, parts.as_slice(), amounts);
-    Ok(())
+    share_among(alloc, instance, most, g, amounts)
 }
