@@ -82,6 +82,7 @@ pub fn give(instance: &Instance, g: u32, parts: &[u64], amounts: &mut Vec<u64>)
 }
 
 // Splits what a group has among its children, and writes the parts.
+#[inline(never)]
 fn share_among(
     alloc: Global,
     instance: &Instance,
@@ -101,6 +102,7 @@ fn share_among(
 }
 
 /// Splits what a group has among its children, in place. It takes memory where it has something and more than one child.
+#[inline(always)]
 pub fn share_out(
     alloc: Global,
     instance: &Instance,

@@ -63,7 +63,9 @@ fn runs_asked(rt: &HostRuntime) -> Option<u32> {
 fn main(rt: HostRuntime) {
     match runs_asked(&rt) {
         None => {
-            let _ = println!(&rt; "plan_bench RUNS prints the times of planning, each the least of so many runs");
+            let _ = println!(&rt;
+                "plan_bench RUNS prints the times of planning, each the least of so many runs"
+            );
         }
         Some(runs) => print_table(&rt, runs),
     }
