@@ -1,7 +1,8 @@
 use Rattle.std.proofs.Common.{◌≡◌, ℕ, zero, suc, ◌+◌, ◌*◌, ◌<◌, ◌≤◌, List, [], ◌∷◌, Bool, true, false, ◌||◌, ◌⊎◌, eqb, true≢false, cond, Option, None, Some, length, get_or, set, replicate, ltb, refl, ap, sym, ◌∙◌, arith, inl, inr}
 use Rattle.std.specs.Prelude.{sum_by, slice_index, map, min}
 use Rattle.std.specs.Option.{option_map_or}
-use Rattle.std.proofs.lemmas.Bool.{cases_Bool, cases_eq, eq-eqb, ne_eqb, eqb-true}
+use Rattle.std.proofs.Math.Bool.{or-false}
+use Rattle.std.proofs.lemmas.Bool.{cases_Bool, cases_eq, eq-eqb, ne_eqb, eqb-true, or_cases}
 use Rattle.std.proofs.lemmas.List.{get_or-set_same, get_or-set_other, length-replicate, length-map}
 use Rattle.std.proofs.Math.ListN.{length-set}
 use Rattle.bw_model.specs.declared.row.Row.{Row}
@@ -9,6 +10,7 @@ use Rattle.bw_model.specs.declared.limits.TheConstants.{MAX_DEMAND, MAX_GROUPS}
 use Rattle.bw_model.specs.Groups.{Groups, IsTree, IsInstance, parent_of, is_child, children_of, is_leaf, limit_of, demand_of}
 use Rattle.bw_model.specs.Demand.{want_of}
 use Rattle.bw_model.proofs.Sums.{sum_below, sum_below-zero, sum_below-ap}
+use Rattle.bw_model.proofs.Instances.{neither}
 use Rattle.bw_model.proofs.Under.{parent_lt}
 use Rattle.bw_model.proofs.Totals.{sum_by-children, is_child_no, is_child_from_parent}
 use Rattle.bw_model.proofs.Optimum.{no_children}
@@ -89,7 +91,8 @@ same_seen groups seen next want most tight same so_far = record {
       omega (arith, e, so_far.small);
 }
 
-zeros : (n k : ℕ) → ◌≡◌ {A = ℕ} (get_or (replicate n 0) k 0) 0
+-- each of many zeros, and past them
+pub zeros : (n k : ℕ) → ◌≡◌ {A = ℕ} (get_or (replicate n 0) k 0) 0
 zeros zero k = refl
 zeros (suc n) zero = refl
 zeros (suc n) (suc k) = zeros n k
@@ -140,14 +143,6 @@ capped_le : (o : Option ℕ) (want : ℕ) → capped o want ≤ want
 capped_le None want = omega arith
 capped_le (Some limit) want = omega arith
 
-either : (a b : Bool) → (a || b) ≡ true → (a ≡ true) ⊎ (b ≡ true)
-either true b e = inl refl
-either false b e = inr e
-
-neither : (a b : Bool) → (a || b) ≡ false → (a ≡ false) × (b ≡ false)
-neither true b e = absurd (true≢false e)
-neither false b e = (refl, e)
-
 -- one group more, which has not been seen, nor has the group above it
 module _ (groups : Groups) (tree : IsTree groups.rows) (seen next : ℕ → Bool) (g : ℕ) (below : g < length groups.rows)
     (fresh : seen g ≡ false) (marks : (c : ℕ) → c < length groups.rows → next c ≡ (seen c || eqb g c))
@@ -190,7 +185,7 @@ module _ (groups : Groups) (tree : IsTree groups.rows) (seen next : ℕ → Bool
   now_seen = marks g below ∙ rw fresh (eq-eqb g g refl)
 
   was_seen : (c : ℕ) → c < length groups.rows → next c ≡ true → (c ≡ g → ⊥) → seen c ≡ true
-  was_seen c lt e other = elim (either (seen c) (eqb g c) (sym (marks c lt) ∙ e)) [
+  was_seen c lt e other = elim (or_cases (seen c) (eqb g c) (sym (marks c lt) ∙ e)) [
     | inl yes' ↦ yes'
     | inr same ↦ absurd (other (sym (eqb-true g c same)))
   ]
@@ -205,13 +200,9 @@ module _ (groups : Groups) (tree : IsTree groups.rows) (seen next : ℕ → Bool
   left_next =
       let change : sum_below (length groups.rows) (left next want) + left seen want g ≡ sum_below (length groups.rows) (left seen want) + left next want g =
       sum_below-changed (length groups.rows) g (left seen want) (left next want) below
-      (λ k lt other. ap (λ (b : Bool). cond b 0 (get_or want k 0)) (marks k lt ∙ ap (λ (b : Bool). seen k || b) (ne_eqb g k (λ e. other (sym e))) ∙ or_no (seen k))) in
+      (λ k lt other. ap (λ (b : Bool). cond b 0 (get_or want k 0)) (marks k lt ∙ ap (λ (b : Bool). seen k || b) (ne_eqb g k (λ e. other (sym e))) ∙ or-false (seen k))) in
       let gone : left next want g ≡ 0 = ap (λ (b : Bool). cond b 0 (get_or want g 0)) now_seen in
       omega (arith, change, own_left, gone)
-    where
-      or_no : (b : Bool) → (b || false) ≡ b
-      or_no true = refl
-      or_no false = refl
 
   -- by what the wants become
   step : (after : List ℕ) (flag : Bool) → length after ≡ length groups.rows →

@@ -2,11 +2,13 @@
 use Rattle.std.proofs.Common.{◌≡◌, ℕ, zero, suc, ◌+◌, ◌<◌, ◌≤◌, ◌==◌, ◌||◌, Bool, true, false, not, true≢false, eqb, ltb, List, [], ◌∷◌, take, length, get_or, Some, Vec, refl, sym, ap, ◌∙◌, arith, inl, inr}
 use Rattle.std.specs.List.{list_any}
 use Rattle.std.specs.declared.alloc.Global.{Global}
+use Rattle.std.proofs.Math.Bool.{or-false, or_assoc}
 use Rattle.std.proofs.lemmas.Bool.{cases_lt, cases_eq, cases_Bool, eq-eqb, ne_eqb, eqb-true, lt-ltb, le-ltb, or_cases, false_from_ne_true}
 use Rattle.std.proofs.lemmas.List.{take_all}
 use Rattle.std.proofs.lemmas.List.Folds.{list_any_more, list_any_at}
 use Rattle.bw_model.specs.declared.row.Row.{Row}
 use Rattle.bw_model.specs.Groups.{IsTree, parent_of, depth_of}
+use Rattle.bw_model.proofs.Under.{parent_lt}
 use Rattle.bw_model.proofs.Paths.{depth_of-step}
 use Rattle.bw_demand.specs.Levels.{level_of, AreLevels}
 use Rattle.bw_demand.proofs.ByDepth.{IsAtDepth, level_row, level_rises, level_has}
@@ -30,14 +32,6 @@ among (x ∷ xs) (suc k) c e = elim (or_cases (x == c) (list_any (λ h. h == c) 
       (suc r.0, omega (arith, r.1), omega (arith, r.2), r.3)
 ]
 
-or_false : (b : Bool) → (b || false) ≡ b
-or_false true = refl
-or_false false = refl
-
-or_assoc : (a b c : Bool) → (a || (b || c)) ≡ ((a || b) || c)
-or_assoc true b c = refl
-or_assoc false b c = refl
-
 -- before the deepest level
 pub none_seen : (rows : List Row) (levels : List (Vec ℕ Global)) (d : ℕ) → AreLevels rows levels → d ≡ length levels →
     (c : ℕ) → c < length rows → seen_from rows d c ≡ false
@@ -49,7 +43,7 @@ all_seen rows d c is = rw is (ap not (le-ltb (depth_of rows c) 0 (omega arith)))
 
 -- before the first of a level
 pub first_seen : (rows : List Row) (d c : ℕ) → seen_at rows d 0 c ≡ seen_from rows (d + 1) c
-first_seen rows d c = or_false (seen_from rows (d + 1) c)
+first_seen rows d c = or-false (seen_from rows (d + 1) c)
 
 -- after the last of a level
 pub last_seen : (rows : List Row) (d k c : ℕ) → c < length rows → length (level_of rows d) ≤ k → seen_from rows d c ≡ seen_at rows d k c
@@ -73,7 +67,7 @@ pub next_seen : (rows : List Row) (d k g c : ℕ) → k < length (level_of rows 
     seen_at rows d (k + 1) c ≡ (seen_at rows d k c || eqb g c)
 next_seen rows d k g c lt is =
     rw is (ap (λ (b : Bool). seen_from rows (d + 1) c || b) (list_any_more (λ h. h == c) (level_of rows d) k 0 lt)
-    ∙ or_assoc (seen_from rows (d + 1) c) (list_any (λ h. h == c) (take k (level_of rows d))) (get_or (level_of rows d) k 0 == c))
+    ∙ sym (or_assoc (seen_from rows (d + 1) c) (list_any (λ h. h == c) (take k (level_of rows d))) (get_or (level_of rows d) k 0 == c)))
 
 -- it had not been seen, nor had the one above it
 pub fresh : (rows : List Row) (d k g : ℕ) → k < length (level_of rows d) → g ≡ get_or (level_of rows d) k 0 → seen_at rows d k g ≡ false
@@ -93,3 +87,34 @@ parent_unseen rows tree d k g p lt is e =
     let r : (j : ℕ) × (j < k) × (j < length (level_of rows d)) × (get_or (level_of rows d) j 0 ≡ p) = among (level_of rows d) k p f in
     let level : depth_of rows p ≡ d = rw r.3 at (level_row rows d r.0 r.2).depth in
     omega (arith, level, at, up)))
+
+-- the groups from this row on
+abbrev pub rows_from : ℕ → ℕ → Bool
+rows_from n c = not (ltb c n)
+
+-- before the last row
+pub no_rows : (n c : ℕ) → c < n → rows_from n c ≡ false
+no_rows n c lt = ap not (lt-ltb c n lt)
+
+-- after the first row
+pub all_rows : (n c : ℕ) → n ≡ 0 → rows_from n c ≡ true
+all_rows n c is = rw is (ap not (le-ltb c 0 (omega arith)))
+
+-- one row more
+pub next_row : (g c : ℕ) → rows_from g c ≡ (rows_from (g + 1) c || eqb g c)
+next_row g c = elim (cases_lt c g) [
+  | inl lt ↦ ap not (lt-ltb c g lt) ∙ sym (rw (lt-ltb c (g + 1) (omega (arith, lt))) (ne_eqb g c (λ e. omega (arith, e, lt))))
+  | inr ge ↦ ap not (le-ltb c g ge) ∙ sym (elim (cases_eq g c) [
+    | inl same ↦ rw (lt-ltb c (g + 1) (omega (arith, same))) (eq-eqb g c same)
+    | inr other ↦ rw (le-ltb c (g + 1) (omega (arith, ge, other))) refl
+  ])
+]
+
+-- it had not been seen, nor had its parent
+pub fresh_row : (g : ℕ) → rows_from (g + 1) g ≡ false
+fresh_row g = no_rows (g + 1) g (omega arith)
+
+pub parent_row_unseen : (rows : List Row) → IsTree rows → (g p : ℕ) → parent_of rows g ≡ Some p → rows_from (g + 1) p ≡ false
+parent_row_unseen rows tree g p e =
+    let up : p < g = parent_lt rows tree g p e in
+    no_rows (g + 1) p (omega (arith, up))

@@ -9,8 +9,8 @@ use crate::leveled::levels;
 use bw_model::{Instance, Row};
 use std::alloc::{AllocError, Global};
 
-// What a limit leaves of a want.
-fn cut_at(limit: Option<u64>, want: u64) -> u64
+/// What a limit leaves of a want.
+pub(crate) fn cut_at(limit: Option<u64>, want: u64) -> u64
     ensures { result ≡ option_map_or (min want) limit want }
 {
     match limit {
@@ -19,7 +19,8 @@ fn cut_at(limit: Option<u64>, want: u64) -> u64
     }
 }
 
-fn is_below(limit: Option<u64>, want: u64) -> bool
+/// Whether a limit is below a want.
+pub(crate) fn is_below(limit: Option<u64>, want: u64) -> bool
     ensures { result ≡ option_map_or (λ l. nat_lt l want) limit false }
 {
     match limit {
@@ -28,7 +29,8 @@ fn is_below(limit: Option<u64>, want: u64) -> bool
     }
 }
 
-fn demands_of(alloc: Global, rows: &[Row]) -> Result<Vec<u64>, AllocError>
+/// The demand of each row.
+pub(crate) fn demands_of(alloc: Global, rows: &[Row]) -> Result<Vec<u64>, AllocError>
     ensures { IfOk result (λ demands. demands.items ≡ map (λ row. row.demand) rows.now) }
 {
     rows.iter().map(|row| row.demand).collect(alloc)

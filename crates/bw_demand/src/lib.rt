@@ -7,6 +7,7 @@ mod laws;
 mod leveled;
 mod limits;
 mod listed;
+mod row_gathering;
 
 pub use gathered::Gathered;
 pub use gathering::{gather, gather_levels};
@@ -14,3 +15,4 @@ pub use laws::{allocations_join, amounts_are_reached, bounds_hold, most_is_the_w
 pub use leveled::levels;
 pub use limits::limiting;
 pub use listed::Limiting;
+pub use row_gathering::gather_rows;

@@ -2,6 +2,7 @@
 use Rattle.std.proofs.Common.{◌≡◌, ℕ, zero, suc, ◌+◌, ◌<◌, ◌≤◌, ◌==◌, ◌||◌, Bool, true, false, eqb, ltb, List, [], ◌∷◌, take, length, get_or, Some, Vec, refl, sym, ap, ◌∙◌, arith, inl, inr}
 use Rattle.std.specs.List.{list_any}
 use Rattle.std.specs.declared.alloc.Global.{Global}
+use Rattle.std.proofs.Math.Bool.{or-false, or_assoc}
 use Rattle.std.proofs.lemmas.Bool.{cases_lt, cases_eq, eq-eqb, ltb-true, lt-ltb, le-ltb, or_cases, or_left, false_from_ne_true}
 use Rattle.std.proofs.lemmas.List.{take_all}
 use Rattle.std.proofs.lemmas.List.Folds.{list_any_more, list_any_at}
@@ -18,14 +19,6 @@ use Rattle.bw_plan.specs.Shared.{is_above}
 abbrev pub done_at : List Row → ℕ → ℕ → ℕ → Bool
 done_at rows d k h = is_above rows d h || list_any (λ x. x == h) (take k (level_of rows d))
 
-or_false : (b : Bool) → (b || false) ≡ b
-or_false true = refl
-or_false false = refl
-
-or_assoc : (a b c : Bool) → (a || (b || c)) ≡ ((a || b) || c)
-or_assoc true b c = refl
-or_assoc false b c = refl
-
 pub none_above : (rows : List Row) (h : ℕ) → is_above rows 0 h ≡ false
 none_above rows h = le-ltb (depth_of rows h) 0 (omega arith)
 
@@ -39,7 +32,7 @@ inner_above rows tree levels d known le h inner =
     lt-ltb (depth_of rows h) d (omega (arith, at, le, step))
 
 pub first_done : (rows : List Row) (d h : ℕ) → done_at rows d 0 h ≡ is_above rows d h
-first_done rows d h = or_false (is_above rows d h)
+first_done rows d h = or-false (is_above rows d h)
 
 pub last_done : (rows : List Row) (d k h : ℕ) → h < length rows → length (level_of rows d) ≤ k → is_above rows (d + 1) h ≡ done_at rows d k h
 last_done rows d k h below le =
@@ -61,7 +54,7 @@ pub next_done : (rows : List Row) (d k g h : ℕ) → k < length (level_of rows 
     done_at rows d (k + 1) h ≡ (done_at rows d k h || eqb g h)
 next_done rows d k g h lt is =
     rw is (ap (λ (b : Bool). is_above rows d h || b) (list_any_more (λ x. x == h) (level_of rows d) k 0 lt)
-    ∙ or_assoc (is_above rows d h) (list_any (λ x. x == h) (take k (level_of rows d))) (get_or (level_of rows d) k 0 == h))
+    ∙ sym (or_assoc (is_above rows d h) (list_any (λ x. x == h) (take k (level_of rows d))) (get_or (level_of rows d) k 0 == h)))
 
 pub fresh : (rows : List Row) (d k g : ℕ) → k < length (level_of rows d) → g ≡ get_or (level_of rows d) k 0 → done_at rows d k g ≡ false
 fresh rows d k g lt is =

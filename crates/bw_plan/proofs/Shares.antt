@@ -1,7 +1,7 @@
 use Rattle.std.proofs.Common.{rules, ◌≡◌, ℕ, zero, suc, ◌*◌, ◌<◌, ◌≤◌, List, [], ◌∷◌, Bool, true, false, true≢false, ◌||◌, ◌⊎◌, eqb, ltb, Some, None, length, get_or, set, replicate, refl, ap, sym, ◌∙◌, arith, inl, inr}
 use Rattle.std.specs.Prelude.{All, sum, slice_index, map, filter}
 use Rattle.std.specs.List.{range_with_len}
-use Rattle.std.proofs.lemmas.Bool.{cases_Bool, cases_eq, cases_lt, eq-eqb, ne_eqb, eqb-true, ltb-true, lt-ltb, le-ltb}
+use Rattle.std.proofs.lemmas.Bool.{cases_Bool, cases_eq, cases_lt, eq-eqb, ne_eqb, eqb-true, ltb-true, lt-ltb, le-ltb, or_cases}
 use Rattle.std.proofs.lemmas.List.{get_or-set_same, get_or-set_other, length-replicate, length-map}
 use Rattle.std.proofs.lemmas.Nat.{mul-le}
 use Rattle.std.proofs.Math.Nat.{div-le_of_le-mul}
@@ -15,6 +15,7 @@ use Rattle.bw_model.specs.Host.{Shape, IsHost, slices_per_processor, capacity_of
 use Rattle.bw_model.specs.Split.{IsBestSplit}
 use Rattle.bw_model.specs.Plan.{child_weights, IsPlan}
 use Rattle.bw_model.specs.Demand.{want_of}
+use Rattle.bw_model.proofs.Instances.{neither}
 use Rattle.bw_model.proofs.Under.{parent_lt}
 use Rattle.bw_model.proofs.Totals.{is_child_no, parent_from_is_child}
 use Rattle.bw_model.proofs.Places.{child_at}
@@ -23,6 +24,7 @@ use Rattle.bw_model.proofs.Unique.{listed_child}
 use Rattle.bw_model.proofs.Planned.{parent_not_leaf, planned-IsPlan}
 use Rattle.bw_model.proofs.Reach.{capped, most_le_want, most_le_limit}
 use Rattle.bw_split.specs.Conditions.{CanSplit}
+use Rattle.bw_demand.proofs.Passed.{zeros}
 use Rattle.bw_plan.specs.Shared.{IsShared, IsPlanning, CanShare, AreParts, IsGiven}
 use Rattle.bw_plan.proofs.Easy.{given-IsShared, given-leaf}
 
@@ -64,14 +66,6 @@ weights_in_range groups valid g k below =
     let w = valid.weights (get_or (children_of groups.rows g) k 0) (child_at groups.rows g k inside).within in
     rw (get_or-map (weight_of groups.rows) (children_of groups.rows g) k inside) w
 
-either : (a b : Bool) → (a || b) ≡ true → (a ≡ true) ⊎ (b ≡ true)
-either true b e = inl refl
-either false b e = inr e
-
-neither : (a b : Bool) → (a || b) ≡ false → (a ≡ false) × (b ≡ false)
-neither true b e = absurd (true≢false e)
-neither false b e = (refl, e)
-
 -- the rows before g
 abbrev pub rows_before : ℕ → ℕ → Bool
 rows_before g h = ltb h g
@@ -85,11 +79,6 @@ before_next h g = elim (cases_lt h g) [
     | inr other ↦ le-ltb h (suc g) (omega (arith, other)) ∙ sym (rw (le-ltb h g le, ne_eqb g h other) refl)
   ]
 ]
-
-zeros : (n k : ℕ) → ◌≡◌ {A = ℕ} (get_or (replicate n 0) k 0) 0
-zeros zero k = refl
-zeros (suc n) zero = refl
-zeros (suc n) (suc k) = zeros n k
 
 module _ (groups : Groups) (valid : IsInstance groups) (most : List ℕ)
     (rule : (g : ℕ) → g < length groups.rows → get_or most g 0 ≡ capped (limit_of groups g) (want_of groups most g)) where
@@ -170,7 +159,7 @@ module _ (groups : Groups) (valid : IsInstance groups) (most : List ℕ)
       (marks : (h : ℕ) → h < length groups.rows → next h ≡ (done h || eqb g h))
       (closed : (h p : ℕ) → h < length groups.rows → done h ≡ true → parent_of groups.rows h ≡ Some p → done p ≡ true) where
     was_done : (h : ℕ) → h < length groups.rows → next h ≡ true → (h ≡ g → ⊥) → done h ≡ true
-    was_done h lt e other = elim (either (done h) (eqb g h) (sym (marks h lt) ∙ e)) [
+    was_done h lt e other = elim (or_cases (done h) (eqb g h) (sym (marks h lt) ∙ e)) [
       | inl yes' ↦ yes'
       | inr same ↦ absurd (other (sym (eqb-true g h same)))
     ]

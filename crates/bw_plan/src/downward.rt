@@ -3,8 +3,8 @@ ghost use Rattle.std.specs.Prelude.{IfOk};
 ghost use Rattle.bw_model.specs.Plan.{IsPlan};
 
 use crate::amounts::Plan;
-use crate::sharing::{give, parts_of};
-use bw_demand::gather;
+use crate::sharing::share_out;
+use bw_demand::gather_rows;
 use bw_model::Instance;
 use std::alloc::{AllocError, Global};
 
@@ -14,14 +14,13 @@ use std::alloc::{AllocError, Global};
 pub fn plan(alloc: Global, instance: &Instance) -> Result<Plan, AllocError>
     ensures { IfOk result (λ plan. IsPlan instance.now plan.amounts.items) }
 {
-    let gathered = gather(alloc, instance)?;
+    let gathered = gather_rows(alloc, instance)?;
     let count = instance.rows().len();
     let mut amounts = vec![in alloc; 0u64; count]?;
     amounts[0] = gathered.most[0];
     for g in 0..count {
         let most = gathered.most.as_slice();
-        let parts = parts_of(alloc, instance, most, amounts.as_slice(), g as u32)?;
-        give(instance, g as u32, parts.as_slice(), &mut amounts);
+        share_out(alloc, instance, most, g as u32, &mut amounts)?;
     }
     Ok(Plan { amounts })
 }

@@ -11,5 +11,5 @@ mod siblings;
 pub use amounts::Plan;
 pub use downward::plan;
 pub use laws::there_is_one_plan;
-pub use level_plan::plan_levels;
+pub use level_plan::{plan_gathered, plan_levels};
 pub use siblings::{child_values, child_weights};

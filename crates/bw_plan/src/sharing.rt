@@ -1,5 +1,5 @@
 //! One group's amount among its children.
-ghost use Rattle.std.specs.Prelude.{◌≡◌, ◌≢◌, ℕ, ◌<◌, ◌≤◌, false, length, slice_index, EachIndex, IfOk};
+ghost use Rattle.std.specs.Prelude.{◌≡◌, ◌≢◌, ℕ, ◌<◌, ◌≤◌, List, false, length, slice_index, EachIndex, IfOk, OnOk};
 ghost use Rattle.bw_model.specs.Groups.{children_of, is_leaf};
 ghost use Rattle.bw_plan.specs.Shared.{CanShare, AreBestParts, AreParts, IsGiven};
 
@@ -79,4 +79,45 @@ pub fn give(instance: &Instance, g: u32, parts: &[u64], amounts: &mut Vec<u64>)
         [only] => amounts[*only as usize] = amount,
         children => write_parts(amounts, children, parts),
     }
+}
+
+// Splits what a group has among its children, and writes the parts.
+#[inline(never)]
+fn share_among(
+    alloc: Global,
+    instance: &Instance,
+    most: &[u64],
+    g: u32,
+    amounts: &mut Vec<u64>,
+) -> Result<(), AllocError>
+    requires most_each { length most.now ≡ length instance.now.rows }
+    requires amount_each { length amounts.old.items ≡ length instance.now.rows }
+    requires can_share { CanShare instance.now most.now amounts.old.items g }
+    requires inner { is_leaf instance.now.rows g ≡ false }
+    ensures { OnOk result ((parts : List ℕ) × AreParts instance.now most.now amounts.old.items g parts × IsGiven instance.now.rows g parts amounts.old.items amounts.new.items) }
+{
+    let parts = split_among(alloc, instance, most, amounts.as_slice(), g)?;
+    give(instance, g, parts.as_slice(), amounts);
+    Ok(())
+}
+
+/// Splits what a group has among its children, in place. It takes memory where it has something and more than one child.
+#[inline(always)]
+pub fn share_out(
+    alloc: Global,
+    instance: &Instance,
+    most: &[u64],
+    g: u32,
+    amounts: &mut Vec<u64>,
+) -> Result<(), AllocError>
+    requires most_each { length most.now ≡ length instance.now.rows }
+    requires amount_each { length amounts.old.items ≡ length instance.now.rows }
+    requires can_share { CanShare instance.now most.now amounts.old.items g }
+    ensures { OnOk result ((parts : List ℕ) × AreParts instance.now most.now amounts.old.items g parts × IsGiven instance.now.rows g parts amounts.old.items amounts.new.items) }
+{
+    if amounts[g as usize] == 0 || instance.children(g).len() < 2 {
+        give(instance, g, &[], amounts);
+        return Ok(());
+    }
+    share_among(alloc, instance, most, g, amounts)
 }

@@ -4,9 +4,9 @@ ghost use Rattle.std.specs.Vec.{vec_capacity};
 ghost use Rattle.bw_shell.specs.Period.{IsPeriod};
 
 use crate::put_text::put_number_line;
-use bw_demand::gather;
+use bw_demand::{gather_levels, levels};
 use bw_hierarchy::Hierarchy;
-use bw_plan::plan_levels;
+use bw_plan::plan_gathered;
 use bw_workers::{Gate, ServeFault, serve};
 use std::alloc::Global;
 use std::sync::Wait;
@@ -28,8 +28,9 @@ pub fn serve_period<G: Gate, H: Threads + Wait + Sync>(
     let Ok((instance, ids, base)) = hierarchy.snapshot() else {
         return Err(ServeFault::OutOfMemory);
     };
-    let gathered = gather(alloc, &instance)?;
-    let plan = plan_levels(rt, alloc, &instance)?;
+    let levels = levels(alloc, &instance)?;
+    let gathered = gather_levels(alloc, &instance, levels.as_slice())?;
+    let plan = plan_gathered(rt, alloc, &instance, levels.as_slice(), &gathered)?;
     let served = serve(rt, alloc, &instance, &plan, gate)?;
     put_number_line(alloc, b"served ", served.drawn[0], answer)?;
     match hierarchy.book(&instance, &ids, &base, &gathered, &served.drawn) {

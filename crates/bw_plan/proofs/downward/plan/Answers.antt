@@ -20,14 +20,14 @@ loop-g-init c =
     (length c.rows-count.result.now) c.index.result.now (set c.in_ok-amounts.amounts.items 0 c.index.result.now) long read
     (ap (λ (xs : List ℕ). set xs 0 c.index.result.now) zeros)
 
-pub parts_of-requires-clause-can_share : goal.parts_of-requires-clause-can_share
-parts_of-requires-clause-can_share c =
+pub share_out-requires-clause-can_share : goal.share_out-requires-clause-can_share
+share_out-requires-clause-can_share c =
     let groups = c.args.instance.now in
     let valid = c.rows-count.ensures.valid in
     let most = c.in_ok-gathered.gathered.most.items in
     let long : length c.rows-count.result.now ≡ length groups.rows = ap (length {A = Row}) c.rows-count.ensures.rows in
     let inside : c.loop-g.g < length groups.rows = omega (arith, long, c.loop-g-test.true) in
-    rw (c.as_slice-most.ensures.value, c.as_slice.ensures.value)
+    rw c.as_slice-most.ensures.value
     (can_share groups valid most (AreMosts-capped groups valid.tree most c.in_ok-gathered.ensures.mosts)
     (rows_before c.loop-g.g) c.loop-g.g c.loop-g.amounts.items inside c.loop-g.invariant (parent_done groups valid.tree c.loop-g.g))
 
@@ -39,14 +39,14 @@ loop-g-preserved c =
     let before = c.loop-g.amounts.items in
     let long : length c.rows-count.result.now ≡ length groups.rows = ap (length {A = Row}) c.rows-count.ensures.rows in
     let inside : c.loop-g.g < length groups.rows = omega (arith, long, c.loop-g-test.true) in
-    let parts : AreParts groups most before c.loop-g.g c.as_slice-in-loop-g.result.now =
-    rw c.as_slice-in-loop-g.ensures.value (rw (c.as_slice-most.ensures.value, c.as_slice.ensures.value) at c.in_ok-parts.ensures) in
+    let shared = c.in_ok-share_out.ensures in
+    let parts : AreParts groups most before c.loop-g.g shared.0 = rw c.as_slice-most.ensures.value at shared.1 in
     let next : suc c.loop-g.g ≡ c.loop-g.g + 1 = omega arith in
-    subst (λ (n : ℕ). IsPlanning groups most (rows_before n) c.give.new.amounts.items) next
+    subst (λ (n : ℕ). IsPlanning groups most (rows_before n) c.share_out.new.amounts.items) next
     (given_more groups valid most (AreMosts-capped groups valid.tree most c.in_ok-gathered.ensures.mosts)
     (rows_before c.loop-g.g) (rows_before (suc c.loop-g.g)) c.loop-g.g inside (next_fresh groups valid.tree c.loop-g.g)
     (next_marks groups valid.tree c.loop-g.g) (before_closed groups valid.tree c.loop-g.g) (parent_done groups valid.tree c.loop-g.g)
-    c.as_slice-in-loop-g.result.now before c.give.new.amounts.items c.loop-g.invariant parts c.give.ensures)
+    shared.0 before c.share_out.new.amounts.items c.loop-g.invariant parts shared.2)
 
 pub returns : goal.returns
 returns c =

@@ -12,20 +12,19 @@ use Rattle.bw_plan.specs.Shared.{IsPlanning, CanShare, AreParts, is_above}
 use Rattle.bw_plan.proofs.Shares.{can_share, given_more, same_done}
 use Rattle.bw_plan.proofs.Done.{done_at, first_done, last_done, next_done, fresh, closed, parent_done, parent_above, no_child}
 use Rattle.bw_plan.proofs.Collected.{at_place, zip_long}
-use Rattle.bw_plan.proofs.level_plan.share_level.Goals as goal
+use Rattle.bw_plan.proofs.level_plan.share_in_pieces.Goals as goal
 
 pub parts_of_level-requires-clause-can_share : goal.parts_of_level-requires-clause-can_share
 parts_of_level-requires-clause-can_share g c = λ κs outlives k d lt.
     let groups = c.args.instance.now in
     let valid = c.rows-rows.ensures.valid in
-    let most = c.args.gathered.now.most.items in
+    let most = c.args.most.now in
     let before = c.args.amounts.now.items in
-    let level = level_is groups.rows c.args.levels.now c.args.depth c.index-levels-depth.result c.as_slice-level.result.now c.requires.levels
-    (slice_get_read c.args.levels.now (length c.args.levels.now) c.args.depth c.index-levels-depth.result refl (omega (arith, c.requires.depth)) c.index-levels-depth.is) c.as_slice-level.ensures.value in
+    let level = c.level_at-level.ensures in
     let here : k < length (level_of groups.rows c.args.depth) = rw level at lt in
     let at_depth = level_row groups.rows c.args.depth k here in
-    rw (get_or_default c.as_slice-level.result.now k d 0 lt, level, c.as_slice-most.ensures.value, c.as_slice.ensures.value)
-    (can_share groups valid most (AreMosts-capped groups valid.tree most c.requires.gathered.mosts)
+    rw (get_or_default c.level_at-level.result.now k d 0 lt, level, c.as_slice.ensures.value)
+    (can_share groups valid most (AreMosts-capped groups valid.tree most c.requires.mosts)
     (is_above groups.rows c.args.depth) (get_or (level_of groups.rows c.args.depth) k 0) before at_depth.within c.requires.planning
     (λ p up. parent_above groups.rows valid.tree c.args.depth (get_or (level_of groups.rows c.args.depth) k 0) p at_depth.depth up))
 
@@ -34,8 +33,8 @@ loop-k-init g c = record {
   planning =
       let groups = c.args.instance.now in
       let valid = c.rows-rows.ensures.valid in
-      let most = c.args.gathered.now.most.items in
-      same_done groups valid most (AreMosts-capped groups valid.tree most c.requires.gathered.mosts)
+      let most = c.args.most.now in
+      same_done groups valid most (AreMosts-capped groups valid.tree most c.requires.mosts)
       (is_above groups.rows c.args.depth) (done_at groups.rows c.args.depth 0) c.args.amounts.now.items
       (λ h _. first_done groups.rows c.args.depth h) c.requires.planning;
   held = λ j _. refl;
@@ -45,70 +44,67 @@ pub returns : goal.returns
 returns g c =
     let groups = c.args.instance.now in
     let valid = c.rows-rows.ensures.valid in
-    let most = c.args.gathered.now.most.items in
-    let level = level_is groups.rows c.args.levels.now c.args.depth c.index-levels-depth.result c.as_slice-level.result.now c.requires.levels
-    (slice_get_read c.args.levels.now (length c.args.levels.now) c.args.depth c.index-levels-depth.result refl (omega (arith, c.requires.depth)) c.index-levels-depth.is) c.as_slice-level.ensures.value in
+    let most = c.args.most.now in
+    let level = c.level_at-level.ensures in
     let whole : length (level_of groups.rows c.args.depth) ≤ c.loop-k.k = omega (arith, c.loop-k-test.false, ap (length {A = ℕ}) level) in
-    same_done groups valid most (AreMosts-capped groups valid.tree most c.requires.gathered.mosts)
+    same_done groups valid most (AreMosts-capped groups valid.tree most c.requires.mosts)
     (done_at groups.rows c.args.depth c.loop-k.k) (is_above groups.rows (c.args.depth + 1)) c.loop-k.amounts.items
     (λ h below. last_done groups.rows c.args.depth c.loop-k.k h below whole) c.loop-k.invariant.planning
 
 pub index-requires : goal.index-requires
 index-requires g c =
-    let long : length c.in_ok-parts.parts.items ≡ length c.as_slice-level.result.now =
-    zip_long (λ row v. AreParts c.args.instance.now c.as_slice-most.result.now c.as_slice.result.now row v.items) c.as_slice-level.result.now c.in_ok-parts.parts.items c.in_ok-parts.ensures in
+    let long : length c.in_ok-parts.parts.items ≡ length c.level_at-level.result.now =
+    zip_long (λ row v. AreParts c.args.instance.now c.args.most.now c.as_slice.result.now row v.items) c.level_at-level.result.now c.in_ok-parts.parts.items c.in_ok-parts.ensures in
     omega (arith, long, c.loop-k-test.true)
 
 pub give-requires-clause-row : goal.give-requires-clause-row
 give-requires-clause-row g c =
     let groups = c.args.instance.now in
-    let level = level_is groups.rows c.args.levels.now c.args.depth c.index-levels-depth.result c.as_slice-level.result.now c.requires.levels
-    (slice_get_read c.args.levels.now (length c.args.levels.now) c.args.depth c.index-levels-depth.result refl (omega (arith, c.requires.depth)) c.index-levels-depth.is) c.as_slice-level.ensures.value in
-    level_within groups.rows c.args.depth c.loop-k.k c.as_slice-level.result.now level c.loop-k-test.true
+    let level = c.level_at-level.ensures in
+    level_within groups.rows c.args.depth c.loop-k.k c.level_at-level.result.now level c.loop-k-test.true
 
 pub give-requires-clause-part_each : goal.give-requires-clause-part_each
 give-requires-clause-part_each g c = λ has two.
     let groups = c.args.instance.now in
     let k : ℕ = c.loop-k.k in
-    let row : ℕ = get_or c.as_slice-level.result.now c.loop-k.k 0 in
+    let row : ℕ = get_or c.level_at-level.result.now c.loop-k.k 0 in
     let kept : get_or c.loop-k.amounts.items row 0 ≡ get_or c.as_slice.result.now row 0 =
     c.loop-k.invariant.held c.loop-k.k c.loop-k-test.true ∙ ap (λ (xs : List ℕ). get_or xs row 0) (sym c.as_slice.ensures.value) in
-    let found = at_place (λ row v. AreParts groups c.as_slice-most.result.now c.as_slice.result.now row v.items) c.as_slice-level.result.now c.in_ok-parts.parts.items
+    let found = at_place (λ row v. AreParts groups c.args.most.now c.as_slice.result.now row v.items) c.level_at-level.result.now c.in_ok-parts.parts.items
     c.loop-k.k 0 c.index.result.now c.in_ok-parts.ensures c.loop-k-test.true in
     let best = found (rw kept at has) two in
     ap (length {A = ℕ}) (c.as_slice-in-loop-k.ensures.value ∙ ap (λ (v : Vec ℕ Global). v.items) c.index.ensures)
-    ∙ best.split.lengths ∙ length-map (children_of groups.rows row) (slice_index c.as_slice-most.result.now)
+    ∙ best.split.lengths ∙ length-map (children_of groups.rows row) (slice_index c.args.most.now)
 
 pub loop-k-preserved : goal.loop-k-preserved
 loop-k-preserved g c =
     let groups = c.args.instance.now in
     let valid = c.rows-rows.ensures.valid in
-    let most = c.args.gathered.now.most.items in
+    let most = c.args.most.now in
     let d : ℕ = c.args.depth in
-    let row : ℕ = get_or c.as_slice-level.result.now c.loop-k.k 0 in
-    let level = level_is groups.rows c.args.levels.now c.args.depth c.index-levels-depth.result c.as_slice-level.result.now c.requires.levels
-    (slice_get_read c.args.levels.now (length c.args.levels.now) c.args.depth c.index-levels-depth.result refl (omega (arith, c.requires.depth)) c.index-levels-depth.is) c.as_slice-level.ensures.value in
+    let row : ℕ = get_or c.level_at-level.result.now c.loop-k.k 0 in
+    let level = c.level_at-level.ensures in
     let here : c.loop-k.k < length (level_of groups.rows d) = rw level at c.loop-k-test.true in
     let is : row ≡ get_or (level_of groups.rows d) c.loop-k.k 0 = ap (λ (xs : List ℕ). get_or xs c.loop-k.k 0) level in
-    let inside : row < length groups.rows = level_within groups.rows d c.loop-k.k c.as_slice-level.result.now level c.loop-k-test.true in
+    let inside : row < length groups.rows = level_within groups.rows d c.loop-k.k c.level_at-level.result.now level c.loop-k-test.true in
     let deep : depth_of groups.rows row ≡ d = ap (depth_of groups.rows) is ∙ (level_row groups.rows d c.loop-k.k here).depth in
     let kept : get_or c.loop-k.amounts.items row 0 ≡ get_or c.as_slice.result.now row 0 =
     c.loop-k.invariant.held c.loop-k.k c.loop-k-test.true ∙ ap (λ (xs : List ℕ). get_or xs row 0) (sym c.as_slice.ensures.value) in
-    let found = at_place (λ row v. AreParts groups c.as_slice-most.result.now c.as_slice.result.now row v.items) c.as_slice-level.result.now c.in_ok-parts.parts.items
+    let found = at_place (λ row v. AreParts groups c.args.most.now c.as_slice.result.now row v.items) c.level_at-level.result.now c.in_ok-parts.parts.items
     c.loop-k.k 0 c.index.result.now c.in_ok-parts.ensures c.loop-k-test.true in
     let parts_are : c.as_slice-in-loop-k.result.now ≡ (get_or c.in_ok-parts.parts.items c.loop-k.k c.index.result.now).items =
     c.as_slice-in-loop-k.ensures.value ∙ ap (λ (v : Vec ℕ Global). v.items) c.index.ensures in
     let parts : AreParts groups most c.loop-k.amounts.items row c.as_slice-in-loop-k.result.now = λ has two.
-    rw (kept, parts_are) (rw c.as_slice-most.ensures.value at (found (rw kept at has) two)) in
+    rw (kept, parts_are) (found (rw kept at has) two) in
     record {
-      planning = given_more groups valid most (AreMosts-capped groups valid.tree most c.requires.gathered.mosts)
+      planning = given_more groups valid most (AreMosts-capped groups valid.tree most c.requires.mosts)
           (done_at groups.rows d c.loop-k.k) (done_at groups.rows d (c.loop-k.k + 1)) row inside
           (fresh groups.rows d c.loop-k.k row here is) (λ h _. next_done groups.rows d c.loop-k.k row h here is)
           (λ h p _ e up. closed groups.rows valid.tree d c.loop-k.k h p e up)
           (λ p up. parent_done groups.rows valid.tree d c.loop-k.k row p deep up)
           c.as_slice-in-loop-k.result.now c.loop-k.amounts.items c.give.new.amounts.items c.loop-k.invariant.planning parts c.give.ensures;
       held = λ j lt.
-          let other : ℕ = get_or c.as_slice-level.result.now j 0 in
+          let other : ℕ = get_or c.level_at-level.result.now j 0 in
           let there : j < length (level_of groups.rows d) = rw level at lt in
           let same : other ≡ get_or (level_of groups.rows d) j 0 = ap (λ (xs : List ℕ). get_or xs j 0) level in
           let as_deep : depth_of groups.rows other ≡ d = ap (depth_of groups.rows) same ∙ (level_row groups.rows d j there).depth in

@@ -1,10 +1,10 @@
 use Rattle.std.proofs.Common.{◌≡◌, ◌<◌, ℕ, length, get_or}
 use Rattle.bw_plan.specs.Shared.{IsPlanning}
 use Rattle.bw_plan.proofs.Done.{done_at}
-use Rattle.bw_plan.proofs.level_plan.share_level.Given as goal
+use Rattle.bw_plan.proofs.level_plan.share_in_pieces.Given as goal
 
 abbrev pub invariant-loop-k : goal.invariant-loop-k
 invariant-loop-k g l = record {
-  planning : IsPlanning l.instance l.gathered.most.items (done_at l.instance.rows l.depth l.k) l.amounts.items;
+  planning : IsPlanning l.instance l.most (done_at l.instance.rows l.depth l.k) l.amounts.items;
   held : (j : ℕ) → j < length l.level → get_or l.amounts.items (get_or l.level j 0) 0 ≡ get_or l.initial.amounts.items (get_or l.level j 0) 0;
 }

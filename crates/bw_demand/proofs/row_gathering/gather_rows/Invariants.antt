@@ -1,0 +1,6 @@
+use Rattle.bw_demand.proofs.Passed.{IsGathering}
+use Rattle.bw_demand.proofs.Seen.{rows_from}
+use Rattle.bw_demand.proofs.row_gathering.gather_rows.Given as goal
+
+abbrev pub invariant-loop-g : goal.invariant-loop-g
+invariant-loop-g l = IsGathering l.instance (rows_from l.g) l.want.items l.most.items l.tight.items
