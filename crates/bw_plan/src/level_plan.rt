@@ -12,6 +12,7 @@ use crate::downward::plan;
 use crate::sharing::{give, parts_of, share_out};
 use bw_demand::{Gathered, gather_levels, levels};
 use bw_model::Instance;
+use bw_model::limits::MAX_PATH;
 use rayon::current_num_threads;
 use rayon::prelude::*;
 use std::alloc::{AllocError, Global};
@@ -106,16 +107,29 @@ fn may_be_worth_cutting(instance: &Instance) -> bool {
     children >= 2 * PIECE_CHILDREN
 }
 
-// Whether some level is worth several threads.
-fn is_any_worth_cutting(instance: &Instance, levels: &[Vec<u32>]) -> bool
-    requires { AreLevels instance.now.rows levels.now }
-{
-    for deeper in 1..levels.len() {
-        if is_worth_cutting(instance, levels, deeper - 1) {
-            return true;
+// How many children the groups of each depth below the root have to split among.
+fn to_split_by_depth(alloc: Global, instance: &Instance) -> Result<Vec<usize>, AllocError> {
+    let rows = instance.rows();
+    let mut depths: Vec<usize> = Vec::with_capacity(alloc, rows.len())?;
+    let mut children = vec![in alloc; 0usize; MAX_PATH]?;
+    depths.push(0)?;
+    for g in 1..rows.len() {
+        let parent = rows[g].parent.unwrap_or(0);
+        let depth = depths
+            .get(parent as usize)
+            .map_or(0, |above| above.saturating_add(1));
+        depths.push(depth)?;
+        if let Some(count) = children.get_mut(depth) {
+            *count = count.saturating_add(to_split(instance, g as u32));
         }
     }
-    false
+    Ok(children)
+}
+
+// Whether some level is worth several threads, seen without the levels.
+fn is_any_worth_cutting(alloc: Global, instance: &Instance) -> Result<bool, AllocError> {
+    let children = to_split_by_depth(alloc, instance)?;
+    Ok(children.iter().any(|count| *count >= 2 * PIECE_CHILDREN))
 }
 
 // The groups of one depth share out what they have, one after another.
@@ -228,11 +242,11 @@ pub fn plan_levels(
     if !may_be_worth_cutting(instance) {
         return plan(alloc, instance);
     }
-    let levels = levels(alloc, instance)?;
     // on one processor pieces take turns
-    if !is_any_worth_cutting(instance, levels.as_slice()) || current_num_threads(rt) < 2 {
+    if current_num_threads(rt) < 2 || !is_any_worth_cutting(alloc, instance)? {
         return plan(alloc, instance);
     }
+    let levels = levels(alloc, instance)?;
     let gathered = gather_levels(alloc, instance, levels.as_slice())?;
     plan_gathered(rt, alloc, instance, levels.as_slice(), &gathered)
 }
