@@ -321,11 +321,11 @@ mkdir system.slice/web.service
 write system.slice/web.service cpu.weight 300
 write system.slice/web.service cpu.max 30500 100000
 write system.slice/web.service cpu.max.burst 10000
-# ! user.slice: its 1 child groups have no cpu.weight, so it stands as one group
+# ! user.slice: child groups without cpu.weight: 1, so it stands as one group
 mkdir user.slice
-# ! .: its own processes used 2 slices in a period: not in this script (--own puts them in)
+# ! .: slices in a period that its own processes used: 2, not in this script (--own puts them in)
 demand init.scope 0
-# ! system.slice: its own processes used 1 slices in a period: not in this script (--own puts them in)
+# ! system.slice: slices in a period that its own processes used: 1, not in this script (--own puts them in)
 demand system.slice/backup%20job.service 15
 demand system.slice/dev-disk-by\\x2dlabel-swap.swap 0
 demand system.slice/idle.service 0
@@ -373,7 +373,7 @@ def systemd_host(tools):
             holds(part, own, "own processes")
         all_ok(tools, own)
         shallow, _ = node_script(tools, folder, "one", "--later", "two", "--depth", "1")
-        holds("# ! system.slice: its 5 child groups are left out: depth 1\nmkdir system.slice\n", shallow, "depth")
+        holds("# ! system.slice: child groups left out: 5, depth 1\nmkdir system.slice\n", shallow, "depth")
         holds("demand system.slice 47\n", shallow, "depth")
 
 
@@ -392,7 +392,7 @@ NODE = {
     "kubepods.slice/kubepods-besteffort.slice": (0, 1000000, {"cpu.weight": "1\n", "cpu.max": "max 100000\n", "cpu.max.burst": "0\n"}),
 }
 NODE_TOLD = [
-    ".: its own processes used 200 slices in a period: not in this script (--own puts them in)",
+    ".: slices in a period that its own processes used: 200, not in this script (--own puts them in)",
     f"{PODS}: no cpu.max: the default is taken",
     f"{PODS}/kubepods-burstable-pod2.slice/app.scope: cpu.weight is 'ten': 100 is taken",
     f"{PODS}/kubepods-burstable-pod2.slice/app.scope: cpu.max is '20000': no limit is taken",
