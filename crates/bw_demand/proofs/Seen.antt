@@ -3,7 +3,7 @@ use Rattle.std.proofs.Common.{◌≡◌, ℕ, zero, suc, ◌+◌, ◌<◌, ◌�
 use Rattle.std.specs.List.{list_any}
 use Rattle.std.specs.declared.alloc.Global.{Global}
 use Rattle.std.proofs.Math.Bool.{or-false, or_assoc}
-use Rattle.std.proofs.lemmas.Bool.{cases_lt, cases_eq, cases_Bool, eq-eqb, ne_eqb, eqb-true, lt-ltb, le-ltb, or_cases, false_from_ne_true}
+use Rattle.std.proofs.lemmas.Bool.{cases_lt, cases_eq, eq-eqb, ne_eqb, eqb-true, lt-ltb, le-ltb, or_cases, false_from_ne_true}
 use Rattle.std.proofs.lemmas.List.{take_all}
 use Rattle.std.proofs.lemmas.List.Folds.{list_any_more, list_any_at}
 use Rattle.bw_model.specs.declared.row.Row.{Row}
@@ -11,7 +11,7 @@ use Rattle.bw_model.specs.Groups.{IsTree, parent_of, depth_of}
 use Rattle.bw_model.proofs.Under.{parent_lt}
 use Rattle.bw_model.proofs.Paths.{depth_of-step}
 use Rattle.bw_demand.specs.Levels.{level_of, AreLevels}
-use Rattle.bw_demand.proofs.ByDepth.{IsAtDepth, level_row, level_rises, level_has}
+use Rattle.bw_demand.proofs.ByDepth.{level_row, level_rises, level_has}
 
 -- the groups from this depth on
 abbrev pub seen_from : List Row → ℕ → ℕ → Bool

@@ -1,5 +1,5 @@
 -- What was collected from the rows of a level.
-use Rattle.std.proofs.Common.{◌≡◌, ℕ, List, [], ◌∷◌, length, get_or, map, Ok, Err, Vec, refl, subst, arith, zero, suc, ◌<◌, Bor}
+use Rattle.std.proofs.Common.{◌≡◌, ℕ, List, [], ◌∷◌, length, get_or, map, Ok, Err, Vec, refl, arith, zero, suc, ◌<◌, Bor}
 use Rattle.std.specs.Prelude.{Result, IfOk, MatchResult}
 use Rattle.std.specs.List.{AllZip, Contains}
 use Rattle.std.specs.declared.alloc.Global.{Global}

@@ -1,5 +1,5 @@
 -- Which groups a walk from the root down has done, level by level.
-use Rattle.std.proofs.Common.{◌≡◌, ℕ, zero, suc, ◌+◌, ◌<◌, ◌≤◌, ◌==◌, ◌||◌, Bool, true, false, eqb, ltb, List, [], ◌∷◌, take, length, get_or, Some, Vec, refl, sym, ap, ◌∙◌, arith, inl, inr}
+use Rattle.std.proofs.Common.{◌≡◌, ℕ, ◌+◌, ◌<◌, ◌≤◌, ◌==◌, ◌||◌, Bool, true, false, eqb, List, take, length, get_or, Some, Vec, refl, sym, ap, ◌∙◌, arith, inl, inr}
 use Rattle.std.specs.List.{list_any}
 use Rattle.std.specs.declared.alloc.Global.{Global}
 use Rattle.std.proofs.Math.Bool.{or-false, or_assoc}
@@ -11,7 +11,7 @@ use Rattle.bw_model.specs.Groups.{IsTree, parent_of, is_leaf, depth_of}
 use Rattle.bw_model.proofs.Totals.{inner_has_child}
 use Rattle.bw_model.proofs.Paths.{depth_of-step}
 use Rattle.bw_demand.specs.Levels.{level_of, AreLevels}
-use Rattle.bw_demand.proofs.ByDepth.{IsAtDepth, level_row, level_rises, level_has}
+use Rattle.bw_demand.proofs.ByDepth.{level_row, level_rises, level_has}
 use Rattle.bw_demand.proofs.Seen.{among}
 use Rattle.bw_plan.specs.Shared.{is_above}
 

@@ -1,4 +1,4 @@
-use Rattle.std.proofs.Common.{rules, ◌≡◌, ℕ, zero, suc, ◌*◌, ◌<◌, ◌≤◌, List, [], ◌∷◌, Bool, true, false, true≢false, ◌||◌, ◌⊎◌, eqb, ltb, Some, None, length, get_or, set, replicate, refl, ap, sym, ◌∙◌, arith, inl, inr}
+use Rattle.std.proofs.Common.{rules, ◌≡◌, ℕ, zero, suc, ◌*◌, ◌<◌, ◌≤◌, List, [], ◌∷◌, Bool, true, false, true≢false, ◌||◌, eqb, ltb, Some, None, length, get_or, set, replicate, refl, ap, sym, ◌∙◌, arith, inl, inr}
 use Rattle.std.specs.Prelude.{All, sum, slice_index, map, filter}
 use Rattle.std.specs.List.{range_with_len}
 use Rattle.std.proofs.lemmas.Bool.{cases_Bool, cases_eq, cases_lt, eq-eqb, ne_eqb, eqb-true, ltb-true, lt-ltb, le-ltb, or_cases}
@@ -12,7 +12,6 @@ use Rattle.bw_model.specs.declared.row.Row.{Row}
 use Rattle.bw_model.specs.Groups.{Groups, IsTree, IsInstance, parent_of, is_child, children_of, is_leaf, limit_of, weight_of, sum_of_children}
 use Rattle.bw_model.specs.declared.limits.TheConstants.{MIN_WEIGHT, MAX_WEIGHT, MAX_PROCESSORS, MAX_PER_PROCESSOR, MAX_CAPACITY, MAX_GROUPS}
 use Rattle.bw_model.specs.Host.{Shape, IsHost, slices_per_processor, capacity_of}
-use Rattle.bw_model.specs.Split.{IsBestSplit}
 use Rattle.bw_model.specs.Plan.{child_weights, IsPlan}
 use Rattle.bw_model.specs.Demand.{want_of}
 use Rattle.bw_model.proofs.Instances.{neither}

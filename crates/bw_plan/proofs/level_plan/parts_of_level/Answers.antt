@@ -1,4 +1,4 @@
-use Rattle.std.proofs.Common.{◌≡◌, ap, ◌∙◌}
+use Rattle.std.proofs.Common.{◌∙◌}
 use Rattle.bw_plan.specs.Shared.{AreParts}
 use Rattle.bw_plan.proofs.Collected.{collected}
 use Rattle.bw_plan.proofs.level_plan.parts_of_level.Goals as goal

@@ -1,4 +1,4 @@
-use Rattle.std.proofs.Common.{◌≡◌, ◌<◌, ℕ, false, get_or, ◌∙◌, arith}
+use Rattle.std.proofs.Common.{get_or, ◌∙◌}
 use Rattle.bw_plan.proofs.Shares.{children-CanSplit}
 use Rattle.bw_plan.proofs.sharing.split_among.Goals as goal
 
