@@ -63,14 +63,13 @@ fn level_at<'a>(instance: &Instance, levels: &'a [Vec<u32>], depth: usize) -> &'
     levels[depth].as_slice()
 }
 
-// The children of a group that has several, among whom what it has is split; else none.
+// The children of a group that has several, among whom what it has is split; else none. A product in place of a branch:
+// which groups have several is hard to foresee.
 fn to_split(instance: &Instance, g: u32) -> usize
     requires { g < length instance.now.rows }
 {
-    match instance.children(g).len() {
-        0 | 1 => 0,
-        several => several,
-    }
+    let children = instance.children(g).len();
+    children.wrapping_mul(usize::from(children > 1))
 }
 
 // The children of the groups of a level that are to be split among.
@@ -100,36 +99,47 @@ fn is_worth_cutting(instance: &Instance, levels: &[Vec<u32>], depth: usize) -> b
 
 // Whether the groups below the root, at whichever depth, have so many children to split among. The root is alone at its depth.
 fn may_be_worth_cutting(instance: &Instance) -> bool {
-    let mut children = 0usize;
-    for g in 1..instance.rows().len() {
-        children = children.saturating_add(to_split(instance, g as u32));
+    let count = instance.rows().len();
+    if count <= 2 * PIECE_CHILDREN {
+        return false;
     }
-    children >= 2 * PIECE_CHILDREN
+    let mut children = 0usize;
+    for g in 1..count {
+        children = children.saturating_add(to_split(instance, g as u32));
+        if children >= 2 * PIECE_CHILDREN {
+            return true;
+        }
+    }
+    false
 }
 
-// How many children the groups of each depth below the root have to split among.
-fn to_split_by_depth(alloc: Global, instance: &Instance) -> Result<Vec<usize>, AllocError> {
+// How many rows each depth has.
+fn rows_by_depth(alloc: Global, instance: &Instance) -> Result<Vec<usize>, AllocError> {
     let rows = instance.rows();
-    let mut depths: Vec<usize> = Vec::with_capacity(alloc, rows.len())?;
-    let mut children = vec![in alloc; 0usize; MAX_PATH]?;
-    depths.push(0)?;
+    let mut depths = vec![in alloc; 0u8; rows.len()]?;
+    let mut counts = vec![in alloc; 0usize; MAX_PATH]?;
     for g in 1..rows.len() {
         let parent = rows[g].parent.unwrap_or(0);
         let depth = depths
             .get(parent as usize)
-            .map_or(0, |above| above.saturating_add(1));
-        depths.push(depth)?;
-        if let Some(count) = children.get_mut(depth) {
-            *count = count.saturating_add(to_split(instance, g as u32));
+            .map_or(0, |above| above.wrapping_add(1));
+        depths[g] = depth;
+        if let Some(count) = counts.get_mut(depth as usize) {
+            *count = count.wrapping_add(1);
         }
     }
-    Ok(children)
+    Ok(counts)
 }
 
-// Whether some level is worth several threads, seen without the levels.
-fn is_any_worth_cutting(alloc: Global, instance: &Instance) -> Result<bool, AllocError> {
-    let children = to_split_by_depth(alloc, instance)?;
-    Ok(children.iter().any(|count| *count >= 2 * PIECE_CHILDREN))
+// Whether some depth has so many rows whose parents are not the root, seen without the levels.
+fn has_wide_level(alloc: Global, instance: &Instance) -> Result<bool, AllocError> {
+    let counts = rows_by_depth(alloc, instance)?;
+    Ok(
+        counts
+            .iter()
+            .skip(2)
+            .any(|count| *count >= 2 * PIECE_CHILDREN),
+    )
 }
 
 // The groups of one depth share out what they have, one after another.
@@ -239,11 +249,11 @@ pub fn plan_levels(
 ) -> Result<Plan, AllocError>
     ensures { IfOk result (λ plan. IsPlan instance.now plan.amounts.items) }
 {
-    if !may_be_worth_cutting(instance) {
+    // on one processor pieces take turns
+    if !may_be_worth_cutting(instance) || current_num_threads(rt) < 2 {
         return plan(alloc, instance);
     }
-    // on one processor pieces take turns
-    if current_num_threads(rt) < 2 || !is_any_worth_cutting(alloc, instance)? {
+    if !has_wide_level(alloc, instance)? {
         return plan(alloc, instance);
     }
     let levels = levels(alloc, instance)?;
