@@ -1,4 +1,11 @@
-# Shared by ./arbiter, ./build and ./test: where the toolchain and the native program are.
+# Shared by ./arbiter, ./build and ./test: where the toolchain and the native program are, and whether that is current.
+# Paths are relative to the top of the repository, where these functions are called.
+
+program=crates/arbiter/out/arbiter
+# What the program was made from: the kit's line, a hash of the sources, a hash of the program itself.
+stamp=crates/arbiter/out/arbiter.sources
+# Sizes and times of all files of which the stamp is known to be true, so that they need not be read again.
+times=crates/arbiter/out/arbiter.times
 
 need_rt() {
   command -v rt >/dev/null 2>&1 && return 0
@@ -6,18 +13,119 @@ need_rt() {
   exit 2
 }
 
-program=crates/arbiter/out/arbiter
-stamp=crates/arbiter/out/arbiter.sources
-
-# One line that changes with every source that the program is built from, and with the toolchain.
-sources_now() {
-  {
-    rt version </dev/null
-    cat crates.txt HANDLES
-    find crates/*/src crates/*/specs crates/*/proofs -type f \( -name '*.rt' -o -name '*.antt' \) -print0 | LC_ALL=C sort -z | xargs -0 sha256sum
-  } | sha256sum
+# Sets `kit` to the line that `rt version` prints. It is read from the kit itself, whose command takes longer than all
+# else here. Where no rt is on the PATH it is the line of the stamp: the program is of that kit, and no other is there.
+find_kit() {
+  local rt id
+  kit=''
+  if rt=$(type -P rt); then
+    rt=$(readlink -f "$rt")
+    id=${rt%/*/*}/KIT-ID
+    if [ -f "$id" ]; then read -r kit <"$id"; else kit=$(rt version </dev/null); fi
+  elif [ -f "$stamp" ]; then
+    read -r kit <"$stamp"
+  fi
 }
 
+# Sets `crate_lines` to the lines of crates.txt of the program and of all crates below it, and `folders` to where their
+# sources lie. The crates of tests and plan_bench stand above or beside it and are no part of it.
+find_crates() {
+  local -A line_of=() seen=([arbiter]=yes)
+  local all line name part at
+  local crates=(arbiter)
+  crate_lines=() folders=()
+  mapfile -t all <crates.txt
+  for line in "${all[@]}"; do
+    line=${line%%#*}
+    [[ $line == *:* ]] && line_of[${line%%[ :]*}]=$line
+  done
+  for ((at = 0; at < ${#crates[@]}; at++)); do
+    line=${line_of[${crates[at]}]-}
+    crate_lines+=("$line")
+    for part in src specs proofs; do
+      [ -d "crates/${crates[at]}/$part" ] && folders+=("crates/${crates[at]}/$part")
+    done
+    for name in ${line#*:}; do
+      # what has no line is a library of the kit
+      [ -n "${line_of[$name]-}" ] && [ -z "${seen[$name]-}" ] && seen[$name]=yes && crates+=("$name")
+    done
+  done
+}
+
+# Two lines: the kit's, and a hash of every source that the program is built from. It fails where a file cannot be read.
+sources_now() (
+  set -o pipefail
+  find_kit
+  find_crates
+  [ -n "$kit" ] && [ -n "${folders[*]}" ] || return 1
+  printf '%s\n' "$kit"
+  {
+    printf '%s\n' "${crate_lines[@]}" && cat HANDLES &&
+      find -L "${folders[@]}" -type f \( -name '*.rt' -o -name '*.antt' \) -print0 | LC_ALL=C sort -z | xargs -0 sha256sum
+  } | sha256sum
+)
+
+# Those lines and a hash of the program: the stamp, where that is true.
+stamp_now() {
+  sources_now && sha256sum <"$program"
+}
+
+# Name, size, time of the last write, time of the last change and inode number of each file that the stamp speaks of, and
+# of the stamp; `fresh` after those that were changed less than two seconds ago. The order is that of the folders: where
+# it is another one the next time, the files are read once more.
+times_now() {
+  find_crates
+  find -L "$program" "$stamp" crates.txt HANDLES "${folders[@]}" -type f \
+    \( -name '*.rt' -o -name '*.antt' -o -path "$program" -o -path "$stamp" -o -path crates.txt -o -path HANDLES \) \
+    -printf '%p %s %T@ %C@ %i' \( -newerct '2 seconds ago' -printf ' fresh' -o -true \) -printf '\n' 2>/dev/null
+}
+
+# Puts text into a file at once: another call of ./arbiter sees the old text or the new.
+replace() { # FILE TEXT
+  local beside
+  beside=$(mktemp "$1.XXXXXX" 2>/dev/null) || return 1
+  printf '%s\n' "$2" 2>/dev/null >"$beside" && mv -fT "$beside" "$1" 2>/dev/null && return 0
+  rm -f "$beside"
+  return 1
+}
+
+# Whether the native program is there and made from the sources and by the kit that are here.
+#
+# The files are read only where the times differ from those of the last time that the stamp was found true. What could go
+# unseen is a change that leaves names, sizes, inode numbers and times as they were. The time of the last write can be set
+# by anybody (`touch -d`, `cp -p`), so it tells nothing alone. The time of the last change (ctime) is set by the kernel at
+# each write, rename and change of mode, from a clock that ticks some hundred times a second, so that a second change in
+# one tick leaves it as it was. Therefore times are remembered only of files that had not been changed for two seconds
+# before they were read, and every later change has a later time. What is left: a clock set back to the very nanosecond of
+# a file's last change; a write past the file system, to the disk below; a writer that has mapped the file into memory and
+# writes again to a page before the system has written that out; a file system that keeps no such times, or shows those of
+# another machine late. No editor, git, copy or compiler does such a thing by itself, and where one is feared,
+# `rm crates/arbiter/out/arbiter.times` has all files read again.
 is_current() {
-  [ -x "$program" ] && [ -f "$stamp" ] && [ "$(cat "$stamp")" = "$(sources_now)" ]
+  local stamped_kit now
+  [ -x "$program" ] && [ -f "$stamp" ] || return 1
+  find_kit
+  read -r stamped_kit <"$stamp"
+  [ -n "$kit" ] && [ "$kit" = "$stamped_kit" ] || return 1
+  [ -f "$times" ] && times_now | cmp -s - "$times" && return 0
+  # before the files are read: what is changed later has another time
+  now=$(times_now) || now=''
+  [ "$(stamp_now)" = "$(<"$stamp")" ] || return 1
+  # where the folder cannot be written, each call reads the files
+  case $now in '' | *' fresh'*) ;; *) replace "$times" "$now" ;; esac
+  return 0
+}
+
+# Forgets the native program's stamp, before that is made anew.
+forget_stamp() {
+  rm -f "$stamp" "$times"
+}
+
+# Writes the stamp of a program that was just made from these sources, unless they were changed meanwhile.
+write_stamp() { # SOURCES, the lines of sources_now before it was made
+  if [ -z "$1" ] || [ "$(sources_now)" != "$1" ]; then
+    echo "$program was made while sources were changed, and is not taken as current" >&2
+    return 1
+  fi
+  replace "$stamp" "$(stamp_now)"
 }

@@ -1,0 +1,35 @@
+# Completion of arbiter for bash. Written by hand; tests/install.py compares it with what the program's own help says.
+
+_arbiter() {
+    local word=${COMP_WORDS[COMP_CWORD]} before=${COMP_WORDS[COMP_CWORD - 1]} given=''
+    COMPREPLY=()
+    # --slice=5000 is three words here
+    if [[ $word == = ]]; then
+        given=$before word=''
+    elif [[ $before == = ]]; then
+        given=${COMP_WORDS[COMP_CWORD - 2]}
+    else
+        given=$before
+    fi
+    if ((COMP_CWORD == 1)); then
+        COMPREPLY=($(compgen -W "run check help --help --version -h -V" -- "$word"))
+        return
+    fi
+    case ${COMP_WORDS[1]} in
+        run)
+            case $given in
+                # 1 to 64, default 1
+                --processors) COMPREPLY=($(compgen -W "1 2 4 8 16 32 64" -- "$word")) ;;
+                # microseconds, 1000 to 1000000, default 100000
+                --period) COMPREPLY=($(compgen -W "10000 100000 1000000" -- "$word")) ;;
+                # microseconds, 1000 to the period, which it divides, default 5000
+                --slice) COMPREPLY=($(compgen -W "1000 2000 5000 10000" -- "$word")) ;;
+                *) COMPREPLY=($(compgen -W "--processors --period --slice --help -h" -- "$word")) ;;
+            esac
+            ;;
+        check) COMPREPLY=($(compgen -W "--help -h" -- "$word")) ;;
+        help) ((COMP_CWORD == 2)) && COMPREPLY=($(compgen -W "run check help" -- "$word")) ;;
+    esac
+}
+
+complete -F _arbiter arbiter
