@@ -22,8 +22,8 @@ import native
 TOP = native.TOP
 SECONDS = 60
 # what the scripts call; a copy finds nothing else on its PATH, so that the machine's own rt is not there
-COMMANDS = ("bash", "cat", "chmod", "cmp", "cp", "env", "find", "grep", "mkdir", "mktemp", "mv", "readlink", "rm", "rmdir", "sh", "sort", "xargs")
-COPIED = ("arbiter", "build", "crates.txt", "HANDLES", "tests/lib.sh")
+COMMANDS = "bash cat chmod cmp cp env find grep mkdir mktemp mv readlink rm rmdir sh sort tail tee timeout xargs".split()
+COPIED = ("arbiter", "build", "test", "crates.txt", "HANDLES", "tests/lib.sh")
 OUT = "crates/arbiter/out"
 PROGRAM, STAMP, TIMES = f"{OUT}/arbiter", f"{OUT}/arbiter.sources", f"{OUT}/arbiter.times"
 INSTALLED = {
@@ -242,9 +242,15 @@ def sees_the_lists(copy):
     lines, handles = copy.read("crates.txt"), copy.read("HANDLES")
     copy.write("HANDLES", "Handles allowed: none.\n")
     copy.is_checked("other handles")
+    os.remove(f"{copy.top}/HANDLES")
+    copy.is_checked("no handles")
+    status, _, err = copy.call(["./build"])
+    same(status, 1, "a build without a list")
+    holds("build: the kit or the sources cannot be read\nbuild: not built\n", err, "a build without a list")
+    copy.is_checked("no handles, after a build")
     copy.write("HANDLES", handles)
     copy.is_native("the same handles")
-    copy.write("crates.txt", lines.replace("bw_shell may_wait=15:", "bw_shell may_wait=15: bw_new").replace("bw_model:", "bw_new:\nbw_model:"))
+    copy.write("crates.txt", lines.replace("bw_shell may_wait=15:", "bw_shell may_wait=15:\tbw_new").replace("bw_model:", " bw_new :\nbw_model:"))
     copy.is_checked("a new crate")
     copy.write("crates/bw_new/src/lib.rt", "of bw_new\n")
     copy.build()
@@ -408,11 +414,26 @@ def takes_no_wrong_program(copy):
     copy.write("../kit/while", f"echo late >>{copy.top}/{path}\n")
     status, _, err = copy.call(["./build"])
     same(status, 1, "sources that are changed meanwhile")
-    holds(f"{PROGRAM} was made while sources were changed, and is not taken as current\nbuild: not built\n", err, "sources that are changed meanwhile")
+    holds(f"{PROGRAM} is not taken as current: sources were changed while it was made", err, "sources that are changed meanwhile")
     copy.is_checked("after a build whose sources were changed")
     copy.write("../kit/while", "")
     copy.build()
     copy.is_native("built again")
+
+
+def test_notes_its_program(copy):
+    """./test takes the program that the gate built as current, unless sources were changed meanwhile; cases and counts stand in for the real ones."""
+    os.symlink(sys.executable, f"{copy.bin}/python3")
+    files = re.search(r"^for cases in (.*); do$", copy.read("test"), re.M).group(1).split()
+    same("install" in files, True, "this file is among the cases")
+    for name in files:
+        copy.write(f"tests/{name}.py", "print('1 passed, 0 failed')\n")
+    gate = f"import os, shutil\nos.makedirs({OUT!r}, exist_ok=True)\nshutil.copy({copy.kit + '/made'!r}, {PROGRAM!r})\nos.chmod({PROGRAM!r}, 0o755)\n"
+    for during, runs in (("", "native"), (f"open({copy.sources('bw_text')[0]!r}, 'a').write('late')\n", "checked")):
+        copy.write("tests/gate_times.py", f"{gate}{during}print('5 passed, 0 failed')\n")
+        status, out, err = copy.call(["./test"])
+        same((status, out.split("\n")[-2]), (0, f"{5 + len(files)} passed, 0 failed"), f"./test: {err}")
+        same(copy.runs(), runs, "after ./test")
 
 
 def reads_its_words(copy):
@@ -704,7 +725,7 @@ def installed_program_runs(program):
 
 OF_COPIES = [passes_all_through, runs_without_the_kit, tells_the_first_run, sees_every_source, leaves_other_crates_out, sees_the_lists, sees_files_come_and_go,
              sees_an_edit_in_disguise, reads_once, sees_the_kit, needs_program_and_stamp, runs_at_once, builds_where_needed, takes_no_wrong_program,
-             reads_its_words, installs, tells_where_it_cannot, installs_whole_or_not]
+             test_notes_its_program, reads_its_words, installs, tells_where_it_cannot, installs_whole_or_not]
 OF_PROGRAM = [help_is_read, man_page_agrees, man_page_examples, man_page_is_clean, bash_completes, zsh_completes, fish_completes, installed_program_runs]
 
 

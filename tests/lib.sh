@@ -30,22 +30,24 @@ find_kit() {
 # Sets `crate_lines` to the lines of crates.txt of the program and of all crates below it, and `folders` to where their
 # sources lie. The crates of tests and plan_bench stand above or beside it and are no part of it.
 find_crates() {
-  local -A line_of=() seen=([arbiter]=yes)
+  local -A line_of=() below=() seen=([arbiter]=yes)
   local all line name part at
   local crates=(arbiter)
   crate_lines=() folders=()
   mapfile -t all <crates.txt
   for line in "${all[@]}"; do
     line=${line%%#*}
-    [[ $line == *:* ]] && line_of[${line%%[ :]*}]=$line
+    [[ $line =~ ^[[:space:]]*([^[:space:]:]+)[^:]*:(.*)$ ]] || continue
+    name=${BASH_REMATCH[1]}
+    line_of[$name]=$line below[$name]=${BASH_REMATCH[2]}
   done
   for ((at = 0; at < ${#crates[@]}; at++)); do
-    line=${line_of[${crates[at]}]-}
-    crate_lines+=("$line")
+    name=${crates[at]}
+    crate_lines+=("${line_of[$name]-}")
     for part in src specs proofs; do
-      [ -d "crates/${crates[at]}/$part" ] && folders+=("crates/${crates[at]}/$part")
+      [ -d "crates/$name/$part" ] && folders+=("crates/$name/$part")
     done
-    for name in ${line#*:}; do
+    for name in ${below[$name]-}; do
       # what has no line is a library of the kit
       [ -n "${line_of[$name]-}" ] && [ -z "${seen[$name]-}" ] && seen[$name]=yes && crates+=("$name")
     done
@@ -102,7 +104,7 @@ replace() { # FILE TEXT
 # another machine late. No editor, git, copy or compiler does such a thing by itself, and where one is feared,
 # `rm crates/arbiter/out/arbiter.times` has all files read again.
 is_current() {
-  local stamped_kit now
+  local stamped_kit now found
   [ -x "$program" ] && [ -f "$stamp" ] || return 1
   find_kit
   read -r stamped_kit <"$stamp"
@@ -110,7 +112,7 @@ is_current() {
   [ -f "$times" ] && times_now | cmp -s - "$times" && return 0
   # before the files are read: what is changed later has another time
   now=$(times_now) || now=''
-  [ "$(stamp_now)" = "$(<"$stamp")" ] || return 1
+  found=$(stamp_now) && [ "$found" = "$(<"$stamp")" ] || return 1
   # where the folder cannot be written, each call reads the files
   case $now in '' | *' fresh'*) ;; *) replace "$times" "$now" ;; esac
   return 0
@@ -123,9 +125,10 @@ forget_stamp() {
 
 # Writes the stamp of a program that was just made from these sources, unless they were changed meanwhile.
 write_stamp() { # SOURCES, the lines of sources_now before it was made
-  if [ -z "$1" ] || [ "$(sources_now)" != "$1" ]; then
-    echo "$program was made while sources were changed, and is not taken as current" >&2
+  local now
+  if [ -z "$1" ] || ! now=$(sources_now) || [ "$now" != "$1" ]; then
+    echo "$program is not taken as current: sources were changed while it was made, or cannot be read" >&2
     return 1
   fi
-  replace "$stamp" "$(stamp_now)"
+  now=$(stamp_now) && replace "$stamp" "$now"
 }

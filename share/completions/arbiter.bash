@@ -12,23 +12,23 @@ _arbiter() {
         given=$before
     fi
     if ((COMP_CWORD == 1)); then
-        COMPREPLY=($(compgen -W "run check help --help --version -h -V" -- "$word"))
+        mapfile -t COMPREPLY < <(compgen -W "run check help --help --version -h -V" -- "$word")
         return
     fi
     case ${COMP_WORDS[1]} in
         run)
             case $given in
                 # 1 to 64, default 1
-                --processors) COMPREPLY=($(compgen -W "1 2 4 8 16 32 64" -- "$word")) ;;
+                --processors) mapfile -t COMPREPLY < <(compgen -W "1 2 4 8 16 32 64" -- "$word") ;;
                 # microseconds, 1000 to 1000000, default 100000
-                --period) COMPREPLY=($(compgen -W "10000 100000 1000000" -- "$word")) ;;
+                --period) mapfile -t COMPREPLY < <(compgen -W "10000 100000 1000000" -- "$word") ;;
                 # microseconds, 1000 to the period, which it divides, default 5000
-                --slice) COMPREPLY=($(compgen -W "1000 2000 5000 10000" -- "$word")) ;;
-                *) COMPREPLY=($(compgen -W "--processors --period --slice --help -h" -- "$word")) ;;
+                --slice) mapfile -t COMPREPLY < <(compgen -W "1000 2000 5000 10000" -- "$word") ;;
+                *) mapfile -t COMPREPLY < <(compgen -W "--processors --period --slice --help -h" -- "$word") ;;
             esac
             ;;
-        check) COMPREPLY=($(compgen -W "--help -h" -- "$word")) ;;
-        help) ((COMP_CWORD == 2)) && COMPREPLY=($(compgen -W "run check help" -- "$word")) ;;
+        check) mapfile -t COMPREPLY < <(compgen -W "--help -h" -- "$word") ;;
+        help) ((COMP_CWORD == 2)) && mapfile -t COMPREPLY < <(compgen -W "run check help" -- "$word") ;;
     esac
 }
 
