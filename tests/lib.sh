@@ -18,8 +18,9 @@ need_rt() {
 find_kit() {
   local rt id
   kit=''
-  if rt=$(type -P rt); then
-    rt=$(readlink -f "$rt")
+  # hash looks on the PATH, and costs no process
+  if hash rt 2>/dev/null; then
+    rt=$(readlink -f "${BASH_CMDS[rt]}")
     id=${rt%/*/*}/KIT-ID
     if [ -f "$id" ]; then read -r kit <"$id"; else kit=$(rt version </dev/null); fi
   elif [ -f "$stamp" ]; then
@@ -30,26 +31,25 @@ find_kit() {
 # Sets `crate_lines` to the lines of crates.txt of the program and of all crates below it, and `folders` to where their
 # sources lie. The crates of tests and plan_bench stand above or beside it and are no part of it.
 find_crates() {
-  local -A line_of=() below=() seen=([arbiter]=yes)
+  local -A line_of=() seen=([arbiter]=yes)
   local all line name part at
   local crates=(arbiter)
   crate_lines=() folders=()
   mapfile -t all <crates.txt
   for line in "${all[@]}"; do
     line=${line%%#*}
-    [[ $line =~ ^[[:space:]]*([^[:space:]:]+)[^:]*:(.*)$ ]] || continue
-    name=${BASH_REMATCH[1]}
-    line_of[$name]=$line below[$name]=${BASH_REMATCH[2]}
+    line=${line#"${line%%[![:space:]]*}"}
+    [[ $line == [!:]*:* ]] && line_of[${line%%[[:space:]:]*}]=$line
   done
   for ((at = 0; at < ${#crates[@]}; at++)); do
-    name=${crates[at]}
-    crate_lines+=("${line_of[$name]-}")
+    name=${crates[at]} line=${line_of[${crates[at]}]-}
+    crate_lines+=("$line")
     for part in src specs proofs; do
-      [ -d "crates/$name/$part" ] && folders+=("crates/$name/$part")
+      [[ -d crates/$name/$part ]] && folders+=("crates/$name/$part")
     done
-    for name in ${below[$name]-}; do
+    for name in ${line#*:}; do
       # what has no line is a library of the kit
-      [ -n "${line_of[$name]-}" ] && [ -z "${seen[$name]-}" ] && seen[$name]=yes && crates+=("$name")
+      [[ -z ${seen[$name]-} && -n ${line_of[$name]-} ]] && seen[$name]=yes && crates+=("$name")
     done
   done
 }
@@ -78,7 +78,7 @@ stamp_now() {
 times_now() {
   find_crates
   find -L "$program" "$stamp" crates.txt HANDLES "${folders[@]}" -type f \
-    \( -name '*.rt' -o -name '*.antt' -o -path "$program" -o -path "$stamp" -o -path crates.txt -o -path HANDLES \) \
+    \( -name '*.antt' -o -name '*.rt' -o -path "$program" -o -path "$stamp" -o -path crates.txt -o -path HANDLES \) \
     -printf '%p %s %T@ %C@ %i' \( -newerct '2 seconds ago' -printf ' fresh' -o -true \) -printf '\n' 2>/dev/null
 }
 
