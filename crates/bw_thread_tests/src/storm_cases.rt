@@ -96,7 +96,14 @@ fn play_all<R: Threads + Wait + Sync>(
     ensures { IfOk result (λ v. All (λ s. s.lock_id ≡ lock.now.lock_id) v.items × All (λ s. s.pending ≡ None) v.items) }
 {
     let other = AtomicCell::new(false);
-    map_vec(rt, seats, &|seat| play(rt, lock, seat, answered, &other))
+    map_vec(
+        rt,
+        seats,
+        &|seat: Seat<SlicePool>| -> Seat<SlicePool>
+            requires { (seat.lock_id ≡ lock.now.lock_id) × (seat.pending ≡ None) }
+            ensures { (result.lock_id ≡ lock.entry.now.lock_id) × (result.pending ≡ None) }
+        { play(rt, lock, seat, answered, &other) },
+    )
 }
 
 // Each entry is one of the storm, with the ceiling of pod before and after it is lowered.
@@ -146,8 +153,11 @@ fn storm_once<R: Threads + Wait + Abort + Sync>(rt: &R, alloc: Global) -> Result
     };
     assert_eq!(rt; history.len(), 501);
     assert_entries(rt, &history);
-    assert_eq!(rt; machine.all_drawn()[1], 0);
-    assert_eq!(rt; machine.ceiling(POD), 4);
+    // pod is row 1
+    let drawn = machine.all_drawn();
+    assert_eq!(rt; drawn.len(), 5);
+    assert_eq!(rt; drawn[1], 0);
+    assert_eq!(rt; machine.ceiling(1), 4);
     Ok(())
 }
 

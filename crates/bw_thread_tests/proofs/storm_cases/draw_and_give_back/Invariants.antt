@@ -1,0 +1,5 @@
+use Rattle.std.proofs.Common.{◌≡◌, None}
+use Rattle.bw_thread_tests.proofs.storm_cases.draw_and_give_back.Given as goal
+
+abbrev pub invariant-loop : goal.invariant-loop
+invariant-loop g l = (l.seat.lock_id ≡ l.lock.lock_id) × (l.seat.pending ≡ None)
