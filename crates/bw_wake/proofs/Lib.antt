@@ -1,8 +1,11 @@
 pub mod OneTurn
 pub mod Sound
+pub mod Counts
+pub mod Words
+pub mod WordsApart
 pub mod LeaveSound
 pub mod MarkSound
 pub mod OneSeatSound
 pub mod WakeSound
-pub mod Follows
-pub mod EveryRun
+pub mod NotStuck
+pub mod RunSound

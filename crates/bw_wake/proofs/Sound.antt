@@ -1,7 +1,7 @@
 -- The invariant of the waiting protocol: what holds at the start, and after each event if it held before.
-use Rattle.std.proofs.Common.{◌≡◌, ℕ, ◌+◌, ◌<◌, ◌≤◌, ◌⊎◌, ◌==◌, List, length}
+use Rattle.std.proofs.Common.{◌≡◌, ℕ, ◌+◌, ◌<◌, ◌≤◌, ◌⊎◌, ◌==◌, length}
 use Rattle.bw_wake.specs.declared.seats.Phase.{Phase}
-use Rattle.bw_wake.specs.declared.seats.Phase.TheVariants.{Idle, Waiting, Marked, Looked, Asleep, Inside, Done, Served, Owes, Found, Wakes}
+use Rattle.bw_wake.specs.declared.seats.Phase.TheVariants.{Waiting, Marked, Looked, Asleep, Inside, Done}
 use Rattle.bw_wake.specs.Protocol.{WaitState, mark_at}
 use Rattle.bw_wake.specs.Progress.{one_if, count, sleeps, busy, will_peek, wakes}
 

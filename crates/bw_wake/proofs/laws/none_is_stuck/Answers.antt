@@ -1,4 +1,4 @@
-use Rattle.bw_wake.proofs.EveryRun.{none_is_stuck}
+use Rattle.bw_wake.proofs.RunSound.{none_is_stuck}
 use Rattle.bw_wake.proofs.laws.none_is_stuck.Goals as goal
 
 pub returns : goal.returns
