@@ -9,3 +9,4 @@ pub mod OneSeatSound
 pub mod WakeSound
 pub mod NotStuck
 pub mod RunSound
+pub mod CanStep

@@ -1,5 +1,5 @@
-//! Laws of the waiting protocol over every list of events: each is the contract of a function that does nothing.
-ghost use Rattle.bw_wake.specs.Progress.{NoWakeIsLost, ServedTicketGoesOn, NoneIsStuck};
+//! Laws of the waiting protocol: each is the contract of a function that does nothing.
+ghost use Rattle.bw_wake.specs.Progress.{NoWakeIsLost, ServedTicketGoesOn, NoneIsStuck, AwakeSeatsCanStep};
 
 /// With a wake word for each seat, a seat that sleeps with the ticket that is served has its wake-up under way: another seat has yet to
 /// look for its mark, or has seen it, or wakes it next.
@@ -16,4 +16,9 @@ pub fn served_ticket_goes_on()
 /// With a wake word for each seat, it never happens that a ticket is drawn and not yet left, and each seat is idle or asleep.
 pub fn none_is_stuck()
     ensures { NoneIsStuck }
+{}
+
+/// In every state, a seat that is neither idle nor asleep can make an event.
+pub fn awake_seats_can_step()
+    ensures { AwakeSeatsCanStep }
 {}
