@@ -10,3 +10,4 @@ pub mod WakeSound
 pub mod NotStuck
 pub mod RunSound
 pub mod CanStep
+pub mod CoreRefined

@@ -1,5 +1,8 @@
 //! Laws of the waiting protocol: each is the contract of a function that does nothing.
 ghost use Rattle.bw_wake.specs.Progress.{NoWakeIsLost, ServedTicketGoesOn, NoneIsStuck, AwakeSeatsCanStep};
+ghost use Rattle.bw_wake.specs.Refines.{RefinesTheCore};
+
+use bw_model::Machine;
 
 /// With a wake word for each seat, a seat that sleeps with the ticket that is served has its wake-up under way: another seat has yet to
 /// look for its mark, or has seen it, or wakes it next.
@@ -21,4 +24,10 @@ pub fn none_is_stuck()
 /// In every state, a seat that is neither idle nor asleep can make an event.
 pub fn awake_seats_can_step()
     ensures { AwakeSeatsCanStep }
+{}
+
+/// Each event of the waiting protocol is an event of the interleaving core of `bw_pool`, over any machine, or none. So what that core keeps
+/// over every schedule holds of seats that wait in this way.
+pub fn refines_the_core<M: Machine>()
+    ensures { RefinesTheCore M.after M.answer }
 {}
