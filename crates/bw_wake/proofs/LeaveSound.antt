@@ -15,7 +15,7 @@ among_first : (x n : ℕ) → 0 < n → among x x n ≡ 1
 among_first x n h = let a : nat_le x x ≡ true = le-leb x x (omega arith) in let b : nat_lt x (x + n) ≡ true = le-leb (suc x) (x + n) (omega arith) in
     (λ i. one_if (a i && b i))
 
--- step Leave
+-- the event Leave
 pub leave_sound : (s : WaitState) (i : ℕ) → slice_get s.phases i ≡ Some Done → Sound s
     → Sound record s { serving = s.serving + 1; phases = slice_set s.phases i (Served s.serving) }
 leave_sound s i at r = let M = λ (g : Phase → ℕ). count_set g s.phases i Done (Served s.serving) at in

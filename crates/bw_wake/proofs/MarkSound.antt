@@ -13,7 +13,7 @@ use Rattle.bw_wake.proofs.Counts.{count_set, length_kept, count-le, count_le_at,
 use Rattle.bw_wake.proofs.Words.{index_here, index_else, words_kept}
 use Rattle.bw_wake.proofs.WordsApart.{sleeps-waits, may_sleep-waits, from_serving, to_next, window, words_apart}
 
--- step Mark, from `Waiting t` or `Looked t`
+-- the event Mark by a seat that waits, is awake and does nothing else
 pub mark_sound : (s : WaitState) (i t : ℕ) (p : Phase) → slice_get s.phases i ≡ Some p
     → ((x : ℕ) → waits x p ≡ one_if (t == x)) → busy p ≡ 0 → holds p ≡ 1 → ((x : ℕ) → sleeps x p ≡ 0) → ((x : ℕ) → will_peek x p ≡ 0) → ((x : ℕ)
     → wakes x p ≡ 0)
@@ -52,7 +52,7 @@ mark_sound s i t p at is_w is_b is_h is_s is_p is_k r = let M = λ (g : Phase �
           let z = r.peek_owed (omega arith) old in omega arith) (same_or_not t s.serving);
     }
 
--- from either phase
+-- by a seat that has not marked yet, and by one that has looked in vain
 pub mark_waiting : (s : WaitState) (i t : ℕ) → slice_get s.phases i ≡ Some (Waiting t) → Sound s
     → Sound record s { words = slice_set s.words (word_of s t) (t + 1); phases = slice_set s.phases i (Marked t) }
 mark_waiting s i t at r = mark_sound s i t (Waiting t) at (λ x. refl) refl refl (λ x. refl) (λ x. refl) (λ x. refl) r

@@ -10,7 +10,7 @@ use Rattle.bw_wake.specs.Progress.{is_still, is_stuck, busy, sleeps, will_peek, 
 use Rattle.bw_wake.proofs.Counts.{count-le}
 use Rattle.bw_wake.proofs.Sound.{waits, may_sleep, Stands, Sound}
 
--- a sleeper may park
+-- a seat that sleeps has looked in vain
 pub sleeps-may_sleep : (x : ℕ) (p : Phase) → sleeps x p ≤ may_sleep x p
 sleeps-may_sleep x Idle = omega arith
 sleeps-may_sleep x (Waiting t) = omega arith

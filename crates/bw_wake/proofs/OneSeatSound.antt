@@ -16,7 +16,7 @@ use Rattle.bw_wake.proofs.Counts.{count_set, length_kept, count-le, same_or_not}
 use Rattle.bw_wake.proofs.Words.{index_here, index_else, words_kept}
 use Rattle.bw_wake.proofs.WordsApart.{may_sleep-waits, to_next}
 
--- a step of one seat, and maybe on a word, that leaves the tickets
+-- an event of one seat that changes no ticket, and a wake word at most
 pub still : (s : WaitState) (i : ℕ) (p q : Phase) (ws : List ℕ) → slice_get s.phases i ≡ Some p → length ws ≡ length s.words
     → ((x : ℕ) → waits x q ≡ waits x p) → busy q ≡ busy p → holds q ≡ holds p
     → ((x : ℕ) → 1 ≤ count (sleeps x) (slice_set s.phases i q) → (slice_index ws (x % length ws) ≡ x + 1) ⊎ (1 ≤ count (wakes x) (slice_set s.phases i q)))
@@ -48,7 +48,7 @@ among_none x k n h = ⊎_elim (λ (a : (nat_le k x ≡ true) × (k ≤ x)). ⊎_
 pub among_in : (x k n : ℕ) → k ≤ x → x < k + n → among x k n ≡ 1
 among_in x k n h l = let a : nat_le k x ≡ true = le-leb k x h in let b : nat_lt x (k + n) ≡ true = le-leb (suc x) (k + n) l in (λ i. one_if (a i && b i))
 
--- the first of the tickets and the others
+-- a ticket among those that are owed a wake, but the first, is among the others
 pub among_rest : (x k n : ℕ) → x ≢ k → among x (k + 1) (n - 1) ≡ among x k n
 among_rest x k zero ne = among_none x (k + 1) 0 (order x k) ∙ sym (among_none x k 0 (order2 x k))
   where
@@ -66,7 +66,7 @@ among_rest x k (suc n) ne = dite (dec_le (k + 1) x)
     lower : {a b : ℕ} → a ≢ b → a ≤ b → a < b
     lower ne le = omega arith
 
--- what the phase after a ring weighs
+-- what a seat counts for that owes one wake less
 pub one_less_none : (g : Phase → ℕ) → g Idle ≡ 0 → ((k n : ℕ) → g (Owes k n) ≡ 0) → (k n : ℕ) → g (one_less k n) ≡ 0
 one_less_none g a b k zero = a
 one_less_none g a b k (suc zero) = a
@@ -83,7 +83,7 @@ one_less-will_peek x k (suc zero) = sym (among_none x (k + 1) 0 (order x k))
     order a b = dite (dec_le (b + 1) a) (λ le. inr (omega arith)) (λ n. inl (omega arith))
 one_less-will_peek x k (suc (suc n)) = let e : suc n ≡ suc (suc n) - 1 = omega arith in ap (among x (k + 1)) e
 
--- the same for steps that touch no word, where the seat was not asleep and is not, owed no wake and owes none
+-- the same for events that write no wake word, where the seat was not asleep and is not, owed no wake and owes none
 pub plain : (s : WaitState) (i : ℕ) (p q : Phase) → slice_get s.phases i ≡ Some p → ((x : ℕ) → waits x q ≡ waits x p) → busy q ≡ busy p → holds q ≡ holds p
     → ((x : ℕ) → sleeps x q ≡ sleeps x p) → ((x : ℕ) → wakes x q ≡ wakes x p)
     → (1 ≤ count (may_sleep s.serving) (slice_set s.phases i q) → Stands s s.serving → 1 ≤ count (will_peek s.serving) (slice_set s.phases i q))
@@ -93,7 +93,7 @@ plain s i p q at is_w is_b is_h is_s is_k peek_owed r = let M = λ (g : Phase
     (λ x some. let a = M (sleeps x) in let b = is_s x in let c = M (wakes x) in let d = is_k x in ⊎_elim (λ (h : Stands s x). inl h)
     (λ (h : 1 ≤ count (wakes x) s.phases). inr (omega arith)) (r.mark_or_wake x (omega arith))) peek_owed r
 
--- step Apply
+-- the event Apply
 pub apply_sound : (s : WaitState) (i : ℕ) → slice_get s.phases i ≡ Some Inside → Sound s → Sound record s { phases = slice_set s.phases i Done }
 apply_sound s i at r = plain s i Inside Done at (λ x. refl) refl refl (λ x. refl) (λ x. refl)
     (λ some st. let a = count_set (may_sleep s.serving) s.phases i Inside Done at in
@@ -107,7 +107,7 @@ miss_sound s i t at ne r = plain s i (Marked t) (Looked t) at (λ x. refl) refl 
     let b = count_set (will_peek s.serving) s.phases i (Marked t) (Looked t) at in let z = ap one_if (ne_eqb t s.serving ne) in
     let h = r.peek_owed (omega arith) st in omega arith) r
 
--- step Park, where the mark stands
+-- the event Park, where the mark stands
 pub park_sound : (s : WaitState) (i t : ℕ) → slice_get s.phases i ≡ Some (Looked t) → Stands s t → Sound s
     → Sound record s { phases = slice_set s.phases i (Asleep t) }
 park_sound s i t at st r = still s i (Looked t) (Asleep t) s.words at refl (λ x. refl) refl refl
@@ -118,7 +118,7 @@ park_sound s i t at st r = still s i (Looked t) (Asleep t) s.words at refl (λ x
     (λ some k. let a = count_set (may_sleep s.serving) s.phases i (Looked t) (Asleep t) at in
     let b = count_set (will_peek s.serving) s.phases i (Looked t) (Asleep t) at in let h = r.peek_owed (omega arith) k in omega arith) r
 
--- step PeekNext
+-- the event PeekNext
 pub owes_sound : (s : WaitState) (i t : ℕ) → slice_get s.phases i ≡ Some (Served t) → Sound s
     → Sound record s { phases = slice_set s.phases i (Owes (t + 1) 3) }
 owes_sound s i t at r = plain s i (Served t) (Owes (t + 1) 3) at (λ x. refl) refl refl (λ x. refl) (λ x. refl)
@@ -133,7 +133,7 @@ none_next_sound s i t at le r = plain s i (Served t) Idle at (λ x. refl) refl r
     let w = count-le (may_sleep s.serving) (waits s.serving) s.phases (may_sleep-waits s.serving) in let lt = to_next s r s.serving (omega arith) in
     let z = among_none s.serving (t + 1) 3 (inl (omega arith)) in omega arith) r
 
--- step PeekWord
+-- the event PeekWord
 pub found_sound : (s : WaitState) (i k n : ℕ) → slice_get s.phases i ≡ Some (Owes k n) → Sound s
     → Sound record s { phases = slice_set s.phases i (Found k n) }
 found_sound s i k n at r = plain s i (Owes k n) (Found k n) at (λ x. refl) refl refl (λ x. refl) (λ x. refl)
@@ -151,7 +151,7 @@ not_found_sound s i k n at gone r = plain s i (Owes k n) (one_less k n) at (λ x
     let ne : s.serving ≢ k = λ e. gone (subst (Stands s) e st) in let same = one_less-will_peek s.serving k n ∙ among_rest s.serving k n ne in
     let h = r.peek_owed (omega arith) st in omega arith) r
 
--- step TakeMark
+-- the event TakeMark
 pub taken_sound : (s : WaitState) (i k n : ℕ) → slice_get s.phases i ≡ Some (Found k n) → Stands s k → 0 < length s.words → Sound s
     → Sound record s { words = slice_set s.words (word_of s k) 0; phases = slice_set s.phases i (Wakes k n) }
 taken_sound s i k n at st some_words r =

@@ -43,6 +43,7 @@ pub record Sound (s : WaitState) : Type 0 where
   -- nobody waits with a ticket that was left, or is not drawn
   pub past : (x : ℕ) → x < s.serving → count (waits x) s.phases ≡ 0
   pub future : (x : ℕ) → s.next ≤ x → count (waits x) s.phases ≡ 0
+  -- where each drawn ticket is left, nobody is inside or done
   pub quiet : s.serving ≡ s.next → count busy s.phases ≡ 0
   -- there is a wake word for each seat
   pub words : length s.phases ≤ length s.words

@@ -23,7 +23,7 @@ get_other (x ∷ xs) (suc i) (suc j) y ne = get_other xs i j y (λ e. ne (ap suc
 lower : {a b : ℕ} → a ≢ b → a ≤ b → a < b
 lower ne le = omega arith
 
--- step SpuriousWake
+-- the event SpuriousWake
 pub spurious_wake_sound : (s : WaitState) (i t : ℕ) → slice_get s.phases i ≡ Some (Asleep t) → Sound s
     → Sound record s { phases = slice_set s.phases i (Looked t) }
 spurious_wake_sound s i t at r = let M = λ (g : Phase → ℕ). count_set g s.phases i (Asleep t) (Looked t) at in record {
@@ -39,7 +39,7 @@ spurious_wake_sound s i t at r = let M = λ (g : Phase → ℕ). count_set g s.p
   peek_owed = λ some st. let a = M (may_sleep s.serving) in let c = M (will_peek s.serving) in let h = r.peek_owed (omega arith) st in omega arith;
 }
 
--- step Take
+-- the event Take
 pub take_sound : (s : WaitState) (i : ℕ) → slice_get s.phases i ≡ Some Idle → Sound s
     → Sound record s { next = s.next + 1; phases = slice_set s.phases i (Waiting s.next) }
 take_sound s i at r = let M = λ (g : Phase → ℕ). count_set g s.phases i Idle (Waiting s.next) at in
@@ -90,7 +90,7 @@ enter_sound s i p at is_w is_b is_h is_s is_p is_k r = let M = λ (g : Phase →
           let h = r.peek_owed (omega arith) st in omega arith;
     }
 
--- no ticket is with two
+-- no two seats wait with one ticket
 waits_once : (s : WaitState) → Sound s → (x : ℕ) → count (waits x) s.phases ≤ 1
 waits_once s r x = dite (dec_le 1 (count (waits x) s.phases))
     (λ (le : 1 ≤ count (waits x) s.phases). let a = from_serving s r x le in let b = to_next s r x le in
@@ -98,7 +98,7 @@ waits_once s r x = dite (dec_le 1 (count (waits x) s.phases))
     (λ (ne : s.serving ≢ x). let l = r.later x (lower ne a) b in omega arith))
     (λ n. omega arith)
 
--- step Wake, where the seat j sleeps on the word
+-- the event Wake, where the seat j sleeps on the wake word
 pub wake_sound : (s : WaitState) (i j k n t : ℕ) → slice_get s.phases i ≡ Some (Wakes k n) → slice_get s.phases j ≡ Some (Asleep t)
     → word_of s t ≡ word_of s k → Sound s
     → Sound record s { phases = slice_set (slice_set s.phases i (one_less k n)) j (Looked t) }
@@ -162,7 +162,7 @@ none_any f (p ∷ ps) e = first (f p) refl (none_any f ps)
     first true h rest = absurd (cc (sym (ap (λ c. c || list_any f ps) h) ∙ e))
     first false h rest = let a = rest (sym (ap (λ c. c || list_any f ps) h) ∙ e) in let b = ap one_if h in omega arith
 
--- the event Wake, where nobody sleeps on the word
+-- the event Wake, where nobody sleeps on the wake word
 pub wake_none_sound : (s : WaitState) (i k n : ℕ) → slice_get s.phases i ≡ Some (Wakes k n)
     → list_any (sleeps_on (length s.words) (word_of s k)) s.phases ≡ false → Sound s
     → Sound record s { phases = slice_set s.phases i (one_less k n) }

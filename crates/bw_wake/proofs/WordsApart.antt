@@ -50,7 +50,7 @@ holds-one (Owes k n) = omega arith
 holds-one (Found k n) = omega arith
 holds-one (Wakes k n) = omega arith
 
--- tickets that are waited with lie in the window
+-- a ticket that a seat waits with is drawn and not left
 pub from_serving : (s : WaitState) → Sound s → (x : ℕ) → 1 ≤ count (waits x) s.phases → s.serving ≤ x
 from_serving s r x h = ⊎_elim (λ (lt : x < s.serving). let z = r.past x lt in absurd (omega arith)) (λ (le : s.serving ≤ x). le) (order x s.serving)
   where
@@ -66,7 +66,7 @@ to_next s r x h = ⊎_elim (λ (lt : x < s.next). lt) (λ (le : s.next ≤ x). l
 pub window : (s : WaitState) → Sound s → s.next ≤ s.serving + length s.words
 window s r = let a = count-length holds s.phases holds-one in omega (arith, r.drawn, r.words)
 
--- and have words of their own
+-- no two such tickets have one wake word
 pub words_apart : (s : WaitState) → Sound s → (x y : ℕ) → 1 ≤ count (waits x) s.phases → 1 ≤ count (waits y) s.phases → word_of s x ≡ word_of s y → x ≡ y
 words_apart s r x y h k e = let a = from_serving s r x h in let b = from_serving s r y k in let c = to_next s r x h in let d = to_next s r y k in
     let w = window s r in
