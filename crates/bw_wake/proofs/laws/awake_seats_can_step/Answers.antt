@@ -1,0 +1,5 @@
+use Rattle.bw_wake.proofs.CanStep.{awake_seats_can_step}
+use Rattle.bw_wake.proofs.laws.awake_seats_can_step.Goals as goal
+
+pub returns : goal.returns
+returns c = awake_seats_can_step

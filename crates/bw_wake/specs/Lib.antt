@@ -1,0 +1,4 @@
+pub mod Protocol
+pub mod Progress
+pub mod Cores
+pub mod Refines
