@@ -1,0 +1,7 @@
+//! The planner as a library for programs in C and in what calls C.
+#![tactic(auto)]
+
+mod asking;
+mod columns;
+mod plans;
+mod refusal;
