@@ -1,4 +1,4 @@
-use Rattle.std.proofs.Common.{rules, arith, ◌≡◌, length, sym, ◌∙◌, subst, inl}
+use Rattle.std.proofs.Common.{rules, ◌≡◌, length, sym, ◌∙◌, subst, inl}
 use Rattle.bw_model.specs.Host.{Shape}
 use Rattle.bw_exports.specs.Asked.{Table, Answers}
 use Rattle.bw_exports.proofs.Asked.{asked_short, asked_long}

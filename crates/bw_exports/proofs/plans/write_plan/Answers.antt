@@ -1,4 +1,4 @@
-use Rattle.std.proofs.Common.{rules, arith, ◌≡◌, length}
+use Rattle.std.proofs.Common.{rules, ◌≡◌, length}
 use Rattle.bw_exports.specs.Asked.{shape_of, table_of}
 use Rattle.bw_exports.proofs.Asked.{planned_length}
 use Rattle.bw_exports.proofs.plans.write_plan.Goals as goal
