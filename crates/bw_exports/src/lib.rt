@@ -2,6 +2,8 @@
 #![tactic(auto)]
 
 mod asking;
+mod checks;
+mod claim;
 mod columns;
 mod plans;
 mod refusal;
