@@ -1,17 +1,21 @@
 -- The number that refuses what is asked, case by case.
-use Rattle.std.proofs.Common.{◌≡◌, ℕ, Bool, true, false, cond, Option, None, Some, List, length, refl, ap, sym, ◌∙◌, inl, inr}
+use Rattle.std.proofs.Common.{◌&&◌, not, filter, subst, count_by, ◌≡◌, ◌≤◌, arith, ℕ, Bool, true, false, cond, Option, None, Some, List, length, refl, ap, sym, ◌∙◌, inl, inr}
 use Rattle.std.specs.Option.{option_map_or}
 use Rattle.std.proofs.lemmas.Bool.{ne_eqb, eq-eqb}
-use Rattle.std.proofs.lemmas.List.FromFn.{length-map-range_with_len}
+use Rattle.std.proofs.lemmas.List.FromFn.{length-map-range_with_len, length-range_with_len}
 use Rattle.bw_model.specs.declared.host.HostFault.{HostFault}
 use Rattle.bw_model.specs.declared.instance_fault.InstanceFault.{InstanceFault}
 use Rattle.bw_model.specs.declared.instance_fault.InstanceFault.TheVariants.{TooMany, BadParent, BadWeight, TooDeep, InnerDemand, DemandTooLarge, RootLimited, OutOfMemory}
 use Rattle.bw_model.specs.Host.{Shape, IsHost, host_refusal}
 use Rattle.bw_model.specs.Refusal.{refusal, IsRefused}
 use Rattle.bw_model.specs.Faults.{host_fault_number, instance_fault_number}
-use Rattle.bw_model.specs.Groups.{IsInstance}
+use Rattle.bw_model.specs.Groups.{Groups, IsInstance}
 use Rattle.bw_model.specs.Allocation.{total}
 use Rattle.bw_model.specs.Plan.{IsPlan}
+use Rattle.bw_model.specs.Demand.{limiting_groups, is_tight, has_tight_above}
+use Rattle.std.proofs.lemmas.List.Sums.{length-filter, count_by-le-length}
+use Rattle.bw_model.specs.declared.limits.TheConstants.{MAX_GROUPS}
+use Rattle.std.specs.List.{range_with_len}
 use Rattle.bw_model.proofs.Instances.{IsHost-accepted, IsInstance-accepted}
 use Rattle.bw_exports.specs.Asked.{Table, row_in, rows_in, groups_in, are_even, refusal_number, asked_number, asked_number_with, Answers}
 
@@ -70,3 +74,25 @@ asked_short count shape table e = ap (λ (b : Bool). cond b (asked_number shape 
 pub asked_long : (count : ℕ) (shape : Shape) (table : Table) → count ≡ length table.parents → asked_number_with count shape table ≡ asked_number shape table
 unfolding asked_number_with
 asked_long count shape table e = ap (λ (b : Bool). cond b (asked_number shape table) 50) (eq-eqb count (length table.parents) e)
+
+-- no more groups limit than there are rows
+pub limiting_short : (shape : Shape) (table : Table) (most : List ℕ) → length (limiting_groups (groups_in shape table) most) ≤ length table.parents
+unfolding limiting_groups
+limiting_short shape table most =
+    let rows : length (rows_in table) ≡ length table.parents = length-map-range_with_len (row_in table) 0 (length table.parents) in
+    let range : length (range_with_len 0 (length (rows_in table))) ≡ length (rows_in table) = length-range_with_len 0 (length (rows_in table)) in
+    let g = groups_in shape table in
+    let p : ℕ → Bool = λ (h : ℕ). is_tight g most h && not (has_tight_above g most h) in
+    let kept : length (filter p (range_with_len 0 (length (rows_in table)))) ≡ count_by p (range_with_len 0 (length (rows_in table))) =
+    length-filter p (range_with_len 0 (length (rows_in table))) in
+    let some : count_by p (range_with_len 0 (length (rows_in table))) ≤ length (range_with_len 0 (length (rows_in table))) =
+    count_by-le-length p (range_with_len 0 (length (rows_in table))) in
+    omega (arith, rows, range, kept, some)
+
+-- an instance has few rows
+pub few_rows : (groups : Groups) (shape : Shape) (table : Table) → groups ≡ groups_in shape table → IsInstance groups → length table.parents ≤ MAX_GROUPS
+few_rows groups shape table e i =
+    let rows : length (rows_in table) ≡ length table.parents = length-map-range_with_len (row_in table) 0 (length table.parents) in
+    let here : IsInstance (groups_in shape table) = subst IsInstance e i in
+    let few : length (rows_in table) ≤ MAX_GROUPS = here.few in
+    rw rows at few

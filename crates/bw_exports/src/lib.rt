@@ -5,5 +5,7 @@ mod asking;
 mod checks;
 mod claim;
 mod columns;
+mod front;
+mod limited;
 mod plans;
 mod refusal;
