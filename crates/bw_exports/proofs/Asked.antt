@@ -96,3 +96,7 @@ few_rows groups shape table e i =
     let here : IsInstance (groups_in shape table) = subst IsInstance e i in
     let few : length (rows_in table) ≤ MAX_GROUPS = here.few in
     rw rows at few
+
+-- as many rows as entries in a column
+pub rows_length : (table : Table) → length (rows_in table) ≡ length table.parents
+rows_length table = length-map-range_with_len (row_in table) 0 (length table.parents)

@@ -2,3 +2,4 @@ pub mod Asked
 pub mod Numbers
 pub mod Checked
 pub mod Limited
+pub mod Certified

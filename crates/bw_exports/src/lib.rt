@@ -2,6 +2,7 @@
 #![tactic(auto)]
 
 mod asking;
+mod certified;
 mod checks;
 mod claim;
 mod columns;
@@ -9,3 +10,4 @@ mod front;
 mod limited;
 mod plans;
 mod refusal;
+mod spelled;
