@@ -3,3 +3,4 @@ pub mod Numbers
 pub mod Checked
 pub mod Limited
 pub mod Certified
+pub mod Texts

@@ -11,3 +11,4 @@ mod limited;
 mod plans;
 mod refusal;
 mod spelled;
+mod texts;
