@@ -2,10 +2,11 @@
  *
  * What C must uphold, for every call:
  *   - A pointer that is followed by its length points to so many entries, and no pointer is null, also where its length is 0.
- *   - What is not const is not read or written through any other pointer while the call runs, and no two arguments that are
- *     written to overlap.
- *   - The thread that calls has 1 MiB of stack left.
- *   - malloc, realloc and free of the program are of one allocator, and are called by one call at a time or are safe for threads.
+ *   - What is not const overlaps no other argument, and nothing else reads or writes it while the call runs.
+ *   - What is const is written by nobody while the call runs.
+ *   - The thread that calls has stack left, as any thread of the usual size has.
+ *   - malloc, realloc and free of the program are of one allocator, may be called by several threads if these calls are, and
+ *     align a block to each power of two up to 16 that divides its size.
  *   - No call is made from a signal handler, or from the forked child of a process with threads.
  *
  * The calls keep nothing between them: several threads may call at once on memory of their own.

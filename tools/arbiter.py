@@ -62,17 +62,23 @@ class Certificate:
     levels: list
 
 
-def built(folder, archive=ARCHIVE):
-    """Links the shared library into a folder, by the kit's clang, from the archive that `rt lib` or the gate left."""
+def kit_files():
+    """The clang of the Rattle kit, and what its libraries in C need at run time."""
     rt = shutil.which("rt")
     if rt is None:
         raise FileNotFoundError("the command rt of the Rattle kit is not on the PATH")
+    kit = os.path.dirname(os.path.dirname(os.path.realpath(rt)))
+    return f"{kit}/toolchain/bin/clang", f"{kit}/c/liblibc_c.a"
+
+
+def built(folder, archive=ARCHIVE):
+    """Links the shared library into a folder, by the kit's clang, from the archive that `rt lib` makes."""
+    clang, runtime = kit_files()
     if not os.path.isfile(archive):
         raise FileNotFoundError(f"{archive} is not there: `rt lib` in crates/bw_exports makes it")
-    kit = os.path.dirname(os.path.dirname(os.path.realpath(rt)))
     made = f"{folder}/{SONAME}"
-    whole = ["-Wl,--whole-archive", archive, "-Wl,--no-whole-archive", f"{kit}/c/liblibc_c.a"]
-    subprocess.run([f"{kit}/toolchain/bin/clang", "-shared", "-fuse-ld=lld", f"-Wl,-soname,{SONAME}", "-o", made, *whole], check=True)
+    whole = ["-Wl,--whole-archive", archive, "-Wl,--no-whole-archive", runtime, f"-Wl,--exclude-libs,{os.path.basename(runtime)}"]
+    subprocess.run([clang, "-shared", "-fuse-ld=lld", f"-Wl,-soname,{SONAME}", "-o", made, *whole], check=True)
     return made
 
 
