@@ -25,7 +25,8 @@ int main(void)
         return 6;
     amounts[1] = 8;
     amounts[2] = 12;
-    if (arbiter_check(1, 100000, 5000, parents, 3, weights, 3, limits, 3, demands, 3, amounts, 3, flags, 3, nums, 3, dens, 3, places, 3, &row) != 57 || row != 1)
+    if (arbiter_check(1, 100000, 5000, parents, 3, weights, 3, limits, 3, demands, 3, amounts, 3, flags, 3, nums, 3, dens, 3, places, 3, &row)
+            != 57 || row != 1)
         return 7;
     if (arbiter_limiting(1, 100000, 5000, parents, 3, weights, 3, limits, 3, demands, 3, groups, 3, &count, &rest) != 0)
         return 8;

@@ -268,7 +268,7 @@ def out_of_range(library, _):
 
 
 def from_c(_, __):
-    """tests/library.c with the header, linked to the archive by the kit's clang, which has no headers of its own."""
+    """The C programs with the header, linked to the archive by the kit's clang, which has no headers of its own."""
     clang, runtime = arbiter.kit_files()
     with tempfile.TemporaryDirectory() as folder:
         with open(f"{folder}/stddef.h", "w", encoding="ascii") as file:
@@ -276,9 +276,11 @@ def from_c(_, __):
         with open(f"{folder}/stdint.h", "w", encoding="ascii") as file:
             for bits in (8, 32, 64):
                 file.write(f"typedef __UINT{bits}_TYPE__ uint{bits}_t;\n#define UINT{bits}_MAX __UINT{bits}_MAX__\n")
-        words = [clang, "-std=c11", "-Wall", "-Wextra", "-Wpedantic", "-Werror", "-fuse-ld=lld", f"-I{folder}", "-o", f"{folder}/calls"]
-        subprocess.run([*words, f"{native.TOP}/tests/library.c", arbiter.ARCHIVE, runtime], check=True, timeout=SECONDS)
-        same(subprocess.run([f"{folder}/calls"], check=False, timeout=SECONDS).returncode, 0, "the C program, by the number of its test")
+        words = [clang, "-std=c11", "-Wall", "-Wextra", "-Wpedantic", "-Werror", "-fuse-ld=lld", f"-I{folder}"]
+        for name, wrapped in [("library", []), ("library_memory", ["malloc", "realloc", "free"])]:
+            made = ["-o", f"{folder}/{name}", f"{native.TOP}/tests/{name}.c", arbiter.ARCHIVE, runtime, *[f"-Wl,--wrap={each}" for each in wrapped]]
+            subprocess.run([*words, *made], check=True, timeout=SECONDS)
+            same(subprocess.run([f"{folder}/{name}"], check=False, timeout=SECONDS).returncode, 0, f"{name}.c, by the number of its test")
 
 
 CHECKS = [from_c, worked, refused, wrong_lengths, uneven_levels, keeps_on_refusal, wrong_claims, texts, random_trees, greatest_tree, out_of_range]
