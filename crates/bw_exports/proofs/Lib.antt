@@ -1,0 +1,4 @@
+pub mod Asked
+pub mod Claimed
+pub mod Spelling
+pub mod Fit

@@ -1,0 +1,85 @@
+-- What a caller asks, in columns of numbers, and the number that answers it.
+use Rattle.std.specs.Prelude.{◌≡◌, ◌⊎◌, ℕ, Bool, true, ◌==◌, ◌&&◌, List, [], ◌∷◌, Option, Some, None, length, map, slice_index, if◌then◌else◌}
+use Rattle.std.specs.List.{range_with_len}
+use Rattle.std.specs.Option.{option_map_or}
+use Rattle.bw_model.specs.declared.row.Row.{Row}
+use Rattle.bw_model.specs.Host.{Shape, host_refusal}
+use Rattle.bw_model.specs.Refusal.{refusal}
+use Rattle.bw_model.specs.Faults.{host_fault_number, instance_fault_number}
+use Rattle.bw_model.specs.Groups.{Groups}
+use Rattle.bw_exports.specs.declared.columns.TheConstants.{NO_PARENT, NO_LIMIT}
+use Rattle.bw_exports.specs.declared.columns.Columns.{Columns}
+use Rattle.bw_exports.specs.declared.asking.Host.{Host}
+
+-- the columns of the rows
+pub record Table : Type 0 where
+  pub parents : List ℕ
+  pub weights : List ℕ
+  pub limits : List ℕ
+  pub demands : List ℕ
+
+-- what the program holds of columns, as lists
+abbrev pub table_of : Columns → Table
+table_of columns =
+    record {
+      parents = columns.parents.now;
+      weights = columns.weights.now;
+      limits = columns.limits.now;
+      demands = columns.demands.now;
+    }
+
+-- what the program holds of a host, as its value
+abbrev pub shape_of : Host → Shape
+shape_of host = record { processors = host.processors; period_us = host.period_us; slice_us = host.slice_us }
+
+-- the parent that a number names: the greatest number of 32 bits names none
+abbrev pub parent_in : ℕ → Option ℕ
+parent_in number = if number == NO_PARENT then None else Some number
+
+-- the limit that a number gives: the greatest number of 64 bits gives none
+abbrev pub limit_in : ℕ → Option ℕ
+limit_in number = if number == NO_LIMIT then None else Some number
+
+-- row g of the columns
+abbrev pub row_in : Table → ℕ → Row
+row_in table g =
+    record {
+      parent = parent_in (slice_index table.parents g);
+      weight = slice_index table.weights g;
+      limit = limit_in (slice_index table.limits g);
+      demand = slice_index table.demands g;
+    }
+
+-- the rows of the columns
+abbrev pub rows_in : Table → List Row
+rows_in table = map (row_in table) (range_with_len 0 (length table.parents))
+
+-- a host and the rows of the columns
+abbrev pub groups_in : Shape → Table → Groups
+groups_in shape table = record { shape = shape; rows = rows_in table }
+
+-- whether each list has so many entries
+abbrev pub are_of_length : ℕ → List (List ℕ) → Bool
+are_of_length count [] = true
+are_of_length count (column ∷ columns) = (length column == count) && are_of_length count columns
+
+-- whether the columns are of one length
+abbrev pub are_even : Table → Bool
+are_even table = are_of_length (length table.parents) (table.weights ∷ table.limits ∷ table.demands ∷ [])
+
+-- the number of the first refusal of a host and its rows, 0 where there is none
+abbrev pub refusal_number : Groups → ℕ
+refusal_number groups =
+    option_map_or host_fault_number (host_refusal groups.shape) (option_map_or instance_fault_number (refusal groups.rows) 0)
+
+-- the number that refuses what is asked, 0 where none does: 50 where the columns are of several lengths
+unfoldable pub asked_number : Shape → Table → ℕ
+asked_number shape table = if are_even table then refusal_number (groups_in shape table) else 50
+
+-- what a call may answer that refuses so: that number, or 71 for want of memory
+abbrev pub Answers : ℕ → ℕ → Type 0
+Answers refused number = (number ≡ refused) ⊎ (number ≡ 71)
+
+-- the same where a list for the answer has so many entries: 50 also where they are not as many as the rows
+unfoldable pub asked_number_with : ℕ → Shape → Table → ℕ
+asked_number_with count shape table = if count == length table.parents then asked_number shape table else 50

@@ -1,0 +1,6 @@
+pub mod Asked
+pub mod Numbers
+pub mod Checked
+pub mod Limited
+pub mod Certified
+pub mod Texts

@@ -1,0 +1,11 @@
+-- The numbers that are answered.
+use Rattle.std.specs.Prelude.{ℕ}
+use Rattle.bw_model.specs.Faults.{host_fault_number, instance_fault_number}
+use Rattle.bw_exports.specs.declared.refusal.Refusal.{Refusal}
+use Rattle.bw_exports.specs.declared.refusal.Refusal.TheVariants.{WrongLength, Host, Instance}
+
+-- the number of a refusal
+abbrev pub number_of : Refusal → ℕ
+number_of WrongLength = 50
+number_of (Host fault) = host_fault_number fault
+number_of (Instance fault) = instance_fault_number fault

@@ -1,0 +1,53 @@
+//! A certificate as a caller gives it, column by column.
+ghost use Rattle.std.specs.Prelude.{◌≡◌, ◌==◌, true, not, length, map, IfOk};
+ghost use Rattle.bw_model.specs.Certificate.{certified_of};
+ghost use Rattle.bw_exports.specs.Checked.{claimed_of, AreLevels, are_levels_even, IsSpelled};
+
+use bw_model::{Certificate, Mark};
+use std::alloc::{AllocError, Global};
+
+/// Flags and levels, one entry in each column for each row.
+#[derive(Clone, Copy)]
+pub(crate) struct Claim<'a> {
+    pub(crate) flags: &'a [u8],
+    pub(crate) nums: &'a [u64],
+    pub(crate) dens: &'a [u64],
+    pub(crate) places: &'a [u32],
+}
+
+fn flags_of(alloc: Global, flags: &[u8]) -> Result<Vec<bool>, AllocError>
+    ensures { IfOk result (λ tight. tight.items ≡ map (λ flag. not (flag == 0)) flags.now) }
+{
+    flags.iter().map(|flag| *flag != 0).collect(alloc)
+}
+
+impl Claim<'_> {
+    /// Whether the columns of the levels are of one length.
+    pub(crate) fn is_even(&self) -> bool
+        ensures { result ≡ are_levels_even (claimed_of self.now) }
+    {
+        let count = self.nums.len();
+        self.dens.len() == count && self.places.len() == count
+    }
+
+    fn levels(&self, alloc: Global) -> Result<Vec<Option<Mark>>, AllocError>
+        requires { are_levels_even (claimed_of self.now) ≡ true }
+        ensures { IfOk result (λ levels. AreLevels (claimed_of self.now) (length self.now.nums.now) levels.items) }
+    {
+        let mut levels = Vec::new(alloc);
+        for k in 0..self.nums.len() {
+            levels.push(Mark::new(self.nums[k], self.dens[k], self.places[k]))?;
+        }
+        Ok(levels)
+    }
+
+    /// The certificate of columns of one length.
+    pub(crate) fn certificate(&self, alloc: Global) -> Result<Certificate, AllocError>
+        requires { are_levels_even (claimed_of self.now) ≡ true }
+        ensures { IfOk result (λ certificate. IsSpelled (claimed_of self.now) (certified_of certificate)) }
+    {
+        let tight = flags_of(alloc, self.flags)?;
+        let levels = self.levels(alloc)?;
+        Ok(Certificate { tight, levels })
+    }
+}

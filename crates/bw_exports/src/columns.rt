@@ -1,0 +1,76 @@
+//! The rows of a tree as a caller gives them, column by column.
+ghost use Rattle.std.specs.Prelude.{◌≡◌, ◌<◌, length, IfOk, true};
+ghost use Rattle.bw_exports.specs.Asked.{table_of, parent_in, limit_in, row_in, rows_in, are_even};
+
+use bw_model::Row;
+use std::alloc::{AllocError, Global};
+
+/// The parent that stands for none.
+pub const NO_PARENT: u32 = 4_294_967_295;
+
+/// The limit that stands for none.
+pub const NO_LIMIT: u64 = 18_446_744_073_709_551_615;
+
+/// One entry in each column for each row.
+#[derive(Clone, Copy)]
+pub(crate) struct Columns<'a> {
+    pub(crate) parents: &'a [u32],
+    pub(crate) weights: &'a [u64],
+    pub(crate) limits: &'a [u64],
+    pub(crate) demands: &'a [u64],
+}
+
+fn parent_of(number: u32) -> Option<u32>
+    ensures { result ≡ parent_in number }
+{
+    if number == NO_PARENT {
+        None
+    } else {
+        Some(number)
+    }
+}
+
+fn limit_of(number: u64) -> Option<u64>
+    ensures { result ≡ limit_in number }
+{
+    if number == NO_LIMIT {
+        None
+    } else {
+        Some(number)
+    }
+}
+
+impl Columns<'_> {
+    /// Whether the columns are of one length.
+    pub(crate) fn are_even(&self) -> bool
+        ensures { result ≡ are_even (table_of self.now) }
+    {
+        let count = self.parents.len();
+        self.weights.len() == count && self.limits.len() == count && self.demands.len() == count
+    }
+
+    fn row(&self, g: usize) -> Row
+        requires even { are_even (table_of self.now) ≡ true }
+        requires within { g < length self.now.parents.now }
+        ensures { result ≡ row_in (table_of self.now) g }
+    {
+        Row {
+            parent: parent_of(self.parents[g]),
+            weight: self.weights[g],
+            limit: limit_of(self.limits[g]),
+            demand: self.demands[g],
+        }
+    }
+
+    /// The rows of columns of one length.
+    pub(crate) fn rows(&self, alloc: Global) -> Result<Vec<Row>, AllocError>
+        requires { are_even (table_of self.now) ≡ true }
+        ensures { IfOk result (λ rows. rows.items ≡ rows_in (table_of self.now)) }
+    {
+        let mut rows = Vec::new(alloc);
+        for g in 0..self.parents.len() {
+            rows.push(self.row(g))?;
+        }
+        Ok(rows)
+    }
+}

@@ -1,0 +1,41 @@
+//! Why what a caller asks is refused, and its number.
+ghost use Rattle.std.specs.Prelude.{◌≡◌};
+ghost use Rattle.bw_exports.specs.Numbers.{number_of};
+
+use bw_model::{HostFault, InstanceFault};
+use std::alloc::AllocError;
+
+/// The refusals, in the order in which the tests are made; memory may be refused at any of them.
+#[derive(Clone, Copy, Debug, PartialEq, Eq)]
+pub(crate) enum Refusal {
+    /// 50: not one entry in each array for each row.
+    WrongLength,
+    /// 1 to 3.
+    Host(HostFault),
+    /// 4 to 10, and 71 where memory was refused.
+    Instance(InstanceFault),
+}
+
+impl Refusal {
+    /// The number that is answered, above 0.
+    pub(crate) fn number(self) -> u32
+        ensures { result ≡ number_of self }
+    {
+        match self {
+            Refusal::WrongLength => 50,
+            Refusal::Host(fault) => u32::from(fault.number()),
+            Refusal::Instance(fault) => u32::from(fault.number()),
+        }
+    }
+}
+
+impl From<AllocError> for Refusal {
+    ghost use Rattle.bw_model.specs.declared.instance_fault.InstanceFault.TheVariants.{OutOfMemory};
+    ghost use Rattle.bw_exports.specs.declared.refusal.Refusal.TheVariants.{Instance};
+
+    ghost from_gives = { λ _ e. e ≡ Instance OutOfMemory };
+
+    fn from(_: AllocError) -> Refusal {
+        Refusal::Instance(InstanceFault::OutOfMemory)
+    }
+}

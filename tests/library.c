@@ -1,0 +1,38 @@
+/* Calls the C library as a C program does: 0 where each answer is the one that is known. */
+#include "../share/arbiter.h"
+
+int main(void)
+{
+    const uint32_t parents[3] = {ARBITER_NO_PARENT, 0, 0};
+    const uint64_t weights[3] = {100, 100, 200};
+    const uint64_t limits[3] = {ARBITER_NO_LIMIT, ARBITER_NO_LIMIT, ARBITER_NO_LIMIT};
+    const uint64_t demands[3] = {0, 20, 20};
+    uint64_t amounts[3] = {1, 1, 1}, nums[3], dens[3], rest = 1;
+    uint8_t flags[3];
+    uint32_t places[3], groups[3], count = 9, row = 9;
+
+    if (arbiter_plan(0, 100000, 5000, parents, 3, weights, 3, limits, 3, demands, 3, amounts, 3) != 1 || amounts[0] != 1)
+        return 1;
+    if (arbiter_plan(1, 100000, 5000, parents, 3, weights, 3, limits, 3, demands, 3, amounts, 3) != 0)
+        return 2;
+    if (amounts[0] != 20 || amounts[1] != 7 || amounts[2] != 13)
+        return 3;
+    if (arbiter_certify(1, 100000, 5000, parents, 3, weights, 3, limits, 3, demands, 3, amounts, 3, flags, 3, nums, 3, dens, 3, places, 3) != 0)
+        return 4;
+    if (flags[0] != 1 || flags[1] != 0 || nums[0] != 13 || dens[0] != 100 || places[0] != 0 || dens[1] != 0)
+        return 5;
+    if (arbiter_check(1, 100000, 5000, parents, 3, weights, 3, limits, 3, demands, 3, amounts, 3, flags, 3, nums, 3, dens, 3, places, 3, &row) != 0 || row != 9)
+        return 6;
+    amounts[1] = 8;
+    amounts[2] = 12;
+    if (arbiter_check(1, 100000, 5000, parents, 3, weights, 3, limits, 3, demands, 3, amounts, 3, flags, 3, nums, 3, dens, 3, places, 3, &row)
+            != 57 || row != 1)
+        return 7;
+    if (arbiter_limiting(1, 100000, 5000, parents, 3, weights, 3, limits, 3, demands, 3, groups, 3, &count, &rest) != 0)
+        return 8;
+    if (count != 1 || groups[0] != 0 || rest != 0)
+        return 9;
+    if (arbiter_check_text((const uint8_t *)"bw 1 1 100000 5000 1\n- 100 max 0 0 0 -\n", 39, &row) != 0)
+        return 10;
+    return 0;
+}

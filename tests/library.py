@@ -1,0 +1,314 @@
+#!/usr/bin/env python3
+"""The C library, called from Python through tools/arbiter.py, against the program's own answers.
+
+The shared library is linked into a temporary folder from crates/bw_exports/out/libbw_exports.a, which `rt lib` makes.
+The first word is the native program, else the one that ./build made. It ends with 'N passed, M failed'.
+"""
+import ctypes
+import random
+import re
+import subprocess
+import sys
+import tempfile
+
+import native
+
+sys.path.insert(0, f"{native.TOP}/tools")
+import arbiter  # noqa: E402
+
+SECONDS = 120
+SEED = 20260730
+HOST_OF_ONE = arbiter.Host(1, 100000, 5000)
+LEVEL = re.compile(r"(\d+)/(\d+)@(\d+)\Z")
+WORKED = {
+    "the root alone": (HOST_OF_ONE, [(None, 100, None, 0)], [0]),
+    "two groups": (HOST_OF_ONE, [(None, 100, None, 0), (0, 100, None, 20), (0, 200, None, 20)], [20, 7, 13]),
+    "a pod and a job": (HOST_OF_ONE, [(None, 100, None, 0), (0, 100, 10, 0), (1, 100, None, 20), (1, 300, None, 20), (0, 100, None, 20)],
+                        [20, 10, 3, 7, 10]),
+    "two processors": (arbiter.Host(2, 100000, 5000), [(None, 100, None, 0), (0, 100, 20, 0), (1, 100, 15, 30), (1, 100, 15, 30)], [20, 20, 10, 10]),
+    "a limit of 0": (HOST_OF_ONE, [(None, 100, None, 0), (0, 100, 0, 20), (0, 100, None, 5)], [5, 0, 5]),
+}
+REFUSED = [
+    (1, arbiter.Host(0, 100000, 5000), [(None, 100, None, 0)]),
+    (1, arbiter.Host(65, 0, 0), [(None, 100, None, 0)]),
+    (2, arbiter.Host(1, 999, 1000), [(None, 100, None, 0)]),
+    (3, arbiter.Host(1, 100000, 3000), [(None, 100, None, 0)]),
+    (3, arbiter.Host(1, 100000, 0), [(None, 100, None, 0)]),
+    (4, HOST_OF_ONE, [(None, 100, None, 0)] + [(0, 100, None, 0)] * 16384),
+    (5, HOST_OF_ONE, []),
+    (5, HOST_OF_ONE, [(0, 100, None, 0)]),
+    (5, HOST_OF_ONE, [(None, 100, None, 0), (1, 100, None, 0)]),
+    (5, HOST_OF_ONE, [(None, 100, None, 0), (None, 100, None, 0)]),
+    (6, HOST_OF_ONE, [(None, 100, None, 0), (0, 0, None, 0)]),
+    (6, HOST_OF_ONE, [(None, 100, None, 0), (0, 10001, None, 0)]),
+    (7, HOST_OF_ONE, [(None, 100, None, 0)] + [(g, 100, None, 0) for g in range(65)]),
+    (8, HOST_OF_ONE, [(None, 100, None, 1), (0, 100, None, 0)]),
+    (9, HOST_OF_ONE, [(None, 100, None, 1000001)]),
+    (10, HOST_OF_ONE, [(None, 100, 5, 0)]),
+]
+
+
+def rows_of(tuples):
+    return [arbiter.Row(*each) for each in tuples]
+
+
+def same(found, wanted, what):
+    if found != wanted:
+        raise AssertionError(f"{what}: {str(found)[:200]} and not {str(wanted)[:200]}")
+
+
+def number_of(call, *words):
+    """The number and the row of a refusal, 0 where the call answers."""
+    try:
+        call(*words)
+    except arbiter.Refused as refused:
+        return refused.number, refused.row
+    return 0, None
+
+
+def script_of(host, rows):
+    """A script that makes these rows, in their order, and asks for all that is compared."""
+    paths, lines = ["."], []
+    for g, row in enumerate(rows[1:], 1):
+        above = paths[row.parent]
+        paths.append(f"g{g}" if above == "." else f"{above}/g{g}")
+        lines += [f"mkdir {paths[g]}", f"write {paths[g]} cpu.weight {row.weight}"]
+        if row.limit is not None:
+            lines.append(f"write {paths[g]} cpu.max {row.limit * host.slice_us} {host.period_us}")
+    lines += [f"demand {paths[g]} {row.demand}" for g, row in enumerate(rows) if row.demand]
+    return "\n".join(lines + ["plan", "total", "cert"]) + "\n", paths
+
+
+def by_program(program, host, rows):
+    """The program's amounts, limiting rows with the rest, and certified text."""
+    script, paths = script_of(host, rows)
+    words = [program, "run", "--processors", str(host.processors), "--period", str(host.period_us), "--slice", str(host.slice_us)]
+    ran = native.run(words, script.encode(), SECONDS)
+    out = ran.stdout.decode()
+    if ran.returncode or "error" in out:
+        raise AssertionError(f"the program: {ran.returncode} {ran.stderr[:100]} {[each for each in out.splitlines() if 'error' in each][:1]}")
+    lines = [line for line in out.splitlines() if line != "ok"]
+    total = next(at for at, line in enumerate(lines) if line.startswith("total "))
+    head = next(at for at, line in enumerate(lines) if line.startswith("bw 1 "))
+    text = "".join(f"{line}\n" for line in lines[head:head + 1 + len(rows)])
+    limits = [line.split(" ") for line in lines[total + 1:head] if line.startswith("limit ")]
+    rest = [int(line.split(" ")[1]) for line in lines[total + 1:head] if line.startswith("demand ")]
+    limiting = [paths.index(next(word for word in words[1:] if word in set(paths))) for words in limits]
+    return text, limiting, rest[0], int(lines[total].split(" ")[1])
+
+
+def certified_in(text):
+    """The amounts and the certificate of a certified text."""
+    words = [line.split(" ") for line in text.splitlines()[1:]]
+    levels = [None if each[6] == "-" else tuple(int(n) for n in LEVEL.match(each[6]).groups()) for each in words]
+    return [int(each[4]) for each in words], arbiter.Certificate([each[5] == "1" for each in words], levels)
+
+
+def agree(library, program, host, rows, what):
+    """All calls on one tree, against the program."""
+    text, limiting, rest, total = by_program(program, host, rows)
+    amounts, certificate = certified_in(text)
+    same(library.plan(host, rows), amounts, f"{what}: plan")
+    same(library.certify(host, rows), (amounts, certificate), f"{what}: certify")
+    same(library.limiting(host, rows), (limiting, rest), f"{what}: limiting")
+    same(amounts[0], total, f"{what}: total")
+    library.check(host, rows, amounts, certificate)
+    library.check_text(text.encode())
+    return text
+
+
+def random_tree(random_numbers):
+    host = arbiter.Host(random_numbers.choice([1, 2, 8, 64]), 100000, random_numbers.choice([1000, 5000, 20000]))
+    rows = [arbiter.Row()]
+    for g in range(1, random_numbers.randrange(1, 60)):
+        parent = random_numbers.randrange(max(0, g - 8), g)
+        limit = random_numbers.choice([None, random_numbers.randrange(1, 40)])
+        rows.append(arbiter.Row(parent, random_numbers.choice([1, 100, 10000, random_numbers.randrange(1, 10001)]), limit, 0))
+    inner = {row.parent for row in rows}
+    for g, row in enumerate(rows):
+        if g not in inner:
+            row.demand = random_numbers.choice([0, random_numbers.randrange(0, 30), random_numbers.randrange(0, 1000001)])
+    return host, rows
+
+
+def random_trees(library, program):
+    numbers = random.Random(SEED)
+    for turn in range(60):
+        host, rows = random_tree(numbers)
+        agree(library, program, host, rows, f"tree {turn}")
+
+
+def worked(library, program):
+    for what, (host, tuples, amounts) in WORKED.items():
+        same(library.plan(host, rows_of(tuples)), amounts, what)
+        # a script has no limit of 0 slices that is no quota of less than 1 ms
+        if all(limit != 0 for _, _, limit, _ in tuples):
+            agree(library, program, host, rows_of(tuples), what)
+
+
+def refused(library, _):
+    """Each refusal of a host and of rows, by each call that has them."""
+    for number, host, tuples in REFUSED:
+        rows = rows_of(tuples)
+        nothing = arbiter.Certificate([False] * len(rows), [None] * len(rows))
+        for call, words in [(library.plan, ()), (library.certify, ()), (library.limiting, ()), (library.check, ([0] * len(rows), nothing))]:
+            same(number_of(call, host, rows, *words), (number, None), f"{number} by {call.__name__}")
+
+
+def raw_columns(rows):
+    return [arbiter.column(arbiter.U32, [arbiter.NO_PARENT if row.parent is None else row.parent for row in rows], ""),
+            arbiter.column(arbiter.U64, [row.weight for row in rows], ""),
+            arbiter.column(arbiter.U64, [arbiter.NO_LIMIT if row.limit is None else row.limit for row in rows], ""),
+            arbiter.column(arbiter.U64, [row.demand for row in rows], "")]
+
+
+def wrong_lengths(library, _):
+    """One entry too few or too many, in each column in turn: 50, and nothing is written."""
+    rows = rows_of(WORKED["two groups"][1])
+    host = [arbiter.U64(n) for n in (1, 100000, 5000)]
+    kinds = {"plan": [arbiter.U64], "limiting": [arbiter.U32], "certify": [arbiter.U64, arbiter.U8, arbiter.U64, arbiter.U64, arbiter.U32]}
+    for name, outs in kinds.items():
+        for at in range(4 + len(outs)):
+            for by in (-1, 1):
+                columns = raw_columns(rows) + [(kind * 4)(*[7] * 4) for kind in outs]
+                lengths = [3] * len(columns)
+                lengths[at] += by
+                # each column has room for one more, so that what is told is there
+                columns = [(type(each)._type_ * 4)(*(list(each) + [7])[:4]) for each in columns]
+                words = [word for each, length in zip(columns, lengths) for word in (each, arbiter.SIZE(length))]
+                count, rest = arbiter.U32(7), arbiter.U64(7)
+                words += [ctypes.byref(count), ctypes.byref(rest)] if name == "limiting" else []
+                same(getattr(library.calls, f"arbiter_{name}")(*host, *words), 50, f"{name}, column {at} by {by}")
+                same([list(each) for each in columns[4:]], [[7] * 4] * len(outs), f"{name}, column {at} by {by}: what is written")
+                same((count.value, rest.value), (7, 7), f"{name}, column {at} by {by}: count and rest")
+
+
+def uneven_levels(library, _):
+    """Columns of levels that differ in length: 50, and the row is as it was. One level too few for all: row 0."""
+    rows = rows_of(WORKED["two groups"][1])
+    for lengths, row in [((3, 2, 3), 7), ((3, 3, 2), 7), ((2, 3, 3), 7), ((2, 2, 2), 0), ((0, 0, 0), 0)]:
+        found = arbiter.U32(7)
+        columns = raw_columns(rows) + [(arbiter.U64 * 3)(20, 7, 13), (arbiter.U8 * 3)(1, 0, 0)]
+        levels = [(arbiter.U64 * 3)(13, 0, 0), (arbiter.U64 * 3)(100, 0, 0), (arbiter.U32 * 3)()]
+        words = arbiter.given(*columns) + [word for each, length in zip(levels, lengths) for word in (each, arbiter.SIZE(length))]
+        host = [arbiter.U64(n) for n in (1, 100000, 5000)]
+        same((library.calls.arbiter_check(*host, *words, ctypes.byref(found)), found.value), (50, row), f"levels of {lengths}")
+
+
+def keeps_on_refusal(library, _):
+    """A refusal writes no amount."""
+    rows = rows_of([(None, 100, None, 0), (0, 0, None, 20), (0, 200, None, 20)])
+    amounts = (arbiter.U64 * 3)(7, 8, 9)
+    words = arbiter.given(*raw_columns(rows), amounts)
+    same(library.calls.arbiter_plan(arbiter.U64(1), arbiter.U64(100000), arbiter.U64(5000), *words), 6, "a weight of 0")
+    same(list(amounts), [7, 8, 9], "the amounts")
+
+
+def wrong_claims(library, program):
+    """Each fault of a certificate, by numbers and by text, as the program finds it."""
+    host, tuples, amounts = WORKED["a pod and a job"]
+    rows = rows_of(tuples)
+    _, good = library.certify(host, rows)
+    text = by_program(program, host, rows)[0]
+    flags, levels = good.flags, good.levels
+    changed = [
+        (50, 0, amounts[:-1], flags, levels), (50, 0, amounts, flags + [False], levels), (50, 0, amounts, flags, levels[:-1]),
+        (51, 1, [20, 11, 3, 8, 9], flags, levels), (52, 2, [20, 10, 21, 7, 10], flags, levels), (53, 1, [20, 10, 3, 6, 10], flags, levels),
+        (54, 2, amounts, [True, True, True, False, False], levels), (55, 0, [19, 9, 3, 6, 10], flags, levels),
+        (56, 1, amounts, flags, [levels[0], None, None, None, None]), (57, 2, amounts, flags, [levels[0], (1, 100, 0), None, None, None]),
+        (58, 2, amounts, flags, [levels[0], (999, 1, 0), None, None, None]),
+    ]
+    for number, row, other, other_flags, other_levels in changed:
+        claim = arbiter.Certificate(other_flags, other_levels)
+        same(number_of(library.check, host, rows, other, claim), (number, row), f"claim {number}")
+        if number != 50:
+            words = [line.split(" ") for line in text.splitlines()]
+            for g, line in enumerate(words[1:]):
+                level = other_levels[g]
+                line[4:] = [str(other[g]), str(int(other_flags[g])), "-" if level is None else f"{level[0]}/{level[1]}@{level[2]}"]
+            forged = "".join(" ".join(line) + "\n" for line in words).encode()
+            same(number_of(library.check_text, forged), (number, row), f"text {number}")
+            same(native.run([program, "check"], forged, SECONDS).stdout.decode(), f"refused {number} {arbiter.NAMES[number]} {row}\n", f"the program, {number}")
+
+
+def texts(library, program):
+    """Texts cut and changed at each byte, as the program answers them."""
+    host, tuples, _ = WORKED["two processors"]
+    text = by_program(program, host, rows_of(tuples))[0].encode()
+    others = [text[:end] for end in range(0, len(text), 7)] + [text + b"x", b"", b"\n", b"bw 1 1 100000 5000 0\n", b"bw 2 1 100000 5000 0\n"]
+    others += [text[:at] + b"9" + text[at + 1:] for at in range(0, len(text), 5)]
+    for each in others:
+        number, row = number_of(library.check_text, each)
+        name = arbiter.NAMES.get(number)
+        line = "accepted" if number == 0 else f"error {number} {name}" if row is None else f"refused {number} {name} {row}"
+        same(line, native.run([program, "check"], each, SECONDS).stdout.decode().strip(), f"text {each[:60]}")
+
+
+def greatest_tree(library, program):
+    """16384 groups, 64 levels deep at the first of them."""
+    rows = [arbiter.Row()] + [arbiter.Row(g, 100, None, 0) for g in range(63)]
+    rows += [arbiter.Row(g % 64, 1 + g % 10000, None if g % 3 else 1 + g % 50, g % 7) for g in range(16384 - len(rows))]
+    host = arbiter.Host(64, 1000000, 1000)
+    amounts, certificate = library.certify(host, rows)
+    same(library.plan(host, rows), amounts, "plan and certify")
+    library.check(host, rows, amounts, certificate)
+    groups, rest = library.limiting(host, rows)
+    same(sum(rows[g].limit for g in groups) + rest, amounts[0], "the limits and the rest")
+    agree(library, program, host, rows[:2048], "its first 2048 rows")
+
+
+def out_of_range(library, _):
+    """What the module itself refuses: numbers that C would cut, and limits that stand for none."""
+    for row in [arbiter.Row(weight=-1), arbiter.Row(weight=2**64), arbiter.Row(parent=2**32), arbiter.Row(parent=2**32 - 1), arbiter.Row(limit=2**64 - 1)]:
+        try:
+            library.plan(HOST_OF_ONE, [row])
+        except OverflowError:
+            continue
+        raise AssertionError(f"{row} was taken")
+
+
+def from_c(_, __):
+    """The C programs with the header, linked to the archive by the kit's clang, which has no headers of its own."""
+    clang, runtime = arbiter.kit_files()
+    with tempfile.TemporaryDirectory() as folder:
+        with open(f"{folder}/stddef.h", "w", encoding="ascii") as file:
+            file.write("typedef __SIZE_TYPE__ size_t;\n")
+        with open(f"{folder}/stdint.h", "w", encoding="ascii") as file:
+            for bits in (8, 32, 64):
+                file.write(f"typedef __UINT{bits}_TYPE__ uint{bits}_t;\n#define UINT{bits}_MAX __UINT{bits}_MAX__\n")
+        words = [clang, "-std=c11", "-Wall", "-Wextra", "-Wpedantic", "-Werror", "-fuse-ld=lld", f"-I{folder}"]
+        for name, wrapped in [("library", []), ("library_memory", ["malloc", "realloc", "free"])]:
+            made = ["-o", f"{folder}/{name}", f"{native.TOP}/tests/{name}.c", arbiter.ARCHIVE, runtime, *[f"-Wl,--wrap={each}" for each in wrapped]]
+            subprocess.run([*words, *made], check=True, timeout=SECONDS)
+            same(subprocess.run([f"{folder}/{name}"], check=False, timeout=SECONDS).returncode, 0, f"{name}.c, by the number of its test")
+
+
+CHECKS = [from_c, worked, refused, wrong_lengths, uneven_levels, keeps_on_refusal, wrong_claims, texts, random_trees, greatest_tree, out_of_range]
+
+
+def checked(check, library, program):
+    try:
+        check(library, program)
+    except (AssertionError, OSError, ValueError, KeyError, IndexError, StopIteration, arbiter.Refused, subprocess.SubprocessError) as error:
+        return f"{check.__name__}: {error or type(error).__name__}"
+    return None
+
+
+def main():
+    program = native.program(sys.argv[1:])
+    with tempfile.TemporaryDirectory() as folder:
+        try:
+            library = arbiter.Library(arbiter.built(folder))
+        except (OSError, subprocess.SubprocessError) as error:
+            print(f"FAILED: the shared library is not made: {error}")
+            print("0 passed, 1 failed")
+            return 1
+        wrong = [each for each in (checked(check, library, program) for check in CHECKS) if each]
+    for each in wrong:
+        print(f"FAILED: {each}")
+    print(f"{len(CHECKS) - len(wrong)} passed, {len(wrong)} failed")
+    return 1 if wrong else 0
+
+
+if __name__ == "__main__":
+    sys.exit(main())

@@ -1,0 +1,107 @@
+/* Refuses each allocation of each call of the C library in turn: 71, nothing written, nothing kept. 0 where all is so.
+ * Linked with --wrap for malloc, realloc and free. */
+#include "../share/arbiter.h"
+
+void *__real_malloc(size_t size);
+void *__real_realloc(void *block, size_t size);
+void __real_free(void *block);
+void *__wrap_malloc(size_t size);
+void *__wrap_realloc(void *block, size_t size);
+void __wrap_free(void *block);
+
+static int turn, refused_turn, held;
+
+void *__wrap_malloc(size_t size)
+{
+    void *block = ++turn == refused_turn ? 0 : __real_malloc(size);
+    held += block != 0;
+    return block;
+}
+
+void *__wrap_realloc(void *block, size_t size)
+{
+    void *moved = ++turn == refused_turn ? 0 : __real_realloc(block, size);
+    held += moved != 0 && block == 0;
+    return moved;
+}
+
+void __wrap_free(void *block)
+{
+    held -= block != 0;
+    __real_free(block);
+}
+
+static const uint32_t parents[5] = {ARBITER_NO_PARENT, 0, 1, 1, 0};
+static const uint64_t weights[5] = {100, 100, 100, 300, 100};
+static const uint64_t limits[5] = {ARBITER_NO_LIMIT, 10, ARBITER_NO_LIMIT, ARBITER_NO_LIMIT, ARBITER_NO_LIMIT};
+static const uint64_t demands[5] = {0, 0, 20, 20, 20};
+static const char text[] = "bw 1 1 100000 5000 3\n- 100 max 0 20 1 13/100@0\n0 100 max 20 7 0 -\n0 200 max 20 13 0 -\n";
+static uint64_t amounts[5], nums[5], dens[5], rest;
+static uint8_t flags[5];
+static uint32_t places[5], groups[5], count, row;
+
+#define ROWS 1, 100000, 5000, parents, 5, weights, 5, limits, 5, demands, 5
+
+static void mark(void)
+{
+    for (int g = 0; g < 5; g++) {
+        amounts[g] = nums[g] = dens[g] = 7;
+        flags[g] = 7;
+        places[g] = groups[g] = 7;
+    }
+    rest = count = row = 7;
+}
+
+static int is_marked(void)
+{
+    for (int g = 0; g < 5; g++)
+        if (amounts[g] != 7 || nums[g] != 7 || dens[g] != 7 || flags[g] != 7 || places[g] != 7 || groups[g] != 7)
+            return 0;
+    return rest == 7 && count == 7 && row == 7;
+}
+
+static uint32_t call(int which)
+{
+    switch (which) {
+    case 0: return arbiter_plan(ROWS, amounts, 5);
+    case 1: return arbiter_certify(ROWS, amounts, 5, flags, 5, nums, 5, dens, 5, places, 5);
+    case 2: return arbiter_limiting(ROWS, groups, 5, &count, &rest);
+    case 3: return arbiter_check_text((const uint8_t *)text, sizeof text - 1, &row);
+    default: return arbiter_check(ROWS, amounts, 5, flags, 5, nums, 5, dens, 5, places, 5, &row);
+    }
+}
+
+int main(void)
+{
+    for (int which = 0; which < 4; which++) {
+        int refusals = 0;
+        refused_turn = 0;
+        /* a list that is refused twice its room takes the room that it needs, so not each refusal is answered */
+        do {
+            refused_turn++;
+            mark();
+            turn = 0;
+            uint32_t number = call(which);
+            if (held != 0)
+                return 10 + which;
+            if (number != 0 && (number != 71 || !is_marked()))
+                return 20 + which;
+            refusals += number != 0;
+        } while (turn >= refused_turn);
+        if (refusals < 3)
+            return 30 + which;
+    }
+    /* the check of a certificate that holds */
+    refused_turn = 0;
+    if (call(1) != 0)
+        return 40;
+    do {
+        refused_turn++;
+        turn = 0;
+        row = 7;
+        uint32_t number = call(4);
+        if (held != 0 || row != 7 || (number != 0 && number != 71))
+            return 41;
+    } while (turn >= refused_turn);
+    return refused_turn > 3 ? 0 : 42;
+}

@@ -1,0 +1,169 @@
+"""The planner and the checker of arbiter as a Python module, over the library that share/arbiter.h describes.
+
+    import arbiter
+    library = arbiter.Library("libarbiter.so")     # arbiter.built() makes one from the proved archive
+    host = arbiter.Host(processors=1, period_us=100000, slice_us=5000)
+    rows = [arbiter.Row(), arbiter.Row(parent=0, demand=20), arbiter.Row(parent=0, weight=200, demand=20)]
+    library.plan(host, rows)                       # [20, 7, 13]
+
+It needs the standard library alone. The code that plans and checks is proved; this file is not.
+"""
+from __future__ import annotations
+
+import ctypes
+import dataclasses
+import os
+import shutil
+import subprocess
+
+TOP = os.path.dirname(os.path.dirname(os.path.abspath(__file__)))
+ARCHIVE = f"{TOP}/crates/bw_exports/out/libbw_exports.a"
+SONAME = "libarbiter.so"
+NO_PARENT, NO_LIMIT = 2**32 - 1, 2**64 - 1
+U8, U32, U64, SIZE = ctypes.c_uint8, ctypes.c_uint32, ctypes.c_uint64, ctypes.c_size_t
+NAMES = {1: "BadProcessors", 2: "BadPeriod", 3: "BadSlice", 4: "TooMany", 5: "BadParent", 6: "BadWeight", 7: "TooDeep",
+         8: "InnerDemand", 9: "DemandTooLarge", 10: "RootLimited", 40: "BadLine", 41: "BadField", 42: "CutShort",
+         43: "Trailing", 50: "WrongLength", 51: "OverLimit", 52: "OverDemand", 53: "SumDiffers", 54: "FlagWithoutLimit",
+         55: "NotGreatest", 56: "LevelMissing", 57: "LastMarkAbove", 58: "NextMarkNotAbove", 71: "OutOfMemory"}
+
+
+class Refused(Exception):
+    """What the library answers in place of 0: `number`, `name`, and `row` where a group has the fault."""
+
+    def __init__(self, number, row=None):
+        self.number, self.name, self.row = number, NAMES.get(number, "unknown"), row
+        super().__init__(f"{number} {self.name}" + ("" if row is None else f" {row}"))
+
+
+@dataclasses.dataclass
+class Host:
+    """1 to 64 processors, a period of 1000 to 1000000 microseconds, and a slice of at least 1000 that divides it."""
+
+    processors: int = 1
+    period_us: int = 100000
+    slice_us: int = 5000
+
+
+@dataclasses.dataclass
+class Row:
+    """A group: the row of its parent (None: the root), weight 1 to 10000, limit (None: none) and demand in slices."""
+
+    parent: int | None = None
+    weight: int = 100
+    limit: int | None = None
+    demand: int = 0
+
+
+@dataclasses.dataclass
+class Certificate:
+    """A flag for each row, and its level (num, den, place) or None."""
+
+    flags: list
+    levels: list
+
+
+def kit_files():
+    """The clang of the Rattle kit, and what its libraries in C need at run time."""
+    rt = shutil.which("rt")
+    if rt is None:
+        raise FileNotFoundError("the command rt of the Rattle kit is not on the PATH")
+    kit = os.path.dirname(os.path.dirname(os.path.realpath(rt)))
+    return f"{kit}/toolchain/bin/clang", f"{kit}/c/liblibc_c.a"
+
+
+def built(folder, archive=ARCHIVE):
+    """Links the shared library into a folder, by the kit's clang, from the archive that `rt lib` makes."""
+    clang, runtime = kit_files()
+    if not os.path.isfile(archive):
+        raise FileNotFoundError(f"{archive} is not there: `rt lib` in crates/bw_exports makes it")
+    made = f"{folder}/{SONAME}"
+    whole = ["-Wl,--whole-archive", archive, "-Wl,--no-whole-archive", runtime, f"-Wl,--exclude-libs,{os.path.basename(runtime)}"]
+    subprocess.run([clang, "-shared", "-fuse-ld=lld", f"-Wl,-soname,{SONAME}", "-o", made, *whole], check=True)
+    return made
+
+
+def in_range(number, bits, what):
+    """A number that the column holds: ctypes itself would cut it."""
+    if not 0 <= number < 2**bits:
+        raise OverflowError(f"{what} {number} is no number of {bits} bits")
+    return number
+
+
+def column(kind, numbers, what):
+    bits = 8 * ctypes.sizeof(kind)
+    return (kind * len(numbers))(*[in_range(number, bits, what) for number in numbers])
+
+
+def or_none(given, none, what):
+    if given == none:
+        raise OverflowError(f"{what} {given} stands for none")
+    return none if given is None else given
+
+
+def given(*columns):
+    """Each column as C takes it: where it begins, and its length."""
+    return [word for one in columns for word in (one, SIZE(len(one)))]
+
+
+class Library:
+    """The calls of one shared library: at a path, else at $ARBITER_LIBRARY, else beside the repository's archive."""
+
+    def __init__(self, path=None):
+        path = path or os.environ.get("ARBITER_LIBRARY") or f"{os.path.dirname(ARCHIVE)}/{SONAME}"
+        self.calls = ctypes.CDLL(os.path.abspath(path))
+        for name in ("plan", "certify", "check", "check_text", "limiting"):
+            getattr(self.calls, f"arbiter_{name}").restype = U32
+
+    def asked(self, host, rows):
+        """The words with which each call begins."""
+        numbers = [U64(in_range(n, 64, "host")) for n in (host.processors, host.period_us, host.slice_us)]
+        return numbers + given(
+            column(U32, [or_none(row.parent, NO_PARENT, "parent") for row in rows], "parent"),
+            column(U64, [row.weight for row in rows], "weight"),
+            column(U64, [or_none(row.limit, NO_LIMIT, "limit") for row in rows], "limit"),
+            column(U64, [row.demand for row in rows], "demand"))
+
+    def plan(self, host, rows):
+        """The amounts of the plan, one for each row."""
+        amounts = (U64 * len(rows))()
+        number = self.calls.arbiter_plan(*self.asked(host, rows), *given(amounts))
+        if number:
+            raise Refused(number)
+        return list(amounts)
+
+    def certify(self, host, rows):
+        """The amounts of the plan, and its certificate."""
+        count = len(rows)
+        amounts, flags, nums, dens, places = (U64 * count)(), (U8 * count)(), (U64 * count)(), (U64 * count)(), (U32 * count)()
+        number = self.calls.arbiter_certify(*self.asked(host, rows), *given(amounts, flags, nums, dens, places))
+        if number:
+            raise Refused(number)
+        levels = [level if level[0] else None for level in zip(nums, dens, places)]
+        return list(amounts), Certificate([bool(flag) for flag in flags], levels)
+
+    def check(self, host, rows, amounts, certificate):
+        """Returns where the certificate shows that the amounts are the plan; else Refused, with the row of a fault."""
+        levels = [(0, 0, 0) if level is None else level for level in certificate.levels]
+        claimed = given(
+            column(U64, amounts, "amount"), column(U8, [int(bool(flag)) for flag in certificate.flags], "flag"),
+            column(U64, [level[0] for level in levels], "num"), column(U64, [level[1] for level in levels], "den"),
+            column(U32, [level[2] for level in levels], "place"))
+        row = U32(NO_PARENT)
+        number = self.calls.arbiter_check(*self.asked(host, rows), *claimed, ctypes.byref(row))
+        if number:
+            raise Refused(number, None if row.value == NO_PARENT else row.value)
+
+    def check_text(self, text):
+        """Returns where a certified text, as bytes, holds together; else Refused, with the row of a fault."""
+        row = U32(NO_PARENT)
+        number = self.calls.arbiter_check_text(*given((U8 * len(text)).from_buffer_copy(text)), ctypes.byref(row))
+        if number:
+            raise Refused(number, None if row.value == NO_PARENT else row.value)
+
+    def limiting(self, host, rows):
+        """The rows of the groups that hold the total down, and the slices that are wanted outside them."""
+        groups, count, rest = (U32 * len(rows))(), U32(), U64()
+        number = self.calls.arbiter_limiting(*self.asked(host, rows), *given(groups), ctypes.byref(count), ctypes.byref(rest))
+        if number:
+            raise Refused(number)
+        return list(groups[:count.value]), rest.value
