@@ -141,6 +141,8 @@ usage_usec 2500000
 nr_periods 50
 nr_throttled 50
 throttled_usec 7500000
+nr_bursts 0
+burst_usec 0
 ";
 
 // Fifty periods of the script of pod and job, on four processors, and the counters after them.
