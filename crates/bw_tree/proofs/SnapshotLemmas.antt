@@ -256,17 +256,6 @@ module _ (t : TreeState) (ok : IsTree t) (s : Shape) (d : ℕ × GroupFields) (r
       (clear _ _ _ rows_small
       (clear _ _ _ root_free refl))))))
 
--- where nothing is refused, only memory can be answered
-pub only_memory : (o : Option InstanceFault) (e : InstanceFault) → o ≡ None → IsRefused o e → e ≡ OutOfMemory
-only_memory o TooMany none h = cc
-only_memory o BadParent none h = cc
-only_memory o BadWeight none h = cc
-only_memory o TooDeep none h = cc
-only_memory o InnerDemand none h = cc
-only_memory o DemandTooLarge none h = cc
-only_memory o RootLimited none h = cc
-only_memory o OutOfMemory none h = refl
-
 -- a snapshot is an instance
 pub snapshot_IsInstance : (t : TreeState) → IsTree t → (shape : Shape) → IsHost shape → IsInstance (instance_of t shape)
 snapshot_IsInstance t ok shape host =

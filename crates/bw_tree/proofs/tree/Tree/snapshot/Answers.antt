@@ -4,16 +4,15 @@ use Rattle.bw_tree.specs.Groups.{TreeState}
 use Rattle.bw_tree.specs.Tree.{root_group}
 use Rattle.bw_tree.specs.Snapshot.{rows_of, row_of, instance_of}
 use Rattle.bw_model.specs.Groups.{IsInstance}
-use Rattle.bw_tree.proofs.SnapshotLemmas.{rows_valid, only_memory, snapshot_IsInstance}
+use Rattle.bw_tree.proofs.SnapshotLemmas.{snapshot_IsInstance}
 use Rattle.bw_tree.proofs.tree.Tree.snapshot.Goals as goal
 
-pub memory_fault-requires : goal.memory_fault-requires
-memory_fault-requires c =
+pub of_valid-requires : goal.of_valid-requires
+of_valid-requires c =
     let t : TreeState = record { groups = c.self.inside.groups.entries; next = c.self.inside.next_id } in
     let shape = c.args.shape in
-    let valid = rows_valid t c.self.invariant.tree shape (0, root_group) (row_of t.groups shape root_group) in
     let same : rows_of t.groups shape ≡ c.in_ok-rows.rows.items = ap (λ (s : TreeState). rows_of s.groups shape) c.self.view_is ∙ sym c.in_ok-rows.ensures in
-    only_memory (refusal c.in_ok-rows.rows.items) c.in-Err.fault (sym (ap refusal same) ∙ valid) c.in-Err.ensures.err
+    subst (λ rows. IsInstance (record { shape = shape; rows = rows })) same (snapshot_IsInstance t c.self.invariant.tree shape c.slice_us-slice_us.ensures.valid)
 
 pub returns-in_err-rows-clause-valid : goal.returns-in_err-rows-clause-valid
 returns-in_err-rows-clause-valid c = subst (λ t. IsInstance (instance_of t c.args.shape)) c.self.view_is (snapshot_IsInstance _ c.self.invariant.tree c.args.shape c.slice_us-slice_us.ensures.valid)
@@ -21,8 +20,8 @@ returns-in_err-rows-clause-valid c = subst (λ t. IsInstance (instance_of t c.ar
 pub returns-in_err-ids-clause-valid : goal.returns-in_err-ids-clause-valid
 returns-in_err-ids-clause-valid c = subst (λ t. IsInstance (instance_of t c.args.shape)) c.self.view_is (snapshot_IsInstance _ c.self.invariant.tree c.args.shape c.slice_us-slice_us.ensures.valid)
 
-pub returns-in-Err-clause-valid : goal.returns-in-Err-clause-valid
-returns-in-Err-clause-valid c = subst (λ t. IsInstance (instance_of t c.args.shape)) c.self.view_is (snapshot_IsInstance _ c.self.invariant.tree c.args.shape c.slice_us-slice_us.ensures.valid)
+pub returns-in_err-instance-clause-valid : goal.returns-in_err-instance-clause-valid
+returns-in_err-instance-clause-valid c = subst (λ t. IsInstance (instance_of t c.args.shape)) c.self.view_is (snapshot_IsInstance _ c.self.invariant.tree c.args.shape c.slice_us-slice_us.ensures.valid)
 
 pub returns-in_err-base-clause-valid : goal.returns-in_err-base-clause-valid
 returns-in_err-base-clause-valid c = subst (λ t. IsInstance (instance_of t c.args.shape)) c.self.view_is (snapshot_IsInstance _ c.self.invariant.tree c.args.shape c.slice_us-slice_us.ensures.valid)
