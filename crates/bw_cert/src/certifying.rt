@@ -2,10 +2,11 @@
 ghost use Rattle.std.specs.Prelude.{◌≡◌, ◌<◌, ◌≤◌, false, length, slice_index, EachIndex, IfOk};
 ghost use Rattle.bw_model.specs.Groups.{is_leaf, sum_of_children};
 ghost use Rattle.bw_model.specs.Plan.{IsPlan};
+ghost use Rattle.bw_demand.specs.Demands.{demands_of, IsGathered};
 ghost use Rattle.bw_model.specs.Certificate.{certified_of, IsAccepted};
 ghost use Rattle.bw_cert.specs.Levels.{IsLevelAt, AreLevels, AreTightFlags};
 
-use bw_demand::{Gathered, gather};
+use bw_demand::{Gathered, gather_rows};
 use bw_model::limits::MAX_CAPACITY;
 use bw_model::{Certificate, Instance, Mark};
 use bw_plan::{Plan, child_values, child_weights};
@@ -47,7 +48,23 @@ pub fn certify(alloc: Global, instance: &Instance, plan: &Plan) -> Result<Certif
     ensures flags { IfOk result (λ c. AreTightFlags instance.now (certified_of c)) }
     ensures levels { IfOk result (λ c. AreLevels instance.now plan.now.amounts.items (certified_of c)) }
 {
-    let gathered = gather(alloc, instance)?;
+    let gathered = gather_rows(alloc, instance)?;
+    certify_gathered(alloc, instance, gathered, plan)
+}
+
+/// As [`certify`], for a caller that has gathered.
+pub fn certify_gathered(
+    alloc: Global,
+    instance: &Instance,
+    gathered: Gathered,
+    plan: &Plan,
+) -> Result<Certificate, AllocError>
+    requires gathered { IsGathered instance.now (demands_of gathered) }
+    requires plan { IsPlan instance.now plan.now.amounts.items }
+    ensures certified { IfOk result (λ c. IsAccepted instance.now plan.now.amounts.items (certified_of c)) }
+    ensures flags { IfOk result (λ c. AreTightFlags instance.now (certified_of c)) }
+    ensures levels { IfOk result (λ c. AreLevels instance.now plan.now.amounts.items (certified_of c)) }
+{
     let amounts = plan.amounts.as_slice();
     let mut levels: Vec<Option<Mark>> = Vec::new(alloc);
     for g in 0..instance.rows().len() {

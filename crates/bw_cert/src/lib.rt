@@ -10,7 +10,7 @@ mod reading;
 mod words;
 mod writing;
 
-pub use certifying::certify;
+pub use certifying::{certify, certify_gathered};
 pub use fault::CertFault;
 pub use groups::Certified;
 pub use laws::spelled_is_read;

@@ -1,10 +1,11 @@
 //! The plan, from the root down.
 ghost use Rattle.std.specs.Prelude.{IfOk};
+ghost use Rattle.bw_demand.specs.Demands.{demands_of, IsGathered};
 ghost use Rattle.bw_model.specs.Plan.{IsPlan};
 
 use crate::amounts::Plan;
 use crate::sharing::share_out;
-use bw_demand::gather_rows;
+use bw_demand::{Gathered, gather_rows};
 use bw_model::Instance;
 use std::alloc::{AllocError, Global};
 
@@ -15,6 +16,18 @@ pub fn plan(alloc: Global, instance: &Instance) -> Result<Plan, AllocError>
     ensures { IfOk result (λ plan. IsPlan instance.now plan.amounts.items) }
 {
     let gathered = gather_rows(alloc, instance)?;
+    plan_rows(alloc, instance, &gathered)
+}
+
+/// As [`plan`], for a caller that has gathered.
+pub fn plan_rows(
+    alloc: Global,
+    instance: &Instance,
+    gathered: &Gathered,
+) -> Result<Plan, AllocError>
+    requires { IsGathered instance.now (demands_of gathered.now) }
+    ensures { IfOk result (λ plan. IsPlan instance.now plan.amounts.items) }
+{
     let count = instance.rows().len();
     let mut amounts = vec![in alloc; 0u64; count]?;
     amounts[0] = gathered.most[0];

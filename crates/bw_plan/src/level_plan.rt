@@ -8,9 +8,9 @@ ghost use Rattle.bw_demand.specs.Levels.{AreLevels, level_of};
 ghost use Rattle.bw_plan.specs.Shared.{CanShare, AreParts, IsPlanning, is_above};
 
 use crate::amounts::Plan;
-use crate::downward::plan;
+use crate::downward::plan_rows;
 use crate::sharing::{give, parts_of, share_out};
-use bw_demand::{Gathered, gather_levels, levels};
+use bw_demand::{Gathered, gather_rows, levels};
 use bw_model::Instance;
 use bw_model::limits::MAX_PATH;
 use rayon::current_num_threads;
@@ -217,8 +217,8 @@ fn share_level(
     share_in_pieces(rt, alloc, instance, most, levels, depth, piece, amounts)
 }
 
-/// As [`plan_levels`], for a caller that has the levels and what is gathered over them.
-pub fn plan_gathered(
+// The plan, one level after another from the root down.
+fn plan_each_level(
     rt: &(impl Threads + Sync),
     alloc: Global,
     instance: &Instance,
@@ -239,9 +239,30 @@ pub fn plan_gathered(
     Ok(Plan { amounts })
 }
 
-/// The one plan of an instance, as [`plan`] gives it, one level after another from the root down. The groups of a level
-/// with many children to split among are split in several threads, and where no level can have so many, this is [`plan`].
-/// Refused for want of memory alone.
+/// As [`plan_levels`], for a caller that has gathered.
+pub fn plan_gathered(
+    rt: &(impl Threads + Sync),
+    alloc: Global,
+    instance: &Instance,
+    gathered: &Gathered,
+) -> Result<Plan, AllocError>
+    requires { IsGathered instance.now (demands_of gathered.now) }
+    ensures { IfOk result (λ plan. IsPlan instance.now plan.amounts.items) }
+{
+    // on one processor pieces take turns
+    if !may_be_worth_cutting(instance) || current_num_threads(rt) < 2 {
+        return plan_rows(alloc, instance, gathered);
+    }
+    if !has_wide_level(alloc, instance)? {
+        return plan_rows(alloc, instance, gathered);
+    }
+    let levels = levels(alloc, instance)?;
+    plan_each_level(rt, alloc, instance, levels.as_slice(), gathered)
+}
+
+/// The one plan of an instance, as [`plan`](crate::plan) gives it, one level after another from the root down. The groups of a
+/// level with many children to split among are split in several threads, and where no level can have so many, this is
+/// [`plan`](crate::plan). Refused for want of memory alone.
 pub fn plan_levels(
     rt: &(impl Threads + Sync),
     alloc: Global,
@@ -249,14 +270,6 @@ pub fn plan_levels(
 ) -> Result<Plan, AllocError>
     ensures { IfOk result (λ plan. IsPlan instance.now plan.amounts.items) }
 {
-    // on one processor pieces take turns
-    if !may_be_worth_cutting(instance) || current_num_threads(rt) < 2 {
-        return plan(alloc, instance);
-    }
-    if !has_wide_level(alloc, instance)? {
-        return plan(alloc, instance);
-    }
-    let levels = levels(alloc, instance)?;
-    let gathered = gather_levels(alloc, instance, levels.as_slice())?;
-    plan_gathered(rt, alloc, instance, levels.as_slice(), &gathered)
+    let gathered = gather_rows(alloc, instance)?;
+    plan_gathered(rt, alloc, instance, &gathered)
 }

@@ -1,6 +1,6 @@
 use Rattle.std.proofs.Common.{◌≡◌, ◌<◌, ℕ, None, length, get_or}
 use Rattle.bw_cert.specs.Levels.{IsLevelAt}
-use Rattle.bw_cert.proofs.certifying.certify.Given as goal
+use Rattle.bw_cert.proofs.certifying.certify_gathered.Given as goal
 
 abbrev pub invariant-loop-g : goal.invariant-loop-g
 invariant-loop-g l = record {

@@ -5,7 +5,7 @@ use Rattle.bw_model.proofs.Mosts.{AreMosts-capped}
 use Rattle.bw_plan.specs.Shared.{IsPlanning, is_above}
 use Rattle.bw_plan.proofs.Shares.{begun, all_planned}
 use Rattle.bw_plan.proofs.Done.{none_above, inner_above}
-use Rattle.bw_plan.proofs.level_plan.plan_gathered.Goals as goal
+use Rattle.bw_plan.proofs.level_plan.plan_each_level.Goals as goal
 
 pub loop-below-init : goal.loop-below-init
 loop-below-init g c =
