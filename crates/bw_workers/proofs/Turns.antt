@@ -9,7 +9,7 @@ use Rattle.bw_model.specs.Groups.{is_leaf}
 use Rattle.bw_pool.specs.declared.calls.PoolCall.TheVariants.{Draw, GiveBack}
 use Rattle.bw_pool.specs.declared.calls.PoolReply.{PoolReply}
 use Rattle.bw_pool.specs.Drained.{PoolEntry, Worker, fresh, among, got_one, drawn_one, returned_one, MayCall, Drains}
-use Rattle.bw_workers.specs.Working.{times, is_leaf_row, IsLeaves, PoolSeat, calls_of, Keeps, Leaves}
+use Rattle.bw_workers.specs.Working.{times, is_leaf_row, IsLeaves, PoolSeat, calls_of, Keeps, DropsLeaf}
 
 pub record IsWorking (uses : ℕ → Bool) (tree : List Row) (slices : ℕ) (calls : List PoolEntry) (rows : List ℕ) (kept : ℕ) : Type 0 where
   pub worker : Worker
@@ -148,7 +148,7 @@ module _ (uses : ℕ → Bool) (tree : List Row) (slices : ℕ) where
       → IsWorking uses tree slices (calls_of new) rows (kept + 1)
   kept_turn old new rows kept leaf w some k = keeps_slice (calls_of old) (calls_of new) rows kept old.number leaf k.reply w some k.used k.got k.calls
 
-  pub left_turn : (old new : PoolSeat) (rows rows' : List ℕ) (kept leaf : ℕ) → IsWorking uses tree slices (calls_of old) rows kept → 1 ≤ times leaf rows → Without leaf rows rows' → Leaves uses leaf old new
+  pub left_turn : (old new : PoolSeat) (rows rows' : List ℕ) (kept leaf : ℕ) → IsWorking uses tree slices (calls_of old) rows kept → 1 ≤ times leaf rows → Without leaf rows rows' → DropsLeaf uses leaf old new
       → IsWorking uses tree slices (calls_of new) rows' kept
   left_turn old new rows rows' kept leaf w some off k = elim k.calls [
     | inl h ↦ had_none (calls_of old) (calls_of new) rows rows' kept old.number leaf k.reply w some off h.0 h.1

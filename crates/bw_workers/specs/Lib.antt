@@ -1,3 +1,4 @@
 pub mod Working
 pub mod Serving
 pub mod Faults
+pub mod Headline

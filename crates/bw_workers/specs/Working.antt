@@ -51,7 +51,7 @@ pub record Keeps (uses : ℕ → Bool) (leaf : ℕ) (old new : PoolSeat) : Type 
   pub calls : calls_of new ≡ calls_of old ++ entry old.number (Draw leaf 1) reply ∷ []
 
 -- the seat got no slice of the leaf, or gave it back at once
-pub record Leaves (uses : ℕ → Bool) (leaf : ℕ) (old new : PoolSeat) : Type 0 where
+pub record DropsLeaf (uses : ℕ → Bool) (leaf : ℕ) (old new : PoolSeat) : Type 0 where
   pub reply : PoolReply
   pub lock : new.lock_id ≡ old.lock_id
   pub number : new.number ≡ old.number
