@@ -1,3 +1,4 @@
+-- The files that say what the workers do.
 pub mod Working
 pub mod Serving
 pub mod Faults

@@ -58,7 +58,8 @@ pub record DropsLeaf (uses : ℕ → Bool) (leaf : ℕ) (old new : PoolSeat) : T
   pub idle : new.pending ≡ None
   pub left : old.calls_left ≤ new.calls_left + 2
   pub calls : ((got_one reply ≡ false) × (calls_of new ≡ calls_of old ++ entry old.number (Draw leaf 1) reply ∷ []))
-      ⊎ ((uses leaf ≡ false) × (got_one reply ≡ true) × (back : PoolReply) × (calls_of new ≡ calls_of old ++ entry old.number (Draw leaf 1) reply ∷ entry old.number (GiveBack leaf 1) back ∷ []))
+      ⊎ ((uses leaf ≡ false) × (got_one reply ≡ true) × (back : PoolReply)
+      × (calls_of new ≡ calls_of old ++ entry old.number (Draw leaf 1) reply ∷ entry old.number (GiveBack leaf 1) back ∷ []))
 
 -- what a worker hands back: its idle seat of the lock, whose calls are those of a drained worker
 pub record IsDrainedSeat (uses : ℕ → Bool) (rows : List Row) (per_processor : ℕ) (lock_id : TableId) (seat_number : ℕ) (seat : PoolSeat) : Type 0 where

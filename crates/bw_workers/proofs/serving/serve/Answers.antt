@@ -1,3 +1,4 @@
+-- The closed lock has the history of drained workers, and so the headline holds.
 use Rattle.std.proofs.Common.{rules, ◌≡◌, ℕ, ◌+◌, ◌*◌, ◌<◌, length, sym, ap, ◌∙◌, subst}
 use Rattle.std.specs.List.{All}
 use Rattle.bw_model.specs.Host.{slices_per_processor}
@@ -32,7 +33,8 @@ returns-clause-drawn g c =
     let legal : IsLegal after answer (opening instance amounts) history = search rules in
     let replayed : c.in_ok-drawn.drawn.items ≡ (replay after (opening instance amounts) history).drawn = search rules in
     subst (IsDrawnOut (g.G.Gate.used c.args.gate.now) instance.rows amounts) (sym replayed)
-    (drained_workers_draw_the_plan (g.G.Gate.used c.args.gate.now) instance amounts history c.rows-rows.ensures.valid c.requires legal (returns-clause-drained g c))
+    (drained_workers_draw_the_plan (g.G.Gate.used c.args.gate.now) instance amounts history c.rows-rows.ensures.valid c.requires legal
+    (returns-clause-drained g c))
 
 pub returns-clause-headline : goal.returns-clause-headline
 returns-clause-headline g c =
