@@ -1,3 +1,4 @@
+-- The rule allows the step wake.
 use Rattle.std.proofs.Common.{arith, ◌+◌, ◌%◌, ◌^◌, ◌==◌}
 use prog.Atomic.{either}
 use Rattle.bw_ticket.proofs.Allowed.{may_wake}
