@@ -5,3 +5,4 @@ pub mod LastMarks
 pub mod Lined
 pub mod Filling
 pub mod EmptyStruct
+pub mod Neighbours

@@ -1,3 +1,4 @@
 pub mod Conditions
 pub mod Levels
 pub mod Counts
+pub mod OneSlice

@@ -7,6 +7,7 @@
 mod conditions;
 mod count;
 mod greatest;
+mod laws;
 mod level;
 pub mod limits;
 mod marks;
@@ -14,6 +15,7 @@ mod work;
 
 pub use conditions::can_split;
 pub use greatest::level_of;
+pub use laws::no_move_gains;
 pub use level::{split, split_counted};
 pub use marks::split_by_marks;
 pub use work::Work;

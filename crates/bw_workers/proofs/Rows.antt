@@ -31,17 +31,24 @@ plus_none t c h = omega arith
 pub no_rows : (tree : List Row) → AreLeavesTo tree 0 []
 no_rows tree x = sym (ap (λ b. cond {A = ℕ} b 1 0) (and_left (nat_lt x 0) (is_leaf tree x) (le-ltb x 0 (omega arith))))
 
-pub next_leaf : (tree : List Row) (row : ℕ) (leaves : List ℕ) → AreLeavesTo tree row leaves → is_leaf tree row ≡ true → AreLeavesTo tree (row + 1) (leaves ++ row ∷ [])
+pub next_leaf : (tree : List Row) (row : ℕ) (leaves : List ℕ) → AreLeavesTo tree row leaves → is_leaf tree row ≡ true →
+    AreLeavesTo tree (row + 1) (leaves ++ row ∷ [])
 next_leaf tree row leaves h is x = elim (eqb_tells row x) [
-  | inl e ↦ let before : times x leaves ≡ 0 = h x ∙ ap (λ b. cond {A = ℕ} b 1 0) (and_left (nat_lt x row) (is_leaf tree x) (le-ltb x row (omega (arith, e.1)))) in
+  | inl e ↦ let before : times x leaves ≡ 0 =
+      h x ∙ ap (λ b. cond {A = ℕ} b 1 0) (and_left (nat_lt x row) (is_leaf tree x) (le-ltb x row (omega (arith, e.1)))) in
       let here : cond {A = ℕ} (row == x) 1 0 ≡ 1 = ap (λ b. cond {A = ℕ} b 1 0) e.0 in
-      let now : cond {A = ℕ} (nat_lt x (row + 1) && is_leaf tree x) 1 0 ≡ 1 = ap (λ b. cond {A = ℕ} b 1 0) (and_from (nat_lt x (row + 1)) (is_leaf tree x) (lt-ltb x (row + 1) (omega (arith, e.1))) (ap (is_leaf tree) (sym e.1) ∙ is)) in
+      let now : cond {A = ℕ} (nat_lt x (row + 1) && is_leaf tree x) 1 0 ≡ 1 =
+      ap (λ b. cond {A = ℕ} b 1 0) (and_from (nat_lt x (row + 1)) (is_leaf tree x) (lt-ltb x (row + 1) (omega (arith, e.1)))
+      (ap (is_leaf tree) (sym e.1) ∙ is)) in
       times_snoc leaves x row ∙ (λ i. before i + here i) ∙ sym now
-  | inr e ↦ times_snoc leaves x row ∙ plus_none (times x leaves) (cond {A = ℕ} (row == x) 1 0) (ap (λ b. cond {A = ℕ} b 1 0) e.0) ∙ h x ∙ ap (λ b. cond {A = ℕ} (b && is_leaf tree x) 1 0) (sym (same_below x row e.1))
+  | inr e ↦ times_snoc leaves x row ∙ plus_none (times x leaves) (cond {A = ℕ} (row == x) 1 0) (ap (λ b. cond {A = ℕ} b 1 0) e.0) ∙ h x
+      ∙ ap (λ b. cond {A = ℕ} (b && is_leaf tree x) 1 0) (sym (same_below x row e.1))
 ]
 
 pub next_inner : (tree : List Row) (row : ℕ) (leaves : List ℕ) → AreLeavesTo tree row leaves → is_leaf tree row ≡ false → AreLeavesTo tree (row + 1) leaves
 next_inner tree row leaves h is x = elim (eqb_tells row x) [
-  | inl e ↦ let not_leaf : is_leaf tree x ≡ false = ap (is_leaf tree) (sym e.1) ∙ is in h x ∙ ap (λ b. cond {A = ℕ} b 1 0) (and_right (nat_lt x row) (is_leaf tree x) not_leaf ∙ sym (and_right (nat_lt x (row + 1)) (is_leaf tree x) not_leaf))
+  | inl e ↦ let not_leaf : is_leaf tree x ≡ false = ap (is_leaf tree) (sym e.1) ∙ is in
+      h x ∙ ap (λ b. cond {A = ℕ} b 1 0) (and_right (nat_lt x row) (is_leaf tree x) not_leaf
+      ∙ sym (and_right (nat_lt x (row + 1)) (is_leaf tree x) not_leaf))
   | inr e ↦ h x ∙ ap (λ b. cond {A = ℕ} (b && is_leaf tree x) 1 0) (sym (same_below x row e.1))
 ]

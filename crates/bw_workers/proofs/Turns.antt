@@ -9,7 +9,7 @@ use Rattle.bw_model.specs.Groups.{is_leaf}
 use Rattle.bw_pool.specs.declared.calls.PoolCall.TheVariants.{Draw, GiveBack}
 use Rattle.bw_pool.specs.declared.calls.PoolReply.{PoolReply}
 use Rattle.bw_pool.specs.Drained.{PoolEntry, Worker, fresh, among, got_one, drawn_one, returned_one, MayCall, Drains}
-use Rattle.bw_workers.specs.Working.{times, is_leaf_row, IsLeaves, PoolSeat, calls_of, Keeps, Leaves}
+use Rattle.bw_workers.specs.Working.{times, is_leaf_row, IsLeaves, PoolSeat, calls_of, Keeps, DropsLeaf}
 
 pub record IsWorking (uses : ℕ → Bool) (tree : List Row) (slices : ℕ) (calls : List PoolEntry) (rows : List ℕ) (kept : ℕ) : Type 0 where
   pub worker : Worker
@@ -18,7 +18,8 @@ pub record IsWorking (uses : ℕ → Bool) (tree : List Row) (slices : ℕ) (cal
   pub goes_on : (rest : List PoolEntry) → Drains uses tree slices worker rest → Drains uses tree slices fresh (calls ++ rest)
   pub once : (row : ℕ) → times row rows ≤ 1
   pub still : (row : ℕ) → times row rows ≡ 1 → (row < length tree) × (is_leaf tree row ≡ true) × (among row worker.returned ≡ false)
-  pub closed : (row : ℕ) → row < length tree → is_leaf tree row ≡ true → times row rows ≡ 0 → (among row worker.short ≡ true) ⊎ (among row worker.returned ≡ true)
+  pub closed : (row : ℕ) → row < length tree → is_leaf tree row ≡ true → times row rows ≡ 0 →
+      (among row worker.short ≡ true) ⊎ (among row worker.returned ≡ true)
 
 one_if_le : (b : Bool) → cond {A = ℕ} b 1 0 ≤ 1
 one_if_le true = omega arith
@@ -32,15 +33,18 @@ one_if_not : (b : Bool) → b ≡ true → cond {A = ℕ} b 1 0 ≡ 0 → ⊥
 one_if_not true e h = omega arith
 one_if_not false e h = true≢false (sym e)
 
-pub begins : (uses : ℕ → Bool) (tree : List Row) (slices : ℕ) (calls : List PoolEntry) (leaves : List ℕ) → calls ≡ [] → IsLeaves tree leaves → IsWorking uses tree slices calls leaves 0
+pub begins : (uses : ℕ → Bool) (tree : List Row) (slices : ℕ) (calls : List PoolEntry) (leaves : List ℕ) → calls ≡ [] → IsLeaves tree leaves →
+    IsWorking uses tree slices calls leaves 0
 begins uses tree slices calls leaves e h = record {
   worker = fresh;
   has = refl;
   none_owed = refl;
   goes_on = λ rest d. subst (λ l. Drains uses tree slices fresh (l ++ rest)) (sym e) d;
   once = λ row. subst (λ (n : ℕ). n ≤ 1) (sym (h row)) (one_if_le (is_leaf_row tree row));
-  still = λ row one. let b = and_parts (nat_lt row (length tree)) (is_leaf tree row) (one_if_true (is_leaf_row tree row) (sym (h row) ∙ one)) in (ltb-true row (length tree) b.0, b.1, refl);
-  closed = λ row lt leaf none. absurd (one_if_not (is_leaf_row tree row) (and_from (nat_lt row (length tree)) (is_leaf tree row) (lt-ltb row (length tree) lt) leaf) (sym (h row) ∙ none));
+  still = λ row one. let b = and_parts (nat_lt row (length tree)) (is_leaf tree row) (one_if_true (is_leaf_row tree row) (sym (h row) ∙ one)) in
+      (ltb-true row (length tree) b.0, b.1, refl);
+  closed = λ row lt leaf none. absurd (one_if_not (is_leaf_row tree row)
+      (and_from (nat_lt row (length tree)) (is_leaf tree row) (lt-ltb row (length tree) lt) leaf) (sym (h row) ∙ none));
 }
 
 -- the leaf that stands first
@@ -56,7 +60,8 @@ past a b t u h = omega arith
 -- it goes behind the others
 pub goes_last : (leaf : ℕ) (rest : List ℕ) (row : ℕ) → times row (rest ++ leaf ∷ []) ≡ times row (leaf ∷ rest)
 goes_last leaf [] row = refl
-goes_last leaf (x ∷ xs) row = past (cond {A = ℕ} (x == row) 1 0) (cond {A = ℕ} (leaf == row) 1 0) (times row xs) (times row (xs ++ leaf ∷ [])) (goes_last leaf xs row)
+goes_last leaf (x ∷ xs) row = past (cond {A = ℕ} (x == row) 1 0) (cond {A = ℕ} (leaf == row) 1 0) (times row xs) (times row (xs ++ leaf ∷ []))
+    (goes_last leaf xs row)
 
 pub nothing : (xs : List ℕ) → length xs ≡ 0 → xs ≡ []
 nothing [] h = refl
@@ -84,11 +89,13 @@ not_self leaf row e = ap (λ b. cond {A = ℕ} b 1 0) e
 
 module _ (uses : ℕ → Bool) (tree : List Row) (slices : ℕ) where
   -- a draw of a leaf that is still asked comes next
-  drawn_next : (w : Worker) (number leaf : ℕ) (reply : PoolReply) (rest : List PoolEntry) → w.owes ≡ None → leaf < length tree → is_leaf tree leaf ≡ true → among leaf w.returned ≡ false
+  drawn_next : (w : Worker) (number leaf : ℕ) (reply : PoolReply) (rest : List PoolEntry) → w.owes ≡ None → leaf < length tree → is_leaf tree leaf ≡ true →
+      among leaf w.returned ≡ false
       → Drains uses tree slices (drawn_one w leaf (uses leaf) (got_one reply)) rest → Drains uses tree slices w (entry number (Draw leaf 1) reply ∷ rest)
   drawn_next w number leaf reply rest none lt is back d = (subst (λ o. MayCall tree w o (Draw leaf 1)) (sym none) (refl, lt, is, back), d)
 
-  pub keeps_slice : (calls calls' : List PoolEntry) (rows : List ℕ) (kept number leaf : ℕ) (reply : PoolReply) → IsWorking uses tree slices calls rows kept → 1 ≤ times leaf rows
+  pub keeps_slice : (calls calls' : List PoolEntry) (rows : List ℕ) (kept number leaf : ℕ) (reply : PoolReply) → IsWorking uses tree slices calls rows kept
+      → 1 ≤ times leaf rows
       → uses leaf ≡ true → got_one reply ≡ true → calls' ≡ calls ++ entry number (Draw leaf 1) reply ∷ [] → IsWorking uses tree slices calls' rows (kept + 1)
   keeps_slice calls calls' rows kept number leaf reply w some used got e = let one = w.once leaf in let s = w.still leaf (omega arith) in record {
     worker = drawn_one w.worker leaf true true;
@@ -102,7 +109,8 @@ module _ (uses : ℕ → Bool) (tree : List Row) (slices : ℕ) where
     closed = w.closed;
   }
 
-  pub had_none : (calls calls' : List PoolEntry) (rows rows' : List ℕ) (kept number leaf : ℕ) (reply : PoolReply) → IsWorking uses tree slices calls rows kept → 1 ≤ times leaf rows → Without leaf rows rows'
+  pub had_none : (calls calls' : List PoolEntry) (rows rows' : List ℕ) (kept number leaf : ℕ) (reply : PoolReply) →
+      IsWorking uses tree slices calls rows kept → 1 ≤ times leaf rows → Without leaf rows rows'
       → got_one reply ≡ false → calls' ≡ calls ++ entry number (Draw leaf 1) reply ∷ [] → IsWorking uses tree slices calls' rows' kept
   had_none calls calls' rows rows' kept number leaf reply w some off got e = let one = w.once leaf in let s = w.still leaf (omega arith) in record {
     worker = drawn_one w.worker leaf (uses leaf) false;
@@ -122,33 +130,42 @@ module _ (uses : ℕ → Bool) (tree : List Row) (slices : ℕ) where
     ];
   }
 
-  pub gave_back : (calls calls' : List PoolEntry) (rows rows' : List ℕ) (kept number leaf : ℕ) (reply back : PoolReply) → IsWorking uses tree slices calls rows kept → 1 ≤ times leaf rows → Without leaf rows rows'
-      → uses leaf ≡ false → got_one reply ≡ true → calls' ≡ calls ++ entry number (Draw leaf 1) reply ∷ entry number (GiveBack leaf 1) back ∷ [] → IsWorking uses tree slices calls' rows' kept
-  gave_back calls calls' rows rows' kept number leaf reply back w some off unused got e = let one = w.once leaf in let s = w.still leaf (omega arith) in record {
-    worker = returned_one (drawn_one w.worker leaf false true) leaf;
-    has = let h = w.has in omega arith;
-    none_owed = refl;
-    goes_on = λ rest d. subst (Drains uses tree slices fresh) (sym (ap (λ l. l ++ rest) e ∙ append_assoc calls (entry number (Draw leaf 1) reply ∷ entry number (GiveBack leaf 1) back ∷ []) rest))
-        (w.goes_on (entry number (Draw leaf 1) reply ∷ entry number (GiveBack leaf 1) back ∷ rest) (drawn_next w.worker number leaf reply (entry number (GiveBack leaf 1) back ∷ rest) w.none_owed s.0 s.1 s.2
-        (subst (λ v. Drains uses tree slices v (entry number (GiveBack leaf 1) back ∷ rest)) (λ i. drawn_one w.worker leaf (sym unused i) (sym got i)) ((refl, refl), d))));
-    once = λ row. more_le (times row rows) (times row rows') (cond {A = ℕ} (leaf == row) 1 0) (w.once row) (off row);
-    still = λ row is. let h = was_one (times row rows) (times row rows') (cond {A = ℕ} (leaf == row) 1 0) (w.once row) (off row) is in let a = w.still row h.0 in
-        (a.0, a.1, or_from (leaf == row) (among row w.worker.returned) (not_one (leaf == row) h.1) a.2);
-    closed = λ row lt is none. elim (eqb_tells leaf row) [
-      | inl h ↦ inr (or_left (leaf == row) (among row w.worker.returned) h.0)
-      | inr h ↦ elim (w.closed row lt is (off row ∙ omega (arith, none, not_self leaf row h.0))) [
-        | inl a ↦ inl a
-        | inr a ↦ inr (or_right (leaf == row) (among row w.worker.returned) a)
-      ]
-    ];
-  }
+  pub gave_back : (calls calls' : List PoolEntry) (rows rows' : List ℕ) (kept number leaf : ℕ) (reply back : PoolReply) →
+      IsWorking uses tree slices calls rows kept → 1 ≤ times leaf rows → Without leaf rows rows'
+      → uses leaf ≡ false → got_one reply ≡ true → calls' ≡ calls ++ entry number (Draw leaf 1) reply ∷ entry number (GiveBack leaf 1) back ∷ [] →
+      IsWorking uses tree slices calls' rows' kept
+  gave_back calls calls' rows rows' kept number leaf reply back w some off unused got e = let one = w.once leaf in let s = w.still leaf (omega arith) in
+      record {
+        worker = returned_one (drawn_one w.worker leaf false true) leaf;
+        has = let h = w.has in omega arith;
+        none_owed = refl;
+        goes_on = λ rest d. subst (Drains uses tree slices fresh)
+            (sym (ap (λ l. l ++ rest) e ∙ append_assoc calls (entry number (Draw leaf 1) reply ∷ entry number (GiveBack leaf 1) back ∷ []) rest))
+            (w.goes_on (entry number (Draw leaf 1) reply ∷ entry number (GiveBack leaf 1) back ∷ rest)
+            (drawn_next w.worker number leaf reply (entry number (GiveBack leaf 1) back ∷ rest) w.none_owed s.0 s.1 s.2
+            (subst (λ v. Drains uses tree slices v (entry number (GiveBack leaf 1) back ∷ rest)) (λ i. drawn_one w.worker leaf (sym unused i) (sym got i))
+            ((refl, refl), d))));
+        once = λ row. more_le (times row rows) (times row rows') (cond {A = ℕ} (leaf == row) 1 0) (w.once row) (off row);
+        still = λ row is. let h = was_one (times row rows) (times row rows') (cond {A = ℕ} (leaf == row) 1 0) (w.once row) (off row) is in let a =
+            w.still row h.0 in
+            (a.0, a.1, or_from (leaf == row) (among row w.worker.returned) (not_one (leaf == row) h.1) a.2);
+        closed = λ row lt is none. elim (eqb_tells leaf row) [
+          | inl h ↦ inr (or_left (leaf == row) (among row w.worker.returned) h.0)
+          | inr h ↦ elim (w.closed row lt is (off row ∙ omega (arith, none, not_self leaf row h.0))) [
+            | inl a ↦ inl a
+            | inr a ↦ inr (or_right (leaf == row) (among row w.worker.returned) a)
+          ]
+        ];
+      }
 
   -- the same for a turn, as the seat shows it
-  pub kept_turn : (old new : PoolSeat) (rows : List ℕ) (kept leaf : ℕ) → IsWorking uses tree slices (calls_of old) rows kept → 1 ≤ times leaf rows → Keeps uses leaf old new
+  pub kept_turn : (old new : PoolSeat) (rows : List ℕ) (kept leaf : ℕ) → IsWorking uses tree slices (calls_of old) rows kept → 1 ≤ times leaf rows →
+      Keeps uses leaf old new
       → IsWorking uses tree slices (calls_of new) rows (kept + 1)
   kept_turn old new rows kept leaf w some k = keeps_slice (calls_of old) (calls_of new) rows kept old.number leaf k.reply w some k.used k.got k.calls
 
-  pub left_turn : (old new : PoolSeat) (rows rows' : List ℕ) (kept leaf : ℕ) → IsWorking uses tree slices (calls_of old) rows kept → 1 ≤ times leaf rows → Without leaf rows rows' → Leaves uses leaf old new
+  pub left_turn : (old new : PoolSeat) (rows rows' : List ℕ) (kept leaf : ℕ) → IsWorking uses tree slices (calls_of old) rows kept → 1 ≤ times leaf rows →
+      Without leaf rows rows' → DropsLeaf uses leaf old new
       → IsWorking uses tree slices (calls_of new) rows' kept
   left_turn old new rows rows' kept leaf w some off k = elim k.calls [
     | inl h ↦ had_none (calls_of old) (calls_of new) rows rows' kept old.number leaf k.reply w some off h.0 h.1
@@ -156,7 +173,8 @@ module _ (uses : ℕ → Bool) (tree : List Row) (slices : ℕ) where
   ]
 
   -- the leaves that are still asked, in another order
-  pub reordered : (calls : List PoolEntry) (rows rows' : List ℕ) (kept : ℕ) → ((row : ℕ) → times row rows' ≡ times row rows) → IsWorking uses tree slices calls rows kept → IsWorking uses tree slices calls rows' kept
+  pub reordered : (calls : List PoolEntry) (rows rows' : List ℕ) (kept : ℕ) → ((row : ℕ) → times row rows' ≡ times row rows) →
+      IsWorking uses tree slices calls rows kept → IsWorking uses tree slices calls rows' kept
   reordered calls rows rows' kept same w = record {
     worker = w.worker;
     has = w.has;
@@ -167,8 +185,11 @@ module _ (uses : ℕ → Bool) (tree : List Row) (slices : ℕ) where
     closed = λ row lt is none. w.closed row lt is (sym (same row) ∙ none);
   }
 
-  pub ends : (calls : List PoolEntry) (rows : List ℕ) (kept : ℕ) → IsWorking uses tree slices calls rows kept → (kept ≡ slices) ⊎ (rows ≡ []) → Drains uses tree slices fresh calls
-  ends calls rows kept w h = subst (Drains uses tree slices fresh) (append-nil calls) (w.goes_on [] (record { none_owed = w.none_owed; spent_or_no_leaf = why h })) where
-    why : (kept ≡ slices) ⊎ (rows ≡ []) → (w.worker.kept ≡ slices) ⊎ ((leaf : ℕ) → leaf < length tree → is_leaf tree leaf ≡ true → (among leaf w.worker.short ≡ true) ⊎ (among leaf w.worker.returned ≡ true))
-    why (inl e) = inl (w.has ∙ e)
-    why (inr e) = inr (λ leaf lt is. w.closed leaf lt is (ap (times leaf) e))
+  pub ends : (calls : List PoolEntry) (rows : List ℕ) (kept : ℕ) → IsWorking uses tree slices calls rows kept → (kept ≡ slices) ⊎ (rows ≡ []) →
+      Drains uses tree slices fresh calls
+  ends calls rows kept w h = subst (Drains uses tree slices fresh) (append-nil calls)
+      (w.goes_on [] (record { none_owed = w.none_owed; spent_or_no_leaf = why h })) where
+        why : (kept ≡ slices) ⊎ (rows ≡ []) → (w.worker.kept ≡ slices)
+            ⊎ ((leaf : ℕ) → leaf < length tree → is_leaf tree leaf ≡ true → (among leaf w.worker.short ≡ true) ⊎ (among leaf w.worker.returned ≡ true))
+        why (inl e) = inl (w.has ∙ e)
+        why (inr e) = inr (λ leaf lt is. w.closed leaf lt is (ap (times leaf) e))

@@ -1,3 +1,5 @@
+-- The files that say what the workers do.
 pub mod Working
 pub mod Serving
 pub mod Faults
+pub mod Headline

@@ -18,4 +18,5 @@ AreReady lock_id calls seats = (k : ℕ) (d : PoolSeat) → k < length seats →
 
 -- seat k is handed back by a drained worker
 abbrev pub AreBack : (ℕ → Bool) → List Row → ℕ → TableId → List PoolSeat → Type 0
-AreBack uses rows per_processor lock_id seats = (k : ℕ) (d : PoolSeat) → k < length seats → IsDrainedSeat uses rows per_processor lock_id k (slice_index_or seats k d)
+AreBack uses rows per_processor lock_id seats = (k : ℕ) (d : PoolSeat) → k < length seats →
+    IsDrainedSeat uses rows per_processor lock_id k (slice_index_or seats k d)

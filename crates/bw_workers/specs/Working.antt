@@ -51,14 +51,15 @@ pub record Keeps (uses : ℕ → Bool) (leaf : ℕ) (old new : PoolSeat) : Type 
   pub calls : calls_of new ≡ calls_of old ++ entry old.number (Draw leaf 1) reply ∷ []
 
 -- the seat got no slice of the leaf, or gave it back at once
-pub record Leaves (uses : ℕ → Bool) (leaf : ℕ) (old new : PoolSeat) : Type 0 where
+pub record DropsLeaf (uses : ℕ → Bool) (leaf : ℕ) (old new : PoolSeat) : Type 0 where
   pub reply : PoolReply
   pub lock : new.lock_id ≡ old.lock_id
   pub number : new.number ≡ old.number
   pub idle : new.pending ≡ None
   pub left : old.calls_left ≤ new.calls_left + 2
   pub calls : ((got_one reply ≡ false) × (calls_of new ≡ calls_of old ++ entry old.number (Draw leaf 1) reply ∷ []))
-      ⊎ ((uses leaf ≡ false) × (got_one reply ≡ true) × (back : PoolReply) × (calls_of new ≡ calls_of old ++ entry old.number (Draw leaf 1) reply ∷ entry old.number (GiveBack leaf 1) back ∷ []))
+      ⊎ ((uses leaf ≡ false) × (got_one reply ≡ true) × (back : PoolReply)
+      × (calls_of new ≡ calls_of old ++ entry old.number (Draw leaf 1) reply ∷ entry old.number (GiveBack leaf 1) back ∷ []))
 
 -- what a worker hands back: its idle seat of the lock, whose calls are those of a drained worker
 pub record IsDrainedSeat (uses : ℕ → Bool) (rows : List Row) (per_processor : ℕ) (lock_id : TableId) (seat_number : ℕ) (seat : PoolSeat) : Type 0 where

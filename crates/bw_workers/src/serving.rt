@@ -7,6 +7,7 @@ ghost use Rattle.bw_pool.specs.Pool.{after, answer};
 ghost use Rattle.bw_pool.specs.Drained.{opening, AreDrained, IsDrawnOut};
 ghost use Rattle.bw_ticket.specs.declared.limits.TheConstants.{MAX_CALLS};
 ghost use Rattle.bw_ticket.specs.Faults.{InRange};
+ghost use Rattle.bw_workers.specs.Headline.{Headline};
 ghost use Rattle.bw_workers.specs.Working.{IsLeaves, IsDrainedSeat};
 ghost use Rattle.bw_workers.specs.Serving.{IsReady, AreReady, AreBack};
 
@@ -32,18 +33,19 @@ pub struct Served {
 
 // What a worker's thread hands back.
 #[derive(Clone, Copy)]
-struct Back<'a, G: Gate> {
+struct WorkerPromise<'a, G: Gate> {
     lock: &'a TicketLock<SlicePool>,
     instance: &'a Instance,
     gate: &'a G,
     number: u32,
 }
 
-impl<'a, G: Gate> Promise<Seat<SlicePool>> for Back<'a, G> {
+impl<'a, G: Gate> Promise<Seat<SlicePool>> for WorkerPromise<'a, G> {
     ghost use Rattle.bw_model.specs.Host.{slices_per_processor};
     ghost use Rattle.bw_workers.specs.Working.{IsDrainedSeat};
 
-    ghost kept_by = { λ p seat. IsDrainedSeat (G.used p.gate.now) p.instance.now.rows (slices_per_processor p.instance.now.shape) p.lock.now.lock_id p.number seat };
+    ghost kept_by = { λ p seat. IsDrainedSeat (G.used p.gate.now) p.instance.now.rows (slices_per_processor p.instance.now.shape)
+        p.lock.now.lock_id p.number seat };
 }
 
 // The leaves, in row order.
@@ -74,7 +76,8 @@ fn in_threads<G: Gate, R: Threads + Wait + Sync>(
     requires ready { AreReady lock.now.lock_id (slices_per_processor instance.now.shape + 2 * length leaves.now) seats.items }
     requires leaves { IsLeaves instance.now.rows leaves.now }
     requires few { length leaves.now ≤ MAX_GROUPS }
-    ensures { IfOk result (λ v. (length v.items ≡ length seats.items) × AreBack (G.used gate.now) instance.now.rows (slices_per_processor instance.now.shape) lock.now.lock_id v.items) }
+    ensures { IfOk result (λ v. (length v.items ≡ length seats.items) ×
+        AreBack (G.used gate.now) instance.now.rows (slices_per_processor instance.now.shape) lock.now.lock_id v.items) }
 {
     thread::scope(
         thread::scope_env(),
@@ -83,23 +86,26 @@ fn in_threads<G: Gate, R: Threads + Wait + Sync>(
             requires ready { AreReady lock.now.lock_id (slices_per_processor instance.now.shape + 2 * length leaves.now) seats.items }
             requires leaves { IsLeaves instance.now.rows leaves.now }
             requires few { length leaves.now ≤ MAX_GROUPS }
-            ensures { IfOk result (λ v. (length v.items ≡ length seats.items) × AreBack (G.used gate.entry.now) instance.entry.now.rows (slices_per_processor instance.entry.now.shape) lock.entry.now.lock_id v.items) }
+            ensures { IfOk result (λ v. (length v.items ≡ length seats.items) ×
+                AreBack (G.used gate.entry.now) instance.entry.now.rows (slices_per_processor instance.entry.now.shape) lock.entry.now.lock_id v.items) }
         {
             let count = seats.len();
             let mut children = Vec::with_capacity(alloc, count)?;
             for seat in seats {
                 let mine = Vec::from_slice(alloc, leaves)?;
-                let back = Back {
+                let promise = WorkerPromise {
                     lock,
                     instance,
                     gate,
                     number: seat.number(),
                 };
                 let run = move || -> Seat<SlicePool>
-                    requires { IsReady lock.now.lock_id (slices_per_processor instance.now.shape + 2 * length mine.items) seat.number seat × IsLeaves instance.now.rows mine.items × (length mine.items ≤ MAX_GROUPS) }
-                    ensures { IsDrainedSeat (G.used gate.entry.now) instance.entry.now.rows (slices_per_processor instance.entry.now.shape) lock.entry.now.lock_id seat.number result }
+                    requires { IsReady lock.now.lock_id (slices_per_processor instance.now.shape + 2 * length mine.items) seat.number seat ×
+                        IsLeaves instance.now.rows mine.items × (length mine.items ≤ MAX_GROUPS) }
+                    ensures { IsDrainedSeat (G.used gate.entry.now) instance.entry.now.rows (slices_per_processor instance.entry.now.shape)
+                        lock.entry.now.lock_id seat.number result }
                 { work(rt, lock, seat, instance, mine, gate) };
-                let Ok(child) = scope.spawn_with(back, run) else {
+                let Ok(child) = scope.spawn_with(promise, run) else {
                     return Err(ServeFault::NotStarted);
                 };
                 children.push_reserved(child);
@@ -139,8 +145,10 @@ pub fn serve<G: Gate, R: Threads + Wait + Sync>(
     gate: &G,
 ) -> Result<Served, ServeFault>
     requires { IsPlan instance.now plan.now.amounts.items }
+    ensures headline { IfOk result (λ s. Headline (G.used gate.now) instance.now plan.now.amounts.items s.history.items s.drawn.items) }
     ensures legal { IfOk result (λ s. IsLegal after answer (opening instance.now plan.now.amounts.items) s.history.items) }
-    ensures drained { IfOk result (λ s. AreDrained (G.used gate.now) instance.now.shape.processors (slices_per_processor instance.now.shape) instance.now.rows s.history.items) }
+    ensures drained { IfOk result (λ s. AreDrained (G.used gate.now) instance.now.shape.processors (slices_per_processor instance.now.shape)
+        instance.now.rows s.history.items) }
     ensures replayed { IfOk result (λ s. s.drawn.items ≡ (replay after (opening instance.now plan.now.amounts.items) s.history.items).drawn) }
     ensures drawn { IfOk result (λ s. IsDrawnOut (G.used gate.now) instance.now.rows plan.now.amounts.items s.drawn.items) }
 {

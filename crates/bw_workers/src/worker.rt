@@ -2,7 +2,7 @@
 ghost use Rattle.std.specs.Prelude.{◌≡◌, ℕ, ◌+◌, ◌*◌, ◌<◌, ◌≤◌, [], length, None, MatchBool};
 ghost use Rattle.bw_model.specs.Host.{slices_per_processor};
 ghost use Rattle.bw_pool.specs.Drained.{got_one};
-ghost use Rattle.bw_workers.specs.Working.{IsLeaves, Asks, Keeps, Leaves, IsDrainedSeat};
+ghost use Rattle.bw_workers.specs.Working.{IsLeaves, Asks, Keeps, DropsLeaf, IsDrainedSeat};
 
 use crate::gate::Gate;
 use bw_model::Instance;
@@ -52,7 +52,7 @@ fn take_turn<G: Gate, R: Wait>(
     requires lock { seat.old.lock_id ≡ lock.now.lock_id }
     requires idle { seat.old.pending ≡ None }
     requires left { 2 ≤ seat.old.calls_left }
-    ensures { MatchBool result (Keeps (G.used gate.now) leaf seat.old seat.new) (Leaves (G.used gate.now) leaf seat.old seat.new) }
+    ensures { MatchBool result (Keeps (G.used gate.now) leaf seat.old seat.new) (DropsLeaf (G.used gate.now) leaf seat.old seat.new) }
 {
     let worker = seat.number();
     gate.before(worker, nth);

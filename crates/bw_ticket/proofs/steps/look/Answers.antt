@@ -1,3 +1,4 @@
+-- The rule allows the steps look and enter, and a seat that finds its own ticket has the slot.
 use Rattle.std.proofs.Common.{arith, ◌≡◌, [], ◌∷◌, map, sym, ap, ◌∙◌, subst, ◌≤◌}
 use Rattle.bw_ticket.specs.Rule.{ticket_of, Each}
 use Rattle.bw_ticket.specs.Plays.{ticket_in, entered}

@@ -1,3 +1,4 @@
+-- One more row keeps the list that of the leaves.
 use Rattle.std.proofs.Common.{rules, arith, ◌≡◌, ◌+◌, [], ◌∷◌, ◌++◌, length, vec_capacity, sym, ap, subst, length-append}
 use Rattle.bw_workers.proofs.Rows.{AreLeavesTo, next_leaf, next_inner}
 use Rattle.bw_workers.proofs.serving.leaves_of.Goals.{then-is_leaf, else-is_leaf}

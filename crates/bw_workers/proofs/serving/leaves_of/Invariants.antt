@@ -1,3 +1,4 @@
+-- The list has the leaves of the rows that were looked at.
 use Rattle.std.proofs.Common.{◌≡◌, ◌≤◌, length, vec_capacity}
 use Rattle.bw_model.specs.declared.limits.TheConstants.{MAX_GROUPS}
 use Rattle.bw_workers.proofs.Rows.{AreLeavesTo}

@@ -1,3 +1,4 @@
+-- The closed lock has the history of drained workers, and so the headline holds.
 use Rattle.std.proofs.Common.{rules, ◌≡◌, ℕ, ◌+◌, ◌*◌, ◌<◌, length, sym, ap, ◌∙◌, subst}
 use Rattle.std.specs.List.{All}
 use Rattle.bw_model.specs.Host.{slices_per_processor}
@@ -5,6 +6,7 @@ use Rattle.bw_model.specs.History.{IsLegal, replay}
 use Rattle.bw_pool.specs.Pool.{after, answer}
 use Rattle.bw_pool.specs.Drained.{opening, IsDrawnOut}
 use Rattle.bw_pool.proofs.Amounts.{drained_workers_draw_the_plan, plan_is_planned}
+use Rattle.bw_workers.proofs.Carried.{carried}
 use Rattle.bw_workers.proofs.Histories.{drained_history, seats_ready}
 use Rattle.bw_workers.proofs.serving.serve.Goals as goal
 
@@ -31,7 +33,22 @@ returns-clause-drawn g c =
     let legal : IsLegal after answer (opening instance amounts) history = search rules in
     let replayed : c.in_ok-drawn.drawn.items ≡ (replay after (opening instance amounts) history).drawn = search rules in
     subst (IsDrawnOut (g.G.Gate.used c.args.gate.now) instance.rows amounts) (sym replayed)
-    (drained_workers_draw_the_plan (g.G.Gate.used c.args.gate.now) instance amounts history c.rows-rows.ensures.valid c.requires legal (returns-clause-drained g c))
+    (drained_workers_draw_the_plan (g.G.Gate.used c.args.gate.now) instance amounts history c.rows-rows.ensures.valid c.requires legal
+    (returns-clause-drained g c))
+
+pub returns-clause-headline : goal.returns-clause-headline
+returns-clause-headline g c =
+    let instance = c.args.instance.now in
+    let amounts = c.args.plan.now.amounts.items in
+    let history = c.in-Ok-close.field-0.history.items in
+    let opened : c.in-Ok.made.0.seats ≡ instance.shape.processors = search rules in
+    let many : length c.in_ok-seats.seats.items ≡ instance.shape.processors = search rules in
+    let legal : IsLegal after answer (opening instance amounts) history = search rules in
+    let replayed : c.in_ok-drawn.drawn.items ≡ (replay after (opening instance amounts) history).drawn = search rules in
+    carried (g.G.Gate.used c.args.gate.now) instance amounts c.in-Ok.made.0.lock_id c.in_ok-seats.seats.items history c.in_ok-drawn.drawn.items
+    c.rows-rows.ensures.valid c.requires many c.in_ok-seats.ensures.1 c.in-Ok-close.ensures.own
+    (subst (λ (n : ℕ). All (λ e. e.seat < n) history) opened c.in-Ok-close.ensures.callers)
+    legal replayed (returns-clause-drawn g c)
 
 pub new-requires : goal.new-requires
 new-requires g c =

@@ -1,3 +1,4 @@
+-- What is known of a worker between two turns.
 use Rattle.bw_model.specs.Host.{slices_per_processor}
 use Rattle.std.proofs.Common.{◌≡◌, ◌+◌, ◌-◌, ◌*◌, ◌≤◌, length, None}
 use Rattle.bw_model.specs.declared.limits.TheConstants.{MAX_PER_PROCESSOR}

@@ -1,0 +1,58 @@
+-- The work's one sentence as one record, phrase by phrase: of a plan, and of the draws of one period.
+use Rattle.std.specs.Prelude.{◌≡◌, ℕ, ◌<◌, ◌≤◌, List, length, map, take, Bool, false, slice_index}
+use Rattle.std.specs.List.{All}
+use Rattle.bw_model.specs.declared.history.Made.{Made}
+use Rattle.bw_model.specs.declared.row.Row.{Row}
+use Rattle.bw_model.specs.Allocation.{IsWithin, IsGreatestTotal}
+use Rattle.bw_model.specs.Demand.{AreMosts, limited_total}
+use Rattle.bw_model.specs.Groups.{Groups, children_of, is_leaf}
+use Rattle.bw_model.specs.History.{IsLegal, replay, own, entry_of, StandIn}
+use Rattle.bw_model.specs.Host.{slices_per_processor}
+use Rattle.bw_model.specs.Plan.{child_weights, totals}
+use Rattle.bw_model.specs.Split.{IsBestSplit}
+use Rattle.bw_split.specs.OneSlice.{NoMoveGains}
+use Rattle.bw_pool.specs.declared.calls.PoolCall.{PoolCall}
+use Rattle.bw_pool.specs.declared.calls.PoolReply.{PoolReply}
+use Rattle.bw_pool.specs.Pool.{after, answer}
+use Rattle.bw_pool.specs.Drained.{PoolEntry, Drains, fresh, opening, IsDrawnOut}
+
+-- the numbers of a group's children, in order of creation
+abbrev pub of_children : List Row → List ℕ → ℕ → List ℕ
+of_children rows numbers g = map (slice_index numbers) (children_of rows g)
+
+-- an amount for each group, and the history of one period's draws, of which `uses` says at which leaves they are used; `drawn` is what
+-- is drawn of each group in the end
+pub record Headline (uses : ℕ → Bool) (groups : Groups) (amounts : List ℕ) (history : List PoolEntry) (drawn : List ℕ) : Type 0 where
+  -- The plan
+  pub allocation : List ℕ
+  pub plan : amounts ≡ totals groups.rows allocation
+  -- serves as many slices
+  pub serves : IsGreatestTotal groups (slice_index amounts 0)
+  -- as any allocation within demands, limits and processors can,
+  pub within : IsWithin groups allocation
+  -- shown by limiting groups: their limits and the demands outside them add up to what is served;
+  pub most : List ℕ
+  pub mosts : AreMosts groups most
+  pub limiting_groups : limited_total groups most ≡ slice_index amounts 0
+  -- in every group its split has the least cost of all splits of that amount,
+  pub least_cost : (g : ℕ) → g < length groups.rows → is_leaf groups.rows g ≡ false →
+      IsBestSplit (slice_index amounts g) (child_weights groups.rows g) (of_children groups.rows most g) (of_children groups.rows amounts g)
+  -- shown by no gainful one-slice move;
+  pub no_gainful_move : (g : ℕ) → g < length groups.rows → is_leaf groups.rows g ≡ false →
+      NoMoveGains (child_weights groups.rows g) (of_children groups.rows most g) (of_children groups.rows amounts g)
+  -- and in every interleaving of draws the history is one thread's,
+  pub one_thread : IsLegal after answer (opening groups amounts) history
+  -- in ticket order: what a caller made stands in the history at the ticket that it drew,
+  pub calls : ℕ → List (Made PoolCall PoolReply)
+  pub ticket_order : (caller : ℕ) → caller < groups.shape.processors → StandIn history caller (calls caller)
+  -- each caller's calls once: its entries are its calls, one for one and in their order, and those of no caller are none,
+  pub calls_once : (caller : ℕ) → caller < groups.shape.processors → map (entry_of caller) (calls caller) ≡ own caller history
+  pub callers : All (λ e. e.seat < groups.shape.processors) history
+  -- no group past its plan, after any of the draws.
+  pub never_past : (draws g : ℕ) → slice_index (replay after (opening groups amounts) (take draws history)).drawn g ≤ slice_index amounts g
+  -- So where each caller draws until its processor is spent or no leaf has more for it,
+  pub drained : (caller : ℕ) → caller < groups.shape.processors →
+      Drains uses groups.rows (slices_per_processor groups.shape) fresh (map (entry_of caller) (calls caller))
+  -- what is drawn in the end is the plan at the leaves that are used, and nothing at the others.
+  pub replayed : drawn ≡ (replay after (opening groups amounts) history).drawn
+  pub drawn_out : IsDrawnOut uses groups.rows amounts drawn
