@@ -47,7 +47,8 @@ is_max word e = (bytes_eq-Decides word (codes "max")).0 e
 no_limit : (quota : Quota) → quota_in None ≡ Ok quota → quota ≡ Max
 no_limit quota e = cc
 
-in_range : (a b : Bool) (n : ℕ) (quota : Quota) → cond a (Err faults.QuotaTooSmall) (cond b (Err faults.QuotaTooLarge) (Ok (Micros n))) ≡ Ok quota → (a ≡ false) × (b ≡ false) × (quota ≡ Micros n)
+in_range : (a b : Bool) (n : ℕ) (quota : Quota) → cond a (Err faults.QuotaTooSmall) (cond b (Err faults.QuotaTooLarge) (Ok (Micros n))) ≡ Ok quota
+    → (a ≡ false) × (b ≡ false) × (quota ≡ Micros n)
 in_range true b n quota e = absurd cc
 in_range false true n quota e = absurd cc
 in_range false false n quota e = (refl, refl, cc)
@@ -150,6 +151,7 @@ value_valid text m h = (quota_valid h.0 m.quota h.3, period_valid h.1 m.period h
     period_valid ws None e = tt
     period_valid ws (Some n) e = (e.3, e.4)
 
-pub max_valid : (text : List ℕ) (r : Result MaxWrite FileFault) → r ≡ max_of (words text) → IfOk r (λ m. IsValid m.quota × IfSome m.period (λ n. (MIN_PERIOD_US ≤ n) × (n ≤ MAX_PERIOD_US)))
+pub max_valid : (text : List ℕ) (r : Result MaxWrite FileFault) → r ≡ max_of (words text)
+    → IfOk r (λ m. IsValid m.quota × IfSome m.period (λ n. (MIN_PERIOD_US ≤ n) × (n ≤ MAX_PERIOD_US)))
 max_valid text (Ok m) e = value_valid text m (max_words_found (words text) m (sym e))
 max_valid text (Err f) e = tt

@@ -3,6 +3,7 @@ use Rattle.std.specs.Prelude.{ℕ, List, codes}
 use Rattle.bw_files.specs.declared.fault.FileFault.{FileFault}
 use Rattle.bw_files.specs.declared.fault.FileFault.TheVariants.{BadNumber, WeightOutOfRange, QuotaTooSmall, QuotaTooLarge, PeriodOutOfRange, TooManyWords, Empty}
 
+-- the number that is printed
 abbrev pub file_fault_number : FileFault → ℕ
 file_fault_number BadNumber = 11
 file_fault_number WeightOutOfRange = 12
@@ -12,6 +13,7 @@ file_fault_number PeriodOutOfRange = 15
 file_fault_number TooManyWords = 16
 file_fault_number Empty = 17
 
+-- the name that is printed
 abbrev pub file_fault_name : FileFault → List ℕ
 file_fault_name BadNumber = codes "BadNumber"
 file_fault_name WeightOutOfRange = codes "WeightOutOfRange"

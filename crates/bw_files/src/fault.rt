@@ -7,18 +7,25 @@ use thiserror::Error;
 /// The refusals of a text that is written into a group's file.
 #[derive(Clone, Copy, Debug, PartialEq, Eq, Error)]
 pub enum FileFault {
+    /// 11: a word is no number.
     #[error("BadNumber")]
     BadNumber,
+    /// 12: the weight is not 1 to 10000.
     #[error("WeightOutOfRange")]
     WeightOutOfRange,
+    /// 13: the quota is below 1000 microseconds.
     #[error("QuotaTooSmall")]
     QuotaTooSmall,
+    /// 14: the quota or the burst is above 10^15 microseconds.
     #[error("QuotaTooLarge")]
     QuotaTooLarge,
+    /// 15: the period is not 1000 to 1000000 microseconds.
     #[error("PeriodOutOfRange")]
     PeriodOutOfRange,
+    /// 16: the text has more words than its file.
     #[error("TooManyWords")]
     TooManyWords,
+    /// 17: the text has no word.
     #[error("Empty")]
     Empty,
 }

@@ -15,7 +15,9 @@ use bw_text::{NumberFault, next_word, read_number};
 /// What a text of `cpu.max` sets: the quota, and the period in microseconds where the text has one.
 #[derive(Clone, Copy, Debug, PartialEq, Eq)]
 pub struct MaxWrite {
+    /// No limit, or 1000 to 10^15 microseconds.
     pub quota: Quota,
+    /// 1000 to 1000000 microseconds.
     pub period: Option<u64>,
 }
 

@@ -1,3 +1,5 @@
+-- The files of lemmas.
+pub mod FileNames
 pub mod LastSlash
 pub mod Writes
 pub mod Settings

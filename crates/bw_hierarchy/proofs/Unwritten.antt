@@ -1,17 +1,14 @@
 -- What no file sets stays in every write.
-use Rattle.std.proofs.Common.{◌≡◌, inl, inr, ℕ, Bool, true, false, cond, eqb, List, [], ◌∷◌, map, Option, Some, None, Ok, refl, sym, ap, subst, ◌∙◌}
+use Rattle.std.proofs.Common.{◌≡◌, ℕ, Bool, true, false, cond, eqb, List, [], ◌∷◌, map, Some, Ok, refl, sym, ap, subst, ◌∙◌}
 use Rattle.std.specs.Map.{set_value}
-use Rattle.bw_model.specs.declared.quota.Quota.{Quota}
 use Rattle.bw_tree.specs.Groups.{GroupFields, TreeState, group_at}
-use Rattle.bw_tree.specs.Tree.{changed, set_weight, set_max, set_burst}
+use Rattle.bw_tree.specs.Tree.{changed}
 use Rattle.bw_hierarchy.specs.Files.{Unwritten, unwritten, unwritten_parts, write_of}
-use Rattle.bw_hierarchy.proofs.Writes.{IsWrite, write_parts}
+use Rattle.bw_hierarchy.proofs.Writes.{write_parts, sets_IsSetting}
+use Rattle.bw_hierarchy.proofs.FileNames.{some_is}
 
 abbrev part : ℕ × GroupFields → ℕ × Unwritten
 part e = (e.0, unwritten e.1)
-
-some_is : {A : Type 0} (a b : A) → Some a ≡ Some b → a ≡ b
-some_is a b e = cc
 
 parts_set : (gs : List (ℕ × GroupFields)) (id : ℕ) (old new : GroupFields) → group_at gs id ≡ Some old → unwritten new ≡ unwritten old
     → map part (set_value (eqb id) gs new) ≡ map part gs
@@ -27,20 +24,10 @@ parts_set (e ∷ es) id old new at same = onto (eqb id e.0) at (λ later. parts_
 abbrev Stays : TreeState → TreeState → Type 0
 Stays t u = (u.next ≡ t.next) × (unwritten_parts u ≡ unwritten_parts t)
 
-set_stays : (t u : TreeState) (path : List ℕ) (f : GroupFields → GroupFields) (id : ℕ) (g : GroupFields) → IsWrite t u path f id g → ((x : GroupFields) → unwritten (f x) ≡ unwritten x) → Stays t u
-set_stays t u path f id g write same =
-    subst (λ v. Stays t v) write.is (refl, ap (λ o. map part (changed f t.groups id o)) write.there ∙ parts_set t.groups id g (f g) write.there (same g))
-
-max_same : (quota : Quota) (period : Option ℕ) (g : GroupFields) → unwritten (set_max quota period g) ≡ unwritten g
-max_same quota None g = refl
-max_same quota (Some n) g = refl
-
-pub rest_stays : (t u : TreeState) (path file text : List ℕ) → write_of t path file text ≡ Ok u → Stays t u
-rest_stays t u path file text e =
-    elim (write_parts t u path file text e) [
-      | inl d ↦ set_stays t u path (set_weight d.w) d.id d.g d.write (λ x. refl)
-      | inr m ↦ elim m [
-        | inl d ↦ set_stays t u path (set_max d.m.quota d.m.period) d.id d.g d.write (max_same d.m.quota d.m.period)
-        | inr d ↦ set_stays t u path (set_burst d.n) d.id d.g d.write (λ x. refl)
-      ]
-    ]
+pub rest_stays : (t u : TreeState) (path name text : List ℕ) → write_of t path name text ≡ Ok u → Stays t u
+rest_stays t u path name text e =
+    let p = write_parts t u path name text e in
+    let w = p.write in
+    let setting = sets_IsSetting p.file text w.set.f w.set.sets in
+    subst (λ v. Stays t v) w.set.is
+    (refl, ap (λ o. map part (changed w.set.f t.groups w.id o)) w.there ∙ parts_set t.groups w.id w.g (w.set.f w.g) w.there (setting.rest w.g))

@@ -1,14 +1,13 @@
 -- What a write leaves of the texts of all files.
-use Rattle.std.proofs.Common.{◌≡◌, ◌≢◌, ◌⊎◌, inl, inr, ℕ, Bool, true, false, not, cond, eqb, List, [], ◌∷◌, Option, Some, None, is_some, Result, Ok, Err, refl, sym, ap, subst, ◌∙◌, length, arith}
+use Rattle.std.proofs.Common.{◌≡◌, ◌≢◌, ◌⊎◌, inl, inr, ℕ, Bool, true, false, ◌&&◌, not, cond, eqb, List, [], ◌∷◌, Option, Some, None, is_some, Result, Ok, Err, refl, sym, ap, subst, ◌∙◌}
 use Rattle.std.specs.List.{slice_split}
 use Rattle.std.specs.Prelude.{codes, unwrap_or}
 use Rattle.std.specs.Str.{bytes_eq}
 use Rattle.std.specs.Map.{set_value}
 use Rattle.std.proofs.lemmas.Bool.{ne_eqb}
 use Rattle.std.proofs.lemmas.Bool.Decides.{eqb_tells}
-use Rattle.std.proofs.lemmas.Slice.Eq.{bytes_eq-Decides}
 use Rattle.bw_text.specs.Words.{words}
-use Rattle.bw_model.specs.declared.stat.Stat.{Stat}
+use Rattle.bw_model.specs.declared.stat.Stat.{Stat as Counters}
 use Rattle.bw_model.specs.declared.quota.Quota.{Quota}
 use Rattle.bw_tree.specs.Groups.{GroupFields, TreeState, group_at, has_group, child_of, onward, walk, find_path}
 use Rattle.bw_tree.specs.Tree.{changed, changed_at, with_setting, set_weight, set_max, set_burst}
@@ -18,42 +17,88 @@ use Rattle.bw_files.specs.declared.reading.MaxWrite.{MaxWrite}
 use Rattle.bw_files.specs.Reading.{weight_of, burst_of, max_of}
 use Rattle.bw_files.specs.Writing.{weight_text, burst_text, max_text}
 use Rattle.bw_hierarchy.specs.declared.fault.Fault.{Fault}
-use Rattle.bw_hierarchy.specs.declared.fault.Fault.TheVariants.{Tree, NoSuchFile, ReadOnly, BurstAboveQuota}
+use Rattle.bw_hierarchy.specs.declared.fault.Fault.TheVariants.{Tree, NoSuchFile, BurstAboveQuota}
+use Rattle.bw_hierarchy.specs.declared.group_file.GroupFile.{GroupFile}
+use Rattle.bw_hierarchy.specs.declared.group_file.GroupFile.TheVariants.{Weight, Max, MaxBurst, Stat}
 use Rattle.bw_tree.specs.declared.fault.TreeFault.TheVariants.{NotFound}
 use Rattle.bw_hierarchy.specs.Calls.{from_file, and_then, found, quota_at, burst_at, is_above, fitting, max_set}
-use Rattle.bw_hierarchy.specs.Files.{weight_file, max_file, burst_file, stat_file, text_of, read_of, weight_write, max_write, burst_write, write_at, write_of}
+use Rattle.bw_hierarchy.specs.GroupFiles.{file_name, file_named, is_of_root}
+use Rattle.bw_hierarchy.specs.Files.{file_of, shown, text_of, read_of, file_write, write_at, write_of, unwritten}
 use Rattle.bw_hierarchy.specs.State.{HierarchyState, with_tree}
+use Rattle.bw_hierarchy.proofs.FileNames.{some_is, name_is, named_again}
 
--- a setting leaves the place of a group: its parent and its name
-pub record IsSetting (f : GroupFields → GroupFields) : Type 0 where
-  pub same_parent : (g : GroupFields) → (f g).parent ≡ g.parent
-  pub same_name : (g : GroupFields) → (f g).name ≡ g.name
+-- a change that a file may make: it leaves the texts of the other files, and what no file sets
+pub record IsSetting (file : GroupFile) (f : GroupFields → GroupFields) : Type 0 where
+  pub others : (books : List (ℕ × Counters)) (id : ℕ) (g : GroupFields) (other : GroupFile) → other ≢ file
+      → shown books id (f g) other ≡ shown books id g other
+  pub rest : (g : GroupFields) → unwritten (f g) ≡ unwritten g
 
-weight_IsSetting : (w : ℕ) → IsSetting (set_weight w)
-weight_IsSetting w = record { same_parent = λ g. refl; same_name = λ g. refl }
+weight_IsSetting : (w : ℕ) → IsSetting Weight (set_weight w)
+weight_IsSetting w = record { others = others; rest = λ g. refl }
+  where
+    others : (books : List (ℕ × Counters)) (id : ℕ) (g : GroupFields) (other : GroupFile) → other ≢ Weight
+        → shown books id (set_weight w g) other ≡ shown books id g other
+    others books id g Weight apart = absurd (apart refl)
+    others books id g Max apart = refl
+    others books id g MaxBurst apart = refl
+    others books id g Stat apart = refl
 
-burst_IsSetting : (n : ℕ) → IsSetting (set_burst n)
-burst_IsSetting n = record { same_parent = λ g. refl; same_name = λ g. refl }
+max_IsSetting : (quota : Quota) (period : Option ℕ) → IsSetting Max (set_max quota period)
+max_IsSetting quota period = record { others = others period; rest = rest period }
+  where
+    others : (p : Option ℕ) (books : List (ℕ × Counters)) (id : ℕ) (g : GroupFields) (other : GroupFile) → other ≢ Max
+        → shown books id (set_max quota p g) other ≡ shown books id g other
+    others p books id g Max apart = absurd (apart refl)
+    others None books id g Weight apart = refl
+    others None books id g MaxBurst apart = refl
+    others None books id g Stat apart = refl
+    others (Some n) books id g Weight apart = refl
+    others (Some n) books id g MaxBurst apart = refl
+    others (Some n) books id g Stat apart = refl
 
-max_IsSetting : (quota : Quota) (period : Option ℕ) → IsSetting (set_max quota period)
-max_IsSetting quota None = record { same_parent = λ g. refl; same_name = λ g. refl }
-max_IsSetting quota (Some n) = record { same_parent = λ g. refl; same_name = λ g. refl }
+    rest : (p : Option ℕ) (g : GroupFields) → unwritten (set_max quota p g) ≡ unwritten g
+    rest None g = refl
+    rest (Some n) g = refl
 
-module _ (f : GroupFields → GroupFields) (setting : IsSetting f) (gs : List (ℕ × GroupFields)) (id : ℕ) (g : GroupFields) (at : group_at gs id ≡ Some g) where
+burst_IsSetting : (n : ℕ) → IsSetting MaxBurst (set_burst n)
+burst_IsSetting n = record { others = others; rest = λ g. refl }
+  where
+    others : (books : List (ℕ × Counters)) (id : ℕ) (g : GroupFields) (other : GroupFile) → other ≢ MaxBurst
+        → shown books id (set_burst n g) other ≡ shown books id g other
+    others books id g Weight apart = refl
+    others books id g Max apart = refl
+    others books id g MaxBurst apart = absurd (apart refl)
+    others books id g Stat apart = refl
+
+-- what a text makes of a group when it is written into a file
+abbrev Sets : GroupFile → List ℕ → (GroupFields → GroupFields) → Type 0
+Sets Weight text f = (w : ℕ) × (weight_of (words text) ≡ Ok w) × (f ≡ set_weight w)
+Sets Max text f = (m : MaxWrite) × (max_of (words text) ≡ Ok m) × (f ≡ set_max m.quota m.period)
+Sets MaxBurst text f = (n : ℕ) × (burst_of (words text) ≡ Ok n) × (f ≡ set_burst n)
+Sets Stat text f = ⊥
+
+pub sets_IsSetting : (file : GroupFile) (text : List ℕ) (f : GroupFields → GroupFields) → Sets file text f → IsSetting file f
+sets_IsSetting Weight text f s = subst (λ k. IsSetting Weight k) (sym s.2) (weight_IsSetting s.0)
+sets_IsSetting Max text f s = subst (λ k. IsSetting Max k) (sym s.2) (max_IsSetting s.0.quota s.0.period)
+sets_IsSetting MaxBurst text f s = subst (λ k. IsSetting MaxBurst k) (sym s.2) (burst_IsSetting s.0)
+sets_IsSetting Stat text f s = absurd s
+
+module _ (f : GroupFields → GroupFields) (rest : (g : GroupFields) → unwritten (f g) ≡ unwritten g) (gs : List (ℕ × GroupFields)) (id : ℕ) (g : GroupFields) (at : group_at gs id ≡ Some g) where
   abbrev after : List (ℕ × GroupFields)
   after = set_value (eqb id) gs (f g)
 
   changed-after : changed_at f gs id ≡ after
   changed-after = ap (changed f gs id) at
 
-  onward-same : (names : List (List ℕ)) → ((k : ℕ) → walk after k names ≡ walk gs k names) → (o : Option ℕ) → onward (λ k. walk after k names) o ≡ onward (λ k. walk gs k names) o
+  onward-same : (names : List (List ℕ)) → ((k : ℕ) → walk after k names ≡ walk gs k names) → (o : Option ℕ)
+      → onward (λ k. walk after k names) o ≡ onward (λ k. walk gs k names) o
   onward-same names same None = refl
   onward-same names same (Some k) = same k
 
   walk-same : (names : List (List ℕ)) (k : ℕ) → walk after k names ≡ walk gs k names
   walk-same [] k = refl
   walk-same (name ∷ names) k =
-      ap (onward (λ j. walk after j names)) (child_set id (f g) g (setting.same_parent g) (setting.same_name g) gs k name at)
+      ap (onward (λ j. walk after j names)) (child_set id (f g) g (ap (λ u. u.parent) (rest g)) (ap (λ u. u.name) (rest g)) gs k name at)
       ∙ onward-same names (walk-same names) (child_of gs k name)
 
   -- each path leads where it led
@@ -92,242 +137,218 @@ there_parts : (o : Option GroupFields) → not (is_some o) ≡ false → (g : Gr
 there_parts None e = absurd cc
 there_parts (Some g) e = (g, refl)
 
--- the weight, the limit, or the burst
-branches : (b c d : Bool) (x y z : Result TreeState Fault) (u : TreeState) → cond b x (cond c y (cond d z (Err NoSuchFile))) ≡ Ok u
-    → ((b ≡ true) × (x ≡ Ok u)) ⊎ (((c ≡ true) × (y ≡ Ok u)) ⊎ ((d ≡ true) × (z ≡ Ok u)))
-branches true c d x y z u e = inl (refl, e)
-branches false true d x y z u e = inr (inl (refl, e))
-branches false false true x y z u e = inr (inr (refl, e))
-branches false false false x y z u e = absurd cc
+file_guard : (b : Bool) (file : GroupFile) (k : GroupFile → Result TreeState Fault) (u : TreeState) → and_then (cond b (Err NoSuchFile) (Ok file)) k ≡ Ok u
+    → (b ≡ false) × (k file ≡ Ok u)
+file_guard true file k u e = absurd cc
+file_guard false file k u e = (refl, e)
 
--- a group that is not the root has one value more or less
-pub record IsWrite (t u : TreeState) (path : List ℕ) (f : GroupFields → GroupFields) (id : ℕ) (g : GroupFields) : Type 0 where
-  pub leads : find_path t.groups path ≡ Some id
-  pub there : group_at t.groups id ≡ Some g
-  pub inner : eqb id 0 ≡ false
+-- a file that a group has
+pub record IsFileOf (id : ℕ) (o : Option GroupFile) (k : GroupFile → Result TreeState Fault) (u : TreeState) : Type 0 where
+  pub file : GroupFile
+  pub named : o ≡ Some file
+  pub inner : (not (is_of_root file) && eqb id 0) ≡ false
+  pub rest : k file ≡ Ok u
+
+named_parts : (id : ℕ) (o : Option GroupFile) (k : GroupFile → Result TreeState Fault) (u : TreeState) → and_then (file_of id o) k ≡ Ok u → IsFileOf id o k u
+named_parts id None k u e = absurd cc
+named_parts id (Some file) k u e =
+    let p = file_guard (not (is_of_root file) && eqb id 0) file k u e in
+    record { file = file; named = refl; inner = p.0; rest = p.1 }
+
+-- what a text that was not refused set
+pub record IsSet (t u : TreeState) (id : ℕ) (text : List ℕ) (file : GroupFile) : Type 0 where
+  pub f : GroupFields → GroupFields
+  pub sets : Sets file text f
   pub is : with_setting f t id ≡ u
 
-pub record IsWeightWrite (t u : TreeState) (path file text : List ℕ) : Type 0 where
+set_parts : (t u : TreeState) (id : ℕ) (text : List ℕ) (file : GroupFile) → file_write t id text file ≡ Ok u → IsSet t u id text file
+set_parts t u id text Weight e =
+    let p = file_parts (weight_of (words text)) (λ w. Ok (with_setting (set_weight w) t id)) u e in
+    record { f = set_weight p.0; sets = (p.0, p.1, refl); is = done_is (with_setting (set_weight p.0) t id) u p.2 }
+set_parts t u id text Max e =
+    let p = file_parts (max_of (words text)) (λ (m : MaxWrite). max_set t id m.quota m.period) u e in
+    let q = guard_parts (is_above (burst_at (group_at t.groups id)) p.0.quota) BurstAboveQuota (Ok (with_setting (set_max p.0.quota p.0.period) t id)) u p.2 in
+    record { f = set_max p.0.quota p.0.period; sets = (p.0, p.1, refl); is = done_is (with_setting (set_max p.0.quota p.0.period) t id) u q.1 }
+set_parts t u id text MaxBurst e =
+    let p = file_parts (burst_of (words text)) (λ n. fitting n (quota_at (group_at t.groups id)) (with_setting (set_burst n) t id)) u e in
+    let q = guard_parts (is_above p.0 (quota_at (group_at t.groups id))) BurstAboveQuota (Ok (with_setting (set_burst p.0) t id)) u p.2 in
+    record { f = set_burst p.0; sets = (p.0, p.1, refl); is = done_is (with_setting (set_burst p.0) t id) u q.1 }
+set_parts t u id text Stat e = absurd cc
+
+-- a write of a file into the group at a path
+pub record IsWrite (t u : TreeState) (path text : List ℕ) (file : GroupFile) : Type 0 where
   pub id : ℕ
   pub g : GroupFields
-  pub w : ℕ
-  pub file_is : file ≡ weight_file
-  pub value : weight_of (words text) ≡ Ok w
-  pub write : IsWrite t u path (set_weight w) id g
+  pub leads : find_path t.groups path ≡ Some id
+  pub there : group_at t.groups id ≡ Some g
+  pub inner : (not (is_of_root file) && eqb id 0) ≡ false
+  pub set : IsSet t u id text file
 
-pub record IsMaxWrite (t u : TreeState) (path file text : List ℕ) : Type 0 where
-  pub id : ℕ
-  pub g : GroupFields
-  pub m : MaxWrite
-  pub file_is : file ≡ max_file
-  pub value : max_of (words text) ≡ Ok m
-  pub write : IsWrite t u path (set_max m.quota m.period) id g
+-- which file was written
+pub record IsNamedWrite (t u : TreeState) (path name text : List ℕ) : Type 0 where
+  pub file : GroupFile
+  pub named : file_named name ≡ Some file
+  pub write : IsWrite t u path text file
 
-pub record IsBurstWrite (t u : TreeState) (path file text : List ℕ) : Type 0 where
-  pub id : ℕ
-  pub g : GroupFields
-  pub n : ℕ
-  pub file_is : file ≡ burst_file
-  pub value : burst_of (words text) ≡ Ok n
-  pub write : IsWrite t u path (set_burst n) id g
-
-file_is : (file name : List ℕ) → bytes_eq file name ≡ true → file ≡ name
-file_is file name e = (bytes_eq-Decides file name).0 e
-
-pub write_parts : (t u : TreeState) (path file text : List ℕ) → write_of t path file text ≡ Ok u
-    → IsWeightWrite t u path file text ⊎ (IsMaxWrite t u path file text ⊎ IsBurstWrite t u path file text)
-write_parts t u path file text e =
-    let a = found_parts (find_path t.groups path) (λ id. write_at t id file text) u e in
+pub write_parts : (t u : TreeState) (path name text : List ℕ) → write_of t path name text ≡ Ok u → IsNamedWrite t u path name text
+write_parts t u path name text e =
+    let a = found_parts (find_path t.groups path) (λ id. write_at t id name text) u e in
     let b = guard_parts (not (has_group t.groups a.0)) (Tree NotFound) _ u a.2 in
     let there = there_parts (group_at t.groups a.0) b.0 in
-    let r = guard_parts (bytes_eq file stat_file) ReadOnly _ u b.1 in
-    let c = guard_parts (eqb a.0 0) NoSuchFile _ u r.1 in
-    elim (branches (bytes_eq file weight_file) (bytes_eq file max_file) (bytes_eq file burst_file) (weight_write t a.0 text) (max_write t a.0 text) (burst_write t a.0 text) u c.1) [
-      | inl d ↦
-          let p = file_parts (weight_of (words text)) (λ w. Ok (with_setting (set_weight w) t a.0)) u d.1 in
-          inl (record { id = a.0; g = there.0; w = p.0; file_is = file_is file weight_file d.0; value = p.1; write = record { leads = a.1; there = there.1; inner = c.0; is = done_is (with_setting (set_weight p.0) t a.0) u p.2 } })
-      | inr m ↦ inr (elim m [
-        | inl d ↦
-            let p = file_parts (max_of (words text)) (λ (m : MaxWrite). max_set t a.0 m.quota m.period) u d.1 in
-            let q = guard_parts (is_above (burst_at (group_at t.groups a.0)) p.0.quota) BurstAboveQuota (Ok (with_setting (set_max p.0.quota p.0.period) t a.0)) u p.2 in
-            inl (record { id = a.0; g = there.0; m = p.0; file_is = file_is file max_file d.0; value = p.1; write = record { leads = a.1; there = there.1; inner = c.0; is = done_is (with_setting (set_max p.0.quota p.0.period) t a.0) u q.1 } })
-        | inr d ↦
-            let p = file_parts (burst_of (words text)) (λ n. fitting n (quota_at (group_at t.groups a.0)) (with_setting (set_burst n) t a.0)) u d.1 in
-            let q = guard_parts (is_above p.0 (quota_at (group_at t.groups a.0))) BurstAboveQuota (Ok (with_setting (set_burst p.0) t a.0)) u p.2 in
-            inr (record { id = a.0; g = there.0; n = p.0; file_is = file_is file burst_file d.0; value = p.1; write = record { leads = a.1; there = there.1; inner = c.0; is = done_is (with_setting (set_burst p.0) t a.0) u q.1 } })
-      ])
-    ]
+    let k = named_parts a.0 (file_named name) (file_write t a.0 text) u b.1 in
+    let set = set_parts t u a.0 text k.file k.rest in
+    record { file = k.file; named = k.named; write = record { id = a.0; g = there.0; leads = a.1; there = there.1; inner = k.inner; set = set } }
+
+-- a write of a file that is named
+write_at_file : (t u : TreeState) (path text : List ℕ) (file : GroupFile) → write_of t path (file_name file) text ≡ Ok u → IsWrite t u path text file
+write_at_file t u path text file e =
+    let p = write_parts t u path (file_name file) text e in
+    subst (λ k. IsWrite t u path text k) (some_is p.file file (sym p.named ∙ named_again file)) p.write
 
 -- ---- what is read after it
 
-module _ (h : HierarchyState) (u : TreeState) (path : List ℕ) (f : GroupFields → GroupFields) (setting : IsSetting f) (id : ℕ) (g : GroupFields) (write : IsWrite h.tree u path f id g) where
+module _ (h : HierarchyState) (u : TreeState) (path text : List ℕ) (file : GroupFile) (write : IsWrite h.tree u path text file) where
   abbrev gs : List (ℕ × GroupFields)
   gs = h.tree.groups
 
+  abbrev id : ℕ
+  id = write.id
+
+  abbrev f : GroupFields → GroupFields
+  f = write.set.f
+
+  setting : IsSetting file write.set.f
+  setting = sets_IsSetting file text write.set.f write.set.sets
+
   -- the text of a file where a path leads
-  abbrev shown : List (ℕ × GroupFields) → List ℕ → Option ℕ → Result (List ℕ) Fault
-  shown es file o = and_then (found o) (λ k. text_of h.books k file (group_at es k))
+  abbrev text_at : List (ℕ × GroupFields) → List ℕ → Option ℕ → Result (List ℕ) Fault
+  text_at es name o = and_then (found o) (λ k. text_of h.books k name (group_at es k))
 
   -- what is read at a path
-  read-at : (path' file : List ℕ) → read_of (with_tree h u) path' file ≡ shown (changed_at f gs id) file (find_path gs path')
-  read-at path' file =
-      subst (λ (v : TreeState). read_of (with_tree h v) path' file ≡ shown (changed_at f gs id) file (find_path gs path')) write.is
-      (ap (shown (changed_at f gs id) file) (find_path-same f setting gs id g write.there path'))
+  read-at : (path' name : List ℕ) → read_of (with_tree h u) path' name ≡ text_at (changed_at f gs id) name (find_path gs path')
+  read-at path' name =
+      subst (λ (v : TreeState). read_of (with_tree h v) path' name ≡ text_at (changed_at f gs id) name (find_path gs path')) write.set.is
+      (ap (text_at (changed_at f gs id) name) (find_path-same f setting.rest gs id write.g write.there path'))
 
-  read-here : (file : List ℕ) → read_of (with_tree h u) path file ≡ text_of h.books id file (Some (f g))
-  read-here file =
-      read-at path file
-      ∙ ap (shown (changed_at f gs id) file) write.leads
-      ∙ ap (text_of h.books id file) (group-set f setting gs id g write.there)
+  read-here : (name : List ℕ) → read_of (with_tree h u) path name ≡ text_of h.books id name (Some (f write.g))
+  read-here name =
+      read-at path name
+      ∙ ap (text_at (changed_at f gs id) name) write.leads
+      ∙ ap (text_of h.books id name) (group-set f setting.rest gs id write.g write.there)
 
-  read-before : (file : List ℕ) → read_of h path file ≡ text_of h.books id file (Some g)
-  read-before file = ap (shown gs file) write.leads ∙ ap (text_of h.books id file) write.there
+  read-before : (name : List ℕ) → read_of h path name ≡ text_of h.books id name (Some write.g)
+  read-before name = ap (text_at gs name) write.leads ∙ ap (text_of h.books id name) write.there
 
-  read-elsewhere : (path' file : List ℕ) → find_path gs path' ≢ find_path gs path → read_of (with_tree h u) path' file ≡ read_of h path' file
-  read-elsewhere path' file apart = read-at path' file ∙ by (find_path gs path') refl
+  read-elsewhere : (path' name : List ℕ) → find_path gs path' ≢ find_path gs path → read_of (with_tree h u) path' name ≡ read_of h path' name
+  read-elsewhere path' name apart = read-at path' name ∙ by (find_path gs path') refl
     where
-      by : (o : Option ℕ) → find_path gs path' ≡ o → shown (changed_at f gs id) file o ≡ shown gs file o
+      by : (o : Option ℕ) → find_path gs path' ≡ o → text_at (changed_at f gs id) name o ≡ text_at gs name o
       by None e = refl
       by (Some k) e =
-          ap (text_of h.books k file) (group-other f setting gs id g write.there k (ne_eqb k id (λ same. apart (e ∙ ap (λ j. Some j) same ∙ sym write.leads))))
+          ap (text_of h.books k name) (group-other f setting.rest gs id write.g write.there k (ne_eqb k id (λ same. apart (e ∙ ap (λ j. Some j) same ∙ sym write.leads))))
 
   -- each group's counters
-  read-counters : (path' : List ℕ) → read_of (with_tree h u) path' stat_file ≡ read_of h path' stat_file
-  read-counters path' = read-at path' stat_file ∙ by (find_path gs path')
+  read-counters : (path' : List ℕ) → read_of (with_tree h u) path' (file_name Stat) ≡ read_of h path' (file_name Stat)
+  read-counters path' = read-at path' (file_name Stat) ∙ by (find_path gs path')
     where
       both : (k : ℕ) → ((eqb k id ≡ true) × (k ≡ id)) ⊎ ((eqb k id ≡ false) × (k ≢ id))
-          → text_of h.books k stat_file (group_at (changed_at f gs id) k) ≡ text_of h.books k stat_file (group_at gs k)
+          → text_of h.books k (file_name Stat) (group_at (changed_at f gs id) k) ≡ text_of h.books k (file_name Stat) (group_at gs k)
       both k (inl same) =
-          ap (λ j. text_of h.books k stat_file (group_at (changed_at f gs id) j)) same.1
-          ∙ ap (text_of h.books k stat_file) (group-set f setting gs id g write.there)
-          ∙ sym (ap (λ j. text_of h.books k stat_file (group_at gs j)) same.1 ∙ ap (text_of h.books k stat_file) write.there)
-      both k (inr apart) = ap (text_of h.books k stat_file) (group-other f setting gs id g write.there k apart.0)
+          ap (λ j. text_of h.books k (file_name Stat) (group_at (changed_at f gs id) j)) same.1
+          ∙ ap (text_of h.books k (file_name Stat)) (group-set f setting.rest gs id write.g write.there)
+          ∙ sym (ap (λ j. text_of h.books k (file_name Stat) (group_at gs j)) same.1 ∙ ap (text_of h.books k (file_name Stat)) write.there)
+      both k (inr apart) = ap (text_of h.books k (file_name Stat)) (group-other f setting.rest gs id write.g write.there k apart.0)
 
-      by : (o : Option ℕ) → shown (changed_at f gs id) stat_file o ≡ shown gs stat_file o
+      by : (o : Option ℕ) → text_at (changed_at f gs id) (file_name Stat) o ≡ text_at gs (file_name Stat) o
       by None = refl
       by (Some k) = both k (eqb_tells k id)
 
-text_weight : (books : List (ℕ × Stat)) (id n : ℕ) (g : GroupFields) → eqb id 0 ≡ false → text_of books id weight_file (Some (set_weight n g)) ≡ Ok (weight_text n)
+  -- another file of the group
+  read-other : (name : List ℕ) → file_named name ≢ Some file → read_of (with_tree h u) path name ≡ read_of h path name
+  read-other name apart = read-here name ∙ by (file_named name) apart ∙ sym (read-before name)
+    where
+      onto : (b : Bool) (k : GroupFile) → k ≢ file
+          → and_then (cond b (Err NoSuchFile) (Ok k)) (λ j. Ok (shown h.books id (f write.g) j)) ≡ and_then (cond b (Err NoSuchFile) (Ok k)) (λ j. Ok (shown h.books id write.g j))
+      onto true k other = refl
+      onto false k other = ap (λ (t : List ℕ). Ok t) (setting.others h.books id write.g k other)
+
+      by : (o : Option GroupFile) → o ≢ Some file
+          → and_then (file_of id o) (λ k. Ok (shown h.books id (f write.g) k)) ≡ and_then (file_of id o) (λ k. Ok (shown h.books id write.g k))
+      by None other = refl
+      by (Some k) other = onto (not (is_of_root k) && eqb id 0) k (λ same. other (ap (λ j. Some j) same))
+
+text_weight : (books : List (ℕ × Counters)) (id n : ℕ) (g : GroupFields) → eqb id 0 ≡ false
+    → text_of books id (file_name Weight) (Some (set_weight n g)) ≡ Ok (weight_text n)
 text_weight books id n g inner = rw inner refl
 
-text_max : (books : List (ℕ × Stat)) (id : ℕ) (quota : Quota) (period : Option ℕ) (g : GroupFields) → eqb id 0 ≡ false → text_of books id max_file (Some (set_max quota period g)) ≡ Ok (max_text quota (unwrap_or period g.period))
+text_max : (books : List (ℕ × Counters)) (id : ℕ) (quota : Quota) (period : Option ℕ) (g : GroupFields) → eqb id 0 ≡ false
+    → text_of books id (file_name Max) (Some (set_max quota period g)) ≡ Ok (max_text quota (unwrap_or period g.period))
 text_max books id quota None g inner = rw inner refl
 text_max books id quota (Some n) g inner = rw inner refl
 
-text_burst : (books : List (ℕ × Stat)) (id n : ℕ) (g : GroupFields) → eqb id 0 ≡ false → text_of books id burst_file (Some (set_burst n g)) ≡ Ok (burst_text n)
+text_burst : (books : List (ℕ × Counters)) (id n : ℕ) (g : GroupFields) → eqb id 0 ≡ false
+    → text_of books id (file_name MaxBurst) (Some (set_burst n g)) ≡ Ok (burst_text n)
 text_burst books id n g inner = rw inner refl
-
-text_but_weight : (books : List (ℕ × Stat)) (id n : ℕ) (g : GroupFields) (file : List ℕ) → bytes_eq file weight_file ≡ false
-    → text_of books id file (Some (set_weight n g)) ≡ text_of books id file (Some g)
-text_but_weight books id n g file other = rw other refl
-
-text_but_max : (books : List (ℕ × Stat)) (id : ℕ) (quota : Quota) (period : Option ℕ) (g : GroupFields) (file : List ℕ) → bytes_eq file max_file ≡ false
-    → text_of books id file (Some (set_max quota period g)) ≡ text_of books id file (Some g)
-text_but_max books id quota None g file other = rw other refl
-text_but_max books id quota (Some n) g file other = rw other refl
-
-text_but_burst : (books : List (ℕ × Stat)) (id n : ℕ) (g : GroupFields) (file : List ℕ) → bytes_eq file burst_file ≡ false
-    → text_of books id file (Some (set_burst n g)) ≡ text_of books id file (Some g)
-text_but_burst books id n g file other = rw other refl
-
-other_file : (file name : List ℕ) → file ≢ name → bytes_eq file name ≡ false
-other_file file name apart = by (bytes_eq file name) refl
-  where
-    by : (b : Bool) → bytes_eq file name ≡ b → b ≡ false
-    by true e = absurd (apart (file_is file name e))
-    by false e = refl
 
 ok_is : {A : Type 0} (x y : A) (r : Result A FileFault) → r ≡ Ok x → r ≡ Ok y → x ≡ y
 ok_is x y (Ok z) e f = cc
 ok_is x y (Err z) e f = absurd cc
 
-some_is : {A : Type 0} (x y : A) (o : Option A) → o ≡ Some x → o ≡ Some y → x ≡ y
-some_is x y (Some z) e f = cc
-some_is x y None e f = absurd cc
+found_is : {A : Type 0} (x y : A) (o : Option A) → o ≡ Some x → o ≡ Some y → x ≡ y
+found_is x y (Some z) e f = cc
+found_is x y None e f = absurd cc
 
-pub weight_read : (h : HierarchyState) (u : TreeState) (path text : List ℕ) (n : ℕ) → write_of h.tree path weight_file text ≡ Ok u → weight_of (words text) ≡ Ok n
-    → read_of (with_tree h u) path weight_file ≡ Ok (weight_text n)
+pub weight_read : (h : HierarchyState) (u : TreeState) (path text : List ℕ) (n : ℕ) → write_of h.tree path (file_name Weight) text ≡ Ok u
+    → weight_of (words text) ≡ Ok n
+    → read_of (with_tree h u) path (file_name Weight) ≡ Ok (weight_text n)
 weight_read h u path text n e value =
-    elim (write_parts h.tree u path weight_file text e) [
-      | inl d ↦
-          read-here h u path (set_weight d.w) (weight_IsSetting d.w) d.id d.g d.write weight_file
-          ∙ text_weight h.books d.id d.w d.g d.write.inner
-          ∙ ap (λ k. Ok (weight_text k)) (ok_is d.w n (weight_of (words text)) d.value value)
-      | inr m ↦ elim m [
-        | inl d ↦ absurd (omega (arith, ap length d.file_is))
-        | inr d ↦ absurd (omega (arith, ap length d.file_is))
-      ]
-    ]
+    let w = write_at_file h.tree u path text Weight e in
+    let s = w.set.sets in
+    read-here h u path text Weight w (file_name Weight)
+    ∙ ap (λ (f : GroupFields → GroupFields). text_of h.books w.id (file_name Weight) (Some (f w.g))) s.2
+    ∙ text_weight h.books w.id s.0 w.g w.inner
+    ∙ ap (λ k. Ok (weight_text k)) (ok_is s.0 n (weight_of (words text)) s.1 value)
 
-pub max_read : (h : HierarchyState) (u : TreeState) (path text : List ℕ) (m : MaxWrite) (id : ℕ) (g : GroupFields) → find_path h.tree.groups path ≡ Some id → group_at h.tree.groups id ≡ Some g
-    → write_of h.tree path max_file text ≡ Ok u → max_of (words text) ≡ Ok m → read_of (with_tree h u) path max_file ≡ Ok (max_text m.quota (unwrap_or m.period g.period))
+pub max_read : (h : HierarchyState) (u : TreeState) (path text : List ℕ) (m : MaxWrite) (id : ℕ) (g : GroupFields) → find_path h.tree.groups path ≡ Some id
+    → group_at h.tree.groups id ≡ Some g
+    → write_of h.tree path (file_name Max) text ≡ Ok u → max_of (words text) ≡ Ok m
+    → read_of (with_tree h u) path (file_name Max) ≡ Ok (max_text m.quota (unwrap_or m.period g.period))
 max_read h u path text m id g leads there e value =
-    elim (write_parts h.tree u path max_file text e) [
-      | inl d ↦ absurd (omega (arith, ap length d.file_is))
-      | inr f ↦ elim f [
-        | inl d ↦
-            let same : d.id ≡ id = some_is d.id id (find_path h.tree.groups path) d.write.leads leads in
-            let group : d.g ≡ g = some_is d.g g (group_at h.tree.groups id) (ap (group_at h.tree.groups) (sym same) ∙ d.write.there) there in
-            read-here h u path (set_max d.m.quota d.m.period) (max_IsSetting d.m.quota d.m.period) d.id d.g d.write max_file
-            ∙ text_max h.books d.id d.m.quota d.m.period d.g d.write.inner
-            ∙ ap (λ (k : MaxWrite). Ok (max_text k.quota (unwrap_or k.period d.g.period))) (ok_is d.m m (max_of (words text)) d.value value)
-            ∙ ap (λ (k : GroupFields). Ok (max_text m.quota (unwrap_or m.period k.period))) group
-        | inr d ↦ absurd (omega (arith, ap length d.file_is))
-      ]
-    ]
+    let w = write_at_file h.tree u path text Max e in
+    let s = w.set.sets in
+    let same : w.id ≡ id = found_is w.id id (find_path h.tree.groups path) w.leads leads in
+    let group : w.g ≡ g = found_is w.g g (group_at h.tree.groups id) (ap (group_at h.tree.groups) (sym same) ∙ w.there) there in
+    read-here h u path text Max w (file_name Max)
+    ∙ ap (λ (f : GroupFields → GroupFields). text_of h.books w.id (file_name Max) (Some (f w.g))) s.2
+    ∙ text_max h.books w.id s.0.quota s.0.period w.g w.inner
+    ∙ ap (λ (k : MaxWrite). Ok (max_text k.quota (unwrap_or k.period w.g.period))) (ok_is s.0 m (max_of (words text)) s.1 value)
+    ∙ ap (λ (k : GroupFields). Ok (max_text m.quota (unwrap_or m.period k.period))) group
 
-pub burst_read : (h : HierarchyState) (u : TreeState) (path text : List ℕ) (n : ℕ) → write_of h.tree path burst_file text ≡ Ok u → burst_of (words text) ≡ Ok n
-    → read_of (with_tree h u) path burst_file ≡ Ok (burst_text n)
+pub burst_read : (h : HierarchyState) (u : TreeState) (path text : List ℕ) (n : ℕ) → write_of h.tree path (file_name MaxBurst) text ≡ Ok u
+    → burst_of (words text) ≡ Ok n
+    → read_of (with_tree h u) path (file_name MaxBurst) ≡ Ok (burst_text n)
 burst_read h u path text n e value =
-    elim (write_parts h.tree u path burst_file text e) [
-      | inl d ↦ absurd (omega (arith, ap length d.file_is))
-      | inr f ↦ elim f [
-        | inl d ↦ absurd (omega (arith, ap length d.file_is))
-        | inr d ↦
-            read-here h u path (set_burst d.n) (burst_IsSetting d.n) d.id d.g d.write burst_file
-            ∙ text_burst h.books d.id d.n d.g d.write.inner
-            ∙ ap (λ k. Ok (burst_text k)) (ok_is d.n n (burst_of (words text)) d.value value)
-      ]
-    ]
+    let w = write_at_file h.tree u path text MaxBurst e in
+    let s = w.set.sets in
+    read-here h u path text MaxBurst w (file_name MaxBurst)
+    ∙ ap (λ (f : GroupFields → GroupFields). text_of h.books w.id (file_name MaxBurst) (Some (f w.g))) s.2
+    ∙ text_burst h.books w.id s.0 w.g w.inner
+    ∙ ap (λ k. Ok (burst_text k)) (ok_is s.0 n (burst_of (words text)) s.1 value)
 
-pub other_files_stay : (h : HierarchyState) (u : TreeState) (path file text other : List ℕ) → write_of h.tree path file text ≡ Ok u → other ≢ file
+pub other_files_stay : (h : HierarchyState) (u : TreeState) (path name text other : List ℕ) → write_of h.tree path name text ≡ Ok u → other ≢ name
     → read_of (with_tree h u) path other ≡ read_of h path other
-other_files_stay h u path file text other e apart =
-    elim (write_parts h.tree u path file text e) [
-      | inl d ↦
-          read-here h u path (set_weight d.w) (weight_IsSetting d.w) d.id d.g d.write other
-          ∙ text_but_weight h.books d.id d.w d.g other (other_file other weight_file (λ same. apart (same ∙ sym d.file_is)))
-          ∙ sym (read-before h u path (set_weight d.w) (weight_IsSetting d.w) d.id d.g d.write other)
-      | inr m ↦ elim m [
-        | inl d ↦
-            read-here h u path (set_max d.m.quota d.m.period) (max_IsSetting d.m.quota d.m.period) d.id d.g d.write other
-            ∙ text_but_max h.books d.id d.m.quota d.m.period d.g other (other_file other max_file (λ same. apart (same ∙ sym d.file_is)))
-            ∙ sym (read-before h u path (set_max d.m.quota d.m.period) (max_IsSetting d.m.quota d.m.period) d.id d.g d.write other)
-        | inr d ↦
-            read-here h u path (set_burst d.n) (burst_IsSetting d.n) d.id d.g d.write other
-            ∙ text_but_burst h.books d.id d.n d.g other (other_file other burst_file (λ same. apart (same ∙ sym d.file_is)))
-            ∙ sym (read-before h u path (set_burst d.n) (burst_IsSetting d.n) d.id d.g d.write other)
-      ]
-    ]
+other_files_stay h u path name text other e apart =
+    let p = write_parts h.tree u path name text e in
+    read-other h u path text p.file p.write other (λ same. apart (name_is other p.file same ∙ sym (name_is name p.file p.named)))
 
-pub other_groups_stay : (h : HierarchyState) (u : TreeState) (path file text path' other : List ℕ) → write_of h.tree path file text ≡ Ok u
+pub other_groups_stay : (h : HierarchyState) (u : TreeState) (path name text path' other : List ℕ) → write_of h.tree path name text ≡ Ok u
     → find_path h.tree.groups path' ≢ find_path h.tree.groups path → read_of (with_tree h u) path' other ≡ read_of h path' other
-other_groups_stay h u path file text path' other e apart =
-    elim (write_parts h.tree u path file text e) [
-      | inl d ↦ read-elsewhere h u path (set_weight d.w) (weight_IsSetting d.w) d.id d.g d.write path' other apart
-      | inr m ↦ elim m [
-        | inl d ↦ read-elsewhere h u path (set_max d.m.quota d.m.period) (max_IsSetting d.m.quota d.m.period) d.id d.g d.write path' other apart
-        | inr d ↦ read-elsewhere h u path (set_burst d.n) (burst_IsSetting d.n) d.id d.g d.write path' other apart
-      ]
-    ]
+other_groups_stay h u path name text path' other e apart =
+    let p = write_parts h.tree u path name text e in
+    read-elsewhere h u path text p.file p.write path' other apart
 
-pub counters_stay : (h : HierarchyState) (u : TreeState) (path file text path' : List ℕ) → write_of h.tree path file text ≡ Ok u
-    → read_of (with_tree h u) path' stat_file ≡ read_of h path' stat_file
-counters_stay h u path file text path' e =
-    elim (write_parts h.tree u path file text e) [
-      | inl d ↦ read-counters h u path (set_weight d.w) (weight_IsSetting d.w) d.id d.g d.write path'
-      | inr m ↦ elim m [
-        | inl d ↦ read-counters h u path (set_max d.m.quota d.m.period) (max_IsSetting d.m.quota d.m.period) d.id d.g d.write path'
-        | inr d ↦ read-counters h u path (set_burst d.n) (burst_IsSetting d.n) d.id d.g d.write path'
-      ]
-    ]
+pub counters_stay : (h : HierarchyState) (u : TreeState) (path name text path' : List ℕ) → write_of h.tree path name text ≡ Ok u
+    → read_of (with_tree h u) path' (file_name Stat) ≡ read_of h path' (file_name Stat)
+counters_stay h u path name text path' e =
+    let p = write_parts h.tree u path name text e in
+    read-counters h u path text p.file p.write path'

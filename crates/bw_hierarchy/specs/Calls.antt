@@ -6,7 +6,7 @@ use Rattle.bw_model.specs.declared.quota.Quota.TheVariants.{Max, Micros}
 use Rattle.bw_tree.specs.declared.fault.TreeFault.{TreeFault}
 use Rattle.bw_tree.specs.declared.fault.TreeFault.TheVariants.{NotFound, RootFixed}
 use Rattle.bw_tree.specs.Groups.{GroupFields, TreeState, group_at, find_path}
-use Rattle.bw_tree.specs.Tree.{mkdir_refusal, with_group, setting_refusal, with_setting, set_weight, set_max}
+use Rattle.bw_tree.specs.Tree.{mkdir_refusal, with_group, with_setting, set_weight, set_max}
 use Rattle.bw_files.specs.declared.fault.FileFault.{FileFault}
 use Rattle.bw_files.specs.declared.fault.FileFault.TheVariants.{QuotaTooSmall}
 use Rattle.bw_files.specs.Reading.{◌>>=◌, weight_in, quota_in, period_in}
@@ -46,10 +46,23 @@ mkdir_split t (Some parts) path = and_then (found_at t parts.0) (λ parent. unle
 abbrev pub mkdir_of : TreeState → List ℕ → Result (ℕ × TreeState) Fault
 mkdir_of t path = mkdir_split t (rsplit_once 47 path) path
 
+-- a group whose settings may be read and changed: each but the root
+abbrev pub setting_of : ℕ → Option GroupFields → Result GroupFields Fault
+setting_of id None = Err (Tree NotFound)
+setting_of id (Some g) = if id == 0 then Err (Tree RootFixed) else Ok g
+
+-- the same by its id
+abbrev pub setting : TreeState → ℕ → Result GroupFields Fault
+setting t id = setting_of id (group_at t.groups id)
+
+-- a value of such a group
+abbrev pub value_at : {A : Type 0} → (GroupFields → A) → TreeState → ℕ → Result A Fault
+value_at f t id = and_then (setting t id) (λ g. Ok (f g))
+
 -- one group's weight, by its id
 abbrev pub set_shares_of : TreeState → ℕ → ℕ → Result TreeState Fault
 set_shares_of t id n =
-    and_then (unless (setting_refusal t id) n) (λ n. and_then (from_file (weight_in n)) (λ w. Ok (with_setting (set_weight w) t id)))
+    and_then (setting t id) (λ g. and_then (from_file (weight_in n)) (λ w. Ok (with_setting (set_weight w) t id)))
 
 -- a quota of -1 is no limit, and other numbers below 1000 are too small
 abbrev pub quota_of_int : ℤ → Result Quota FileFault
@@ -98,15 +111,6 @@ max_set t id quota period = fitting (burst_at (group_at t.groups id)) quota (wit
 -- one group's quota and period, by its id; a value that is left out stays
 abbrev pub set_cfs_of : TreeState → ℕ → Option ℤ → Option ℕ → Result TreeState Fault
 set_cfs_of t id quota period =
-    and_then (unless (setting_refusal t id) id)
-    (λ id. and_then (from_file (quota_given quota (quota_at (group_at t.groups id))))
+    and_then (setting t id)
+    (λ g. and_then (from_file (quota_given quota g.quota))
     (λ q. and_then (from_file (period_given period)) (max_set t id q)))
-
--- a value of a group that is not the root
-abbrev pub value_of : {A : Type 0} → (GroupFields → A) → ℕ → Option GroupFields → Result A Fault
-value_of f id None = Err (Tree NotFound)
-value_of f id (Some g) = if id == 0 then Err (Tree RootFixed) else Ok (f g)
-
--- the same by its id
-abbrev pub value_at : {A : Type 0} → (GroupFields → A) → TreeState → ℕ → Result A Fault
-value_at f t id = value_of f id (group_at t.groups id)

@@ -1,11 +1,12 @@
 -- The numbers and names of the refusals.
-use Rattle.std.specs.Prelude.{◌≡◌, ◌≢◌, ℕ, List, codes, Result, Err}
+use Rattle.std.specs.Prelude.{◌≡◌, ◌≢◌, ℕ, List, codes, Result, Err, IfErr}
 use Rattle.bw_tree.specs.declared.fault.TreeFault.TheVariants.{OutOfMemory}
 use Rattle.bw_tree.specs.Faults.{number_of as tree_number, name_of as tree_name}
 use Rattle.bw_files.specs.Faults.{file_fault_number, file_fault_name}
 use Rattle.bw_hierarchy.specs.declared.fault.Fault.{Fault}
 use Rattle.bw_hierarchy.specs.declared.fault.Fault.TheVariants.{Tree, File, NoSuchFile, ReadOnly, BurstAboveQuota}
 
+-- the number that is printed
 abbrev pub fault_number : Fault → ℕ
 fault_number (Tree fault) = tree_number fault
 fault_number (File fault) = file_fault_number fault
@@ -13,6 +14,7 @@ fault_number NoSuchFile = 30
 fault_number ReadOnly = 31
 fault_number BurstAboveQuota = 33
 
+-- the name that is printed
 abbrev pub fault_name : Fault → List ℕ
 fault_name (Tree fault) = tree_name fault
 fault_name (File fault) = file_fault_name fault
@@ -23,3 +25,7 @@ fault_name BurstAboveQuota = codes "BurstAboveQuota"
 -- a call that grows something answers its refusal, or want of memory in place of any answer
 abbrev pub IsRefusal : {A : Type 0} → Result A Fault → Fault → Type 0
 IsRefusal outcome fault = fault ≢ Tree OutOfMemory → outcome ≡ Err fault
+
+-- want of memory is answered only where nothing else refuses the call
+abbrev pub IsMemoryLast : {A : Type 0} → Result A Fault → Fault → Type 0
+IsMemoryLast outcome fault = fault ≡ Tree OutOfMemory → IfErr outcome (λ other. ⊥)

@@ -1,8 +1,7 @@
 -- The files of a group.
-use Rattle.std.specs.Prelude.{ℕ, ◌==◌, not, if◌then◌else◌, List, map, codes, Option, Some, None, Result, Ok, Err}
-use Rattle.std.specs.Str.{bytes_eq}
+use Rattle.std.specs.Prelude.{ℕ, ◌==◌, ◌&&◌, not, if◌then◌else◌, List, map, Option, Some, None, Result, Ok, Err}
 use Rattle.bw_text.specs.Words.{words}
-use Rattle.bw_model.specs.declared.stat.Stat.{Stat}
+use Rattle.bw_model.specs.declared.stat.Stat.{Stat as Counters}
 use Rattle.bw_tree.specs.Groups.{GroupFields, TreeState, group_at, has_group}
 use Rattle.bw_tree.specs.Tree.{with_setting, set_weight, set_burst}
 use Rattle.bw_tree.specs.declared.fault.TreeFault.TheVariants.{NotFound}
@@ -14,33 +13,26 @@ use Rattle.bw_hierarchy.specs.declared.fault.Fault.{Fault}
 use Rattle.bw_hierarchy.specs.declared.fault.Fault.TheVariants.{Tree, NoSuchFile, ReadOnly}
 use Rattle.bw_hierarchy.specs.Calls.{from_file, and_then, found_at, quota_at, fitting, max_set}
 use Rattle.bw_hierarchy.specs.State.{HierarchyState}
+use Rattle.bw_hierarchy.specs.GroupFiles.{file_named, is_of_root}
+use Rattle.bw_hierarchy.specs.declared.group_file.GroupFile.{GroupFile}
+use Rattle.bw_hierarchy.specs.declared.group_file.GroupFile.TheVariants.{Weight, Max, MaxBurst, Stat}
 
--- the file of a group's weight
-abbrev pub weight_file : List ℕ
-weight_file = codes "cpu.weight"
+-- the file of a group with a name; the root has its counters alone
+abbrev pub file_of : ℕ → Option GroupFile → Result GroupFile Fault
+file_of id None = Err NoSuchFile
+file_of id (Some file) = if not (is_of_root file) && id == 0 then Err NoSuchFile else Ok file
 
--- the file of a group's limit
-abbrev pub max_file : List ℕ
-max_file = codes "cpu.max"
+-- the text of a file of a group; counters that were never booked are zeros
+abbrev pub shown : List (ℕ × Counters) → ℕ → GroupFields → GroupFile → List ℕ
+shown books id g Weight = weight_text g.weight
+shown books id g Max = max_text g.quota g.period
+shown books id g MaxBurst = burst_text g.burst
+shown books id g Stat = stat_text (or_zeros (stat_at books id)) (id == 0)
 
--- the file of a group's burst
-abbrev pub burst_file : List ℕ
-burst_file = codes "cpu.max.burst"
-
--- the file of a group's counters
-abbrev pub stat_file : List ℕ
-stat_file = codes "cpu.stat"
-
--- the text of a group's file; the root has its counters alone, and counters that were never booked are zeros
-abbrev pub text_of : List (ℕ × Stat) → ℕ → List ℕ → Option GroupFields → Result (List ℕ) Fault
-text_of books id file None = Err (Tree NotFound)
-text_of books id file (Some g) =
-    if bytes_eq file stat_file then Ok (stat_text (or_zeros (stat_at books id)) (id == 0))
-    else if id == 0 then Err NoSuchFile
-    else if bytes_eq file weight_file then Ok (weight_text g.weight)
-    else if bytes_eq file max_file then Ok (max_text g.quota g.period)
-    else if bytes_eq file burst_file then Ok (burst_text g.burst)
-    else Err NoSuchFile
+-- the text of the file of a group with a name
+abbrev pub text_of : List (ℕ × Counters) → ℕ → List ℕ → Option GroupFields → Result (List ℕ) Fault
+text_of books id name None = Err (Tree NotFound)
+text_of books id name (Some g) = and_then (file_of id (file_named name)) (λ file. Ok (shown books id g file))
 
 -- the text of a file of the group at a path
 abbrev pub read_of : HierarchyState → List ℕ → List ℕ → Result (List ℕ) Fault
@@ -74,17 +66,17 @@ unwritten g = record { parent = g.parent; name = g.name; demand = g.demand; carr
 abbrev pub unwritten_parts : TreeState → List (ℕ × Unwritten)
 unwritten_parts t = map (λ (e : ℕ × GroupFields). (e.0, unwritten e.1)) t.groups
 
--- what a text that is written into a group's file changes; the counters are read alone
+-- what a text that is written into a file of a group changes; the counters are read alone
+abbrev pub file_write : TreeState → ℕ → List ℕ → GroupFile → Result TreeState Fault
+file_write t id text Weight = weight_write t id text
+file_write t id text Max = max_write t id text
+file_write t id text MaxBurst = burst_write t id text
+file_write t id text Stat = Err ReadOnly
+
+-- the same by the name of the file
 abbrev pub write_at : TreeState → ℕ → List ℕ → List ℕ → Result TreeState Fault
-write_at t id file text =
-    if not (has_group t.groups id) then Err (Tree NotFound)
-    else if bytes_eq file stat_file then Err ReadOnly
-    else if id == 0 then Err NoSuchFile
-    else if bytes_eq file weight_file then weight_write t id text
-    else if bytes_eq file max_file then max_write t id text
-    else if bytes_eq file burst_file then burst_write t id text
-    else Err NoSuchFile
+write_at t id name text = if not (has_group t.groups id) then Err (Tree NotFound) else and_then (file_of id (file_named name)) (file_write t id text)
 
 -- the same by the path of the group
 abbrev pub write_of : TreeState → List ℕ → List ℕ → List ℕ → Result TreeState Fault
-write_of t path file text = and_then (found_at t path) (λ id. write_at t id file text)
+write_of t path name text = and_then (found_at t path) (λ id. write_at t id name text)

@@ -12,6 +12,7 @@ use Rattle.bw_stat.specs.Books.{booked, shares_of, forgotten}
 use Rattle.bw_hierarchy.specs.declared.fault.Fault.{Fault}
 use Rattle.bw_hierarchy.specs.Calls.{and_then, found_at, unless}
 
+-- a host, its tree of groups, and the counters by the ids of the groups
 pub record HierarchyState : Type 0 where
   pub shape : Shape
   pub tree : TreeState

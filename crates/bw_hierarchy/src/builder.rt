@@ -16,15 +16,20 @@ use std::alloc::Global;
 /// A group to be made at a path, with the settings that are given.
 #[derive(Clone, Copy, Debug)]
 pub struct CgroupBuilder<'a> {
+    /// The names from the root down, joined by `/`.
     pub path: &'a str,
+    /// The weight, 1 to 10000.
     pub shares: Option<u64>,
+    /// The quota in microseconds, 1000 to 10^15, or -1 for no limit.
     pub quota: Option<i64>,
+    /// The length of its own period in microseconds, 1000 to 1000000.
     pub period: Option<u64>,
 }
 
 /// The processor settings of a group to be made.
 #[derive(Clone, Copy, Debug)]
 pub struct CpuResources<'a> {
+    /// The group, with what was given so far.
     pub builder: CgroupBuilder<'a>,
 }
 
@@ -54,7 +59,8 @@ impl<'a> CgroupBuilder<'a> {
     /// Makes each missing group of the path from the top down, then sets the shares where they are given,
     /// then the quota and the period where one is given.
     ///
-    /// Where one of these single calls is refused, the first refusal is answered and nothing is changed.
+    /// Where one of these single calls is refused, the first refusal is answered and nothing is changed. The tree is copied
+    /// before the first of them, so want of memory may stand in place of any other refusal.
     pub fn build(self, hierarchy: &mut Hierarchy) -> Result<Cgroup, Fault>
         ensures made { IfOk result (λ g. built hierarchy.old.tree self.entry.path.now self.entry.shares self.entry.quota self.entry.period ≡ Ok (g.id, hierarchy.new.tree)) }
         ensures rest { hierarchy.new ≡ with_tree hierarchy.old hierarchy.new.tree }

@@ -6,14 +6,14 @@ ghost use Rattle.std.specs.Path.{rsplit_once};
 ghost use Rattle.bw_model.specs.Quota.{IsValid};
 ghost use Rattle.bw_tree.specs.Groups.{find_path, group_at, IsTree};
 ghost use Rattle.bw_tree.specs.Tree.{setting_refusal, with_setting, set_max, set_burst};
-ghost use Rattle.bw_hierarchy.specs.Faults.{IsRefusal};
-ghost use Rattle.bw_hierarchy.specs.Calls.{unless, found_at, mkdir_of, set_shares_of, quota_of_int, int_of_quota, quota_given, period_given, is_above, fitting, quota_at, burst_at, max_set, set_cfs_of, value_at};
+ghost use Rattle.bw_hierarchy.specs.Faults.{IsRefusal, IsMemoryLast};
+ghost use Rattle.bw_hierarchy.specs.Calls.{found_at, setting, mkdir_of, set_shares_of, quota_of_int, int_of_quota, quota_given, period_given, is_above, fitting, quota_at, burst_at, max_set, set_cfs_of, value_at};
 
 use crate::fault::Fault;
 use bw_files::{FileFault, check_period, check_quota, check_weight};
 use bw_model::Quota;
 use bw_model::limits::{MAX_BURST_US, MAX_PERIOD_US, MIN_PERIOD_US};
-use bw_tree::{GroupId, Tree, TreeFault};
+use bw_tree::{Group, GroupId, Tree, TreeFault};
 
 pub(crate) fn find(tree: &Tree, path: &str) -> Result<GroupId, Fault>
     ensures { result ≡ found_at tree.now path.now }
@@ -32,6 +32,7 @@ fn split_last(path: &str) -> Option<(&str, &str)>
 pub(crate) fn mkdir(tree: &mut Tree, path: &str) -> Result<GroupId, Fault>
     ensures made { IfOk result (λ id. mkdir_of tree.old path.now ≡ Ok (id, tree.new)) }
     ensures refused { IfErr result (IsRefusal (mkdir_of tree.old path.now)) }
+    ensures memory { IfErr result (IsMemoryLast (mkdir_of tree.old path.now)) }
     ensures err { OnErr result (tree.new ≡ tree.old) }
 {
     match split_last(path) {
@@ -43,17 +44,20 @@ pub(crate) fn mkdir(tree: &mut Tree, path: &str) -> Result<GroupId, Fault>
     }
 }
 
-// Whether a setting of this group may change: its own id where it may.
-fn settable(tree: &Tree, id: GroupId) -> Result<GroupId, Fault>
-    ensures { result ≡ unless (setting_refusal tree.now id) id }
+// The group with this id, where its settings may be read and changed: each but the root.
+fn setting(tree: &Tree, id: GroupId) -> Result<&Group, Fault>
+    ensures found { IfOk result (λ g. setting tree.now id ≡ Ok g.now) }
+    ensures refused { IfErr result (λ e. setting tree.now id ≡ Err e) }
+    ensures free { OnOk result (setting_refusal tree.now id ≡ None) }
+    ensures valid { IfOk result (λ g. IsValid g.now.quota) }
 {
-    if tree.group(id).is_none() {
+    let Some(group) = tree.group(id) else {
         return Err(Fault::Tree(TreeFault::NotFound));
-    }
+    };
     if id == 0 {
         return Err(Fault::Tree(TreeFault::RootFixed));
     }
-    Ok(id)
+    Ok(group)
 }
 
 fn quota_of_int(quota: i64) -> Result<Quota, FileFault>
@@ -75,7 +79,7 @@ pub(crate) fn set_shares(tree: &mut Tree, id: GroupId, n: u64) -> Result<(), Fau
     ensures refused { IfErr result (λ e. set_shares_of tree.old id n ≡ Err e) }
     ensures err { OnErr result (tree.new ≡ tree.old) }
 {
-    let id = settable(tree, id)?;
+    let _group = setting(tree, id)?;
     let weight = check_weight(n)?;
     Ok(tree.set_weight(id, weight)?)
 }
@@ -192,8 +196,7 @@ pub(crate) fn set_cfs(
     ensures refused { IfErr result (λ e. set_cfs_of tree.old id quota period ≡ Err e) }
     ensures err { OnErr result (tree.new ≡ tree.old) }
 {
-    let id = settable(tree, id)?;
-    let old = quota_at(tree, id);
+    let old = setting(tree, id)?.quota;
     let quota = quota_given(quota, old)?;
     let period = period_given(period)?;
     set_max(tree, id, quota, period)
@@ -203,27 +206,8 @@ pub(crate) fn set_cfs(
 pub(crate) fn shares(tree: &Tree, id: GroupId) -> Result<u64, Fault>
     ensures { result ≡ value_at (λ g. g.weight) tree.now id }
 {
-    let Some(group) = tree.group(id) else {
-        return Err(Fault::Tree(TreeFault::NotFound));
-    };
-    if id == 0 {
-        return Err(Fault::Tree(TreeFault::RootFixed));
-    }
+    let group = setting(tree, id)?;
     Ok(group.weight)
-}
-
-/// The quota of a group that is not the root.
-pub(crate) fn quota(tree: &Tree, id: GroupId) -> Result<Quota, Fault>
-    ensures value { result ≡ value_at (λ g. g.quota) tree.now id }
-    ensures valid { IfOk result (λ q. IsValid q) }
-{
-    let Some(group) = tree.group(id) else {
-        return Err(Fault::Tree(TreeFault::NotFound));
-    };
-    if id == 0 {
-        return Err(Fault::Tree(TreeFault::RootFixed));
-    }
-    Ok(group.quota)
 }
 
 fn int_of_quota(quota: Quota) -> i64
@@ -240,19 +224,14 @@ fn int_of_quota(quota: Quota) -> i64
 pub(crate) fn cfs_quota(tree: &Tree, id: GroupId) -> Result<i64, Fault>
     ensures { result ≡ value_at (λ g. int_of_quota g.quota) tree.now id }
 {
-    let quota = quota(tree, id)?;
-    Ok(int_of_quota(quota))
+    let group = setting(tree, id)?;
+    Ok(int_of_quota(group.quota))
 }
 
 /// The length of a group's own period.
 pub(crate) fn cfs_period(tree: &Tree, id: GroupId) -> Result<u64, Fault>
     ensures { result ≡ value_at (λ g. g.period) tree.now id }
 {
-    let Some(group) = tree.group(id) else {
-        return Err(Fault::Tree(TreeFault::NotFound));
-    };
-    if id == 0 {
-        return Err(Fault::Tree(TreeFault::RootFixed));
-    }
+    let group = setting(tree, id)?;
     Ok(group.period)
 }

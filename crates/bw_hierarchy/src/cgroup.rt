@@ -10,19 +10,23 @@ use bw_tree::GroupId;
 /// A group of a hierarchy, by its id.
 #[derive(Debug, PartialEq, Eq, Drop)]
 pub struct Cgroup {
+    /// Its id, which a group that was removed leaves to no other.
     pub id: GroupId,
 }
 
 /// A group that was not removed, and why.
 #[derive(Debug, PartialEq, Eq, Drop)]
 pub struct KeptCgroup {
+    /// Why it was not removed.
     pub fault: Fault,
+    /// The group.
     pub cgroup: Cgroup,
 }
 
 /// The processor settings of a group. Each call answers `NotFound` where the group was removed, and `RootFixed` on the root.
 #[derive(Clone, Copy, Debug, PartialEq, Eq)]
 pub struct CpuController {
+    /// The id of the group.
     pub id: GroupId,
 }
 

@@ -10,8 +10,10 @@ use thiserror::Error;
 /// Why a call is refused. A refused call changes nothing. Want of memory is the tree's `OutOfMemory`.
 #[derive(Clone, Copy, Debug, PartialEq, Eq, Error)]
 pub enum Fault {
+    /// The tree refuses the call, or memory is wanting.
     #[error("{0}")]
     Tree(TreeFault),
+    /// The text or the number is none of the file.
     #[error("{0}")]
     File(FileFault),
     /// 30: the group has no such file.

@@ -1,13 +1,15 @@
 //! The files of a group.
-ghost use Rattle.std.specs.Prelude.{◌≡◌, OnOk, OnErr, IfOk, IfErr, Ok, Err, None, string_bytes};
+ghost use Rattle.std.specs.Prelude.{◌≡◌, ◌==◌, false, OnOk, OnErr, IfOk, IfErr, Ok, Err, None, string_bytes};
 ghost use Rattle.bw_model.specs.Host.{IsHost};
 ghost use Rattle.bw_tree.specs.Groups.{group_at};
 ghost use Rattle.bw_tree.specs.Tree.{setting_refusal};
-ghost use Rattle.bw_hierarchy.specs.Faults.{IsRefusal};
-ghost use Rattle.bw_hierarchy.specs.Files.{text_of, read_of, weight_write, max_write, burst_write, write_at, write_of};
+ghost use Rattle.bw_hierarchy.specs.Faults.{IsRefusal, IsMemoryLast};
+ghost use Rattle.bw_hierarchy.specs.GroupFiles.{file_named, is_of_root};
+ghost use Rattle.bw_hierarchy.specs.Files.{file_of, text_of, read_of, weight_write, max_write, burst_write, write_at, write_of};
 
 use crate::calls;
 use crate::fault::Fault;
+use crate::group_file::{GroupFile, file_named};
 use bw_files::{
     read_burst, read_max, read_weight, write_burst, write_max, write_stat, write_weight,
 };
@@ -16,30 +18,35 @@ use bw_stat::Books;
 use bw_tree::{GroupId, Tree, TreeFault};
 use std::alloc::Global;
 
+// The file of a group with this name.
+fn file_of(id: GroupId, name: &str) -> Result<GroupFile, Fault>
+    ensures exact { result ≡ file_of id (file_named name.now) }
+    ensures inner { IfOk result (λ file. is_of_root file ≡ false → (id == 0) ≡ false) }
+{
+    let Some(file) = file_named(name) else {
+        return Err(Fault::NoSuchFile);
+    };
+    if !file.is_of_root() && id == 0 {
+        return Err(Fault::NoSuchFile);
+    }
+    Ok(file)
+}
+
 // The text of a group's file.
-fn text(alloc: Global, tree: &Tree, books: &Books, id: GroupId, file: &str) -> Result<String, Fault>
-    ensures found { IfOk result (λ t. text_of books.now id file.now (group_at tree.now.groups id) ≡ Ok (string_bytes t)) }
-    ensures refused { IfErr result (IsRefusal (text_of books.now id file.now (group_at tree.now.groups id))) }
+fn text(alloc: Global, tree: &Tree, books: &Books, id: GroupId, name: &str) -> Result<String, Fault>
+    ensures found { IfOk result (λ t. text_of books.now id name.now (group_at tree.now.groups id) ≡ Ok (string_bytes t)) }
+    ensures refused { IfErr result (IsRefusal (text_of books.now id name.now (group_at tree.now.groups id))) }
+    ensures memory { IfErr result (IsMemoryLast (text_of books.now id name.now (group_at tree.now.groups id))) }
 {
     let Some(group) = tree.group(id) else {
         return Err(Fault::Tree(TreeFault::NotFound));
     };
-    if file == "cpu.stat" {
-        return Ok(write_stat(alloc, &books.counters(id), id == 0)?);
+    match file_of(id, name)? {
+        GroupFile::Weight => Ok(write_weight(alloc, group.weight)?),
+        GroupFile::Max => Ok(write_max(alloc, group.quota, group.period)?),
+        GroupFile::MaxBurst => Ok(write_burst(alloc, group.burst)?),
+        GroupFile::Stat => Ok(write_stat(alloc, &books.counters(id), id == 0)?),
     }
-    if id == 0 {
-        return Err(Fault::NoSuchFile);
-    }
-    if file == "cpu.weight" {
-        return Ok(write_weight(alloc, group.weight)?);
-    }
-    if file == "cpu.max" {
-        return Ok(write_max(alloc, group.quota, group.period)?);
-    }
-    if file == "cpu.max.burst" {
-        return Ok(write_burst(alloc, group.burst)?);
-    }
-    Err(Fault::NoSuchFile)
 }
 
 /// The text of the file at a path.
@@ -53,6 +60,7 @@ pub(crate) fn read(
 ) -> Result<String, Fault>
     ensures found { IfOk result (λ t. read_of (record { shape = shape; tree = tree.now; books = books.now }) path.now file.now ≡ Ok (string_bytes t)) }
     ensures refused { IfErr result (IsRefusal (read_of (record { shape = shape; tree = tree.now; books = books.now }) path.now file.now)) }
+    ensures memory { IfErr result (IsMemoryLast (read_of (record { shape = shape; tree = tree.now; books = books.now }) path.now file.now)) }
 {
     let id = calls::find(tree, path)?;
     text(alloc, tree, books, id, file)
@@ -88,30 +96,20 @@ fn write_burst_at(tree: &mut Tree, id: GroupId, text: &[u8]) -> Result<(), Fault
     calls::set_burst(tree, id, burst)
 }
 
-fn write_at(tree: &mut Tree, id: GroupId, file: &str, text: &[u8]) -> Result<(), Fault>
-    ensures set { OnOk result (write_at tree.old id file.now text.now ≡ Ok tree.new) }
-    ensures refused { IfErr result (λ e. write_at tree.old id file.now text.now ≡ Err e) }
+fn write_at(tree: &mut Tree, id: GroupId, name: &str, text: &[u8]) -> Result<(), Fault>
+    ensures set { OnOk result (write_at tree.old id name.now text.now ≡ Ok tree.new) }
+    ensures refused { IfErr result (λ e. write_at tree.old id name.now text.now ≡ Err e) }
     ensures err { OnErr result (tree.new ≡ tree.old) }
 {
     if tree.group(id).is_none() {
         return Err(Fault::Tree(TreeFault::NotFound));
     }
-    if file == "cpu.stat" {
-        return Err(Fault::ReadOnly);
+    match file_of(id, name)? {
+        GroupFile::Weight => write_weight_at(tree, id, text),
+        GroupFile::Max => write_max_at(tree, id, text),
+        GroupFile::MaxBurst => write_burst_at(tree, id, text),
+        GroupFile::Stat => Err(Fault::ReadOnly),
     }
-    if id == 0 {
-        return Err(Fault::NoSuchFile);
-    }
-    if file == "cpu.weight" {
-        return write_weight_at(tree, id, text);
-    }
-    if file == "cpu.max" {
-        return write_max_at(tree, id, text);
-    }
-    if file == "cpu.max.burst" {
-        return write_burst_at(tree, id, text);
-    }
-    Err(Fault::NoSuchFile)
 }
 
 /// Writes a text into the file at a path.

@@ -4,7 +4,7 @@ ghost use Rattle.std.specs.List.{IsDistinct};
 ghost use Rattle.bw_model.specs.Groups.{IsInstance};
 ghost use Rattle.bw_tree.specs.Snapshot.{instance_of, base_of, IsDrawnWithin};
 ghost use Rattle.std.specs.Map.{keys_of};
-ghost use Rattle.bw_hierarchy.specs.Faults.{IsRefusal};
+ghost use Rattle.bw_hierarchy.specs.Faults.{IsRefusal, IsMemoryLast};
 ghost use Rattle.bw_hierarchy.specs.Calls.{mkdir_of, set_shares_of, set_cfs_of, value_at, int_of_quota, found_at};
 ghost use Rattle.bw_hierarchy.specs.Files.{read_of, write_of};
 ghost use Rattle.bw_hierarchy.specs.Builder.{built};
@@ -123,10 +123,12 @@ impl Hierarchy {
     }
 
     /// Makes a group, and answers its id. The path splits at its last `/`; where it has none, the parent is the root.
+    /// Want of memory is answered only where nothing else refuses the call.
     pub fn mkdir(&mut self, path: &str) -> Result<GroupId, Fault>
         ensures made { IfOk result (λ id. mkdir_of self.old.tree path.now ≡ Ok (id, self.new.tree)) }
         ensures rest { self.new ≡ with_tree self.old self.new.tree }
         ensures refused { IfErr result (IsRefusal (mkdir_of self.old.tree path.now)) }
+        ensures memory { IfErr result (IsMemoryLast (mkdir_of self.old.tree path.now)) }
         ensures err { OnErr result (self.new ≡ self.old) }
     {
         calls::mkdir(&mut self.tree, path)
@@ -166,10 +168,11 @@ impl Hierarchy {
     /// counters in `cpu.stat`, which are all 0 before the first period is counted. The root has `cpu.stat` alone, and in it its usage
     /// alone.
     ///
-    /// `NotFound` where there is no such group, else `NoSuchFile` where it has no such file.
+    /// `NotFound` where there is no such group, else `NoSuchFile` where it has no such file, else want of memory.
     pub fn read_file(&self, path: &str, file: &str) -> Result<String, Fault>
         ensures found { IfOk result (λ t. read_of self.now path.now file.now ≡ Ok (string_bytes t)) }
         ensures refused { IfErr result (IsRefusal (read_of self.now path.now file.now)) }
+        ensures memory { IfErr result (IsMemoryLast (read_of self.now path.now file.now)) }
     {
         files::read(self.alloc, self.shape, &self.tree, &self.books, path, file)
     }
@@ -233,7 +236,7 @@ impl Hierarchy {
         calls::set_cfs(&mut self.tree, id, quota, period)
     }
 
-    // All that a builder does, or nothing.
+    // All that a builder does, or nothing. The copy comes before each test, so want of memory may be answered first.
     pub(crate) fn build(
         &mut self,
         path: &str,

@@ -6,11 +6,13 @@ mod calls;
 mod cgroup;
 mod fault;
 mod files;
+mod group_file;
 mod hierarchy;
 mod laws;
 
 pub use builder::{CgroupBuilder, CpuResources};
 pub use cgroup::{Cgroup, CpuController, KeptCgroup};
 pub use fault::Fault;
+pub use group_file::{GroupFile, file_named};
 pub use hierarchy::Hierarchy;
 pub use laws::write_changes_one_value;

@@ -14,6 +14,7 @@ use Rattle.bw_tree.specs.Snapshot.{quota_slices, with_burst, bursting, period_li
 use Rattle.bw_tree.specs.Bandwidth.{Call, after_call, CanBook, burst_slices, HasBandwidth, KeepsBandwidth, drawn_at, drawn_in, periods_in, carry_of, carry_at, with_left, HasNoBurst}
 use Rattle.bw_tree.specs.Bandwidth.Call.{Book, Mkdir, Rmdir, SetDemand, SetWeight, SetLimit, SetPeriod, SetBurst}
 use Rattle.bw_tree.proofs.CarryLemmas.{keys_carried}
+use Rattle.bw_tree.proofs.GroupLemmas.{inside}
 use Rattle.bw_tree.proofs.RemoveLemmas.{look_removed_other}
 use Rattle.bw_tree.proofs.SetLemmas.{look_set_other, look_set_same}
 
@@ -32,9 +33,6 @@ left_at s all (e ∷ es) (d ∷ ds) id same = onto (eqb id e.0) (left_at s all e
     onto true rest = refl
     onto false rest = rest
 
-some_is : {A : Type 0} {a b : A} → Some a ≡ Some b → a ≡ b
-some_is e = cc
-
 -- a group has drawn no more than its limit
 within_at : (s : Shape) (all gs : List (ℕ × GroupFields)) (ds : List ℕ) (id : ℕ) (g : GroupFields) → length ds ≡ length gs
     → IsDrawnWithin (map (row_of all s) (values_of gs)) ds → group_at gs id ≡ Some g → IfSome (period_limit s g) (λ limit. drawn_at gs ds id ≤ limit)
@@ -44,8 +42,9 @@ within_at s all (e ∷ es) (d ∷ ds) id g same within found =
     onto (eqb id e.0) found (within 0 (omega arith)) (within_at s all es ds id g (omega (arith, same)) (λ k lt. within (suc k) (omega (arith, lt))))
   where
     onto : (b : Bool) → cond b (Some e.1) (group_at es id) ≡ Some g → IfSome (period_limit s e.1) (λ limit. d ≤ limit)
-        → (group_at es id ≡ Some g → IfSome (period_limit s g) (λ limit. drawn_at es ds id ≤ limit)) → IfSome (period_limit s g) (λ limit. cond b d (drawn_at es ds id) ≤ limit)
-    onto true found here rest = subst (λ x. IfSome (period_limit s x) (λ limit. d ≤ limit)) (some_is found) here
+        → (group_at es id ≡ Some g → IfSome (period_limit s g) (λ limit. drawn_at es ds id ≤ limit))
+        → IfSome (period_limit s g) (λ limit. cond b d (drawn_at es ds id) ≤ limit)
+    onto true found here rest = subst (λ x. IfSome (period_limit s x) (λ limit. d ≤ limit)) (inside found) here
     onto false found here rest = rest found
 
 -- what a group drew and what it left over are its limit
@@ -62,7 +61,8 @@ booked_step s id q b t drawn has can =
     let was : carry_at t id ≡ has.group.carry = ap carry_of has.found in
     omega (arith, most, left, was)
 
-pub carry_bound : (s : Shape) (id q b : ℕ) (t : TreeState) (drawn : List ℕ) → HasBandwidth s t id q b → CanBook s t drawn → carry_at (after_call s t (Book drawn)) id ≤ q + b
+pub carry_bound : (s : Shape) (id q b : ℕ) (t : TreeState) (drawn : List ℕ) → HasBandwidth s t id q b → CanBook s t drawn
+    → carry_at (after_call s t (Book drawn)) id ≤ q + b
 carry_bound s id q b t drawn has can = omega (arith, booked_step s id q b t drawn has can)
 
 -- ---- any calls
@@ -76,12 +76,14 @@ made_carry [] k id g none = by (eqb id k)
     by false = refl
 made_carry (e ∷ es) k id g none = onto (eqb id e.0) (made_carry es k id g none)
   where
-    onto : (b : Bool) → carry_of (group_at (es ++ (k, g) ∷ []) id) ≡ carry_of (group_at es id) → carry_of (cond b (Some e.1) (group_at (es ++ (k, g) ∷ []) id)) ≡ carry_of (cond b (Some e.1) (group_at es id))
+    onto : (b : Bool) → carry_of (group_at (es ++ (k, g) ∷ []) id) ≡ carry_of (group_at es id)
+        → carry_of (cond b (Some e.1) (group_at (es ++ (k, g) ∷ []) id)) ≡ carry_of (cond b (Some e.1) (group_at es id))
     onto true rest = refl
     onto false rest = rest
 
 -- a setting leaves what each group has left over
-set_carries : (f : GroupFields → GroupFields) (t : TreeState) (other id : ℕ) → ((g : GroupFields) → (f g).carry ≡ g.carry) → carry_at (with_setting f t other) id ≡ carry_at t id
+set_carries : (f : GroupFields → GroupFields) (t : TreeState) (other id : ℕ) → ((g : GroupFields) → (f g).carry ≡ g.carry)
+    → carry_at (with_setting f t other) id ≡ carry_at t id
 set_carries f t other id same = by (group_at t.groups other) refl
   where
     at_both : (g : GroupFields) → group_at t.groups other ≡ Some g → ((eqb id other ≡ true) × (id ≡ other)) ⊎ ((eqb id other ≡ false) × (id ≢ other))
@@ -95,7 +97,8 @@ set_carries f t other id same = by (group_at t.groups other) refl
     by None at = refl
     by (Some g) at = at_both g at (eqb_tells id other)
 
-pub drawn_bound : (s : Shape) (id q b : ℕ) (t : TreeState) (calls : List Call) → KeepsBandwidth s id q b t calls → drawn_in s id t calls ≤ q * periods_in calls + min (carry_at t id) b
+pub drawn_bound : (s : Shape) (id q b : ℕ) (t : TreeState) (calls : List Call) → KeepsBandwidth s id q b t calls
+    → drawn_in s id t calls ≤ q * periods_in calls + min (carry_at t id) b
 drawn_bound s id q b t [] keeps = omega arith
 drawn_bound s id q b t (Book drawn ∷ calls) keeps =
     let step = booked_step s id q b t drawn keeps.0 keeps.1 in
@@ -127,7 +130,9 @@ none_slices s period =
 
 -- without a burst the limit is the quota, whatever is left over
 no_burst : (s : Shape) (carry : ℕ) (g : GroupFields) → g.burst ≡ 0 → period_limit s (set_carry carry g) ≡ quota_slices s g
-no_burst s carry g none = ap (λ b. bursting carry (in_slices s g.period b) (quota_slices s g)) none ∙ ap (λ b. bursting carry b (quota_slices s g)) (none_slices s g.period) ∙ by (quota_slices s g)
+no_burst s carry g none =
+    ap (λ b. bursting carry (in_slices s g.period b) (quota_slices s g)) none ∙ ap (λ b. bursting carry b (quota_slices s g)) (none_slices s g.period)
+    ∙ by (quota_slices s g)
   where
     by : (o : Option ℕ) → bursting carry 0 o ≡ o
     by None = refl
@@ -136,7 +141,8 @@ no_burst s carry g none = ap (λ b. bursting carry (in_slices s g.period b) (quo
 limits_from : (s : Shape) (all gs : List (ℕ × GroupFields)) → HasNoBurst gs → map (λ (r : Row). r.limit) (map (row_of all s) (values_of gs)) ≡ base_of gs s
 limits_from s all [] none = refl
 limits_from s all (e ∷ es) none =
-    ap (λ o. o ∷ map (λ (r : Row). r.limit) (map (row_of all s) (values_of es))) (no_burst s e.1.carry e.1 none.0) ∙ ap (λ (xs : List (Option ℕ)). quota_slices s e.1 ∷ xs) (limits_from s all es none.1)
+    ap (λ o. o ∷ map (λ (r : Row). r.limit) (map (row_of all s) (values_of es))) (no_burst s e.1.carry e.1 none.0)
+    ∙ ap (λ (xs : List (Option ℕ)). quota_slices s e.1 ∷ xs) (limits_from s all es none.1)
 
 pub limits_are_quotas : (s : Shape) (t : TreeState) → HasNoBurst t.groups → map (λ (r : Row). r.limit) (rows_of t.groups s) ≡ base_of t.groups s
 limits_are_quotas s t none = limits_from s t.groups t.groups none
@@ -157,7 +163,8 @@ rows_from s old new (e ∷ es) (c ∷ cs) same none =
     ∙ ap (λ o. record { parent = place_of old e.1.parent; weight = e.1.weight; limit = o; demand = e.1.demand } ∷ map (row_of new s) (values_of (carried es cs))) (no_burst s c e.1 none.0 ∙ sym (no_burst s e.1.carry e.1 none.0))
     ∙ ap (λ (rows : List Row). row_of old s e.1 ∷ rows) (rows_from s old new es cs same none.1)
 
-pub carries_unseen : (s : Shape) (t : TreeState) (rows : List Row) (drawn : List ℕ) → HasNoBurst t.groups → instance_of (carried_over t rows drawn) s ≡ instance_of t s
+pub carries_unseen : (s : Shape) (t : TreeState) (rows : List Row) (drawn : List ℕ) → HasNoBurst t.groups
+    → instance_of (carried_over t rows drawn) s ≡ instance_of t s
 carries_unseen s t rows drawn none =
     ap (λ (xs : List Row). record { shape = s; rows = xs }) (rows_from s t.groups (carried t.groups (left_over rows drawn)) t.groups (left_over rows drawn) (place_same t.groups (left_over rows drawn)) none)
 

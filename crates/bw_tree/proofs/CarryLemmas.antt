@@ -62,7 +62,8 @@ look_carried gs [] q = kept_same (group_at gs q)
 look_carried [] (c ∷ cs) q = tt
 look_carried (e ∷ es) (c ∷ cs) q = onto (eqb q e.0) (look_carried es cs q)
   where
-    onto : (b : Bool) → IsKept (group_at (carried es cs) q) (group_at es q) → IsKept (cond b (Some (set_carry c e.1)) (group_at (carried es cs) q)) (cond b (Some e.1) (group_at es q))
+    onto : (b : Bool) → IsKept (group_at (carried es cs) q) (group_at es q)
+        → IsKept (cond b (Some (set_carry c e.1)) (group_at (carried es cs) q)) (cond b (Some e.1) (group_at es q))
     onto true rest = (c, refl)
     onto false rest = rest
 
@@ -103,10 +104,12 @@ module _ (t : TreeState) (cs : List ℕ) (ok : IsTree t) where
   there_stays : (q : ℕ) → has_group (carried t.groups cs) q ≡ has_group t.groups q
   there_stays q = there_kept (group_at (carried t.groups cs) q) (group_at t.groups q) (look_carried t.groups cs q)
 
-  new_root : (r : GroupFields) → group_at t.groups 0 ≡ Some r → (h : GroupFields) × (group_at (carried t.groups cs) 0 ≡ Some h) × (carry : ℕ) × (h ≡ set_carry carry r)
+  new_root : (r : GroupFields) → group_at t.groups 0 ≡ Some r
+      → (h : GroupFields) × (group_at (carried t.groups cs) 0 ≡ Some h) × (carry : ℕ) × (h ≡ set_carry carry r)
   new_root r at = by (group_at (carried t.groups cs) 0) refl (subst (λ o. IsKept (group_at (carried t.groups cs) 0) o) at (look_carried t.groups cs 0))
     where
-      by : (o : Option GroupFields) → group_at (carried t.groups cs) 0 ≡ o → IsKept o (Some r) → (h : GroupFields) × (group_at (carried t.groups cs) 0 ≡ Some h) × (carry : ℕ) × (h ≡ set_carry carry r)
+      by : (o : Option GroupFields) → group_at (carried t.groups cs) 0 ≡ o → IsKept o (Some r)
+          → (h : GroupFields) × (group_at (carried t.groups cs) 0 ≡ Some h) × (carry : ℕ) × (h ≡ set_carry carry r)
       by None found k = absurd k
       by (Some h) found k = (h, found, k.0, k.1)
 
@@ -125,14 +128,17 @@ module _ (t : TreeState) (cs : List ℕ) (ok : IsTree t) where
             (old.0, there_stays p ∙ old.1);
         named = λ q p h found up.
             let was = was_group t.groups cs q h found in
-            child_carried t.groups cs p h.name ∙ ap (child_of t.groups p) (ap (λ (x : GroupFields). x.name) was.is) ∙ ok.named q p was.g was.at (sym (ap (λ (x : GroupFields). x.parent) was.is) ∙ up);
+            child_carried t.groups cs p h.name ∙ ap (child_of t.groups p) (ap (λ (x : GroupFields). x.name) was.is)
+            ∙ ok.named q p was.g was.at (sym (ap (λ (x : GroupFields). x.parent) was.is) ∙ up);
         spelled = λ q p h found up.
             let was = was_group t.groups cs q h found in
             ap is_name (ap (λ (x : GroupFields). x.name) was.is) ∙ ok.spelled q p was.g was.at (sym (ap (λ (x : GroupFields). x.parent) was.is) ∙ up);
         shallow = λ q there.
             above_same t.groups (carried t.groups cs) (λ _. Unit {0}) (λ k _. parent_kept (group_at (carried t.groups cs) k) (group_at t.groups k) (look_carried t.groups cs k)) (λ _ _ _ _. tt) MAX_PATH q tt
             ∙ ok.shallow q (sym (there_stays q) ∙ there);
-        leaves = λ q some. children_carried t.groups cs q ∙ ok.leaves q (omega (arith, some, demand_kept (group_at (carried t.groups cs) q) (group_at t.groups q) (look_carried t.groups cs q)));
+        leaves =
+            λ q some. children_carried t.groups cs q
+            ∙ ok.leaves q (omega (arith, some, demand_kept (group_at (carried t.groups cs) q) (group_at t.groups q) (look_carried t.groups cs q)));
         sound = λ q h found.
             let was = was_group t.groups cs q h found in
             let old = ok.sound q was.g was.at in
@@ -141,7 +147,8 @@ module _ (t : TreeState) (cs : List ℕ) (ok : IsTree t) where
 
 -- the index stays theirs
 pub index_carried : (gs : List (ℕ × GroupFields)) (cs : List ℕ) (index : ChildIndex) → IsIndexOf gs index → IsIndexOf (carried gs cs) index
-index_carried gs cs index is = record { children = λ p n. is.children p n ∙ sym (child_carried gs cs p n); listed = λ p. is.listed p ∙ sym (children_carried gs cs p) }
+index_carried gs cs index is =
+    record { children = λ p n. is.children p n ∙ sym (child_carried gs cs p n); listed = λ p. is.listed p ∙ sym (children_carried gs cs p) }
 
 -- ---- one group after another
 
@@ -166,7 +173,8 @@ key_there gs cs i lt =
     ∙ key_found gs i lt
 
 -- a change of a later group
-changed_later : (f : GroupFields → GroupFields) (e : ℕ × GroupFields) (gs : List (ℕ × GroupFields)) (id : ℕ) → eqb id e.0 ≡ false → changed_at f (e ∷ gs) id ≡ e ∷ changed_at f gs id
+changed_later : (f : GroupFields → GroupFields) (e : ℕ × GroupFields) (gs : List (ℕ × GroupFields)) (id : ℕ) → eqb id e.0 ≡ false
+    → changed_at f (e ∷ gs) id ≡ e ∷ changed_at f gs id
 changed_later f e gs id apart = ap (λ b. changed f (e ∷ gs) id (cond b (Some e.1) (group_at gs id))) apart ∙ by (group_at gs id)
   where
     by : (o : Option GroupFields) → changed f (e ∷ gs) id o ≡ e ∷ changed f gs id o
@@ -195,7 +203,8 @@ length_left_over [] drawn same = refl
 length_left_over (row ∷ rows) [] same = absurd (omega (arith, same))
 length_left_over (row ∷ rows) (d ∷ ds) same = ap suc (length_left_over rows ds (omega (arith, same)))
 
-pub left_over_at : (rows : List Row) (drawn : List ℕ) (i : ℕ) (r : Row) → i < length rows → length drawn ≡ length rows → get_or (left_over rows drawn) i 0 ≡ left_of (get_or rows i r).limit (get_or drawn i 0)
+pub left_over_at : (rows : List Row) (drawn : List ℕ) (i : ℕ) (r : Row) → i < length rows → length drawn ≡ length rows
+    → get_or (left_over rows drawn) i 0 ≡ left_of (get_or rows i r).limit (get_or drawn i 0)
 left_over_at [] drawn i r lt same = absurd (omega (arith, lt))
 left_over_at (row ∷ rows) [] i r lt same = absurd (omega (arith, same))
 left_over_at (row ∷ rows) (d ∷ ds) zero r lt same = refl

@@ -13,7 +13,7 @@ use Rattle.bw_tree.specs.declared.child_index.ChildIndex.{ChildIndex}
 use Rattle.bw_tree.specs.Children.{named, child_at, is_listed, AnswersAs, AreNamed, IsIndexOf}
 use Rattle.bw_tree.specs.Groups.{GroupFields, TreeState, group_at, has_children, is_parent, is_child_named, child_of, IsTree, AllAfter, AreRising}
 use Rattle.bw_tree.specs.Tree.{changed, changed_at, new_group}
-use Rattle.bw_tree.proofs.GroupLemmas.{children_push, child_push, child_push_old, bytes_eq_same}
+use Rattle.bw_tree.proofs.GroupLemmas.{inside, children_push, child_push, child_push_old, bytes_eq_same}
 use Rattle.bw_tree.proofs.SetLemmas.{child_set, children_set}
 use Rattle.bw_tree.proofs.RemoveLemmas.{was_other, rising_removed}
 
@@ -30,9 +30,6 @@ named_is g p n h =
 pub is_named : (g : GroupFields) (p : ℕ) → g.parent ≡ Some p → is_child_named g p g.name ≡ true
 is_named g p up = and_from (is_parent g.parent p) (bytes_eq g.name g.name) (ap (λ o. is_parent o p) up ∙ eq-eqb p p refl) (bytes_eq_same g.name)
 
-inside : {A : Type 0} {a b : A} → Some a ≡ Some b → a ≡ b
-inside e = cc
-
 -- a group that is found after some others has a higher id
 pub after_at : (gs : List (ℕ × GroupFields)) (low q : ℕ) (h : GroupFields) → AllAfter low gs → group_at gs q ≡ Some h → low < q
 after_at [] low q h all at = cc
@@ -43,13 +40,15 @@ after_at (e ∷ es) low q h all at = onto (eqb q e.0) refl at (after_at es low q
     onto false here at rest = rest at
 
 -- what is found in the rest is found in the whole
-pub at_more : (e : ℕ × GroupFields) (es : List (ℕ × GroupFields)) (q : ℕ) (h : GroupFields) → AllAfter e.0 es → group_at es q ≡ Some h → group_at (e ∷ es) q ≡ Some h
+pub at_more : (e : ℕ × GroupFields) (es : List (ℕ × GroupFields)) (q : ℕ) (h : GroupFields) → AllAfter e.0 es → group_at es q ≡ Some h
+    → group_at (e ∷ es) q ≡ Some h
 at_more e es q h all at =
     let after = after_at es e.0 q h all at in
     ap (λ b. cond b (Some e.1) (group_at es q)) (ne_eqb q e.0 (λ same. omega (arith, after, same))) ∙ at
 
 -- the child that is found by its name is a group with this name
-pub child_found : (gs : List (ℕ × GroupFields)) (p q : ℕ) (n : List ℕ) → AreRising gs → child_of gs p n ≡ Some q → (h : GroupFields) × (group_at gs q ≡ Some h) × (is_child_named h p n ≡ true)
+pub child_found : (gs : List (ℕ × GroupFields)) (p q : ℕ) (n : List ℕ) → AreRising gs → child_of gs p n ≡ Some q
+    → (h : GroupFields) × (group_at gs q ≡ Some h) × (is_child_named h p n ≡ true)
 child_found [] p q n up found = cc
 child_found (e ∷ es) p q n up found = onto (is_child_named e.1 p n) refl found (child_found es p q n up.1)
   where
@@ -64,7 +63,8 @@ pub child_has : (gs : List (ℕ × GroupFields)) (p : ℕ) (n : List ℕ) → is
 child_has [] p n found = cc
 child_has (e ∷ es) p n found = onto (is_child_named e.1 p n) refl found (child_has es p n)
   where
-    onto : (b : Bool) → is_child_named e.1 p n ≡ b → is_some (cond b (Some e.0) (child_of es p n)) ≡ true → (is_some (child_of es p n) ≡ true → has_children es p ≡ true) → (is_parent e.1.parent p || has_children es p) ≡ true
+    onto : (b : Bool) → is_child_named e.1 p n ≡ b → is_some (cond b (Some e.0) (child_of es p n)) ≡ true
+        → (is_some (child_of es p n) ≡ true → has_children es p ≡ true) → (is_parent e.1.parent p || has_children es p) ≡ true
     onto true match_is found rest = ap (λ b. b || has_children es p) (and_parts (is_parent e.1.parent p) (bytes_eq e.1.name n) match_is).0
     onto false other found rest = either (is_parent e.1.parent p) (has_children es p) (rest found)
       where
@@ -80,7 +80,8 @@ some_child (e ∷ es) p has = onto (is_parent e.1.parent p) refl has (some_child
     further true o h = refl
     further false o h = h
 
-    onto : (b : Bool) → is_parent e.1.parent p ≡ b → (b || has_children es p) ≡ true → (has_children es p ≡ true → (n : List ℕ) × (is_some (child_of es p n) ≡ true))
+    onto : (b : Bool) → is_parent e.1.parent p ≡ b → (b || has_children es p) ≡ true
+        → (has_children es p ≡ true → (n : List ℕ) × (is_some (child_of es p n) ≡ true))
         → (n : List ℕ) × (is_some (cond (is_child_named e.1 p n) (Some e.0) (child_of es p n)) ≡ true)
     onto true match_is has rest =
         let both : is_child_named e.1 p e.1.name ≡ true = and_from (is_parent e.1.parent p) (bytes_eq e.1.name e.1.name) match_is (bytes_eq_same e.1.name) in
@@ -98,11 +99,13 @@ pub index_push : (gs : List (ℕ × GroupFields)) (k : ℕ) (g : GroupFields) (o
     → ((p : ℕ) → is_listed new p ≡ (is_listed old p || is_parent g.parent p))
     → IsIndexOf (gs ++ (k, g) ∷ []) new
 index_push gs k g old new is free children listed = record {
-  children = λ p n. children p n ∙ ap (λ o. cond (is_child_named g p n) (Some k) o) (is.children p n) ∙ onto p n (is_child_named g p n) refl (child_of gs p n) refl;
+  children =
+      λ p n. children p n ∙ ap (λ o. cond (is_child_named g p n) (Some k) o) (is.children p n) ∙ onto p n (is_child_named g p n) refl (child_of gs p n) refl;
   listed = λ p. listed p ∙ ap (λ b. b || is_parent g.parent p) (is.listed p) ∙ sym (children_push gs k p g);
 }
   where
-    onto : (p : ℕ) (n : List ℕ) (b : Bool) → is_child_named g p n ≡ b → (o : Option ℕ) → child_of gs p n ≡ o → cond b (Some k) o ≡ child_of (gs ++ (k, g) ∷ []) p n
+    onto : (p : ℕ) (n : List ℕ) (b : Bool) → is_child_named g p n ≡ b → (o : Option ℕ) → child_of gs p n ≡ o
+        → cond b (Some k) o ≡ child_of (gs ++ (k, g) ∷ []) p n
     onto p n true match_is None found = sym (child_push gs k p n g found ∙ ap (λ b. cond b (Some k) None) match_is)
     onto p n true match_is (Some q) found = let wrong : Some q ≡ None = sym found ∙ free p n match_is in absurd (cc)
     onto p n false other None found = sym (child_push gs k p n g found ∙ ap (λ b. cond b (Some k) None) other)
@@ -123,20 +126,24 @@ index_set f gs id index parent name is = by (group_at gs id) refl
 
 module _ (id : ℕ) (g : GroupFields) where
   -- a group that is taken out is missed at its own parent and name alone
-  pub child_unnamed : (gs : List (ℕ × GroupFields)) (p : ℕ) (n : List ℕ) → group_at gs id ≡ Some g → is_child_named g p n ≡ false → child_of (remove_entry (eqb id) gs) p n ≡ child_of gs p n
+  pub child_unnamed : (gs : List (ℕ × GroupFields)) (p : ℕ) (n : List ℕ) → group_at gs id ≡ Some g → is_child_named g p n ≡ false
+      → child_of (remove_entry (eqb id) gs) p n ≡ child_of gs p n
   child_unnamed [] p n at other = refl
   child_unnamed (e ∷ es) p n at other = onto (eqb id e.0) at (child_unnamed es p n)
     where
-      onto : (b : Bool) → cond b (Some e.1) (group_at es id) ≡ Some g → (group_at es id ≡ Some g → is_child_named g p n ≡ false → child_of (remove_entry (eqb id) es) p n ≡ child_of es p n)
+      onto : (b : Bool) → cond b (Some e.1) (group_at es id) ≡ Some g
+          → (group_at es id ≡ Some g → is_child_named g p n ≡ false → child_of (remove_entry (eqb id) es) p n ≡ child_of es p n)
           → child_of (cond b es (e ∷ remove_entry (eqb id) es)) p n ≡ cond (is_child_named e.1 p n) (Some e.0) (child_of es p n)
       onto true at rest = sym (ap (λ b. cond b (Some e.0) (child_of es p n)) (ap (λ x. is_child_named x p n) (inside at) ∙ other))
       onto false at rest = ap (λ o. cond (is_child_named e.1 p n) (Some e.0) o) (rest at other)
 
-  pub children_unparented : (gs : List (ℕ × GroupFields)) (p : ℕ) → group_at gs id ≡ Some g → is_parent g.parent p ≡ false → has_children (remove_entry (eqb id) gs) p ≡ has_children gs p
+  pub children_unparented : (gs : List (ℕ × GroupFields)) (p : ℕ) → group_at gs id ≡ Some g → is_parent g.parent p ≡ false
+      → has_children (remove_entry (eqb id) gs) p ≡ has_children gs p
   children_unparented [] p at other = refl
   children_unparented (e ∷ es) p at other = onto (eqb id e.0) at (children_unparented es p)
     where
-      onto : (b : Bool) → cond b (Some e.1) (group_at es id) ≡ Some g → (group_at es id ≡ Some g → is_parent g.parent p ≡ false → has_children (remove_entry (eqb id) es) p ≡ has_children es p)
+      onto : (b : Bool) → cond b (Some e.1) (group_at es id) ≡ Some g
+          → (group_at es id ≡ Some g → is_parent g.parent p ≡ false → has_children (remove_entry (eqb id) es) p ≡ has_children es p)
           → has_children (cond b es (e ∷ remove_entry (eqb id) es)) p ≡ (is_parent e.1.parent p || has_children es p)
       onto true at rest = sym (ap (λ b. b || has_children es p) (ap (λ x. is_parent x.parent p) (inside at) ∙ other))
       onto false at rest = ap (λ b. is_parent e.1.parent p || b) (rest at other)
@@ -183,7 +190,8 @@ module _ (t : TreeState) (id : ℕ) (g : GroupFields) (ok : IsTree t) (inner : i
       listed_named : (p : ℕ) (n : List ℕ) → is_some (child_at new p n) ≡ true → is_listed new p ≡ true
       listed_named p n h = some_named (get nat_cmp new.by_parent p) n h
 
-      by_listed : (p : ℕ) (b : Bool) → is_listed new p ≡ b → (b ≡ true → has_children (remove_entry (eqb id) t.groups) p ≡ true) → is_listed new p ≡ has_children (remove_entry (eqb id) t.groups) p
+      by_listed : (p : ℕ) (b : Bool) → is_listed new p ≡ b → (b ≡ true → has_children (remove_entry (eqb id) t.groups) p ≡ true)
+          → is_listed new p ≡ has_children (remove_entry (eqb id) t.groups) p
       by_listed p true is_b has = is_b ∙ sym (has refl)
       by_listed p false is_b has = none (has_children (remove_entry (eqb id) t.groups) p) refl
         where
@@ -209,7 +217,8 @@ pub record IsPartIndex (groups rest : List (ℕ × GroupFields)) (index : ChildI
   pub listed : (parent : ℕ) → (is_listed index parent || has_children rest parent) ≡ has_children groups parent
   pub left : AreNamed groups rest
 
-pub part_start : (groups : List (ℕ × GroupFields)) (index : ChildIndex) → ((p : ℕ) (n : List ℕ) → child_at index p n ≡ None) → ((p : ℕ) → is_listed index p ≡ false) → AreNamed groups groups → IsPartIndex groups groups index
+pub part_start : (groups : List (ℕ × GroupFields)) (index : ChildIndex) → ((p : ℕ) (n : List ℕ) → child_at index p n ≡ None)
+    → ((p : ℕ) → is_listed index p ≡ false) → AreNamed groups groups → IsPartIndex groups groups index
 part_start groups index children listed left = record {
   children = λ p n. ap (λ o. either o (child_of groups p n)) (children p n);
   listed = λ p. ap (λ b. b || has_children groups p) (listed p);
@@ -244,7 +253,8 @@ part_step groups e es old new is children listed = record {
     grouped true b d = refl
     grouped false b d = refl
 
-    onto : (p : ℕ) (n : List ℕ) (b : Bool) → is_child_named e.1 p n ≡ b → (o : Option ℕ) → child_at old p n ≡ o → either (cond b (Some e.0) o) (child_of es p n) ≡ child_of groups p n
+    onto : (p : ℕ) (n : List ℕ) (b : Bool) → is_child_named e.1 p n ≡ b → (o : Option ℕ) → child_at old p n ≡ o
+        → either (cond b (Some e.0) o) (child_of es p n) ≡ child_of groups p n
     onto p n true match_is o was =
         let who = named_is e.1 p n match_is in
         sym (ap (child_of groups p) (sym who.1) ∙ is.left.0 p who.0)
@@ -256,7 +266,8 @@ part_step groups e es old new is children listed = record {
 pub tree_named : (t : TreeState) → IsTree t → AreNamed t.groups t.groups
 tree_named t ok = all t.groups ok.rising (λ id g at. at)
   where
-    all : (es : List (ℕ × GroupFields)) → AreRising es → ((id : ℕ) (g : GroupFields) → group_at es id ≡ Some g → group_at t.groups id ≡ Some g) → AreNamed t.groups es
+    all : (es : List (ℕ × GroupFields)) → AreRising es → ((id : ℕ) (g : GroupFields) → group_at es id ≡ Some g → group_at t.groups id ≡ Some g)
+        → AreNamed t.groups es
     all [] up found = tt
     all (e ∷ es) up found = (
       λ p is. ok.named e.0 p e.1 (found e.0 e.1 (ap (λ b. cond b (Some e.1) (group_at es e.0)) (eq-eqb e.0 e.0 refl))) is,
@@ -273,7 +284,8 @@ same_entries (x ∷ xs) (y ∷ ys) h =
     ap (λ e. e ∷ ys) first ∙ ap (λ es. x ∷ es) (same_entries xs ys h.1)
 
 -- a new group's place is free
-pub free_name : (t : TreeState) (parent : ℕ) (name : List ℕ) → child_of t.groups parent name ≡ None → (p : ℕ) (n : List ℕ) → is_child_named (new_group parent name) p n ≡ true → child_of t.groups p n ≡ None
+pub free_name : (t : TreeState) (parent : ℕ) (name : List ℕ) → child_of t.groups parent name ≡ None → (p : ℕ) (n : List ℕ)
+    → is_child_named (new_group parent name) p n ≡ true → child_of t.groups p n ≡ None
 free_name t parent name free p n h =
     let who = named_is (new_group parent name) p n h in
     ap (λ k. child_of t.groups k n) (sym (inside who.0)) ∙ ap (child_of t.groups parent) (sym who.1) ∙ free

@@ -59,25 +59,29 @@ place_le gs (suc i) d up lt =
     omega (arith, before, next)
 
 -- the group at a place is found by its id
-pub found_at : (gs : List (ℕ × GroupFields)) (i : ℕ) (d : ℕ × GroupFields) → AreRising gs → i < length gs → group_at gs (get_or gs i d).0 ≡ Some (get_or gs i d).1
+pub found_at : (gs : List (ℕ × GroupFields)) (i : ℕ) (d : ℕ × GroupFields) → AreRising gs → i < length gs
+    → group_at gs (get_or gs i d).0 ≡ Some (get_or gs i d).1
 found_at [] i d up lt = absurd (omega (arith, lt))
 found_at (e ∷ es) zero d up lt = ap (λ b. cond b (Some e.1) (group_at es e.0)) (eq-eqb e.0 e.0 refl)
 found_at (e ∷ es) (suc i) d up lt =
     let later = after_at es e.0 i d up.0 (omega (arith, lt)) in
-    ap (λ b. cond b (Some e.1) (group_at es (get_or es i d).0)) (ne_eqb (get_or es i d).0 e.0 (λ same. omega (arith, later, same))) ∙ found_at es i d up.1 (omega (arith, lt))
+    ap (λ b. cond b (Some e.1) (group_at es (get_or es i d).0)) (ne_eqb (get_or es i d).0 e.0 (λ same. omega (arith, later, same)))
+    ∙ found_at es i d up.1 (omega (arith, lt))
 
 -- an id that is found has a place
 pub place_found : (gs : List (ℕ × GroupFields)) (id : ℕ) → has_group gs id ≡ true → (i : ℕ) × (position (eqb id) (keys_of gs) ≡ Some i)
 place_found gs id there = some_of (position (eqb id) (keys_of gs)) (some_index (eqb id) gs ∙ there)
 
 -- the values of each group are in range
-pub all_sound : (gs : List (ℕ × GroupFields)) → AreRising gs → ((id : ℕ) (g : GroupFields) → group_at gs id ≡ Some g → IsSound g) → AllByRecursion IsSound (values_of gs)
+pub all_sound : (gs : List (ℕ × GroupFields)) → AreRising gs → ((id : ℕ) (g : GroupFields) → group_at gs id ≡ Some g → IsSound g)
+    → AllByRecursion IsSound (values_of gs)
 all_sound [] up each = tt
 all_sound (e ∷ es) up each =
     (each e.0 e.1 (ap (λ b. cond b (Some e.1) (group_at es e.0)) (eq-eqb e.0 e.0 refl)), all_sound es up.1 (λ id g at. each id g (at_more e es id g up.0 at)))
 
 -- the row at a place
-pub row_at : (gs : List (ℕ × GroupFields)) (s : Shape) (i : ℕ) (d : ℕ × GroupFields) (r : Row) → i < length gs → get_or (rows_of gs s) i r ≡ row_of gs s (get_or gs i d).1
+pub row_at : (gs : List (ℕ × GroupFields)) (s : Shape) (i : ℕ) (d : ℕ × GroupFields) (r : Row) → i < length gs
+    → get_or (rows_of gs s) i r ≡ row_of gs s (get_or gs i d).1
 row_at gs s i d r within =
     get_or-map (row_of gs s) (values_of gs) i d.1 r (omega (arith, within, length-map gs (λ (e : ℕ × GroupFields). e.1)))
     ∙ ap (row_of gs s) (get_or-map (λ (e : ℕ × GroupFields). e.1) gs i d d.1 within)
@@ -131,7 +135,8 @@ module _ (t : TreeState) (ok : IsTree t) (s : Shape) (d : ℕ × GroupFields) (r
       let within : i < length t.groups = omega (arith, lt, length-enumerate_from 0 (rows_of t.groups s), length_rows t.groups s) in
       let inside : i < length (rows_of t.groups s) = omega (arith, within, length_rows t.groups s) in
       let at : get_or (enumerate_from 0 (rows_of t.groups s)) i (0, r) ≡ (i, row_of t.groups s (get_or t.groups i d).1) =
-      get_or-enumerate_from 0 (rows_of t.groups s) i (0, r) inside ∙ ap (λ n. (n, get_or (rows_of t.groups s) i r)) (zero-add i) ∙ ap (λ x. (i, x)) (row_at t.groups s i d r within) in
+      get_or-enumerate_from 0 (rows_of t.groups s) i (0, r) inside ∙ ap (λ n. (n, get_or (rows_of t.groups s) i r)) (zero-add i)
+      ∙ ap (λ x. (i, x)) (row_at t.groups s i d r within) in
       ap (λ (q : ℕ × Row). is_earlier q.0 q.1.parent) at ∙ earlier_row i within)
 
   -- the rows are one tree
@@ -175,7 +180,8 @@ module _ (t : TreeState) (ok : IsTree t) (s : Shape) (d : ℕ × GroupFields) (r
       ap (ltb MAX_DEPTH) (get_or-map-range_with_len (depth_of (rows_of t.groups s)) 0 (length (rows_of t.groups s)) k k 0 inside (zero-add k))
       ∙ low k within (cases_lt MAX_DEPTH (depth_of (rows_of t.groups s) k)))
     where
-      low : (k : ℕ) → k < length t.groups → (MAX_DEPTH < depth_of (rows_of t.groups s) k) ⊎ (depth_of (rows_of t.groups s) k ≤ MAX_DEPTH) → ltb MAX_DEPTH (depth_of (rows_of t.groups s) k) ≡ false
+      low : (k : ℕ) → k < length t.groups → (MAX_DEPTH < depth_of (rows_of t.groups s) k) ⊎ (depth_of (rows_of t.groups s) k ≤ MAX_DEPTH)
+          → ltb MAX_DEPTH (depth_of (rows_of t.groups s) k) ≡ false
       low k within (inl deep) =
           let there : has_group t.groups (get_or t.groups k d).0 ≡ true = ap is_some (found_at t.groups k d ok.rising within) in
           let wrong : true ≡ false = sym (levels MAX_PATH k within (omega (arith, deep))) ∙ ap is_some (ok.shallow (get_or t.groups k d).0 there) in
@@ -207,7 +213,8 @@ module _ (t : TreeState) (ok : IsTree t) (s : Shape) (d : ℕ × GroupFields) (r
           let there : h.place < length t.groups = omega (arith, h.before, within) in
           let same : demand_at t.groups p ≡ (get_or t.groups h.place d).1.demand = ap (demand_at t.groups) (sym h.key) ∙ ap demand_of (found_at t.groups h.place d ok.rising there) in
           let child = children_found t.groups (get_or t.groups i d).0 p (get_or t.groups i d).1 (found_at t.groups i d ok.rising within) up in
-          ap (demand_above (rows_of t.groups s)) h.is ∙ ap (λ (q : Row). q.demand) (row_at t.groups s h.place d no_row there) ∙ sym same ∙ idle p child (cases_lt 0 (demand_at t.groups p))
+          ap (demand_above (rows_of t.groups s)) h.is ∙ ap (λ (q : Row). q.demand) (row_at t.groups s h.place d no_row there) ∙ sym same
+          ∙ idle p child (cases_lt 0 (demand_at t.groups p))
         where
           idle : (p : ℕ) → has_children t.groups p ≡ true → (0 < demand_at t.groups p) ⊎ (demand_at t.groups p ≤ 0) → demand_at t.groups p ≡ 0
           idle p child (inl some) = let wrong : true ≡ false = sym child ∙ ok.leaves p some in absurd (cc)
@@ -239,7 +246,8 @@ module _ (t : TreeState) (ok : IsTree t) (s : Shape) (d : ℕ × GroupFields) (r
       let inside : 0 < length (rows_of t.groups s) = omega (arith, root.some, length_rows t.groups s) in
       let is : (get_or t.groups 0 d).1 ≡ ok.root.0 = unwrapped (sym (found_at t.groups 0 d ok.rising root.some) ∙ ap (group_at t.groups) root.key ∙ ok.root.1) in
       let quota : (get_or t.groups 0 d).1.quota ≡ Max = ap (λ g. g.quota) is ∙ ok.root.3 in
-      first_limit (rows_of t.groups s) r inside ∙ ap (λ (q : Row). is_some q.limit) (row_at t.groups s 0 d r root.some) ∙ ap (λ q. is_some (bursting (get_or t.groups 0 d).1.carry (in_slices s (get_or t.groups 0 d).1.period (get_or t.groups 0 d).1.burst) (slices_of s (get_or t.groups 0 d).1.period q))) quota
+      first_limit (rows_of t.groups s) r inside ∙ ap (λ (q : Row). is_some q.limit) (row_at t.groups s 0 d r root.some)
+      ∙ ap (λ q. is_some (bursting (get_or t.groups 0 d).1.carry (in_slices s (get_or t.groups 0 d).1.period (get_or t.groups 0 d).1.burst) (slices_of s (get_or t.groups 0 d).1.period q))) quota
     where
       unwrapped : {A : Type 0} {a b : A} → Some a ≡ Some b → a ≡ b
       unwrapped e = cc

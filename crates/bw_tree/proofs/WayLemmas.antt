@@ -11,14 +11,12 @@ use Rattle.std.proofs.lemmas.List.Folds.{list_all-append}
 use Rattle.std.proofs.lemmas.List.Splits.{join_with_byte-slice_split, length-slice_split, slice_split_none, slice_split_at}
 use Rattle.bw_tree.specs.Groups.{GroupFields, TreeState, group_at, has_group, child_of, onward, walk, find_path, is_name, is_name_byte, IsTree}
 use Rattle.bw_tree.specs.Paths.{with_name, names_at, names_within, names_to, path_at, IsInverse, AreNamesUnique}
-use Rattle.bw_tree.proofs.GroupLemmas.{some_of}
+use Rattle.bw_tree.proofs.GroupLemmas.{inside, some_of}
 use Rattle.bw_tree.proofs.IndexLemmas.{child_found, named_is}
 
-inside : {A : Type 0} {a b : A} → Some a ≡ Some b → a ≡ b
-inside e = cc
-
 -- one step of the way
-pub names_more : (groups : List (ℕ × GroupFields)) (steps id : ℕ) → names_within (suc steps) groups id ≡ names_at (names_within steps groups) (group_at groups id)
+pub names_more : (groups : List (ℕ × GroupFields)) (steps id : ℕ)
+    → names_within (suc steps) groups id ≡ names_at (names_within steps groups) (group_at groups id)
 unfolding names_within
 names_more groups steps id = refl
 
@@ -46,7 +44,8 @@ no_slash name fits =
         negated false e = refl
 
 -- names that are joined and split are the names
-pub split_joined : (name : List ℕ) (names : List (List ℕ)) → list_all is_name (name ∷ names) ≡ true → slice_split (λ b. eqb b 47) (join_with_byte 47 (name ∷ names)) ≡ name ∷ names
+pub split_joined : (name : List ℕ) (names : List (List ℕ)) → list_all is_name (name ∷ names) ≡ true
+    → slice_split (λ b. eqb b 47) (join_with_byte 47 (name ∷ names)) ≡ name ∷ names
 split_joined name [] fit = slice_split_none (λ b. eqb b 47) name (no_slash name (and_parts (is_name name) true fit).0)
 split_joined name (next ∷ names) fit =
     let both = and_parts (is_name name) (list_all is_name (next ∷ names)) fit in
@@ -54,13 +53,15 @@ split_joined name (next ∷ names) fit =
     ∙ ap (λ parts. name ∷ parts) (split_joined next names both.1)
 
 -- one name more
-pub join_push : (first : List ℕ) (names : List (List ℕ)) (name : List ℕ) → join_with_byte 47 ((first ∷ names) ++ name ∷ []) ≡ join_with_byte 47 (first ∷ names) ++ (47 ∷ name)
+pub join_push : (first : List ℕ) (names : List (List ℕ)) (name : List ℕ)
+    → join_with_byte 47 ((first ∷ names) ++ name ∷ []) ≡ join_with_byte 47 (first ∷ names) ++ (47 ∷ name)
 join_push first [] name = refl
 join_push first (next ∷ names) name =
     ap (λ rest. first ++ (47 ∷ rest)) (join_push next names name) ∙ sym (append_assoc first (47 ∷ join_with_byte 47 (next ∷ names)) (47 ∷ name))
 
 -- a walk over more names goes on from where the first of them lead
-pub walk_append : (groups : List (ℕ × GroupFields)) (xs ys : List (List ℕ)) (at : ℕ) → walk groups at (xs ++ ys) ≡ onward (λ id. walk groups id ys) (walk groups at xs)
+pub walk_append : (groups : List (ℕ × GroupFields)) (xs ys : List (List ℕ)) (at : ℕ)
+    → walk groups at (xs ++ ys) ≡ onward (λ id. walk groups id ys) (walk groups at xs)
 walk_append groups [] ys at = refl
 walk_append groups (x ∷ xs) ys at = onto (child_of groups at x) (walk_append groups xs ys)
   where
@@ -84,7 +85,8 @@ module _ (t : TreeState) (ok : IsTree t) where
   names_enough (suc n) (suc m) id few many =
       names_more t.groups n id ∙ onto (names_enough n m) (group_at t.groups id) refl ∙ sym (names_more t.groups m id)
     where
-      at_parent : ((p : ℕ) → p ≤ n → p ≤ m → names_within n t.groups p ≡ names_within m t.groups p) → (g : GroupFields) → group_at t.groups id ≡ Some g → (o : Option ℕ) → g.parent ≡ o
+      at_parent : ((p : ℕ) → p ≤ n → p ≤ m → names_within n t.groups p ≡ names_within m t.groups p) → (g : GroupFields) → group_at t.groups id ≡ Some g
+          → (o : Option ℕ) → g.parent ≡ o
           → with_name (names_within n t.groups) g.name o ≡ with_name (names_within m t.groups) g.name o
       at_parent rest g at None up = refl
       at_parent rest g at (Some p) up =
@@ -108,14 +110,16 @@ module _ (t : TreeState) (ok : IsTree t) where
   names_fit zero id = ap (list_all is_name) (names_none t.groups id)
   names_fit (suc steps) id = ap (list_all is_name) (names_more t.groups steps id) ∙ onto (names_fit steps) (group_at t.groups id) refl
     where
-      at_parent : ((p : ℕ) → list_all is_name (names_within steps t.groups p) ≡ true) → (g : GroupFields) → group_at t.groups id ≡ Some g → (o : Option ℕ) → g.parent ≡ o
+      at_parent : ((p : ℕ) → list_all is_name (names_within steps t.groups p) ≡ true) → (g : GroupFields) → group_at t.groups id ≡ Some g → (o : Option ℕ)
+          → g.parent ≡ o
           → list_all is_name (with_name (names_within steps t.groups) g.name o) ≡ true
       at_parent rest g at None up = refl
       at_parent rest g at (Some p) up =
           list_all-append is_name (names_within steps t.groups p) (g.name ∷ [])
           ∙ and_from (list_all is_name (names_within steps t.groups p)) (is_name g.name && true) (rest p) (and_from (is_name g.name) true (ok.spelled id p g at up) refl)
 
-      onto : ((p : ℕ) → list_all is_name (names_within steps t.groups p) ≡ true) → (o : Option GroupFields) → group_at t.groups id ≡ o → list_all is_name (names_at (names_within steps t.groups) o) ≡ true
+      onto : ((p : ℕ) → list_all is_name (names_within steps t.groups p) ≡ true) → (o : Option GroupFields) → group_at t.groups id ≡ o
+          → list_all is_name (names_at (names_within steps t.groups) o) ≡ true
       onto rest None at = refl
       onto rest (Some g) at = at_parent rest g at g.parent refl
 
@@ -143,7 +147,8 @@ module _ (t : TreeState) (ok : IsTree t) where
   names_lead zero id low there = absurd (omega (arith, low))
   names_lead (suc n) id low there = let g = some_of (group_at t.groups id) there in onto (names_lead n) g.0 g.1 g.0.parent refl
     where
-      onto : ((p : ℕ) → p < n → has_group t.groups p ≡ true → walk t.groups 0 (names_to t.groups p) ≡ Some p) → (g : GroupFields) → group_at t.groups id ≡ Some g → (o : Option ℕ) → g.parent ≡ o
+      onto : ((p : ℕ) → p < n → has_group t.groups p ≡ true → walk t.groups 0 (names_to t.groups p) ≡ Some p) → (g : GroupFields)
+          → group_at t.groups id ≡ Some g → (o : Option ℕ) → g.parent ≡ o
           → walk t.groups 0 (names_to t.groups id) ≡ Some id
       onto rest g at None up =
           let top = ok.one_root id g at up in
@@ -155,7 +160,8 @@ module _ (t : TreeState) (ok : IsTree t) where
           ∙ ap (onward Some) (ok.named id p g at up)
 
   -- a group below the root has a name
-  pub some_names : (id : ℕ) → has_group t.groups id ≡ true → eqb id 0 ≡ false → (first : List ℕ) × (rest : List (List ℕ)) × (names_to t.groups id ≡ first ∷ rest)
+  pub some_names : (id : ℕ) → has_group t.groups id ≡ true → eqb id 0 ≡ false
+      → (first : List ℕ) × (rest : List (List ℕ)) × (names_to t.groups id ≡ first ∷ rest)
   some_names id there low = by (names_to t.groups id) refl
     where
       by : (names : List (List ℕ)) → names_to t.groups id ≡ names → (first : List ℕ) × (rest : List (List ℕ)) × (names_to t.groups id ≡ first ∷ rest)
@@ -166,13 +172,15 @@ module _ (t : TreeState) (ok : IsTree t) where
           absurd (cc)
 
   -- the names down to a child, joined
-  pub joined_below : (id p : ℕ) (g : GroupFields) → group_at t.groups id ≡ Some g → g.parent ≡ Some p → p ≢ 0 → join_with_byte 47 (names_to t.groups id) ≡ join_with_byte 47 (names_to t.groups p) ++ (47 ∷ g.name)
+  pub joined_below : (id p : ℕ) (g : GroupFields) → group_at t.groups id ≡ Some g → g.parent ≡ Some p → p ≢ 0
+      → join_with_byte 47 (names_to t.groups id) ≡ join_with_byte 47 (names_to t.groups p) ++ (47 ∷ g.name)
   joined_below id p g at up low =
       let some = some_names p (ok.parents id p g at up).1 (ne_eqb p 0 low) in
       ap (join_with_byte 47) (names_step id p g at up ∙ ap (λ names. names ++ g.name ∷ []) some.2) ∙ join_push some.0 some.1 g.name
       ∙ ap (λ names. join_with_byte 47 names ++ (47 ∷ g.name)) (sym some.2)
 
-  pub joined_first : (id p : ℕ) (g : GroupFields) → group_at t.groups id ≡ Some g → g.parent ≡ Some p → p ≡ 0 → join_with_byte 47 (names_to t.groups id) ≡ g.name
+  pub joined_first : (id p : ℕ) (g : GroupFields) → group_at t.groups id ≡ Some g → g.parent ≡ Some p → p ≡ 0
+      → join_with_byte 47 (names_to t.groups id) ≡ g.name
   joined_first id p g at up top = ap (join_with_byte 47) (names_step id p g at up ∙ ap (λ names. names ++ g.name ∷ []) (names_top p p top))
 
   pub joined_none : (id : ℕ) (g : GroupFields) → group_at t.groups id ≡ Some g → g.parent ≡ None → join_with_byte 47 (names_to t.groups id) ≡ []
@@ -190,7 +198,8 @@ module _ (t : TreeState) (ok : IsTree t) where
           ap (slice_split (λ b. eqb b 47)) (sym joined ∙ ap (join_with_byte 47) some.2) ∙ split_joined some.0 some.1 fit in
           by_dot (bytes_eq path (codes ".")) refl parts fit (ap (walk t.groups 0) (parts ∙ sym some.2) ∙ names_lead (suc id) id (omega arith) there)
         where
-          by_dot : (b : Bool) → bytes_eq path (codes ".") ≡ b → {first : List ℕ} {rest : List (List ℕ)} → slice_split (λ b. eqb b 47) path ≡ first ∷ rest → list_all is_name (first ∷ rest) ≡ true
+          by_dot : (b : Bool) → bytes_eq path (codes ".") ≡ b → {first : List ℕ} {rest : List (List ℕ)} → slice_split (λ b. eqb b 47) path ≡ first ∷ rest
+              → list_all is_name (first ∷ rest) ≡ true
               → walk t.groups 0 (slice_split (λ b. eqb b 47) path) ≡ Some id → find_path t.groups path ≡ Some id
           by_dot true dot {first} {rest} parts fit leads =
               let is_dot : path ≡ codes "." = (bytes_decides path (codes ".")).0 dot in
@@ -198,7 +207,8 @@ module _ (t : TreeState) (ok : IsTree t) where
               absurd (cc)
           by_dot false dot parts fit leads = ap (λ b. cond b (Some 0) (walk t.groups 0 (slice_split (λ b. eqb b 47) path))) dot ∙ leads
 
-      by : (b : Bool) → has_group t.groups id ≡ b → (d : Bool) → eqb id 0 ≡ d → cond (not b) None (cond d (Some (codes ".")) (Some (join_with_byte 47 (names_to t.groups id)))) ≡ Some path → find_path t.groups path ≡ Some id
+      by : (b : Bool) → has_group t.groups id ≡ b → (d : Bool) → eqb id 0 ≡ d
+          → cond (not b) None (cond d (Some (codes ".")) (Some (join_with_byte 47 (names_to t.groups id)))) ≡ Some path → find_path t.groups path ≡ Some id
       by false there d top is = cc
       by true there true top is =
           let dot : bytes_eq path (codes ".") ≡ true = (bytes_decides path (codes ".")).1 (sym (inside is)) in
@@ -212,19 +222,22 @@ module _ (t : TreeState) (ok : IsTree t) where
   pub found_path : (path : List ℕ) (id : ℕ) → find_path t.groups path ≡ Some id → path_at t.groups id ≡ Some path
   found_path path id found = by (bytes_eq path (codes ".")) refl found
     where
-      assembled : has_group t.groups id ≡ true → (d : Bool) → eqb id 0 ≡ d → path_at t.groups id ≡ cond d (Some (codes ".")) (Some (join_with_byte 47 (names_to t.groups id)))
+      assembled : has_group t.groups id ≡ true → (d : Bool) → eqb id 0 ≡ d
+          → path_at t.groups id ≡ cond d (Some (codes ".")) (Some (join_with_byte 47 (names_to t.groups id)))
       assembled there d top =
           ap (λ b. cond (not b) None (cond (eqb id 0) (Some (codes ".")) (Some (join_with_byte 47 (names_to t.groups id))))) there
           ∙ ap (λ b. cond b (Some (codes ".")) (Some (join_with_byte 47 (names_to t.groups id)))) top
 
-      low : (d : Bool) → eqb id 0 ≡ d → names_to t.groups id ≡ slice_split (λ b. eqb b 47) path → has_group t.groups id ≡ true → path_at t.groups id ≡ Some path
+      low : (d : Bool) → eqb id 0 ≡ d → names_to t.groups id ≡ slice_split (λ b. eqb b 47) path → has_group t.groups id ≡ true
+          → path_at t.groups id ≡ Some path
       low true top names there =
           let none : [] ≡ slice_split (λ b. eqb b 47) path = sym (names_top id id (eqb-true id 0 top)) ∙ names in
           let long = length-slice_split (λ b. eqb b 47) path in
           absurd (omega (arith, ap length none, long))
       low false top names there = assembled there false top ∙ ap Some (ap (join_with_byte 47) names ∙ join_with_byte-slice_split 47 path)
 
-      by : (b : Bool) → bytes_eq path (codes ".") ≡ b → cond b (Some 0) (walk t.groups 0 (slice_split (λ b. eqb b 47) path)) ≡ Some id → path_at t.groups id ≡ Some path
+      by : (b : Bool) → bytes_eq path (codes ".") ≡ b → cond b (Some 0) (walk t.groups 0 (slice_split (λ b. eqb b 47) path)) ≡ Some id
+          → path_at t.groups id ≡ Some path
       by true dot found =
           let top : id ≡ 0 = sym (inside found) in
           assembled (ap (has_group t.groups) top ∙ root_there) true (eq-eqb id 0 top) ∙ ap Some (sym ((bytes_decides path (codes ".")).0 dot))

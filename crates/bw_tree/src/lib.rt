@@ -6,6 +6,7 @@ mod fault;
 mod group;
 mod laws;
 pub mod limits;
+mod setting;
 mod tree;
 
 pub use fault::TreeFault;

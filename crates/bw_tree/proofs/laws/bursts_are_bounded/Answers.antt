@@ -1,3 +1,4 @@
+-- The goals of `bursts_are_bounded` that are answered by hand.
 use Rattle.std.proofs.Common.{arith}
 use Rattle.bw_tree.proofs.BandwidthLemmas.{left_at, carry_bound, drawn_bound}
 use Rattle.bw_tree.proofs.laws.bursts_are_bounded.Goals as goal

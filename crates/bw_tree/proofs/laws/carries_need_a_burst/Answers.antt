@@ -1,3 +1,4 @@
+-- The goals of `carries_need_a_burst` that are answered by hand.
 use Rattle.bw_tree.proofs.BandwidthLemmas.{limits_are_quotas, carries_unseen, no_burst_stays}
 use Rattle.bw_tree.proofs.laws.carries_need_a_burst.Goals as goal
 

@@ -1,3 +1,4 @@
+-- What stands at each turn of the loop in `index_of`.
 use Rattle.bw_tree.proofs.IndexLemmas.{IsPartIndex}
 use Rattle.bw_tree.proofs.tree.index_of.Given as goal
 

@@ -1,3 +1,4 @@
+-- What stands at each turn of the loop in `is_drawn_within`.
 use Rattle.std.proofs.Common.{ℕ, ◌<◌, ◌≤◌}
 use Rattle.std.specs.Prelude.{IfSome, slice_index}
 use Rattle.bw_model.specs.Groups.{row_of}

@@ -1,3 +1,4 @@
+-- The goals of `write_carries` that are answered by hand.
 use Rattle.std.proofs.Common.{◌≡◌, ◌+◌, ◌<◌, ℕ, suc, true, List, length, get_or, take, sym, ap, subst, ◌∙◌, arith}
 use Rattle.std.proofs.lemmas.List.{take_all, length-map}
 use Rattle.bw_model.specs.Groups.{no_row}

@@ -1,3 +1,4 @@
+-- What stands at each turn of the loop in `write_carries`.
 use Rattle.std.proofs.Common.{◌≡◌, take}
 use Rattle.bw_tree.specs.Snapshot.{carried, left_over}
 use Rattle.bw_tree.proofs.tree.write_carries.Given as goal

@@ -1,3 +1,4 @@
+-- The goals of `ChildIndex::remove_name` that are answered by hand.
 use Rattle.std.proofs.Common.{◌≡◌, true, false, not, None, is_some, sym, ap, ◌∙◌}
 use Rattle.std.proofs.lemmas.Map.Text.{btree_map_updates_text}
 use Rattle.bw_tree.specs.Children.{named}
@@ -30,4 +31,5 @@ pub returns-in-Some-clause-none_left : goal.returns-in-Some-clause-none_left
 returns-in-Some-clause-none_left c =
     let moves = written c.args.parent c.args.self.now.by_parent (c.get_mut.follows.lender c.remove-removed.new.self) c.in-Some.children.now c.remove-removed.new.self c.in-Some.ensures.value (c.get_mut.follows.holds c.remove-removed.new.self) in
     let here = moved_here c.args.parent c.args.self.now.by_parent (c.get_mut.follows.lender c.remove-removed.new.self) c.remove-removed.new.self moves in
-    λ none n. ap (λ o. named o n) here ∙ no_text c.remove-removed.new.self (none_in c.remove-removed.new.self (c.is_empty.ensures.0 (not_false c.is_empty.result none))) n
+    λ none n. ap (λ o. named o n) here
+    ∙ no_text c.remove-removed.new.self (none_in c.remove-removed.new.self (c.is_empty.ensures.0 (not_false c.is_empty.result none))) n

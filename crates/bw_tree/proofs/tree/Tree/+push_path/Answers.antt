@@ -1,3 +1,4 @@
+-- The goals of `Tree::push_path` that are answered by hand.
 use Rattle.std.proofs.Common.{◌≡◌, [], ◌∷◌, ◌++◌, ℕ, List, cond, Some, sym, ap, subst, ◌∙◌, arith, append_assoc}
 use Rattle.std.specs.List.{join_with_byte}
 use Rattle.std.specs.String.{string_bytes}
@@ -45,7 +46,8 @@ returns t c =
       | then-parent-ne0+in_ok-push_path+in_ok-push w ↦
           let below = joined_below c.args.self.now tree c.args.id c.in-Some-parent.parent c.in-Some.group.now at up w.if-parent-ne0.true in
           ap (λ p. string_bytes p ++ own) w.path-is ∙ ap (λ bs. bs ++ own) (w.in_ok-push.ensures.bytes ∙ ap (λ bs. bs ++ 47 ∷ []) w.in_ok-push_path.ensures)
-          ∙ append_assoc (old ++ above_it) (47 ∷ []) own ∙ append_assoc old above_it (47 ∷ own) ∙ ap (λ n. old ++ (above_it ++ 47 ∷ n)) name ∙ ap (λ x. old ++ x) (sym below)
+          ∙ append_assoc (old ++ above_it) (47 ∷ []) own ∙ append_assoc old above_it (47 ∷ own) ∙ ap (λ n. old ++ (above_it ++ 47 ∷ n)) name
+          ∙ ap (λ x. old ++ x) (sym below)
       | else-parent-ne0 w ↦
           let first = joined_first c.args.self.now tree c.args.id c.in-Some-parent.parent c.in-Some.group.now at up w.if-parent-ne0.false in
           ap (λ p. string_bytes p ++ own) w.path-is ∙ ap (λ n. old ++ n) (name ∙ sym first)

@@ -1,3 +1,4 @@
+-- The goals of `Tree::base` that are answered by hand.
 use Rattle.std.proofs.Common.{rules, sym, subst, ◌∙◌}
 use Rattle.std.specs.List.{AllByRecursion}
 use Rattle.bw_tree.specs.Groups.{IsSound}

@@ -1,3 +1,4 @@
+-- What stands at each turn of the loop in `Tree::base`.
 use Rattle.std.proofs.Common.{◌≡◌, ◌++◌, map}
 use Rattle.std.specs.List.{AllByRecursion}
 use Rattle.bw_tree.specs.Groups.{IsSound}

@@ -1,3 +1,4 @@
+-- The goals of `Tree::carry_over` that are answered by hand.
 use Rattle.std.proofs.Common.{sym, subst}
 use Rattle.bw_tree.specs.Groups.{TreeState}
 use Rattle.bw_tree.specs.Children.{IsIndexedTree}

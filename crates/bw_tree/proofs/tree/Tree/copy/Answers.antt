@@ -1,3 +1,4 @@
+-- The goals of `Tree::copy` that are answered by hand.
 use Rattle.std.proofs.Common.{sym, ap, subst, ◌∙◌}
 use Rattle.bw_tree.specs.Groups.{TreeState, IsTree}
 use Rattle.bw_tree.specs.Children.{AreNamed}

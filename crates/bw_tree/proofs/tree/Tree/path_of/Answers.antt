@@ -1,3 +1,4 @@
+-- The goals of `Tree::path_of` that are answered by hand.
 use Rattle.std.proofs.Common.{◌≡◌, Some, rules, subst}
 use Rattle.std.specs.String.{string_bytes}
 use Rattle.bw_tree.specs.Groups.{IsTree}

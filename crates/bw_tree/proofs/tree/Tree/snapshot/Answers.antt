@@ -1,3 +1,4 @@
+-- The goals of `Tree::snapshot` that are answered by hand.
 use Rattle.std.proofs.Common.{◌≡◌, sym, ap, subst, ◌∙◌}
 use Rattle.bw_model.specs.Refusal.{refusal}
 use Rattle.bw_tree.specs.Groups.{TreeState}
@@ -15,13 +16,17 @@ of_valid-requires c =
     subst (λ rows. IsInstance (record { shape = shape; rows = rows })) same (snapshot_IsInstance t c.self.invariant.tree shape c.slice_us-slice_us.ensures.valid)
 
 pub returns-in_err-rows-clause-valid : goal.returns-in_err-rows-clause-valid
-returns-in_err-rows-clause-valid c = subst (λ t. IsInstance (instance_of t c.args.shape)) c.self.view_is (snapshot_IsInstance _ c.self.invariant.tree c.args.shape c.slice_us-slice_us.ensures.valid)
+returns-in_err-rows-clause-valid c =
+    subst (λ t. IsInstance (instance_of t c.args.shape)) c.self.view_is (snapshot_IsInstance _ c.self.invariant.tree c.args.shape c.slice_us-slice_us.ensures.valid)
 
 pub returns-in_err-ids-clause-valid : goal.returns-in_err-ids-clause-valid
-returns-in_err-ids-clause-valid c = subst (λ t. IsInstance (instance_of t c.args.shape)) c.self.view_is (snapshot_IsInstance _ c.self.invariant.tree c.args.shape c.slice_us-slice_us.ensures.valid)
+returns-in_err-ids-clause-valid c =
+    subst (λ t. IsInstance (instance_of t c.args.shape)) c.self.view_is (snapshot_IsInstance _ c.self.invariant.tree c.args.shape c.slice_us-slice_us.ensures.valid)
 
 pub returns-in_err-instance-clause-valid : goal.returns-in_err-instance-clause-valid
-returns-in_err-instance-clause-valid c = subst (λ t. IsInstance (instance_of t c.args.shape)) c.self.view_is (snapshot_IsInstance _ c.self.invariant.tree c.args.shape c.slice_us-slice_us.ensures.valid)
+returns-in_err-instance-clause-valid c =
+    subst (λ t. IsInstance (instance_of t c.args.shape)) c.self.view_is (snapshot_IsInstance _ c.self.invariant.tree c.args.shape c.slice_us-slice_us.ensures.valid)
 
 pub returns-in_err-base-clause-valid : goal.returns-in_err-base-clause-valid
-returns-in_err-base-clause-valid c = subst (λ t. IsInstance (instance_of t c.args.shape)) c.self.view_is (snapshot_IsInstance _ c.self.invariant.tree c.args.shape c.slice_us-slice_us.ensures.valid)
+returns-in_err-base-clause-valid c =
+    subst (λ t. IsInstance (instance_of t c.args.shape)) c.self.view_is (snapshot_IsInstance _ c.self.invariant.tree c.args.shape c.slice_us-slice_us.ensures.valid)
