@@ -1,6 +1,7 @@
 -- Workers that drain the pool: each draws slices one by one until its processor is spent or no leaf has more for it,
 -- and gives back at once what it got of a leaf whose slices aren't used.
-use Rattle.std.specs.Prelude.{◌≡◌, ℕ, ◌+◌, ◌-◌, ◌*◌, ◌==◌, ◌<◌, ◌≤◌, ◌⊎◌, List, [], ◌∷◌, length, Bool, true, false, Option, None, Some, slice_index, if◌then◌else◌}
+use Rattle.std.specs.Prelude.{◌≡◌, ℕ, ◌+◌, ◌-◌, ◌*◌, ◌==◌, ◌<◌, ◌≤◌, ◌⊎◌, List}
+use Rattle.std.specs.Prelude.{[], ◌∷◌, length, Bool, true, false, Option, None, Some, slice_index, if◌then◌else◌}
 use Rattle.std.specs.List.{list_any}
 use Rattle.bw_model.specs.declared.history.Entry.{Entry}
 use Rattle.bw_model.specs.History.{replay, IsLegal, own}
