@@ -36,7 +36,8 @@ module _ (rows : List Row) (tree : IsTree rows) (xs ys : List ℕ) where
       child_agrees c lt true is = later c (parent_lt rows tree c g (parent_from_is_child rows g c is)) lt
       child_agrees c lt false is = refl
 
-pub one_drawn_list : (uses : ℕ → Bool) (rows : List Row) (amounts one other : List ℕ) → IsTree rows → IsDrawnOut uses rows amounts one → IsDrawnOut uses rows amounts other → one ≡ other
+pub one_drawn_list : (uses : ℕ → Bool) (rows : List Row) (amounts one other : List ℕ) → IsTree rows → IsDrawnOut uses rows amounts one →
+    IsDrawnOut uses rows amounts other → one ≡ other
 one_drawn_list uses rows amounts one other tree p q =
     same_lists one other (p.one_each ∙ sym q.one_each) (λ g lt. agree g (omega (arith, p.one_each)))
   where

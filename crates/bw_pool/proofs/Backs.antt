@@ -38,13 +38,19 @@ pub gave_from : (s : PoolState) (seat leaf n : ℕ) (ps : List Row) (d d' : List
     → place ≡ held_place s seat leaf → held ≡ get_or s.held (held_place s seat leaf) 0
     → record s { drawn = d'; by_processor = set s.by_processor seat by; held = set s.held place (held - n) } ≡ gave_back s seat leaf n
 gave_from s seat leaf n ps d d' by held place ep ed er eb epl eh =
-    let drawn' : d' ≡ lowered (path_up s.rows leaf) n s.drawn = er ∙ (ap (λ x. lowered (path_up x leaf) n d) ep ∙ ap (λ x. lowered (path_up s.rows leaf) n x) ed) in
+    let drawn' : d' ≡ lowered (path_up s.rows leaf) n s.drawn =
+    er ∙ (ap (λ x. lowered (path_up x leaf) n d) ep ∙ ap (λ x. lowered (path_up s.rows leaf) n x) ed) in
     let by' : set s.by_processor seat by ≡ set s.by_processor seat (get_or s.by_processor seat 0 - n) = ap (λ x. set s.by_processor seat x) eb in
     let held' : set s.held place (held - n) ≡ set s.held (held_place s seat leaf) (get_or s.held (held_place s seat leaf) 0 - n) =
     ap (λ x. set s.held x (held - n)) epl ∙ ap (λ x. set s.held (held_place s seat leaf) (x - n)) eh in
     ap (λ x. record s { drawn = x; by_processor = set s.by_processor seat by; held = set s.held place (held - n) }) drawn'
     ∙ (ap (λ x. record s { drawn = lowered (path_up s.rows leaf) n s.drawn; by_processor = x; held = set s.held place (held - n) }) by'
-    ∙ ap (λ x. record s { drawn = lowered (path_up s.rows leaf) n s.drawn; by_processor = set s.by_processor seat (get_or s.by_processor seat 0 - n); held = x }) held')
+    ∙ ap (λ x. record s {
+      drawn = lowered (path_up s.rows leaf) n s.drawn;
+      by_processor =
+          set s.by_processor seat (get_or s.by_processor seat 0 - n);
+      held = x;
+    }) held')
 
 pub enough_from : (ps ps' : List Row) (d d' : List ℕ) (leaf n : ℕ) → ps ≡ ps' → d ≡ d'
     → AllByRecursion (λ g. n ≤ get_or d g 0) (path_up ps leaf) → AllByRecursion (λ g. n ≤ get_or d' g 0) (path_up ps' leaf)

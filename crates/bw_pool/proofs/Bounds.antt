@@ -17,21 +17,28 @@ pub record IsBelow (old new : PoolState) : Type 0 where
 same : (s : PoolState) → IsSound s → IsBelow s s
 same s ok = record { sound = ok; lower = λ g. omega arith }
 
-back_found : (s : PoolState) (seat leaf n : ℕ) → IsSound s → leaf_refusal s leaf n ≡ None → (b : Bool) → leb n (held_by s seat leaf) ≡ b → IsBelow s (cond b (gave_back s seat leaf n) s)
+back_found : (s : PoolState) (seat leaf n : ℕ) → IsSound s → leaf_refusal s leaf n ≡ None → (b : Bool) → leb n (held_by s seat leaf) ≡ b →
+    IsBelow s (cond b (gave_back s seat leaf n) s)
 back_found s seat leaf n ok pass true e =
     let here = back_passed s seat leaf n pass (leb-true n (held_by s seat leaf) e) in
     record { sound = sound_gave_back s seat leaf n ok here.0 here.1 here.2 here.3; lower = λ g. omega arith }
 back_found s seat leaf n ok pass false e = same s ok
 
 served_below : (s : PoolState) (seat : ℕ) (call : PoolCall) → IsSound s → refusal s seat call ≡ None → IsBelow s (served s seat call)
-served_below s seat (Draw leaf ask) ok pass = let here = draw_passed s seat leaf ask pass in record { sound = sound_drew s seat leaf ask ok here.0 here.1 here.2; lower = λ g. omega arith }
+served_below s seat (Draw leaf ask) ok pass = let here = draw_passed s seat leaf ask pass in
+    record { sound = sound_drew s seat leaf ask ok here.0 here.1 here.2; lower = λ g. omega arith }
 served_below s seat (GiveBack leaf n) ok pass = back_found s seat leaf n ok pass (leb n (held_by s seat leaf)) refl
 served_below s seat (Lower g to) ok pass =
     let lt = group_passed s g pass in
-    record { sound = sound_lowered s g to ok lt; lower = set_below s.ceiling s.ceiling g (lowered_ceiling s g to) (omega (arith, ok.ceiling)) (omega arith) (λ k. omega arith) }
+    record {
+      sound = sound_lowered s g to ok lt;
+      lower =
+          set_below s.ceiling s.ceiling g (lowered_ceiling s g to) (omega (arith, ok.ceiling)) (omega arith) (λ k. omega arith);
+    }
 served_below s seat (Look g) ok pass = same s ok
 
-after_found : (s : PoolState) (seat : ℕ) (call : PoolCall) → IsSound s → (o : Option Refusal) → refusal s seat call ≡ o → IsBelow s (unless_refused o (served s seat call) s)
+after_found : (s : PoolState) (seat : ℕ) (call : PoolCall) → IsSound s → (o : Option Refusal) → refusal s seat call ≡ o →
+    IsBelow s (unless_refused o (served s seat call) s)
 after_found s seat call ok None e = served_below s seat call ok e
 after_found s seat call ok (Some r) e = same s ok
 

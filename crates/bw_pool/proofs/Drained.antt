@@ -111,7 +111,8 @@ module _ (uses : ℕ → Bool) (P S : ℕ) (ps : List Row) (amounts : List ℕ) 
       (back_keeps uses P S ps amounts drawn by held seat l w.0 o.2 o.3 k m.0 plan run) legal.1 w.2 w.3
 
   -- a draw got one slice or none
-  draw_cases : (seat l : ℕ) (drawn by held : List ℕ) (k : ℕ → Worker) → seat < P → l < length ps → is_leaf ps l ≡ true → IsRun uses P S ps amounts drawn by held k
+  draw_cases : (seat l : ℕ) (drawn by held : List ℕ) (k : ℕ → Worker) → seat < P → l < length ps → is_leaf ps l ≡ true →
+      IsRun uses P S ps amounts drawn by held k
       → (got_of (pool P S ps amounts drawn by held) seat l 1 ≡ 1) × (1 ≤ S - get_or by seat 0)
       ⊎ (got_of (pool P S ps amounts drawn by held) seat l 1 ≡ 0) × ((get_or drawn l 0 ≡ get_or amounts l 0) ⊎ (get_or by seat 0 ≡ S))
   draw_cases seat l drawn by held k lt ltl leaf run =
@@ -126,7 +127,8 @@ module _ (uses : ℕ → Bool) (P S : ℕ) (ps : List Row) (amounts : List ℕ) 
       ]
 
   nothing : (seat l : ℕ) (drawn by held : List ℕ)
-      → pool P S ps amounts (raised (path_up ps l) 0 drawn) (set by seat (get_or by seat 0 + 0)) (set held (seat * length ps + l) (get_or held (seat * length ps + l) 0 + 0)) ≡ pool P S ps amounts drawn by held
+      → pool P S ps amounts (raised (path_up ps l) 0 drawn) (set by seat (get_or by seat 0 + 0))
+      (set held (seat * length ps + l) (get_or held (seat * length ps + l) 0 + 0)) ≡ pool P S ps amounts drawn by held
   nothing seat l drawn by held =
       let a = raised_zero (path_up ps l) drawn in
       let b = set_plus_zero by seat in
@@ -142,7 +144,8 @@ module _ (uses : ℕ → Bool) (P S : ℕ) (ps : List Row) (amounts : List ℕ) 
       let m = may_draw ps (k seat) (k seat).owes l a w.1 in
       let got = got_of s seat l 1 in
       let answered : reply ≡ Granted got (short_of s l 1 got) =
-      legal.0 ∙ (ap (λ i. answer s seat (Draw l i)) m.1 ∙ ap (λ r. or_refused r (reply_to s seat (Draw l 1))) (draw_not_refused uses P S ps amounts drawn by held seat l w.0 m.2 m.3)) in
+      legal.0 ∙ (ap (λ i. answer s seat (Draw l i)) m.1
+      ∙ ap (λ r. or_refused r (reply_to s seat (Draw l 1))) (draw_not_refused uses P S ps amounts drawn by held seat l w.0 m.2 m.3)) in
       let told : got_one reply ≡ eqb got 1 = ap got_one answered in
       let goes : after s seat (Draw l a) ≡ after s seat (Draw l 1) = ap (λ i. after s seat (Draw l i)) m.1 in
       let T : Bool → Type 0 = λ b. (p : ℕ) → p < P → Drains uses ps S (put k seat (drawn_one (k seat) l (uses l) b) p) (without_looks (own p es)) in

@@ -14,15 +14,18 @@ use Rattle.bw_pool.proofs.Lists.{raised_ge, sum-set, put, put_all, owed_put, owe
 use Rattle.bw_pool.proofs.Holdings.{place_differs}
 use Rattle.bw_pool.proofs.Workers.{pool, IsWorkerOf, IsRun, left_rises}
 
-module _ (uses : ℕ → Bool) (P S : ℕ) (ps : List Row) (amounts drawn by held : List ℕ) (p l : ℕ) (ltp : p < P) (ltl : l < length ps) (leaf : is_leaf ps l ≡ true) where
+module _ (uses : ℕ → Bool) (P S : ℕ) (ps : List Row) (amounts drawn by held : List ℕ) (p l : ℕ) (ltp : p < P) (ltl : l < length ps)
+    (leaf : is_leaf ps l ≡ true) where
   pub draw_not_refused : refusal (pool P S ps amounts drawn by held) p (Draw l 1) ≡ None
   draw_not_refused = rw (lt-ltb p P ltp, lt-ltb l (length ps) ltl, leaf) refl
 
   pub draw_state : (n : ℕ) → got_of (pool P S ps amounts drawn by held) p l 1 ≡ n → after (pool P S ps amounts drawn by held) p (Draw l 1)
-      ≡ pool P S ps amounts (raised (path_up ps l) n drawn) (set by p (get_or by p 0 + n)) (set held (p * length ps + l) (get_or held (p * length ps + l) 0 + n))
+      ≡ pool P S ps amounts (raised (path_up ps l) n drawn) (set by p (get_or by p 0 + n))
+      (set held (p * length ps + l) (get_or held (p * length ps + l) 0 + n))
   draw_state n is =
       ap (λ r. unless_refused r (served (pool P S ps amounts drawn by held) p (Draw l 1)) (pool P S ps amounts drawn by held)) draw_not_refused
-      ∙ ap (λ m. pool P S ps amounts (raised (path_up ps l) m drawn) (set by p (get_or by p 0 + m)) (set held (p * length ps + l) (get_or held (p * length ps + l) 0 + m))) is
+      ∙ ap (λ m. pool P S ps amounts (raised (path_up ps l) m drawn) (set by p (get_or by p 0 + m))
+      (set held (p * length ps + l) (get_or held (p * length ps + l) 0 + m))) is
 
   -- what is got is decided by the leaf and the processor
   pub got_is : (k : ℕ → Worker) → IsPlanned P S ps amounts → IsRun uses P S ps amounts drawn by held k
@@ -88,7 +91,8 @@ module _ (uses : ℕ → Bool) (P S : ℕ) (ps : List Row) (amounts drawn by hel
   -- a draw that got one slice
   pub draw_one_keeps : (k : ℕ → Worker) → (k p).owes ≡ None → IsPlanned P S ps amounts → IsRun uses P S ps amounts drawn by held k
       → (b : ℕ) → 1 ≤ least (λ g. get_or amounts g 0 - get_or drawn g 0) (path_up ps l) b → 1 ≤ S - get_or by p 0
-      → IsRun uses P S ps amounts (raised (path_up ps l) 1 drawn) (set by p (get_or by p 0 + 1)) (set held (p * length ps + l) (get_or held (p * length ps + l) 0 + 1))
+      → IsRun uses P S ps amounts (raised (path_up ps l) 1 drawn) (set by p (get_or by p 0 + 1))
+      (set held (p * length ps + l) (get_or held (p * length ps + l) 0 + 1))
       (put k p (drawn_one (k p) l (uses l) true))
   draw_one_keeps k free plan run b fits room =
       let w = k p in
@@ -116,18 +120,27 @@ module _ (uses : ℕ → Bool) (P S : ℕ) (ps : List Row) (amounts drawn by hel
               | inl e ↦ let not_leaf : is_leaf ps l ≡ false = ap (is_leaf ps) e.1 ∙ inner in absurd (cc (not_leaf, leaf))
               | inr e ↦ let c : cond (eqb l h) 1 0 ≡ 0 = ap (λ (v : Bool). cond {A = ℕ} v 1 0) e.0 in omega arith
             ])));
-        total = omega (arith, sum-set by p (get_or by p 0 + 1) in_by, by_path (λ gs. get_or (raised gs 1 drawn) 0 0 ≡ get_or drawn 0 0 + 1) ps l (raised_root ps 1 plan.tree (suc l) l drawn (omega arith) ltl run.rows), run.total);
+        total = omega (
+          arith,
+          sum-set by p (get_or by p 0 + 1) in_by,
+          by_path (λ gs. get_or (raised gs 1 drawn) 0 0 ≡ get_or drawn 0 0 + 1) ps l
+              (raised_root ps 1 plan.tree (suc l) l drawn (omega arith) ltl run.rows),
+          run.total,
+        );
         unused = λ l' lt lf un.
             let none : owes_one l' w ≡ 0 = ap (λ o. cond {A = ℕ} (is_some_at l' o) 1 0) free in
             let counts = owed_put k p w' l' P ltp in
             let was = run.unused l' lt lf un in
             elim (eqb_tells l l') [
               | inl e ↦
-                  let d : get_or drawn' l' 0 ≡ get_or drawn l' 0 + 1 = subst (λ i. get_or drawn' i 0 ≡ get_or drawn i 0 + 1) e.1 (raised_own ps 1 plan.tree l drawn leaf ltl run.rows) in
+                  let d : get_or drawn' l' 0 ≡ get_or drawn l' 0 + 1 =
+                  subst (λ i. get_or drawn' i 0 ≡ get_or drawn i 0 + 1) e.1 (raised_own ps 1 plan.tree l drawn leaf ltl run.rows) in
                   let one : owes_one l' w' ≡ 1 = owes_own (uses l) l' e.0 (ap uses e.1 ∙ un) in
                   omega arith
               | inr e ↦
-                  let d : get_or drawn' l' 0 ≡ get_or drawn l' 0 = by_path (λ gs. get_or (raised gs 1 drawn) l' 0 ≡ get_or drawn l' 0) ps l (raised_leaf ps 1 plan.tree l' lf (suc l) (Some l) drawn (omega arith) (λ s. e.1 (cc s))) in
+                  let d : get_or drawn' l' 0 ≡ get_or drawn l' 0 =
+                  by_path (λ gs. get_or (raised gs 1 drawn) l' 0 ≡ get_or drawn l' 0) ps l
+                  (raised_leaf ps 1 plan.tree l' lf (suc l) (Some l) drawn (omega arith) (λ s. e.1 (cc s))) in
                   let zero' : owes_one l' w' ≡ 0 = owes_other (uses l) l' e.0 in
                   omega arith
             ];
@@ -137,7 +150,8 @@ module _ (uses : ℕ → Bool) (P S : ℕ) (ps : List Row) (amounts drawn by hel
               cap = omega (arith, mine.kept);
               owed = λ l' is.
                   let o = owed_if (uses l) l' is in
-                  let T : ℕ → Type 0 = λ i. (1 ≤ w.kept + 1) × (1 ≤ get_or held' (p * length ps + i) 0) × (i < length ps) × (is_leaf ps i ≡ true) × (uses i ≡ false) in
+                  let T : ℕ → Type 0 = λ i. (1 ≤ w.kept + 1) × (1 ≤ get_or held' (p * length ps + i) 0) × (i < length ps) × (is_leaf ps i ≡ true)
+                  × (uses i ≡ false) in
                   subst T o.1 (omega arith, omega (arith, get_or-set_same held at (get_or held at 0 + 1) 0 at_in), ltl, leaf, o.0);
               short = λ l' lt' lf isused is. elim (mine.short l' lt' lf isused is) [
                 | inl full ↦ inl (omega (arith, raised_ge (path_up ps l) 1 drawn l', within' l'))

@@ -36,7 +36,8 @@ pub got_small : (s : PoolState) (seat leaf ask : ℕ) → got_of s seat leaf ask
 got_small s seat leaf ask = let m = least_le (left_at s) (path_up s.rows leaf) (min ask (s.per_processor - get_or s.by_processor seat 0)) in omega arith
 
 -- a holding is no more than what its processor has
-pub held_small : (s : PoolState) (seat leaf : ℕ) → IsSound s → seat < s.processors → leaf < length s.rows → is_leaf s.rows leaf ≡ true → get_or s.held (held_place s seat leaf) 0 ≤ MAX_PER_PROCESSOR
+pub held_small : (s : PoolState) (seat leaf : ℕ) → IsSound s → seat < s.processors → leaf < length s.rows → is_leaf s.rows leaf ≡ true →
+    get_or s.held (held_place s seat leaf) 0 ≤ MAX_PER_PROCESSOR
 held_small s seat leaf ok lt ltl is = omega (arith, held_le_processor s seat leaf 0 ok lt ltl is, ok.cap seat, ok.few_slices)
 
 pub room_from : (ps ps' : List Row) (d d' ce ce' : List ℕ) (leaf n : ℕ) → ps ≡ ps' → d ≡ d' → ce ≡ ce'
@@ -52,13 +53,21 @@ pub drew_from : (s : PoolState) (seat leaf ask : ℕ) (ps : List Row) (d d' : Li
     → record s { drawn = d'; by_processor = set s.by_processor seat (by + n); held = set s.held place (held + n) } ≡ drew s seat leaf (got_of s seat leaf ask)
 drew_from s seat leaf ask ps d d' n by held place en ep ed er eb epl eh =
     let drawn' : d' ≡ raised (path_up s.rows leaf) (got_of s seat leaf ask) s.drawn =
-    er ∙ (ap (λ x. raised (path_up x leaf) n d) ep ∙ (ap (λ x. raised (path_up s.rows leaf) x d) en ∙ ap (λ x. raised (path_up s.rows leaf) (got_of s seat leaf ask) x) ed)) in
-    let by' : set s.by_processor seat (by + n) ≡ set s.by_processor seat (get_or s.by_processor seat 0 + got_of s seat leaf ask) = ap (λ x. set s.by_processor seat (x + n)) eb ∙ ap (λ x. set s.by_processor seat (get_or s.by_processor seat 0 + x)) en in
+    er ∙ (ap (λ x. raised (path_up x leaf) n d) ep
+    ∙ (ap (λ x. raised (path_up s.rows leaf) x d) en ∙ ap (λ x. raised (path_up s.rows leaf) (got_of s seat leaf ask) x) ed)) in
+    let by' : set s.by_processor seat (by + n) ≡ set s.by_processor seat (get_or s.by_processor seat 0 + got_of s seat leaf ask) =
+    ap (λ x. set s.by_processor seat (x + n)) eb ∙ ap (λ x. set s.by_processor seat (get_or s.by_processor seat 0 + x)) en in
     let held' : set s.held place (held + n) ≡ set s.held (held_place s seat leaf) (get_or s.held (held_place s seat leaf) 0 + got_of s seat leaf ask) =
-    ap (λ x. set s.held x (held + n)) epl ∙ (ap (λ x. set s.held (held_place s seat leaf) (x + n)) eh ∙ ap (λ x. set s.held (held_place s seat leaf) (get_or s.held (held_place s seat leaf) 0 + x)) en) in
+    ap (λ x. set s.held x (held + n)) epl ∙ (ap (λ x. set s.held (held_place s seat leaf) (x + n)) eh
+    ∙ ap (λ x. set s.held (held_place s seat leaf) (get_or s.held (held_place s seat leaf) 0 + x)) en) in
     ap (λ x. record s { drawn = x; by_processor = set s.by_processor seat (by + n); held = set s.held place (held + n) }) drawn'
     ∙ (ap (λ x. record s { drawn = raised (path_up s.rows leaf) (got_of s seat leaf ask) s.drawn; by_processor = x; held = set s.held place (held + n) }) by'
-    ∙ ap (λ x. record s { drawn = raised (path_up s.rows leaf) (got_of s seat leaf ask) s.drawn; by_processor = set s.by_processor seat (get_or s.by_processor seat 0 + got_of s seat leaf ask); held = x }) held')
+    ∙ ap (λ x. record s {
+      drawn = raised (path_up s.rows leaf) (got_of s seat leaf ask) s.drawn;
+      by_processor =
+          set s.by_processor seat (get_or s.by_processor seat 0 + got_of s seat leaf ask);
+      held = x;
+    }) held')
 
 pub short_none : (s : PoolState) (leaf ask got : ℕ) → got ≡ ask → None ≡ short_of s leaf ask got
 short_none s leaf ask got e = sym (ap (λ (b : Bool). cond b None (Some (first_with (left_at s) got (path_up s.rows leaf)))) (eq-eqb got ask e))

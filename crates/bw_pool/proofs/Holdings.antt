@@ -11,7 +11,8 @@ use Rattle.bw_pool.specs.Pool.{PoolState, held_of_seat, held_of_leaf}
 pub place_differs : (p q n l l' : ℕ) → q ≢ p → l < n → l' < n → q * n + l' ≢ p * n + l
 place_differs p q n l l' ne lt lt' e = elim (cases_lt q p) [
   | inl less ↦ let m = mul-le-mul_right {m = suc q} {n = p} n less in let s : suc q * n ≡ q * n + n = grind arith in absurd (omega arith)
-  | inr more ↦ let less : suc p ≤ q = omega arith in let m = mul-le-mul_right {m = suc p} {n = q} n less in let s : suc p * n ≡ p * n + n = grind arith in absurd (omega arith)
+  | inr more ↦ let less : suc p ≤ q = omega arith in let m = mul-le-mul_right {m = suc p} {n = q} n less in let s : suc p * n ≡ p * n + n = grind arith in
+      absurd (omega arith)
 ]
 
 -- two places differ where the leaves do

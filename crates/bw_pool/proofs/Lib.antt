@@ -1,3 +1,4 @@
+-- The lemmas on pools, drained workers and schedules.
 pub mod Trees
 pub mod Lists
 pub mod Holdings

@@ -16,7 +16,8 @@ use Rattle.bw_pool.proofs.Lists.{lowered_le, sum-set, put, put_all, owed_put, ow
 use Rattle.bw_pool.proofs.Workers.{pool, IsWorkerOf, IsRun}
 use Rattle.bw_pool.proofs.Holdings.{place_differs}
 
-module _ (uses : ℕ → Bool) (P S : ℕ) (ps : List Row) (amounts drawn by held : List ℕ) (p l : ℕ) (ltp : p < P) (ltl : l < length ps) (leaf : is_leaf ps l ≡ true) where
+module _ (uses : ℕ → Bool) (P S : ℕ) (ps : List Row) (amounts drawn by held : List ℕ) (p l : ℕ) (ltp : p < P) (ltl : l < length ps)
+    (leaf : is_leaf ps l ≡ true) where
   back_not_refused : refusal (pool P S ps amounts drawn by held) p (GiveBack l 1) ≡ None
   back_not_refused = rw (lt-ltb l (length ps) ltl, leaf) refl
 
@@ -27,7 +28,8 @@ module _ (uses : ℕ → Bool) (P S : ℕ) (ps : List Row) (amounts drawn by hel
   has_held has = ap (λ n. leb 1 n) held_is ∙ le-leb 1 (get_or held (p * length ps + l) 0) has
 
   pub back_state : 1 ≤ get_or held (p * length ps + l) 0 → after (pool P S ps amounts drawn by held) p (GiveBack l 1)
-      ≡ pool P S ps amounts (lowered (path_up ps l) 1 drawn) (set by p (get_or by p 0 - 1)) (set held (p * length ps + l) (get_or held (p * length ps + l) 0 - 1))
+      ≡ pool P S ps amounts (lowered (path_up ps l) 1 drawn) (set by p (get_or by p 0 - 1))
+      (set held (p * length ps + l) (get_or held (p * length ps + l) 0 - 1))
   back_state has =
       let s = pool P S ps amounts drawn by held in
       ap (λ r. unless_refused r (served s p (GiveBack l 1)) s) back_not_refused
@@ -41,7 +43,8 @@ module _ (uses : ℕ → Bool) (P S : ℕ) (ps : List Row) (amounts drawn by hel
       by_path (λ gs. get_or (lowered gs 1 drawn) l' 0 ≡ get_or drawn l' 0) ps l (lowered_leaf ps 1 plan.tree l' lf (suc l) (Some l) drawn (omega arith) ne)
 
   pub back_keeps : (k : ℕ → Worker) → (k p).owes ≡ Some l → IsPlanned P S ps amounts → IsRun uses P S ps amounts drawn by held k
-      → IsRun uses P S ps amounts (lowered (path_up ps l) 1 drawn) (set by p (get_or by p 0 - 1)) (set held (p * length ps + l) (get_or held (p * length ps + l) 0 - 1))
+      → IsRun uses P S ps amounts (lowered (path_up ps l) 1 drawn) (set by p (get_or by p 0 - 1))
+      (set held (p * length ps + l) (get_or held (p * length ps + l) 0 - 1))
       (put k p (returned_one (k p) l))
   back_keeps k owing plan run =
       let w = k p in
@@ -63,24 +66,36 @@ module _ (uses : ℕ → Bool) (P S : ℕ) (ps : List Row) (amounts drawn by hel
         processors = length-set by p (get_or by p 0 - 1) ∙ run.processors;
         places = length-set held at (get_or held at 0 - 1) ∙ run.places;
         within = λ g. omega (arith, lowered_le (path_up ps l) 1 drawn g, run.within g);
-        inner = by_path (λ gs. (h : ℕ) → h < length ps → is_leaf ps h ≡ false → sum_of_children ps (lowered gs 1 drawn) h ≡ get_or (lowered gs 1 drawn) h 0) ps l
+        inner = by_path (λ gs. (h : ℕ) → h < length ps → is_leaf ps h ≡ false →
+            sum_of_children ps (lowered gs 1 drawn) h ≡ get_or (lowered gs 1 drawn) h 0) ps l
             (lowered_balanced ps 1 plan.tree drawn rises (suc l) (Some l) drawn (omega arith) (omega arith) run.rows (λ g lt. refl)
             (λ g is. let e : l ≡ g = cc is in subst (λ i. 1 ≤ get_or drawn i 0) e has)
             (λ h lt inner. elim (eqb_tells l h) as (λ _. sum_of_children ps drawn h + cond (eqb l h) 1 0 ≡ get_or drawn h 0) [
               | inl e ↦ let not_leaf : is_leaf ps l ≡ false = ap (is_leaf ps) e.1 ∙ inner in absurd (cc (not_leaf, leaf))
               | inr e ↦ let c : cond (eqb l h) 1 0 ≡ 0 = ap (λ (v : Bool). cond {A = ℕ} v 1 0) e.0 in omega (arith, run.inner h lt inner)
             ]));
-        total = omega (arith, sum-set by p (get_or by p 0 - 1) in_by, by_path (λ gs. get_or (lowered gs 1 drawn) 0 0 ≡ get_or drawn 0 0 - 1) ps l (lowered_root ps 1 plan.tree (suc l) l drawn (omega arith) ltl run.rows), run.total, mine.kept, o.0);
+        total = omega (
+          arith,
+          sum-set by p (get_or by p 0 - 1) in_by,
+          by_path (λ gs. get_or (lowered gs 1 drawn) 0 0 ≡ get_or drawn 0 0 - 1) ps l
+              (lowered_root ps 1 plan.tree (suc l) l drawn (omega arith) ltl run.rows),
+          run.total,
+          mine.kept,
+          o.0,
+        );
         unused = λ l' lt lf un.
             let counts = owed_put k p w' l' P ltp in
             let was = run.unused l' lt lf un in
             elim (eqb_tells l l') [
               | inl e ↦
-                  let d : get_or drawn' l' 0 ≡ get_or drawn l' 0 - 1 = subst (λ i. get_or drawn' i 0 ≡ get_or drawn i 0 - 1) e.1 (lowered_own ps 1 plan.tree l drawn leaf ltl run.rows) in
+                  let d : get_or drawn' l' 0 ≡ get_or drawn l' 0 - 1 =
+                  subst (λ i. get_or drawn' i 0 ≡ get_or drawn i 0 - 1) e.1 (lowered_own ps 1 plan.tree l drawn leaf ltl run.rows) in
                   let one : owes_one l' w ≡ 1 = ap (λ o. cond {A = ℕ} (is_some_at l' o) 1 0) owing ∙ ap (λ (b : Bool). cond {A = ℕ} b 1 0) e.0 in
                   omega arith
               | inr e ↦
-                  let d : get_or drawn' l' 0 ≡ get_or drawn l' 0 = by_path (λ gs. get_or (lowered gs 1 drawn) l' 0 ≡ get_or drawn l' 0) ps l (lowered_leaf ps 1 plan.tree l' lf (suc l) (Some l) drawn (omega arith) (λ s. e.1 (cc s))) in
+                  let d : get_or drawn' l' 0 ≡ get_or drawn l' 0 =
+                  by_path (λ gs. get_or (lowered gs 1 drawn) l' 0 ≡ get_or drawn l' 0) ps l
+                  (lowered_leaf ps 1 plan.tree l' lf (suc l) (Some l) drawn (omega arith) (λ s. e.1 (cc s))) in
                   let none : owes_one l' w ≡ 0 = ap (λ o. cond {A = ℕ} (is_some_at l' o) 1 0) owing ∙ ap (λ (b : Bool). cond {A = ℕ} b 1 0) e.0 in
                   omega arith
             ];

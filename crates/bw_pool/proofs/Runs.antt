@@ -31,7 +31,8 @@ module _ {C : Type 0} where
   unfolding who
   same_seat o i j c d e f = ap who (sym e ∙ f)
 
-  in_lock_ticket : (ts : List (ℕ × C)) (sv len j : ℕ) (x : Phase C) → is_in_lock x ≡ true → HasTicket ts sv len j x → (call : C) × (slice_get ts sv ≡ Some (j, call))
+  in_lock_ticket : (ts : List (ℕ × C)) (sv len j : ℕ) (x : Phase C) → is_in_lock x ≡ true → HasTicket ts sv len j x →
+      (call : C) × (slice_get ts sv ≡ Some (j, call))
   in_lock_ticket ts sv len j Idle on h = absurd (cc on)
   in_lock_ticket ts sv len j (Waiting k c) on h = absurd (cc on)
   in_lock_ticket ts sv len j (Inside c) on h = (c, h.1)
@@ -52,7 +53,8 @@ module _ {C : Type 0} where
   ticket_applied ts sv len len' j seat c (Inside d) ne e e' mine h = absurd (ne (same_seat (slice_get ts sv) j seat d c h.1 mine))
   ticket_applied ts sv len len' j seat c Done ne e e' mine h = absurd (ne (let q = h.1 in same_seat (slice_get ts sv) j seat q.0 c q.1 mine))
 
-  ticket_left : (ts : List (ℕ × C)) (sv len j seat : ℕ) (c : C) (x : Phase C) → j ≢ seat → slice_get ts sv ≡ Some (seat, c) → HasTicket ts sv len j x → HasTicket ts (sv + 1) len j x
+  ticket_left : (ts : List (ℕ × C)) (sv len j seat : ℕ) (c : C) (x : Phase C) → j ≢ seat → slice_get ts sv ≡ Some (seat, c) → HasTicket ts sv len j x →
+      HasTicket ts (sv + 1) len j x
   ticket_left ts sv len j seat c Idle ne mine h = tt
   ticket_left ts sv len j seat c (Waiting k d) ne mine h = h
   ticket_left ts sv len j seat c (Inside d) ne mine h = absurd (ne (same_seat (slice_get ts sv) j seat d c h.1 mine))
@@ -75,13 +77,15 @@ module _ {C : Type 0} where
     refl_cond : (b : Bool) → cond b (t.1 ∷ []) [] ≡ [] ++ cond b (t.1 ∷ []) []
     refl_cond true = refl
     refl_cond false = refl
-  calls_taken_snoc j (u ∷ ts) t = step (eqb u.0 j) u.1 (calls_taken j (ts ++ t ∷ [])) (calls_taken j ts) (cond (eqb t.0 j) (t.1 ∷ []) []) (calls_taken_snoc j ts t) where
-    step : (b : Bool) (x : C) (l l' r : List C) → l ≡ l' ++ r → cond b (x ∷ l) l ≡ cond b (x ∷ l') l' ++ r
-    step true x l l' r e = ap (λ k. x ∷ k) e
-    step false x l l' r e = e
+  calls_taken_snoc j (u ∷ ts) t = step (eqb u.0 j) u.1 (calls_taken j (ts ++ t ∷ [])) (calls_taken j ts) (cond (eqb t.0 j) (t.1 ∷ []) [])
+      (calls_taken_snoc j ts t) where
+        step : (b : Bool) (x : C) (l l' r : List C) → l ≡ l' ++ r → cond b (x ∷ l) l ≡ cond b (x ∷ l') l' ++ r
+        step true x l l' r e = ap (λ k. x ∷ k) e
+        step false x l l' r e = e
 
 module _ {C R : Type 0} where
-  own_calls_snoc : (j : ℕ) (es : List (Entry C R)) (e : Entry C R) → calls_of (own j (es ++ e ∷ [])) ≡ calls_of (own j es) ++ cond (eqb e.seat j) (e.call ∷ []) []
+  own_calls_snoc : (j : ℕ) (es : List (Entry C R)) (e : Entry C R) →
+      calls_of (own j (es ++ e ∷ [])) ≡ calls_of (own j es) ++ cond (eqb e.seat j) (e.call ∷ []) []
   own_calls_snoc j [] e = start_cond (eqb e.seat j) where
     start_cond : (b : Bool) → calls_of (cond b (e ∷ []) []) ≡ [] ++ cond b (e.call ∷ []) []
     start_cond true = refl
@@ -133,8 +137,10 @@ module _ {M C R : Type 0} (after : M → ℕ → C → M) (answer : M → ℕ �
           replayed = o.replayed;
           own_calls = λ j. calls_taken_snoc j ts t ∙ (elim (eqb_tells seat j) [
             | inl e ↦
-                let was : calls_taken j ts ≡ calls_of (own j s.history) ++ [] = o.own_calls j ∙ ap (λ p. calls_of (own j s.history) ++ begun p) (ap (slice_get s.phases) (sym e.1) ∙ is) in
-                let now : begun (slice_get (set s.phases seat y) j) ≡ call ∷ [] = ap (λ i. begun (slice_get (set s.phases seat y) i)) (sym e.1) ∙ ap begun (get_same s.phases seat Idle y is) in
+                let was : calls_taken j ts ≡ calls_of (own j s.history) ++ [] =
+                o.own_calls j ∙ ap (λ p. calls_of (own j s.history) ++ begun p) (ap (slice_get s.phases) (sym e.1) ∙ is) in
+                let now : begun (slice_get (set s.phases seat y) j) ≡ call ∷ [] = ap (λ i. begun (slice_get (set s.phases seat y) i)) (sym e.1)
+                ∙ ap begun (get_same s.phases seat Idle y is) in
                 ap (λ b. calls_taken j ts ++ cond b (call ∷ []) []) e.0
                 ∙ (ap (λ l. l ++ call ∷ []) (was ∙ append-nil (calls_of (own j s.history))) ∙ ap (λ l. calls_of (own j s.history) ++ l) (sym now))
             | inr e ↦
@@ -152,11 +158,13 @@ module _ {M C R : Type 0} (after : M → ℕ → C → M) (answer : M → ℕ �
   same_begun : (ts : List (ℕ × C)) (s : CoreState M C R) (seat : ℕ) (x y : Phase C) → slice_get s.phases seat ≡ Some x → begun (Some x) ≡ begun (Some y)
       → (j : ℕ) → begun (slice_get s.phases j) ≡ begun (slice_get (set s.phases seat y) j)
   same_begun ts s seat x y is alike j = elim (eqb_tells j seat) [
-    | inl e ↦ ap (λ i. begun (slice_get s.phases i)) e.1 ∙ (ap begun is ∙ (alike ∙ (sym (ap begun (get_same s.phases seat x y is)) ∙ ap (λ i. begun (slice_get (set s.phases seat y) i)) (sym e.1))))
+    | inl e ↦ ap (λ i. begun (slice_get s.phases i)) e.1
+        ∙ (ap begun is ∙ (alike ∙ (sym (ap begun (get_same s.phases seat x y is)) ∙ ap (λ i. begun (slice_get (set s.phases seat y) i)) (sym e.1))))
     | inr e ↦ sym (ap begun (get_other s.phases seat j y e.1))
   ]
 
-  nobody_in : (ts : List (ℕ × C)) (s : CoreState M C R) (seat : ℕ) (call : C) → slice_get s.phases seat ≡ Some (Waiting s.serving call) → Inv ts s → count_by is_in_lock s.phases ≡ 0
+  nobody_in : (ts : List (ℕ × C)) (s : CoreState M C R) (seat : ℕ) (call : C) → slice_get s.phases seat ≡ Some (Waiting s.serving call) → Inv ts s →
+      count_by is_in_lock s.phases ≡ 0
   nobody_in ts s seat call is inv = elim (cases_lt 0 (count_by is_in_lock s.phases)) [
     | inl some ↦
         let w = count_some is_in_lock s.phases some in
@@ -188,11 +196,17 @@ module _ {M C R : Type 0} (after : M → ℕ → C → M) (answer : M → ℕ �
           replayed = o.replayed;
           own_calls = λ j. o.own_calls j ∙ ap (λ l. calls_of (own j s.history) ++ l) (same_begun ts s seat x y is refl j);
         };
-        tickets = phase_set s.phases seat x y (HasTicket ts s.serving (length s.history)) is (omega (arith, mine.0, o.entries), mine.1) (λ j ne z get. inv.tickets j z get);
+        tickets = phase_set s.phases seat x y (HasTicket ts s.serving (length s.history)) is (omega (arith, mine.0, o.entries), mine.1)
+            (λ j ne z get. inv.tickets j z get);
       }
 
   apply_keeps : (ts : List (ℕ × C)) (s : CoreState M C R) (seat : ℕ) (call : C) → slice_get s.phases seat ≡ Some (Inside call) → Inv ts s
-      → Inv ts (record s { phases = set s.phases seat Done; machine = after s.machine seat call; history = s.history ++ entry seat call (answer s.machine seat call) ∷ [] })
+      → Inv ts (record s {
+        phases = set s.phases seat Done;
+        machine = after s.machine seat call;
+        history =
+            s.history ++ entry seat call (answer s.machine seat call) ∷ [];
+      })
   apply_keeps ts s seat call is inv =
       let o = inv.is_one in
       let x : Phase C = Inside call in
@@ -214,7 +228,8 @@ module _ {M C R : Type 0} (after : M → ℕ → C → M) (answer : M → ℕ �
           own_calls = λ j. o.own_calls j ∙ (elim (eqb_tells seat j) [
             | inl q ↦
                 let was : begun (slice_get s.phases j) ≡ call ∷ [] = ap (λ i. begun (slice_get s.phases i)) (sym q.1) ∙ ap begun is in
-                let now : begun (slice_get (set s.phases seat y) j) ≡ [] = ap (λ i. begun (slice_get (set s.phases seat y) i)) (sym q.1) ∙ ap begun (get_same s.phases seat x y is) in
+                let now : begun (slice_get (set s.phases seat y) j) ≡ [] = ap (λ i. begun (slice_get (set s.phases seat y) i)) (sym q.1)
+                ∙ ap begun (get_same s.phases seat x y is) in
                 ap (λ l. calls_of (own j s.history) ++ l) was
                 ∙ sym (ap (λ l. calls_of (own j (s.history ++ e ∷ [])) ++ l) now ∙ (append-nil (calls_of (own j (s.history ++ e ∷ [])))
                 ∙ (own_calls_snoc j s.history e ∙ ap (λ b. calls_of (own j s.history) ++ cond b (call ∷ []) []) q.0)))
@@ -227,7 +242,8 @@ module _ {M C R : Type 0} (after : M → ℕ → C → M) (answer : M → ℕ �
         };
         tickets = phase_set s.phases seat x y (HasTicket ts s.serving (length (s.history ++ e ∷ []))) is
             (omega (arith, mine.0, long), (call, mine.1))
-            (λ j ne z get. ticket_applied ts s.serving (length s.history) (length (s.history ++ e ∷ [])) j seat call z ne mine.0 long mine.1 (inv.tickets j z get));
+            (λ j ne z get. ticket_applied ts s.serving (length s.history) (length (s.history ++ e ∷ [])) j seat call z ne mine.0 long mine.1
+            (inv.tickets j z get));
       }
 
   leave_keeps : (ts : List (ℕ × C)) (s : CoreState M C R) (seat : ℕ) → slice_get s.phases seat ≡ Some Done → Inv ts s
@@ -277,26 +293,30 @@ module _ {M C R : Type 0} (after : M → ℕ → C → M) (answer : M → ℕ �
   leave_step ts s seat inv true e = leave_keeps ts s seat (done_is (slice_get s.phases seat) e) inv
   leave_step ts s seat inv false e = inv
 
-  enter_found : (ts : List (ℕ × C)) (s : CoreState M C R) (seat k : ℕ) (call : C) → Inv ts s → slice_get s.phases seat ≡ Some (Waiting k call) → (b : Bool) → eqb k s.serving ≡ b
+  enter_found : (ts : List (ℕ × C)) (s : CoreState M C R) (seat k : ℕ) (call : C) → Inv ts s → slice_get s.phases seat ≡ Some (Waiting k call) →
+      (b : Bool) → eqb k s.serving ≡ b
       → Inv ts (cond b (record s { phases = set s.phases seat (Inside call) }) s)
   enter_found ts s seat k call inv is true e = enter_keeps ts s seat call (is ∙ ap (λ n. Some (Waiting n call)) (eqb-true k s.serving e)) inv
   enter_found ts s seat k call inv is false e = inv
 
-  enter_step : (ts : List (ℕ × C)) (s : CoreState M C R) (seat : ℕ) → Inv ts s → (p : Option (Phase C)) → slice_get s.phases seat ≡ p → Inv ts (entered s seat p)
+  enter_step : (ts : List (ℕ × C)) (s : CoreState M C R) (seat : ℕ) → Inv ts s → (p : Option (Phase C)) → slice_get s.phases seat ≡ p →
+      Inv ts (entered s seat p)
   enter_step ts s seat inv None is = inv
   enter_step ts s seat inv (Some Idle) is = inv
   enter_step ts s seat inv (Some (Waiting k call)) is = enter_found ts s seat k call inv is (eqb k s.serving) refl
   enter_step ts s seat inv (Some (Inside call)) is = inv
   enter_step ts s seat inv (Some Done) is = inv
 
-  apply_step : (ts : List (ℕ × C)) (s : CoreState M C R) (seat : ℕ) → Inv ts s → (p : Option (Phase C)) → slice_get s.phases seat ≡ p → Inv ts (applied after answer s seat p)
+  apply_step : (ts : List (ℕ × C)) (s : CoreState M C R) (seat : ℕ) → Inv ts s → (p : Option (Phase C)) → slice_get s.phases seat ≡ p →
+      Inv ts (applied after answer s seat p)
   apply_step ts s seat inv None is = inv
   apply_step ts s seat inv (Some Idle) is = inv
   apply_step ts s seat inv (Some (Waiting k call)) is = inv
   apply_step ts s seat inv (Some (Inside call)) is = apply_keeps ts s seat call is inv
   apply_step ts s seat inv (Some Done) is = inv
 
-  runs : (events : List (CoreEvent C)) (ts : List (ℕ × C)) (s : CoreState M C R) → Inv ts s → Inv (ts ++ takes after answer s events) (run after answer s events)
+  runs : (events : List (CoreEvent C)) (ts : List (ℕ × C)) (s : CoreState M C R) → Inv ts s →
+      Inv (ts ++ takes after answer s events) (run after answer s events)
   runs [] ts s inv = subst (λ us. Inv us s) (sym (append-nil ts)) inv
   runs (Take seat call ∷ es) ts s inv =
       let b = is_idle (slice_get s.phases seat) in
@@ -307,5 +327,6 @@ module _ {M C R : Type 0} (after : M → ℕ → C → M) (answer : M → ℕ �
   runs (Apply seat ∷ es) ts s inv = runs es ts (happens after answer s (Apply seat)) (apply_step ts s seat inv (slice_get s.phases seat) refl)
   runs (Leave seat ∷ es) ts s inv = runs es ts (happens after answer s (Leave seat)) (leave_step ts s seat inv (is_done (slice_get s.phases seat)) refl)
 
-  pub every_schedule_is_one_thread : (seats : ℕ) (events : List (CoreEvent C)) → IsOneThread after answer m (takes after answer (start seats m) events) (run after answer (start seats m) events)
+  pub every_schedule_is_one_thread : (seats : ℕ) (events : List (CoreEvent C)) →
+      IsOneThread after answer m (takes after answer (start seats m) events) (run after answer (start seats m) events)
   every_schedule_is_one_thread seats events = let inv = runs events [] (start seats m) (starts seats) in inv.is_one

@@ -24,13 +24,15 @@ length_zeros zero = refl
 length_zeros (suc n) = omega (arith, length_zeros n)
 
 -- a value that changes at one place stays below, where the new one is
-pub set_below : (xs ys : List ℕ) (i v : ℕ) → i < length xs → v ≤ get_or ys i 0 → ((k : ℕ) → get_or xs k 0 ≤ get_or ys k 0) → (k : ℕ) → get_or (set xs i v) k 0 ≤ get_or ys k 0
+pub set_below : (xs ys : List ℕ) (i v : ℕ) → i < length xs → v ≤ get_or ys i 0 → ((k : ℕ) → get_or xs k 0 ≤ get_or ys k 0) → (k : ℕ) →
+    get_or (set xs i v) k 0 ≤ get_or ys k 0
 set_below xs ys i v lt le all k = let w = get_or-set xs i v k lt in elim (eqb_tells i k) [
   | inl q ↦ let w' = rw q.0 at w in let e : get_or ys i 0 ≡ get_or ys k 0 = ap (λ j. get_or ys j 0) q.1 in omega arith
   | inr q ↦ let w' = rw q.0 at w in omega (arith, all k)
 ]
 
-pub set_above : (xs ys : List ℕ) (i v : ℕ) → i < length ys → get_or xs i 0 ≤ v → ((k : ℕ) → get_or xs k 0 ≤ get_or ys k 0) → (k : ℕ) → get_or xs k 0 ≤ get_or (set ys i v) k 0
+pub set_above : (xs ys : List ℕ) (i v : ℕ) → i < length ys → get_or xs i 0 ≤ v → ((k : ℕ) → get_or xs k 0 ≤ get_or ys k 0) → (k : ℕ) →
+    get_or xs k 0 ≤ get_or (set ys i v) k 0
 set_above xs ys i v lt le all k = let w = get_or-set ys i v k lt in elim (eqb_tells i k) [
   | inl q ↦ let w' = rw q.0 at w in let e : get_or xs i 0 ≡ get_or xs k 0 = ap (λ j. get_or xs j 0) q.1 in omega arith
   | inr q ↦ let w' = rw q.0 at w in omega (arith, all k)
@@ -48,7 +50,8 @@ place_in s seat leaf ok lt ltl =
     let e : suc seat * length s.rows ≡ seat * length s.rows + length s.rows = grind arith in
     omega (arith, ok.held)
 
-pub sound_new : (P S : ℕ) (ps : List Row) (amounts : List ℕ) → IsTree ps → length ps ≤ MAX_GROUPS → P ≤ MAX_PROCESSORS → S ≤ MAX_PER_PROCESSOR → length amounts ≡ length ps → IsSound (new_pool P S ps amounts)
+pub sound_new : (P S : ℕ) (ps : List Row) (amounts : List ℕ) → IsTree ps → length ps ≤ MAX_GROUPS → P ≤ MAX_PROCESSORS → S ≤ MAX_PER_PROCESSOR →
+    length amounts ≡ length ps → IsSound (new_pool P S ps amounts)
 sound_new P S ps amounts t few fp fs len = record {
   tree = t;
   few_rows = few;
@@ -60,8 +63,12 @@ sound_new P S ps amounts t few fp fs len = record {
   held = length_zeros (P * length ps);
   within = λ g. omega (arith, zeros (length ps) g);
   cap = λ p. omega (arith, zeros P p);
-  by_seat = λ p lt. zeros P p ∙ sym (seat_sum (new_pool P S ps amounts) p ∙ sum_below-zero (length ps) (λ l. get_or (replicate {A = ℕ} (P * length ps) 0) (p * length ps + l) 0) (λ l _. zeros (P * length ps) (p * length ps + l)));
-  by_leaf = λ l lt leaf. zeros (length ps) l ∙ sym (leaf_sum (new_pool P S ps amounts) l ∙ sum_below-zero P (λ p. get_or (replicate {A = ℕ} (P * length ps) 0) (p * length ps + l) 0) (λ p _. zeros (P * length ps) (p * length ps + l)));
+  by_seat = λ p lt. zeros P p ∙ sym (seat_sum (new_pool P S ps amounts) p
+      ∙ sum_below-zero (length ps) (λ l. get_or (replicate {A = ℕ} (P * length ps) 0) (p * length ps + l) 0)
+      (λ l _. zeros (P * length ps) (p * length ps + l)));
+  by_leaf = λ l lt leaf. zeros (length ps) l
+      ∙ sym (leaf_sum (new_pool P S ps amounts) l
+      ∙ sum_below-zero P (λ p. get_or (replicate {A = ℕ} (P * length ps) 0) (p * length ps + l) 0) (λ p _. zeros (P * length ps) (p * length ps + l)));
   inner = λ g lt inner. sum_of_children-zeros g ps (length ps) ∙ sym (zeros (length ps) g);
 }
 
@@ -86,13 +93,23 @@ module _ (s : PoolState) (seat leaf n : ℕ) (ok : IsSound s) (lt : seat < s.pro
 
   -- a sum with one holding changed, where what it is the sum of changes as much
   seat_changed : (d : List ℕ) (by held : ℕ) → by + get_or s.held at 0 ≡ get_or s.by_processor seat 0 + held
-      → (p : ℕ) → p < s.processors → get_or (set s.by_processor seat by) p 0 ≡ held_of_seat (record s { drawn = d; by_processor = set s.by_processor seat by; held = set s.held at held }) p
+      → (p : ℕ) → p < s.processors → get_or (set s.by_processor seat by) p 0 ≡ held_of_seat
+      (record s { drawn = d; by_processor = set s.by_processor seat by; held = set s.held at held }) p
   seat_changed d by held same p ltp =
       let s' : PoolState = record s { drawn = d; by_processor = set s.by_processor seat by; held = set s.held at held } in
       elim (eqb_tells seat p) [
         | inl e ↦
             let own : get_or (set s.by_processor seat by) seat 0 ≡ held_of_seat s' seat =
-            omega (arith, get_or-set_same s.by_processor seat by 0 in_by, seat_sum s' seat, seat_sum s seat, seat_own (length s.rows) s.held seat leaf held ltl at_in, ok.by_seat seat lt, same) in
+            omega (
+              arith,
+              get_or-set_same s.by_processor seat by 0 in_by,
+              seat_sum s' seat,
+              seat_sum s seat,
+              seat_own (length s.rows) s.held seat leaf held
+                  ltl at_in,
+              ok.by_seat seat lt,
+              same,
+            ) in
             subst (λ i. get_or (set s.by_processor seat by) i 0 ≡ held_of_seat s' i) e.1 own
         | inr e ↦
             let ne : p ≢ seat = λ q. e.1 (sym q) in
@@ -102,13 +119,22 @@ module _ (s : PoolState) (seat leaf n : ℕ) (ok : IsSound s) (lt : seat < s.pro
 
   leaf_changed : (d by : List ℕ) (held : ℕ) → get_or d leaf 0 + get_or s.held at 0 ≡ get_or s.drawn leaf 0 + held
       → ((l : ℕ) → is_leaf s.rows l ≡ true → l ≢ leaf → get_or d l 0 ≡ get_or s.drawn l 0)
-      → (l : ℕ) → l < length s.rows → is_leaf s.rows l ≡ true → get_or d l 0 ≡ held_of_leaf (record s { drawn = d; by_processor = by; held = set s.held at held }) l
+      → (l : ℕ) → l < length s.rows → is_leaf s.rows l ≡ true →
+      get_or d l 0 ≡ held_of_leaf (record s { drawn = d; by_processor = by; held = set s.held at held }) l
   leaf_changed d by held same others l lt' lf =
       let s' : PoolState = record s { drawn = d; by_processor = by; held = set s.held at held } in
       elim (eqb_tells leaf l) [
         | inl e ↦
             let own : get_or d leaf 0 ≡ held_of_leaf s' leaf =
-            omega (arith, leaf_sum s' leaf, leaf_sum s leaf, leaf_own (length s.rows) s.held seat leaf held ltl at_in s.processors lt, ok.by_leaf leaf ltl is, same) in
+            omega (
+              arith,
+              leaf_sum s' leaf,
+              leaf_sum s leaf,
+              leaf_own (length s.rows) s.held seat leaf held ltl at_in s.processors lt,
+              ok.by_leaf leaf ltl
+                  is,
+              same,
+            ) in
             subst (λ i. get_or d i 0 ≡ held_of_leaf s' i) e.1 own
         | inr e ↦
             let ne : l ≢ leaf = λ q. e.1 (sym q) in
@@ -121,7 +147,13 @@ module _ (s : PoolState) (seat leaf n : ℕ) (ok : IsSound s) (lt : seat < s.pro
   held_le_leaf = omega (arith, ok.by_leaf leaf ltl is, leaf_sum s leaf, sum_below-term s.processors seat (λ p. get_or s.held (p * length s.rows + leaf) 0) lt)
 
   pub held_le_processor : get_or s.held at 0 ≤ get_or s.by_processor seat 0
-  held_le_processor = omega (arith, ok.by_seat seat lt, seat_sum s seat, sum_below-term (length s.rows) leaf (λ l. get_or s.held (seat * length s.rows + l) 0) ltl)
+  held_le_processor = omega (
+    arith,
+    ok.by_seat seat lt,
+    seat_sum s seat,
+    sum_below-term (length s.rows) leaf
+        (λ l. get_or s.held (seat * length s.rows + l) 0) ltl,
+  )
 
   -- and at each group above
   pub held_le_path : n ≤ get_or s.held at 0 → AllByRecursion (λ g. n ≤ get_or s.drawn g 0) (path_up s.rows leaf)
@@ -129,7 +161,8 @@ module _ (s : PoolState) (seat leaf n : ℕ) (ok : IsSound s) (lt : seat < s.pro
       let first : n ≤ get_or s.drawn leaf 0 = omega (arith, held_le_leaf) in
       let least_is : least (λ g. get_or s.drawn g 0) (path_up s.rows leaf) n ≡ n =
       by_path (λ gs. least (λ g. get_or s.drawn g 0) gs n ≡ n) s.rows leaf
-      (least_rising s.rows ok.tree (λ g. get_or s.drawn g 0) (drawn_rises s ok) (suc leaf) (Some leaf) n (omega arith) (λ g e. let q : leaf ≡ g = cc e in subst (λ i. n ≤ get_or s.drawn i 0) q first)) in
+      (least_rising s.rows ok.tree (λ g. get_or s.drawn g 0) (drawn_rises s ok) (suc leaf) (Some leaf) n (omega arith) (λ g e. let q : leaf ≡ g = cc e in
+      subst (λ i. n ≤ get_or s.drawn i 0) q first)) in
       least_all (λ g. get_or s.drawn g 0) (path_up s.rows leaf) n n (omega (arith, least_is))
 
   other_leaf : (l : ℕ) → l ≢ leaf → Some leaf ≢ Some l
@@ -153,13 +186,16 @@ module _ (s : PoolState) (seat leaf n : ℕ) (ok : IsSound s) (lt : seat < s.pro
         within = λ g. omega (arith, lowered_le (path_up s.rows leaf) n s.drawn g, ok.within g);
         cap = set_capped s.by_processor seat by s.per_processor in_by (omega (arith, ok.cap seat)) ok.cap;
         by_seat = seat_changed drawn' by v (omega (arith, held_le_processor, has));
-        by_leaf = leaf_changed drawn' (set s.by_processor seat by) v (omega (arith, lowered_own s.rows n ok.tree leaf s.drawn is ltl ok.drawn, held_le_leaf, has))
+        by_leaf = leaf_changed drawn' (set s.by_processor seat by) v
+            (omega (arith, lowered_own s.rows n ok.tree leaf s.drawn is ltl ok.drawn, held_le_leaf, has))
             (λ l lf ne. by_path (λ gs. get_or (lowered gs n s.drawn) l 0 ≡ get_or s.drawn l 0) s.rows leaf
             (lowered_leaf s.rows n ok.tree l lf (suc leaf) (Some leaf) s.drawn (omega arith) (other_leaf l ne)));
-        inner = by_path (λ gs. (h : ℕ) → h < length s.rows → is_leaf s.rows h ≡ false → sum_of_children s.rows (lowered gs n s.drawn) h ≡ get_or (lowered gs n s.drawn) h 0) s.rows leaf
+        inner = by_path (λ gs. (h : ℕ) → h < length s.rows → is_leaf s.rows h ≡ false →
+            sum_of_children s.rows (lowered gs n s.drawn) h ≡ get_or (lowered gs n s.drawn) h 0) s.rows leaf
             (lowered_balanced s.rows n ok.tree s.drawn (drawn_rises s ok) (suc leaf) (Some leaf) s.drawn (omega arith) (omega arith) ok.drawn (λ g l. refl)
             (λ g e. let q : leaf ≡ g = cc e in subst (λ i. n ≤ get_or s.drawn i 0) q here)
-            (λ h lth inner. let none : cond {A = ℕ} (eqb leaf h) n 0 ≡ 0 = ap (λ (b : Bool). cond {A = ℕ} b n 0) (ne_eqb leaf h (leaf_apart s.rows leaf h is inner)) in omega (arith, none, ok.inner h lth inner)));
+            (λ h lth inner. let none : cond {A = ℕ} (eqb leaf h) n 0 ≡ 0 =
+            ap (λ (b : Bool). cond {A = ℕ} b n 0) (ne_eqb leaf h (leaf_apart s.rows leaf h is inner)) in omega (arith, none, ok.inner h lth inner)));
       }
 
 module _ (s : PoolState) (seat leaf ask : ℕ) (ok : IsSound s) (lt : seat < s.processors) (ltl : leaf < length s.rows) (is : is_leaf s.rows leaf ≡ true) where
@@ -187,12 +223,15 @@ module _ (s : PoolState) (seat leaf ask : ℕ) (ok : IsSound s) (lt : seat < s.p
             (subst (λ gs. n ≤ least (left_at s) gs bound) (path_up-way_up s.rows leaf) (omega arith)) (λ g l. refl) ok.within);
         cap = set_capped s.by_processor seat by s.per_processor in_by (omega (arith, ok.cap seat)) ok.cap;
         by_seat = seat_changed s seat leaf n ok lt ltl is drawn' by v (omega arith);
-        by_leaf = leaf_changed s seat leaf n ok lt ltl is drawn' (set s.by_processor seat by) v (omega (arith, raised_own s.rows n ok.tree leaf s.drawn is ltl ok.drawn))
+        by_leaf = leaf_changed s seat leaf n ok lt ltl is drawn' (set s.by_processor seat by) v
+            (omega (arith, raised_own s.rows n ok.tree leaf s.drawn is ltl ok.drawn))
             (λ l lf ne. by_path (λ gs. get_or (raised gs n s.drawn) l 0 ≡ get_or s.drawn l 0) s.rows leaf
             (raised_leaf s.rows n ok.tree l lf (suc leaf) (Some leaf) s.drawn (omega arith) (other_leaf s seat leaf n ok lt ltl is l ne)));
-        inner = by_path (λ gs. (h : ℕ) → h < length s.rows → is_leaf s.rows h ≡ false → sum_of_children s.rows (raised gs n s.drawn) h ≡ get_or (raised gs n s.drawn) h 0) s.rows leaf
+        inner = by_path (λ gs. (h : ℕ) → h < length s.rows → is_leaf s.rows h ≡ false →
+            sum_of_children s.rows (raised gs n s.drawn) h ≡ get_or (raised gs n s.drawn) h 0) s.rows leaf
             (raised_balanced s.rows n ok.tree (suc leaf) (Some leaf) s.drawn (omega arith) (omega arith) ok.drawn
-            (λ h lth inner. let none : cond {A = ℕ} (eqb leaf h) n 0 ≡ 0 = ap (λ (b : Bool). cond {A = ℕ} b n 0) (ne_eqb leaf h (leaf_apart s.rows leaf h is inner)) in omega (arith, none, ok.inner h lth inner)));
+            (λ h lth inner. let none : cond {A = ℕ} (eqb leaf h) n 0 ≡ 0 =
+            ap (λ (b : Bool). cond {A = ℕ} b n 0) (ne_eqb leaf h (leaf_apart s.rows leaf h is inner)) in omega (arith, none, ok.inner h lth inner)));
       }
 
 pub sound_lowered : (s : PoolState) (g to : ℕ) → IsSound s → g < length s.rows → IsSound (record s { ceiling = set s.ceiling g (lowered_ceiling s g to) })
@@ -229,7 +268,8 @@ leaf_passed s leaf n e =
 pub group_passed : (s : PoolState) (g : ℕ) → group_refusal s g ≡ None → g < length s.rows
 group_passed s g e = ltb-true g (length s.rows) (passed (ltb g (length s.rows)) None NoGroup e).0
 
-pub draw_passed : (s : PoolState) (seat leaf ask : ℕ) → refusal s seat (Draw leaf ask) ≡ None → (seat < s.processors) × (leaf < length s.rows) × (is_leaf s.rows leaf ≡ true)
+pub draw_passed : (s : PoolState) (seat leaf ask : ℕ) → refusal s seat (Draw leaf ask) ≡ None → (seat < s.processors) × (leaf < length s.rows)
+    × (is_leaf s.rows leaf ≡ true)
 draw_passed s seat leaf ask e =
     let a = passed (ltb seat s.processors) (leaf_refusal s leaf ask) NoProcessor e in
     let b = leaf_passed s leaf ask a.1 in

@@ -46,7 +46,8 @@ pub by_path : (P : List ℕ → Type 0) (rows : List Row) (g : ℕ) → P (way_u
 by_path P rows g p = subst P (sym (path_up-way_up rows g)) p
 
 -- n more at a row and at each ancestor keeps the sums
-pub raised_balanced : (ps : List Row) (n : ℕ) (t : IsTree ps) (k : ℕ) (at : Option ℕ) (xs : List ℕ) → reach at ≤ k → reach at ≤ length ps → length xs ≡ length ps
+pub raised_balanced : (ps : List Row) (n : ℕ) (t : IsTree ps) (k : ℕ) (at : Option ℕ) (xs : List ℕ) → reach at ≤ k → reach at ≤ length ps →
+    length xs ≡ length ps
     → ((h : ℕ) → h < length ps → is_leaf ps h ≡ false → sum_of_children ps xs h ≡ get_or xs h 0 + cond (is_some_at h at) n 0)
     → (h : ℕ) → h < length ps → is_leaf ps h ≡ false → sum_of_children ps (raised (way_up k ps at) n xs) h ≡ get_or (raised (way_up k ps at) n xs) h 0
 raised_balanced ps n t zero None xs fuel ok len inv h lt inner = omega (arith, inv h lt inner)
@@ -139,7 +140,8 @@ parent_not : (ps : List Row) (g l : ℕ) → g < length ps → is_leaf ps l ≡ 
 parent_not ps g l lt leaf e = let f = parent_not_leaf ps l g lt e in absurd (cc (f, leaf))
 
 -- a leaf that doesn't start the way keeps its value
-pub raised_leaf : (ps : List Row) (n : ℕ) (t : IsTree ps) (l : ℕ) → is_leaf ps l ≡ true → (k : ℕ) (at : Option ℕ) (zs : List ℕ) → reach at ≤ length ps → at ≢ Some l
+pub raised_leaf : (ps : List Row) (n : ℕ) (t : IsTree ps) (l : ℕ) → is_leaf ps l ≡ true → (k : ℕ) (at : Option ℕ) (zs : List ℕ) → reach at ≤ length ps →
+    at ≢ Some l
     → get_or (raised (way_up k ps at) n zs) l 0 ≡ get_or zs l 0
 raised_leaf ps n t l leaf zero at zs ok ne = refl
 raised_leaf ps n t l leaf (suc k) None zs ok ne = refl
@@ -149,7 +151,8 @@ raised_leaf ps n t l leaf (suc k) (Some g) zs ok ne =
     let other : l ≢ g = λ e. ne (ap Some (sym e)) in
     raised_leaf ps n t l leaf k (parent_of ps g) (set zs g v) (omega arith) (parent_not ps g l (omega arith) leaf) ∙ get_or-set_other zs g l v 0 other
 
-pub lowered_leaf : (ps : List Row) (n : ℕ) (t : IsTree ps) (l : ℕ) → is_leaf ps l ≡ true → (k : ℕ) (at : Option ℕ) (zs : List ℕ) → reach at ≤ length ps → at ≢ Some l
+pub lowered_leaf : (ps : List Row) (n : ℕ) (t : IsTree ps) (l : ℕ) → is_leaf ps l ≡ true → (k : ℕ) (at : Option ℕ) (zs : List ℕ) → reach at ≤ length ps →
+    at ≢ Some l
     → get_or (lowered (way_up k ps at) n zs) l 0 ≡ get_or zs l 0
 lowered_leaf ps n t l leaf zero at zs ok ne = refl
 lowered_leaf ps n t l leaf (suc k) None zs ok ne = refl
@@ -164,13 +167,17 @@ pub raised_own : (ps : List Row) (n : ℕ) (t : IsTree ps) (l : ℕ) (zs : List 
     → get_or (raised (path_up ps l) n zs) l 0 ≡ get_or zs l 0 + n
 raised_own ps n t l zs leaf lt len =
     let up = reach_parent ps t l in
-    by_path (λ gs. get_or (raised gs n zs) l 0 ≡ get_or zs l 0 + n) ps l (raised_leaf ps n t l leaf l (parent_of ps l) (set zs l (get_or zs l 0 + n)) (omega arith) (parent_not ps l l lt leaf) ∙ get_or-set_same zs l (get_or zs l 0 + n) 0 (omega arith))
+    by_path (λ gs. get_or (raised gs n zs) l 0 ≡ get_or zs l 0 + n) ps l
+    (raised_leaf ps n t l leaf l (parent_of ps l) (set zs l (get_or zs l 0 + n)) (omega arith) (parent_not ps l l lt leaf)
+    ∙ get_or-set_same zs l (get_or zs l 0 + n) 0 (omega arith))
 
 pub lowered_own : (ps : List Row) (n : ℕ) (t : IsTree ps) (l : ℕ) (zs : List ℕ) → is_leaf ps l ≡ true → l < length ps → length zs ≡ length ps
     → get_or (lowered (path_up ps l) n zs) l 0 ≡ get_or zs l 0 - n
 lowered_own ps n t l zs leaf lt len =
     let up = reach_parent ps t l in
-    by_path (λ gs. get_or (lowered gs n zs) l 0 ≡ get_or zs l 0 - n) ps l (lowered_leaf ps n t l leaf l (parent_of ps l) (set zs l (get_or zs l 0 - n)) (omega arith) (parent_not ps l l lt leaf) ∙ get_or-set_same zs l (get_or zs l 0 - n) 0 (omega arith))
+    by_path (λ gs. get_or (lowered gs n zs) l 0 ≡ get_or zs l 0 - n) ps l
+    (lowered_leaf ps n t l leaf l (parent_of ps l) (set zs l (get_or zs l 0 - n)) (omega arith) (parent_not ps l l lt leaf)
+    ∙ get_or-set_same zs l (get_or zs l 0 - n) 0 (omega arith))
 
 pub least_le : (f : ℕ → ℕ) (gs : List ℕ) (b : ℕ) → least f gs b ≤ b
 least_le f [] b = omega arith
@@ -190,7 +197,8 @@ least_rising ps t f rises (suc k) (Some g) b ok le =
     let up = reach_parent ps t g in
     let here = le g refl in
     let m : min b (f g) ≡ b = omega arith in
-    ap (λ x. least f (way_up k ps (parent_of ps g)) x) m ∙ least_rising ps t f rises k (parent_of ps g) b (omega arith) (λ p is. omega (arith, rises g p (omega arith) is))
+    ap (λ x. least f (way_up k ps (parent_of ps g)) x) m
+    ∙ least_rising ps t f rises k (parent_of ps g) b (omega arith) (λ p is. omega (arith, rises g p (omega arith) is))
 
 -- a rise by no more than is left on the way stays within
 pub raised_within : (ps : List Row) (n : ℕ) (t : IsTree ps) (xs ys : List ℕ) (k : ℕ) (at : Option ℕ) (b : ℕ) (zs : List ℕ)

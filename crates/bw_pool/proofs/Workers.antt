@@ -27,7 +27,8 @@ pub record IsWorkerOf (uses : ℕ → Bool) (S : ℕ) (ps : List Row) (amounts d
   pub kept : get_or by p 0 ≡ w.kept
   pub cap : w.kept ≤ S
   pub owed : (l : ℕ) → w.owes ≡ Some l → (1 ≤ w.kept) × (1 ≤ get_or held (p * length ps + l) 0) × (l < length ps) × (is_leaf ps l ≡ true) × (uses l ≡ false)
-  pub short : (l : ℕ) → l < length ps → is_leaf ps l ≡ true → uses l ≡ true → among l w.short ≡ true → (get_or drawn l 0 ≡ get_or amounts l 0) ⊎ ((w.owes ≡ None) × (w.kept ≡ S))
+  pub short : (l : ℕ) → l < length ps → is_leaf ps l ≡ true → uses l ≡ true → among l w.short ≡ true → (get_or drawn l 0 ≡ get_or amounts l 0)
+      ⊎ ((w.owes ≡ None) × (w.kept ≡ S))
   pub returned : (l : ℕ) → among l w.returned ≡ true → uses l ≡ false
 
 pub record IsRun (uses : ℕ → Bool) (P S : ℕ) (ps : List Row) (amounts drawn by held : List ℕ) (k : ℕ → Worker) : Type 0 where
@@ -88,9 +89,11 @@ run_ends uses P S ps amounts drawn by held k plan run ends = record {
   used = λ g lt leaf isused. elim (cases_lt (get_or drawn g 0) (get_or amounts g 0)) [
     | inl less ↦
         let spent = λ (p : ℕ) (ltp : p < P). worker_spent p ltp g lt leaf isused less in
-        let all : sum by ≡ length by * S = sum_equal by S (λ p ltp. (run.workers p (omega (arith, run.processors))).kept ∙ spent p (omega (arith, run.processors))) in
+        let all : sum by ≡ length by * S = sum_equal by S
+        (λ p ltp. (run.workers p (omega (arith, run.processors))).kept ∙ spent p (omega (arith, run.processors))) in
         let whole : get_or drawn 0 0 ≡ P * S = sym run.total ∙ (all ∙ ap (λ n. n * S) run.processors) in
-        let up = rises_to_root ps plan.tree (λ h. get_or amounts h 0 - get_or drawn h 0) (left_rises ps plan.tree drawn amounts run.rows plan.one_each run.within run.inner plan.inner) g g (omega arith) lt in
+        let up = rises_to_root ps plan.tree (λ h. get_or amounts h 0 - get_or drawn h 0)
+        (left_rises ps plan.tree drawn amounts run.rows plan.one_each run.within run.inner plan.inner) g g (omega arith) lt in
         absurd (omega (arith, plan.root))
     | inr more ↦ omega (arith, run.within g)
   ];

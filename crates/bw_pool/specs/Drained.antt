@@ -1,6 +1,7 @@
 -- Workers that drain the pool: each draws slices one by one until its processor is spent or no leaf has more for it,
 -- and gives back at once what it got of a leaf whose slices aren't used.
-use Rattle.std.specs.Prelude.{◌≡◌, ℕ, ◌+◌, ◌-◌, ◌*◌, ◌==◌, ◌<◌, ◌≤◌, ◌⊎◌, List, [], ◌∷◌, length, Bool, true, false, Option, None, Some, slice_index, if◌then◌else◌}
+use Rattle.std.specs.Prelude.{◌≡◌, ℕ, ◌+◌, ◌-◌, ◌*◌, ◌==◌, ◌<◌, ◌≤◌, ◌⊎◌, List}
+use Rattle.std.specs.Prelude.{[], ◌∷◌, length, Bool, true, false, Option, None, Some, slice_index, if◌then◌else◌}
 use Rattle.std.specs.List.{list_any}
 use Rattle.bw_model.specs.declared.history.Entry.{Entry}
 use Rattle.bw_model.specs.History.{replay, IsLegal, own}
@@ -84,7 +85,8 @@ worker_after uses w (Look g) reply = w
 -- the worker ends: it owes nothing, and its processor is spent or each leaf answered short or was given back
 pub record IsAtEnd (rows : List Row) (per_processor : ℕ) (w : Worker) : Type 0 where
   pub none_owed : w.owes ≡ None
-  pub spent_or_no_leaf : (w.kept ≡ per_processor) ⊎ ((leaf : ℕ) → leaf < length rows → is_leaf rows leaf ≡ true → (among leaf w.short ≡ true) ⊎ (among leaf w.returned ≡ true))
+  pub spent_or_no_leaf : (w.kept ≡ per_processor)
+      ⊎ ((leaf : ℕ) → leaf < length rows → is_leaf rows leaf ≡ true → (among leaf w.short ≡ true) ⊎ (among leaf w.returned ≡ true))
 
 -- from here on the worker makes these calls, gets these replies, and ends drained
 abbrev pub Drains : (ℕ → Bool) → List Row → ℕ → Worker → List PoolEntry → Type 0

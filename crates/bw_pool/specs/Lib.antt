@@ -1,3 +1,4 @@
+-- The files that say what the pool and the interleaving core do.
 pub mod Pool
 pub mod Drained
 pub mod Pools

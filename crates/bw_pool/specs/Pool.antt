@@ -1,6 +1,7 @@
 -- The pool: what is drawn per group and per processor, up to which ceilings, and what each seat holds of each leaf.
 -- The number of a seat is that of its processor.
-use Rattle.std.specs.Prelude.{◌≡◌, ℕ, ◌+◌, ◌-◌, ◌*◌, ◌==◌, ◌≤◌, nat_lt, nat_le, min, max, List, [], ◌∷◌, length, sum_by, replicate, true, false, ◌&&◌, ◌<◌, Option, None, Some, slice_index, slice_set, if◌then◌else◌}
+use Rattle.std.specs.Prelude.{◌≡◌, ℕ, ◌+◌, ◌-◌, ◌*◌, ◌==◌, ◌≤◌, nat_lt, nat_le, min, max, List, []}
+use Rattle.std.specs.Prelude.{◌∷◌, length, sum_by, replicate, true, false, ◌&&◌, ◌<◌, Option, None, Some, slice_index, slice_set, if◌then◌else◌}
 use Rattle.std.specs.List.{range_with_len, AllByRecursion}
 use Rattle.bw_model.specs.declared.history.Entry.{Entry}
 use Rattle.bw_model.specs.History.{replay}

@@ -3,7 +3,8 @@ ghost use Rattle.std.specs.Prelude.{◌≡◌, ℕ, ◌-◌, ◌+◌, ◌<◌, �
 ghost use Rattle.std.specs.List.{AllByRecursion};
 ghost use Rattle.bw_model.specs.Groups.{IsTree, path_up, is_leaf};
 ghost use Rattle.bw_model.specs.Host.{slices_per_processor};
-ghost use Rattle.bw_pool.specs.Pool.{PoolState, IsSound, gave_back, least, raised, lowered, first_with, new_pool, refusal, leaf_refusal, group_refusal, served, reply_to, held_by, after, answer};
+ghost use Rattle.bw_pool.specs.Pool.{PoolState, IsSound, gave_back, least, raised, lowered, first_with, new_pool};
+ghost use Rattle.bw_pool.specs.Pool.{refusal, leaf_refusal, group_refusal, served, reply_to, held_by, after, answer};
 
 use crate::calls::{PoolCall, PoolReply, Refusal, Short};
 use bw_model::{Instance, Machine, Row};

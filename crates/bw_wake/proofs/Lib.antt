@@ -1,3 +1,4 @@
+-- The lemmas on the waiting protocol.
 pub mod OneTurn
 pub mod Sound
 pub mod Counts

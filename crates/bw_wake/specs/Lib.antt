@@ -1,3 +1,4 @@
+-- The files that say what the waiting protocol does.
 pub mod Protocol
 pub mod Progress
 pub mod Cores

@@ -1,3 +1,4 @@
+-- Every schedule is one thread's work.
 use Rattle.bw_pool.proofs.Runs.{every_schedule_is_one_thread}
 use Rattle.bw_pool.proofs.laws.every_schedule.Goals as goal
 

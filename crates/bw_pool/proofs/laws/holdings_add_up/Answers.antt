@@ -1,3 +1,4 @@
+-- The holdings add up after every history.
 use Rattle.bw_pool.proofs.Bounds.{stays_sound, cuts_nothing}
 use Rattle.bw_pool.proofs.laws.holdings_add_up.Goals as goal
 

@@ -1,3 +1,4 @@
+-- There is one list of drawn amounts.
 use Rattle.bw_pool.proofs.Amounts.{one_drawn_list}
 use Rattle.bw_pool.proofs.laws.one_drawn_list.Goals as goal
 

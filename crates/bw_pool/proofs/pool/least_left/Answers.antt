@@ -1,3 +1,4 @@
+-- The next group up keeps the least of what is left.
 use Rattle.std.proofs.Common.{ℕ, ◌-◌, slice_index, ◌∙◌, sym, ap, arith}
 use Rattle.bw_pool.specs.Pool.{least}
 use Rattle.bw_model.proofs.Paths.{way_from}

@@ -1,3 +1,4 @@
+-- The next group up keeps what is lowered.
 use Rattle.std.proofs.Common.{◌-◌, ◌≤◌, slice_index, ◌∙◌, ap, arith, refl}
 use Rattle.bw_model.proofs.Paths.{reach}
 use Rattle.bw_pool.proofs.Ways.{falls, on_the_way, lowered_goes, fits_goes, untouched_goes}

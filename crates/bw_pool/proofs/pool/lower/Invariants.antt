@@ -1,3 +1,4 @@
+-- The groups further up are still to be lowered.
 use Rattle.std.proofs.Common.{◌≡◌, ℕ, ◌<◌, ◌≤◌, length, slice_index, Some}
 use Rattle.std.specs.List.{AllByRecursion}
 use Rattle.bw_pool.specs.Pool.{lowered}

@@ -1,3 +1,4 @@
+-- A seat that is awake can make an event.
 use Rattle.bw_wake.proofs.CanStep.{awake_seats_can_step}
 use Rattle.bw_wake.proofs.laws.awake_seats_can_step.Goals as goal
 

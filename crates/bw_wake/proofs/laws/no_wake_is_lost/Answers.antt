@@ -1,3 +1,4 @@
+-- No wake-up is lost.
 use Rattle.bw_wake.proofs.RunSound.{no_wake_is_lost}
 use Rattle.bw_wake.proofs.laws.no_wake_is_lost.Goals as goal
 

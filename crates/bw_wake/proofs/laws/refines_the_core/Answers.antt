@@ -1,3 +1,4 @@
+-- Each event is one of the interleaving core, or none.
 use Rattle.bw_wake.proofs.CoreRefined.{refines_the_core}
 use Rattle.bw_wake.proofs.laws.refines_the_core.Goals as goal
 

@@ -1,3 +1,4 @@
+-- The events so far and the rest are the whole schedule.
 use Rattle.std.proofs.Common.{◌≡◌, drop}
 use Rattle.bw_pool.specs.Seats.{start, run}
 use Rattle.bw_pool.specs.Pool.{after, answer}

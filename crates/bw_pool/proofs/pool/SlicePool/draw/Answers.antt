@@ -1,3 +1,4 @@
+-- A draw has room at each group above its leaf, and leaves a pool.
 use Rattle.std.proofs.Common.{◌≡◌, ◌+◌, ◌*◌, length, get_or, None, subst, sym, ap, ◌∙◌, arith}
 use Rattle.std.specs.Vec.{with_items}
 use Rattle.std.proofs.lemmas.List.{with_items_is}
@@ -14,8 +15,10 @@ use Rattle.bw_pool.proofs.pool.SlicePool.draw.Goals.{then-got-ask, else-got-ask}
 
 pub raise-requires-clause-room : goal.raise-requires-clause-room
 raise-requires-clause-room c =
-    room_from c.deref.result.now c.deref-4.result.now c.deref-2.result.now c.deref_mut.result.now c.deref-3.result.now c.deref-5.result.now c.args.leaf c.least_left-got.result
-    (c.deref.ensures.value ∙ sym c.deref-4.ensures.value) (c.deref-2.ensures.value ∙ sym c.deref_mut.ensures.value) (c.deref-3.ensures.value ∙ sym c.deref-5.ensures.value) c.least_left-got.ensures.room
+    room_from c.deref.result.now c.deref-4.result.now c.deref-2.result.now c.deref_mut.result.now c.deref-3.result.now c.deref-5.result.now c.args.leaf
+    c.least_left-got.result
+    (c.deref.ensures.value ∙ sym c.deref-4.ensures.value) (c.deref-2.ensures.value ∙ sym c.deref_mut.ensures.value)
+    (c.deref-3.ensures.value ∙ sym c.deref-5.ensures.value) c.least_left-got.ensures.room
 
 pub overflow_sub-self-inside : goal.overflow_sub-self-inside
 overflow_sub-self-inside c =
@@ -32,7 +35,8 @@ overflow_add-index_mut c =
     let ok = c.self.invariant.sound in
     let pass = subst (λ (v : PoolState). refusal v c.args.seat (Draw c.args.leaf c.args.ask) ≡ None) (sym c.self.view_is) c.requires in
     let here = draw_passed s c.args.seat c.args.leaf c.args.ask pass in
-    let got = got_from s c.args.seat c.args.leaf c.args.ask c.deref.result.now c.deref-2.result.now c.deref-3.result.now c.index.result.now c.min-bound.result c.least_left-got.result
+    let got = got_from s c.args.seat c.args.leaf c.args.ask c.deref.result.now c.deref-2.result.now c.deref-3.result.now c.index.result.now
+    c.min-bound.result c.least_left-got.result
     ok pass c.deref.ensures.value c.deref-2.ensures.value c.deref-3.ensures.value c.index.ensures c.min-bound.ensures c.least_left-got.ensures.value in
     let by : c.index_mut.result.now ≡ get_or c.self.inside.by_processor.items c.args.seat c.index_mut.result.now = c.index_mut.ensures.value in
     let by' = by ∙ or_any c.self.inside.by_processor.items c.args.seat c.index_mut.result.now (omega (arith, ok.by_processor, here.0)) in
@@ -45,11 +49,13 @@ overflow_add-index_mut-2 c =
     let ok = c.self.invariant.sound in
     let pass = subst (λ (v : PoolState). refusal v c.args.seat (Draw c.args.leaf c.args.ask) ≡ None) (sym c.self.view_is) c.requires in
     let here = draw_passed s c.args.seat c.args.leaf c.args.ask pass in
-    let got = got_from s c.args.seat c.args.leaf c.args.ask c.deref.result.now c.deref-2.result.now c.deref-3.result.now c.index.result.now c.min-bound.result c.least_left-got.result
+    let got = got_from s c.args.seat c.args.leaf c.args.ask c.deref.result.now c.deref-2.result.now c.deref-3.result.now c.index.result.now
+    c.min-bound.result c.least_left-got.result
     ok pass c.deref.ensures.value c.deref-2.ensures.value c.deref-3.ensures.value c.index.ensures c.min-bound.ensures c.least_left-got.ensures.value in
     let rows : c.len.result ≡ length c.self.inside.rows.items = c.len.ensures ∙ c.self.inside.rows.ok.0 in
     let place : c.args.seat * c.len.result + c.args.leaf ≡ held_place s c.args.seat c.args.leaf = ap (λ n. c.args.seat * n + c.args.leaf) rows in
-    let held : c.index_mut-2.result.now ≡ get_or c.self.inside.held.items (c.args.seat * c.len.result + c.args.leaf) c.index_mut-2.result.now = c.index_mut-2.ensures.value in
+    let held : c.index_mut-2.result.now ≡ get_or c.self.inside.held.items (c.args.seat * c.len.result + c.args.leaf) c.index_mut-2.result.now =
+    c.index_mut-2.ensures.value in
     let held' = held ∙ (ap (λ i. get_or c.self.inside.held.items i c.index_mut-2.result.now) place
     ∙ or_any c.self.inside.held.items (held_place s c.args.seat c.args.leaf) c.index_mut-2.result.now (place_in s c.args.seat c.args.leaf ok here.0 here.1)) in
     let small = got_small s c.args.seat c.args.leaf c.args.ask in
@@ -61,19 +67,29 @@ invariant_of-self c =
     let ok = c.self.invariant.sound in
     let pass = subst (λ (v : PoolState). refusal v c.args.seat (Draw c.args.leaf c.args.ask) ≡ None) (sym c.self.view_is) c.requires in
     let here = draw_passed s c.args.seat c.args.leaf c.args.ask pass in
-    let got = got_from s c.args.seat c.args.leaf c.args.ask c.deref.result.now c.deref-2.result.now c.deref-3.result.now c.index.result.now c.min-bound.result c.least_left-got.result
+    let got = got_from s c.args.seat c.args.leaf c.args.ask c.deref.result.now c.deref-2.result.now c.deref-3.result.now c.index.result.now
+    c.min-bound.result c.least_left-got.result
     ok pass c.deref.ensures.value c.deref-2.ensures.value c.deref-3.ensures.value c.index.ensures c.min-bound.ensures c.least_left-got.ensures.value in
     let by : c.index_mut.result.now ≡ get_or c.self.inside.by_processor.items c.args.seat c.index_mut.result.now = c.index_mut.ensures.value in
     let by' = by ∙ or_any c.self.inside.by_processor.items c.args.seat c.index_mut.result.now (omega (arith, ok.by_processor, here.0)) in
     let rows : c.len.result ≡ length c.self.inside.rows.items = c.len.ensures ∙ c.self.inside.rows.ok.0 in
     let place : c.args.seat * c.len.result + c.args.leaf ≡ held_place s c.args.seat c.args.leaf = ap (λ n. c.args.seat * n + c.args.leaf) rows in
-    let held : c.index_mut-2.result.now ≡ get_or c.self.inside.held.items (c.args.seat * c.len.result + c.args.leaf) c.index_mut-2.result.now = c.index_mut-2.ensures.value in
+    let held : c.index_mut-2.result.now ≡ get_or c.self.inside.held.items (c.args.seat * c.len.result + c.args.leaf) c.index_mut-2.result.now =
+    c.index_mut-2.ensures.value in
     let held' = held ∙ (ap (λ i. get_or c.self.inside.held.items i c.index_mut-2.result.now) place
     ∙ or_any c.self.inside.held.items (held_place s c.args.seat c.args.leaf) c.index_mut-2.result.now (place_in s c.args.seat c.args.leaf ok here.0 here.1)) in
-    let size = ap length c.raise.ensures ∙ (length-raised (path_up c.deref-4.result.now c.args.leaf) c.least_left-got.result c.deref_mut.result.now ∙ (ap length c.deref_mut.ensures.value ∙ sym c.self.inside.drawn.ok.0)) in
-    let state = drew_from s c.args.seat c.args.leaf c.args.ask c.deref-4.result.now c.deref_mut.result.now (with_items c.self.inside.drawn c.raise.new.drawn).items c.least_left-got.result c.index_mut.result.now c.index_mut-2.result.now (c.args.seat * c.len.result + c.args.leaf)
+    let size = ap length c.raise.ensures ∙ (length-raised (path_up c.deref-4.result.now c.args.leaf) c.least_left-got.result c.deref_mut.result.now
+    ∙ (ap length c.deref_mut.ensures.value ∙ sym c.self.inside.drawn.ok.0)) in
+    let state = drew_from s c.args.seat c.args.leaf c.args.ask c.deref-4.result.now c.deref_mut.result.now
+    (with_items c.self.inside.drawn c.raise.new.drawn).items c.least_left-got.result c.index_mut.result.now c.index_mut-2.result.now
+    (c.args.seat * c.len.result + c.args.leaf)
     got c.deref-4.ensures.value c.deref_mut.ensures.value (with_items_is c.self.inside.drawn c.raise.new.drawn size ∙ c.raise.ensures) by' place held' in
-    record { sound = subst IsSound (sym state) (sound_drew s c.args.seat c.args.leaf c.args.ask ok here.0 here.1 here.2); flags = c.self.invariant.flags; leaf = c.self.invariant.leaf }
+    record {
+      sound = subst IsSound (sym state) (sound_drew s c.args.seat c.args.leaf c.args.ask ok here.0 here.1 here.2);
+      flags =
+          c.self.invariant.flags;
+      leaf = c.self.invariant.leaf;
+    }
 
 pub returns-clause-state : goal.returns-clause-state
 returns-clause-state c =
@@ -81,17 +97,22 @@ returns-clause-state c =
     let ok = c.self.invariant.sound in
     let pass = subst (λ (v : PoolState). refusal v c.args.seat (Draw c.args.leaf c.args.ask) ≡ None) (sym c.self.view_is) c.requires in
     let here = draw_passed s c.args.seat c.args.leaf c.args.ask pass in
-    let got = got_from s c.args.seat c.args.leaf c.args.ask c.deref.result.now c.deref-2.result.now c.deref-3.result.now c.index.result.now c.min-bound.result c.least_left-got.result
+    let got = got_from s c.args.seat c.args.leaf c.args.ask c.deref.result.now c.deref-2.result.now c.deref-3.result.now c.index.result.now
+    c.min-bound.result c.least_left-got.result
     ok pass c.deref.ensures.value c.deref-2.ensures.value c.deref-3.ensures.value c.index.ensures c.min-bound.ensures c.least_left-got.ensures.value in
     let by : c.index_mut.result.now ≡ get_or c.self.inside.by_processor.items c.args.seat c.index_mut.result.now = c.index_mut.ensures.value in
     let by' = by ∙ or_any c.self.inside.by_processor.items c.args.seat c.index_mut.result.now (omega (arith, ok.by_processor, here.0)) in
     let rows : c.len.result ≡ length c.self.inside.rows.items = c.len.ensures ∙ c.self.inside.rows.ok.0 in
     let place : c.args.seat * c.len.result + c.args.leaf ≡ held_place s c.args.seat c.args.leaf = ap (λ n. c.args.seat * n + c.args.leaf) rows in
-    let held : c.index_mut-2.result.now ≡ get_or c.self.inside.held.items (c.args.seat * c.len.result + c.args.leaf) c.index_mut-2.result.now = c.index_mut-2.ensures.value in
+    let held : c.index_mut-2.result.now ≡ get_or c.self.inside.held.items (c.args.seat * c.len.result + c.args.leaf) c.index_mut-2.result.now =
+    c.index_mut-2.ensures.value in
     let held' = held ∙ (ap (λ i. get_or c.self.inside.held.items i c.index_mut-2.result.now) place
     ∙ or_any c.self.inside.held.items (held_place s c.args.seat c.args.leaf) c.index_mut-2.result.now (place_in s c.args.seat c.args.leaf ok here.0 here.1)) in
-    let size = ap length c.raise.ensures ∙ (length-raised (path_up c.deref-4.result.now c.args.leaf) c.least_left-got.result c.deref_mut.result.now ∙ (ap length c.deref_mut.ensures.value ∙ sym c.self.inside.drawn.ok.0)) in
-    let state = drew_from s c.args.seat c.args.leaf c.args.ask c.deref-4.result.now c.deref_mut.result.now (with_items c.self.inside.drawn c.raise.new.drawn).items c.least_left-got.result c.index_mut.result.now c.index_mut-2.result.now (c.args.seat * c.len.result + c.args.leaf)
+    let size = ap length c.raise.ensures ∙ (length-raised (path_up c.deref-4.result.now c.args.leaf) c.least_left-got.result c.deref_mut.result.now
+    ∙ (ap length c.deref_mut.ensures.value ∙ sym c.self.inside.drawn.ok.0)) in
+    let state = drew_from s c.args.seat c.args.leaf c.args.ask c.deref-4.result.now c.deref_mut.result.now
+    (with_items c.self.inside.drawn c.raise.new.drawn).items c.least_left-got.result c.index_mut.result.now c.index_mut-2.result.now
+    (c.args.seat * c.len.result + c.args.leaf)
     got c.deref-4.ensures.value c.deref_mut.ensures.value (with_items_is c.self.inside.drawn c.raise.new.drawn size ∙ c.raise.ensures) by' place held' in
     state ∙ ap (λ (v : PoolState). drew v c.args.seat c.args.leaf (got_of v c.args.seat c.args.leaf c.args.ask)) c.self.view_is
 
@@ -101,7 +122,8 @@ returns-clause-reply c =
     let ok = c.self.invariant.sound in
     let pass = subst (λ (v : PoolState). refusal v c.args.seat (Draw c.args.leaf c.args.ask) ≡ None) (sym c.self.view_is) c.requires in
     let here = draw_passed s c.args.seat c.args.leaf c.args.ask pass in
-    let got = got_from s c.args.seat c.args.leaf c.args.ask c.deref.result.now c.deref-2.result.now c.deref-3.result.now c.index.result.now c.min-bound.result c.least_left-got.result
+    let got = got_from s c.args.seat c.args.leaf c.args.ask c.deref.result.now c.deref-2.result.now c.deref-3.result.now c.index.result.now
+    c.min-bound.result c.least_left-got.result
     ok pass c.deref.ensures.value c.deref-2.ensures.value c.deref-3.ensures.value c.index.ensures c.min-bound.ensures c.least_left-got.ensures.value in
     let short : c.if-got-ask.short ≡ short_of s c.args.leaf c.args.ask c.least_left-got.result = elim c.if-got-ask.branch [
       | then-got-ask w ↦ w.short-is ∙ short_none s c.args.leaf c.args.ask c.least_left-got.result w.if-got-ask.true
@@ -111,4 +133,5 @@ returns-clause-reply c =
     ] in
     ap (λ x. Granted c.least_left-got.result x) short
     ∙ (ap (λ n. Granted n (short_of s c.args.leaf c.args.ask n)) got
-    ∙ ap (λ (v : PoolState). Granted (got_of v c.args.seat c.args.leaf c.args.ask) (short_of v c.args.leaf c.args.ask (got_of v c.args.seat c.args.leaf c.args.ask))) c.self.view_is)
+    ∙ ap (λ (v : PoolState). Granted (got_of v c.args.seat c.args.leaf c.args.ask)
+    (short_of v c.args.leaf c.args.ask (got_of v c.args.seat c.args.leaf c.args.ask))) c.self.view_is)

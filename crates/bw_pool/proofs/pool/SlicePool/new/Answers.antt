@@ -1,3 +1,4 @@
+-- A new pool is one.
 use Rattle.std.proofs.Common.{rules, ◌≡◌, sym, subst, arith}
 use Rattle.bw_model.specs.Host.{slices_per_processor}
 use Rattle.bw_pool.specs.Pool.{PoolState, IsSound, new_pool}

@@ -1,3 +1,4 @@
+-- What is given back was drawn at each group above its leaf, and a pool is left.
 use Rattle.std.proofs.Common.{◌≡◌, ◌+◌, ◌-◌, ◌*◌, ◌≤◌, length, get_or, None, subst, sym, ap, ◌∙◌, arith}
 use Rattle.bw_pool.specs.Pool.{PoolState, IsSound, leaf_refusal, held_place, held_by}
 use Rattle.bw_pool.specs.Pools.{pool_of}
@@ -42,10 +43,20 @@ invariant_of-self c =
     let by' = by ∙ or_any c.self.inside.by_processor.items c.args.seat c.index_mut.result.now (omega (arith, ok.by_processor, here.0)) in
     let rows : c.len.result ≡ length c.self.inside.rows.items = c.len.ensures ∙ c.self.inside.rows.ok.0 in
     let place : c.args.seat * c.len.result + c.args.leaf ≡ held_place s c.args.seat c.args.leaf = ap (λ n. c.args.seat * n + c.args.leaf) rows in
-    let held : c.index_mut-2.result.now ≡ get_or c.self.inside.held.items (c.args.seat * c.len.result + c.args.leaf) c.index_mut-2.result.now = c.index_mut-2.ensures.value in
+    let held : c.index_mut-2.result.now ≡ get_or c.self.inside.held.items (c.args.seat * c.len.result + c.args.leaf) c.index_mut-2.result.now =
+    c.index_mut-2.ensures.value in
     let held' = held ∙ (ap (λ i. get_or c.self.inside.held.items i c.index_mut-2.result.now) place
     ∙ or_any c.self.inside.held.items (held_place s c.args.seat c.args.leaf) c.index_mut-2.result.now (place_in s c.args.seat c.args.leaf ok here.0 here.1)) in
-    let size = ap length c.lower.ensures ∙ (length-lowered (path_up c.deref.result.now c.args.leaf) c.args.n c.deref_mut.result.now ∙ (ap length c.deref_mut.ensures.value ∙ sym c.self.inside.drawn.ok.0)) in
-    let state = gave_from s c.args.seat c.args.leaf c.args.n c.deref.result.now c.deref_mut.result.now (with_items c.self.inside.drawn c.lower.new.drawn).items (c.index_mut.result.now - c.args.n) c.index_mut-2.result.now (c.args.seat * c.len.result + c.args.leaf)
-    c.deref.ensures.value c.deref_mut.ensures.value (with_items_is c.self.inside.drawn c.lower.new.drawn size ∙ c.lower.ensures) (ap (λ k. k - c.args.n) by') place held' in
-    record { sound = subst IsSound (sym state) (sound_gave_back s c.args.seat c.args.leaf c.args.n ok here.0 here.1 here.2 here.3); flags = c.self.invariant.flags; leaf = c.self.invariant.leaf }
+    let size = ap length c.lower.ensures ∙ (length-lowered (path_up c.deref.result.now c.args.leaf) c.args.n c.deref_mut.result.now
+    ∙ (ap length c.deref_mut.ensures.value ∙ sym c.self.inside.drawn.ok.0)) in
+    let state = gave_from s c.args.seat c.args.leaf c.args.n c.deref.result.now c.deref_mut.result.now
+    (with_items c.self.inside.drawn c.lower.new.drawn).items (c.index_mut.result.now - c.args.n) c.index_mut-2.result.now
+    (c.args.seat * c.len.result + c.args.leaf)
+    c.deref.ensures.value c.deref_mut.ensures.value (with_items_is c.self.inside.drawn c.lower.new.drawn size ∙ c.lower.ensures)
+    (ap (λ k. k - c.args.n) by') place held' in
+    record {
+      sound = subst IsSound (sym state) (sound_gave_back s c.args.seat c.args.leaf c.args.n ok here.0 here.1 here.2 here.3);
+      flags =
+          c.self.invariant.flags;
+      leaf = c.self.invariant.leaf;
+    }
