@@ -1,4 +1,4 @@
-pub mod LastSlash
-pub mod Writes
-pub mod Settings
-pub mod Unwritten
+mod LastSlash
+mod Writes
+mod Settings
+mod Unwritten

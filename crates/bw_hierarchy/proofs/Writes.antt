@@ -6,13 +6,12 @@ use Rattle.std.specs.Str.{bytes_eq}
 use Rattle.std.specs.Map.{set_value}
 use Rattle.std.proofs.lemmas.Bool.{ne_eqb}
 use Rattle.std.proofs.lemmas.Bool.Decides.{eqb_tells}
-use Rattle.std.proofs.lemmas.Slice.Eq.{bytes_eq-Decides}
 use Rattle.bw_text.specs.Words.{words}
 use Rattle.bw_model.specs.declared.stat.Stat.{Stat}
 use Rattle.bw_model.specs.declared.quota.Quota.{Quota}
 use Rattle.bw_tree.specs.Groups.{GroupFields, TreeState, group_at, has_group, child_of, onward, walk, find_path}
 use Rattle.bw_tree.specs.Tree.{changed, changed_at, with_setting, set_weight, set_max, set_burst}
-use Rattle.bw_tree.proofs.SetLemmas.{look_set_other, look_set_same, child_set}
+use Rattle.bw_tree.proofs.CallerLemmas.{look_set_other, look_set_same, child_set}
 use Rattle.bw_files.specs.declared.fault.FileFault.{FileFault}
 use Rattle.bw_files.specs.declared.reading.MaxWrite.{MaxWrite}
 use Rattle.bw_files.specs.Reading.{weight_of, burst_of, max_of}
@@ -23,6 +22,7 @@ use Rattle.bw_tree.specs.declared.fault.TreeFault.TheVariants.{NotFound}
 use Rattle.bw_hierarchy.specs.Calls.{from_file, and_then, found, quota_at, burst_at, is_above, fitting, max_set}
 use Rattle.bw_hierarchy.specs.Files.{weight_file, max_file, burst_file, stat_file, text_of, read_of, weight_write, max_write, burst_write, write_at, write_of}
 use Rattle.bw_hierarchy.specs.State.{HierarchyState, with_tree}
+use Rattle.bw_model.proofs.CallerLemmas.{bytes_eq-true}
 
 -- a setting leaves the place of a group: its parent and its name
 pub record IsSetting (f : GroupFields → GroupFields) : Type 0 where
@@ -131,9 +131,6 @@ pub record IsBurstWrite (t u : TreeState) (path file text : List ℕ) : Type 0 w
   pub value : burst_of (words text) ≡ Ok n
   pub write : IsWrite t u path (set_burst n) id g
 
-file_is : (file name : List ℕ) → bytes_eq file name ≡ true → file ≡ name
-file_is file name e = (bytes_eq-Decides file name).0 e
-
 pub write_parts : (t u : TreeState) (path file text : List ℕ) → write_of t path file text ≡ Ok u
     → IsWeightWrite t u path file text ⊎ (IsMaxWrite t u path file text ⊎ IsBurstWrite t u path file text)
 write_parts t u path file text e =
@@ -145,16 +142,16 @@ write_parts t u path file text e =
     elim (branches (bytes_eq file weight_file) (bytes_eq file max_file) (bytes_eq file burst_file) (weight_write t a.0 text) (max_write t a.0 text) (burst_write t a.0 text) u c.1) [
       | inl d ↦
           let p = file_parts (weight_of (words text)) (λ w. Ok (with_setting (set_weight w) t a.0)) u d.1 in
-          inl (record { id = a.0; g = there.0; w = p.0; file_is = file_is file weight_file d.0; value = p.1; write = record { leads = a.1; there = there.1; inner = c.0; is = done_is (with_setting (set_weight p.0) t a.0) u p.2 } })
+          inl (record { id = a.0; g = there.0; w = p.0; file_is = bytes_eq-true file weight_file d.0; value = p.1; write = record { leads = a.1; there = there.1; inner = c.0; is = done_is (with_setting (set_weight p.0) t a.0) u p.2 } })
       | inr m ↦ inr (elim m [
         | inl d ↦
             let p = file_parts (max_of (words text)) (λ (m : MaxWrite). max_set t a.0 m.quota m.period) u d.1 in
             let q = guard_parts (is_above (burst_at (group_at t.groups a.0)) p.0.quota) BurstAboveQuota (Ok (with_setting (set_max p.0.quota p.0.period) t a.0)) u p.2 in
-            inl (record { id = a.0; g = there.0; m = p.0; file_is = file_is file max_file d.0; value = p.1; write = record { leads = a.1; there = there.1; inner = c.0; is = done_is (with_setting (set_max p.0.quota p.0.period) t a.0) u q.1 } })
+            inl (record { id = a.0; g = there.0; m = p.0; file_is = bytes_eq-true file max_file d.0; value = p.1; write = record { leads = a.1; there = there.1; inner = c.0; is = done_is (with_setting (set_max p.0.quota p.0.period) t a.0) u q.1 } })
         | inr d ↦
             let p = file_parts (burst_of (words text)) (λ n. fitting n (quota_at (group_at t.groups a.0)) (with_setting (set_burst n) t a.0)) u d.1 in
             let q = guard_parts (is_above p.0 (quota_at (group_at t.groups a.0))) BurstAboveQuota (Ok (with_setting (set_burst p.0) t a.0)) u p.2 in
-            inr (record { id = a.0; g = there.0; n = p.0; file_is = file_is file burst_file d.0; value = p.1; write = record { leads = a.1; there = there.1; inner = c.0; is = done_is (with_setting (set_burst p.0) t a.0) u q.1 } })
+            inr (record { id = a.0; g = there.0; n = p.0; file_is = bytes_eq-true file burst_file d.0; value = p.1; write = record { leads = a.1; there = there.1; inner = c.0; is = done_is (with_setting (set_burst p.0) t a.0) u q.1 } })
       ])
     ]
 
@@ -234,7 +231,7 @@ other_file : (file name : List ℕ) → file ≢ name → bytes_eq file name ≡
 other_file file name apart = by (bytes_eq file name) refl
   where
     by : (b : Bool) → bytes_eq file name ≡ b → b ≡ false
-    by true e = absurd (apart (file_is file name e))
+    by true e = absurd (apart (bytes_eq-true file name e))
     by false e = refl
 
 ok_is : {A : Type 0} (x y : A) (r : Result A FileFault) → r ≡ Ok x → r ≡ Ok y → x ≡ y

@@ -1,16 +1,17 @@
-pub mod Trees
-pub mod Lists
-pub mod Holdings
-pub mod Sound
-pub mod Ways
-pub mod Draws
-pub mod Backs
-pub mod Bounds
-pub mod Workers
-pub mod Drawing
-pub mod Returning
-pub mod Drained
-pub mod Amounts
-pub mod Witness
-pub mod Places
-pub mod Runs
+pub mod CallerLemmas
+mod Trees
+mod Lists
+mod Holdings
+mod Sound
+mod StepsUp
+mod Draws
+mod Backs
+mod Bounds
+mod Workers
+mod Drawing
+mod Returning
+mod Drained
+mod Amounts
+mod Witness
+mod Places
+mod Runs

@@ -1,7 +1,8 @@
-pub mod Takes
-pub mod Picks
-pub mod Search
-pub mod LastMarks
-pub mod Lined
-pub mod Filling
-pub mod EmptyStruct
+pub mod CallerLemmas
+mod Takes
+mod Picks
+mod Search
+mod LastMarks
+mod NextMarks
+mod Filling
+mod EmptyStruct

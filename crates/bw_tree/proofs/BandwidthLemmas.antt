@@ -16,6 +16,7 @@ use Rattle.bw_tree.specs.Bandwidth.Call.{Book, Mkdir, Rmdir, SetDemand, SetWeigh
 use Rattle.bw_tree.proofs.CarryLemmas.{keys_carried}
 use Rattle.bw_tree.proofs.RemoveLemmas.{look_removed_other}
 use Rattle.bw_tree.proofs.SetLemmas.{look_set_other, look_set_same}
+use Rattle.bw_model.proofs.CallerLemmas.{inside}
 
 -- ---- one booked period
 
@@ -32,9 +33,6 @@ left_at s all (e ∷ es) (d ∷ ds) id same = onto (eqb id e.0) (left_at s all e
     onto true rest = refl
     onto false rest = rest
 
-some_is : {A : Type 0} {a b : A} → Some a ≡ Some b → a ≡ b
-some_is e = cc
-
 -- a group has drawn no more than its limit
 within_at : (s : Shape) (all gs : List (ℕ × GroupFields)) (ds : List ℕ) (id : ℕ) (g : GroupFields) → length ds ≡ length gs
     → IsDrawnWithin (map (row_of all s) (values_of gs)) ds → group_at gs id ≡ Some g → IfSome (period_limit s g) (λ limit. drawn_at gs ds id ≤ limit)
@@ -45,7 +43,7 @@ within_at s all (e ∷ es) (d ∷ ds) id g same within found =
   where
     onto : (b : Bool) → cond b (Some e.1) (group_at es id) ≡ Some g → IfSome (period_limit s e.1) (λ limit. d ≤ limit)
         → (group_at es id ≡ Some g → IfSome (period_limit s g) (λ limit. drawn_at es ds id ≤ limit)) → IfSome (period_limit s g) (λ limit. cond b d (drawn_at es ds id) ≤ limit)
-    onto true found here rest = subst (λ x. IfSome (period_limit s x) (λ limit. d ≤ limit)) (some_is found) here
+    onto true found here rest = subst (λ x. IfSome (period_limit s x) (λ limit. d ≤ limit)) (inside found) here
     onto false found here rest = rest found
 
 -- what a group drew and what it left over are its limit

@@ -13,9 +13,7 @@ use Rattle.bw_tree.specs.Groups.{GroupFields, TreeState, group_at, has_group, ch
 use Rattle.bw_tree.specs.Paths.{with_name, names_at, names_within, names_to, path_at, IsInverse, AreNamesUnique}
 use Rattle.bw_tree.proofs.GroupLemmas.{some_of}
 use Rattle.bw_tree.proofs.IndexLemmas.{child_found, named_is}
-
-inside : {A : Type 0} {a b : A} → Some a ≡ Some b → a ≡ b
-inside e = cc
+use Rattle.bw_model.proofs.CallerLemmas.{inside}
 
 -- one step of the way
 pub names_more : (groups : List (ℕ × GroupFields)) (steps id : ℕ) → names_within (suc steps) groups id ≡ names_at (names_within steps groups) (group_at groups id)

@@ -1,13 +1,13 @@
-pub mod OneTurn
-pub mod Sound
-pub mod Counts
-pub mod Words
-pub mod WordsApart
-pub mod LeaveSound
-pub mod MarkSound
-pub mod OneSeatSound
-pub mod WakeSound
-pub mod NotStuck
-pub mod RunSound
-pub mod CanStep
-pub mod CoreRefined
+mod OneTurn
+mod Sound
+mod Counts
+mod Words
+mod WordsApart
+mod LeaveSound
+mod MarkSound
+mod OneSeatSound
+mod WakeSound
+mod NotStuck
+mod RunSound
+mod CanStep
+mod CoreRefined

@@ -6,7 +6,7 @@ use Rattle.std.proofs.lemmas.List.{with_items_is}
 use Rattle.bw_model.specs.Groups.{path_up}
 use Rattle.bw_pool.proofs.Trees.{length-lowered}
 use Rattle.bw_pool.proofs.Sound.{place_in, sound_gave_back, held_le_processor, held_le_path}
-use Rattle.bw_pool.proofs.Draws.{or_any}
+use Rattle.bw_model.proofs.CallerLemmas.{get_or_within}
 use Rattle.bw_pool.proofs.Backs.{back_passed, gave_from, enough_from}
 use Rattle.bw_pool.proofs.pool.SlicePool.take_back.Goals as goal
 
@@ -28,7 +28,7 @@ overflow_sub-index_mut c =
     let has = subst (λ (v : PoolState). c.args.n ≤ held_by v c.args.seat c.args.leaf) (sym c.self.view_is) c.requires.held in
     let here = back_passed s c.args.seat c.args.leaf c.args.n pass has in
     let by : c.index_mut.result.now ≡ get_or c.self.inside.by_processor.items c.args.seat c.index_mut.result.now = c.index_mut.ensures.value in
-    let by' = by ∙ or_any c.self.inside.by_processor.items c.args.seat c.index_mut.result.now (omega (arith, ok.by_processor, here.0)) in
+    let by' = by ∙ get_or_within c.self.inside.by_processor.items c.args.seat c.index_mut.result.now (omega (arith, ok.by_processor, here.0)) in
     omega (arith, by', here.3, held_le_processor s c.args.seat c.args.leaf c.args.n ok here.0 here.1 here.2)
 
 pub invariant_of-self : goal.invariant_of-self
@@ -39,12 +39,12 @@ invariant_of-self c =
     let has = subst (λ (v : PoolState). c.args.n ≤ held_by v c.args.seat c.args.leaf) (sym c.self.view_is) c.requires.held in
     let here = back_passed s c.args.seat c.args.leaf c.args.n pass has in
     let by : c.index_mut.result.now ≡ get_or c.self.inside.by_processor.items c.args.seat c.index_mut.result.now = c.index_mut.ensures.value in
-    let by' = by ∙ or_any c.self.inside.by_processor.items c.args.seat c.index_mut.result.now (omega (arith, ok.by_processor, here.0)) in
+    let by' = by ∙ get_or_within c.self.inside.by_processor.items c.args.seat c.index_mut.result.now (omega (arith, ok.by_processor, here.0)) in
     let rows : c.len.result ≡ length c.self.inside.rows.items = c.len.ensures ∙ c.self.inside.rows.ok.0 in
     let place : c.args.seat * c.len.result + c.args.leaf ≡ held_place s c.args.seat c.args.leaf = ap (λ n. c.args.seat * n + c.args.leaf) rows in
     let held : c.index_mut-2.result.now ≡ get_or c.self.inside.held.items (c.args.seat * c.len.result + c.args.leaf) c.index_mut-2.result.now = c.index_mut-2.ensures.value in
     let held' = held ∙ (ap (λ i. get_or c.self.inside.held.items i c.index_mut-2.result.now) place
-    ∙ or_any c.self.inside.held.items (held_place s c.args.seat c.args.leaf) c.index_mut-2.result.now (place_in s c.args.seat c.args.leaf ok here.0 here.1)) in
+    ∙ get_or_within c.self.inside.held.items (held_place s c.args.seat c.args.leaf) c.index_mut-2.result.now (place_in s c.args.seat c.args.leaf ok here.0 here.1)) in
     let size = ap length c.lower.ensures ∙ (length-lowered (path_up c.deref.result.now c.args.leaf) c.args.n c.deref_mut.result.now ∙ (ap length c.deref_mut.ensures.value ∙ sym c.self.inside.drawn.ok.0)) in
     let state = gave_from s c.args.seat c.args.leaf c.args.n c.deref.result.now c.deref_mut.result.now (with_items c.self.inside.drawn c.lower.new.drawn).items (c.index_mut.result.now - c.args.n) c.index_mut-2.result.now (c.args.seat * c.len.result + c.args.leaf)
     c.deref.ensures.value c.deref_mut.ensures.value (with_items_is c.self.inside.drawn c.lower.new.drawn size ∙ c.lower.ensures) (ap (λ k. k - c.args.n) by') place held' in
