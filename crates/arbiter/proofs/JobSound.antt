@@ -17,7 +17,8 @@ use Rattle.arbiter.specs.Words.{Uses, is_end, job_named, run_job}
 use Rattle.arbiter.specs.declared.words.Job.{Job}
 use Rattle.arbiter.specs.declared.words.Job.TheVariants as job
 use Rattle.arbiter.proofs.RunWalk.{state}
-use Rattle.arbiter.proofs.RunFaults.{built_app, names, known}
+use Rattle.arbiter.proofs.RunFaults.{built_app, names}
+use Rattle.bw_model.proofs.CallerLemmas.{bytes_eq-true}
 use Rattle.arbiter.proofs.Refused.{RefusesWords, is_fault, contra, or_none, fault_left, fault_right, turn_of, trails, fault_at, long_fault_at, idle_other}
 use Rattle.arbiter.proofs.RunSound.{run_sound}
 use Rattle.arbiter.proofs.Named.{named_gives}
@@ -185,11 +186,11 @@ other_words X verb rest not_run not_check e = helps (bytes_eq (codes "help") ver
 
     dashes : (b : Bool) → bytes_eq verb (45 ∷ 45 ∷ []) ≡ b → subcommand_met names idle verb ≡ None → (rest : List Text) → walk_fault built_app.top names (walk_from nothing_held) (verb ∷ rest) ≡ [] → fault_of arbiter_app (verb ∷ rest) ≡ [] → X
     dashes false dash none rest walks e = only_end built_app.top names top_refuses X verb none dash turn
-    dashes true dash none [] walks e = contra (fault_of arbiter_app ((45 ∷ 45 ∷ []) ∷ [])) X end_alone (subst (λ w. fault_of arbiter_app (w ∷ []) ≡ []) (known verb (45 ∷ 45 ∷ []) dash) e)
+    dashes true dash none [] walks e = contra (fault_of arbiter_app ((45 ∷ 45 ∷ []) ∷ [])) X end_alone (subst (λ w. fault_of arbiter_app (w ∷ []) ≡ []) (bytes_eq-true verb (45 ∷ 45 ∷ []) dash) e)
     dashes true dash none (y ∷ ys) walks e = after_end built_app.top names top_refuses X verb y ys none dash walks
 
     helps : (b : Bool) → bytes_eq (codes "help") verb ≡ b → X
-    helps true is = contra _ X help_faults (subst (λ w. turn_fault built_app.top names (walk_from nothing_held) w ≡ []) (sym (known (codes "help") verb is)) turn)
+    helps true is = contra _ X help_faults (subst (λ w. turn_fault built_app.top names (walk_from nothing_held) w ≡ []) (sym (bytes_eq-true (codes "help") verb is)) turn)
     helps false is = dashes (bytes_eq verb (45 ∷ 45 ∷ [])) refl (none_met (bytes_eq (codes "run") verb) (bytes_eq (codes "check") verb) (bytes_eq (codes "help") verb) not_run not_check is) rest walks e
 
 pub job_sound : (words : List Text) (k : Job) → IsFoundFor words k → job_named words ≡ Some k
@@ -197,9 +198,9 @@ job_sound [] k w = contra (fault_of arbiter_app []) _ no_words w.passes
 job_sound (verb ∷ rest) k w = runs (bytes_eq (codes "run") verb) refl
   where
     checks : (b : Bool) → bytes_eq (codes "run") verb ≡ false → bytes_eq (codes "check") verb ≡ b → job_named (verb ∷ rest) ≡ Some k
-    checks true not_run is = subst (λ v. IsFoundFor (v ∷ rest) k → job_named (v ∷ rest) ≡ Some k) (known (codes "check") verb is) (check_words rest k) w
+    checks true not_run is = subst (λ v. IsFoundFor (v ∷ rest) k → job_named (v ∷ rest) ≡ Some k) (bytes_eq-true (codes "check") verb is) (check_words rest k) w
     checks false not_run is = other_words _ verb rest not_run is w.passes
 
     runs : (b : Bool) → bytes_eq (codes "run") verb ≡ b → job_named (verb ∷ rest) ≡ Some k
-    runs true is = subst (λ v. IsFoundFor (v ∷ rest) k → job_named (v ∷ rest) ≡ Some k) (known (codes "run") verb is) (run_words rest k) w
+    runs true is = subst (λ v. IsFoundFor (v ∷ rest) k → job_named (v ∷ rest) ≡ Some k) (bytes_eq-true (codes "run") verb is) (run_words rest k) w
     runs false is = checks (bytes_eq (codes "check") verb) is refl

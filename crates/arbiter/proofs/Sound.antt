@@ -23,7 +23,8 @@ use Rattle.clap.specs.Simple.{filled, help_rule}
 use Rattle.clap.specs.declared.builder.ValueParser.TheVariants as parser
 use Rattle.clap.proofs.WalkLemmas.{both}
 use Rattle.arbiter.specs.Words.{Uses, is_setting, is_given, may_give, is_number, option_parts, begins_with_dash, uses_after, after_parts, is_empty}
-use Rattle.arbiter.proofs.RunWalk.{Reads, IsIdle, IsWaiting, state, rows_for, setting_rule, turned, given_row, number_is, none≢some, parts_are, same_name, name_met, name_turn, pair_met, pair_turn, paired, valued}
+use Rattle.arbiter.proofs.RunWalk.{Reads, IsIdle, IsWaiting, state, rows_for, setting_rule, turned, given_row, number_is, none≢some, parts_are, name_met, name_turn, pair_met, pair_turn, paired, valued}
+use Rattle.bw_model.proofs.CallerLemmas.{bytes_eq-self}
 use Rattle.arbiter.proofs.RunFaults.{run_shape}
 use Rattle.arbiter.proofs.Refused.{RefusesWords, is_fault, contra, or_none, fault_left, fault_right, split, turn_of, trails, short_refused, fault_at, long_fault_at, short_fault_at, met_at, met_other, met_empty, idle_other}
 
@@ -149,7 +150,7 @@ module _ (s : Shape) (r : Reads s) (f : Refuses s) where
       let found = r.long name at.setting in
       ap (λ a. ((option_word a name word h).0, next (option_word a name word h).1)) found.2
       ∙ ap (λ q. (pushed name word (record h { pending = q }), next (cond (nat_lt (pending_count (setting_rule name found.0) (pushed name word (record h { pending = q })).pending) 1) (option name) idle))) at.pending
-      ∙ ap (λ p. (record h { pending = Some (name, word ∷ []) }, next (cond (nat_lt (cond p 1 0) 1) (option name) idle))) (same_name name)
+      ∙ ap (λ p. (record h { pending = Some (name, word ∷ []) }, next (cond (nat_lt (cond p 1 0) 1) (option name) idle))) (bytes_eq-self name)
 
   -- a word that an option takes as its value
   takes_value : (name word : List ℕ) (h after : Held) (g : Uses) (rest : List Text) → Rest rest → IsWaiting name after g → after.skip ≡ 0

@@ -1,10 +1,10 @@
 -- What is spelled is read.
-use Rattle.std.proofs.Common.{◌≡◌, ℕ, ◌<◌, ◌≤◌, ◌^◌, Bool, true, false, eqb, List, [], ◌∷◌, ◌++◌, length, get_or, Option, Some, None, Ok, refl, ap, ◌∙◌, append_assoc, ◌⊎◌, inl, inr, arith}
+use Rattle.std.proofs.Common.{◌≡◌, ℕ, ◌<◌, ◌≤◌, ◌^◌, Bool, true, false, eqb, List, [], ◌∷◌, ◌++◌, length, get_or, Option, Some, None, Ok, refl, ap, ◌∙◌, append_assoc, inl, inr, arith}
 use Rattle.std.specs.Prelude.{codes, IfSome}
 use Rattle.std.specs.List.{slice_split, join_with_byte, AllByRecursion, All}
 use Rattle.std.specs.Str.{bytes_eq}
 use Rattle.std.specs.Fmt.{decimal}
-use Rattle.std.proofs.lemmas.Bool.{lt-ltb}
+use Rattle.std.proofs.lemmas.Bool.{lt-ltb, cases_Bool}
 use Rattle.std.proofs.lemmas.Bool.Decides.{nat_tests}
 use Rattle.std.proofs.lemmas.Fmt.{decimal_nonempty}
 use Rattle.std.proofs.lemmas.List.{length-append}
@@ -12,26 +12,21 @@ use Rattle.std.proofs.lemmas.List.Elements.{All-append, All-from_recursion, recu
 use Rattle.std.proofs.lemmas.List.Splits.{slice_split_at, slice_split_none}
 use Rattle.std.proofs.lemmas.Slice.Eq.{bytes_eq-Decides}
 use Rattle.bw_text.specs.Number.{number_read}
-use Rattle.bw_text.proofs.Numbers.{digit_range}
-use Rattle.bw_text.proofs.Decimals.{decimal_is_read, digits_of_decimal}
+use Rattle.bw_text.proofs.CallerLemmas.{digit_range, decimal_is_read, digits_of_decimal}
 use Rattle.bw_model.specs.Marks.{Price}
 use Rattle.bw_cert.specs.Spelling.{lines_of, words_of, line, parent_word, limit_word, flag_word, level_word, IsSmallLevel}
-use Rattle.bw_cert.specs.Reading.{number_at, small_at, parent_at, limit_at, flag_at, mark_at, level_at}
+use Rattle.bw_cert.specs.Reading.{number_at, u32_at, parent_at, limit_at, flag_at, mark_at, level_in_word}
 
 pub number_again : (n : ℕ) → n < 2 ^ 64 → number_at (decimal n) ≡ Ok n
 number_again n h = rw (decimal_is_read n h) refl
 
-small_again : (n : ℕ) → n < 2 ^ 32 → small_at (decimal n) ≡ Ok n
-small_again n h = rw (number_again n (omega arith), lt-ltb n (2 ^ 32) h) refl
-
-which : (b : Bool) → (b ≡ true) ⊎ (b ≡ false)
-which true = inl refl
-which false = inr refl
+u32_again : (n : ℕ) → n < 2 ^ 32 → u32_at (decimal n) ≡ Ok n
+u32_again n h = rw (number_again n (omega arith), lt-ltb n (2 ^ 32) h) refl
 
 -- two words of which one is a number and the other is none
 apart : (n : ℕ) (word : List ℕ) → n < 2 ^ 64 → (number_read word ≡ Ok n → ⊥) → bytes_eq (decimal n) word ≡ false
 apart n word h none =
-    elim (which (bytes_eq (decimal n) word)) [
+    elim (cases_Bool (bytes_eq (decimal n) word)) [
       | inl e ↦ absurd (none (rw ((bytes_eq-Decides (decimal n) word).0 e) at (decimal_is_read n h)))
       | inr e ↦ e
     ]
@@ -44,7 +39,7 @@ no_max n e = cc
 
 pub parent_again : (o : Option ℕ) → IfSome o (λ n. n < 2 ^ 32) → parent_at (parent_word o) ≡ Ok o
 parent_again None h = refl
-parent_again (Some n) h = rw (apart n (codes "-") (omega arith) (no_dash n), small_again n h) refl
+parent_again (Some n) h = rw (apart n (codes "-") (omega arith) (no_dash n), u32_again n h) refl
 
 pub limit_again : (o : Option ℕ) → IfSome o (λ n. n < 2 ^ 64) → limit_at (limit_word o) ≡ Ok o
 limit_again None h = refl
@@ -95,15 +90,15 @@ mark_again l h =
     let tail : IsFree 47 (decimal l.den ++ 64 ∷ decimal l.place) = All-append (λ b. eqb b 47 ≡ false) (decimal l.den) (64 ∷ decimal l.place) (digits_free 47 l.den h.den (omega arith)) (free_cons 47 64 (decimal l.place) refl (digits_free 47 l.place (omega (arith, h.place)) (omega arith))) in
     let outer = two_parts 47 (decimal l.num) (decimal l.den ++ 64 ∷ decimal l.place) refl (digits_free 47 l.num h.num (omega arith)) tail in
     let inner = two_parts 64 (decimal l.den) (decimal l.place) refl (digits_below 64 l.den h.den (omega arith)) (digits_below 64 l.place (omega (arith, h.place)) (omega arith)) in
-    ap mark_at grouped ∙ rw (outer, inner, number_again l.num h.num, number_again l.den h.den, small_again l.place h.place, lt-ltb 0 l.num h.some_num, lt-ltb 0 l.den h.some_den) refl
+    ap mark_at grouped ∙ rw (outer, inner, number_again l.num h.num, number_again l.den h.den, u32_again l.place h.place, lt-ltb 0 l.num h.some_num, lt-ltb 0 l.den h.some_den) refl
 
 no_level : (l : Price) → level_word (Some l) ≡ codes "-" → 0 < length (decimal l.num) → ⊥
 no_level l e some = omega (arith, some, simp length-append at (ap length e))
 
-pub level_again : (o : Option Price) → IfSome o IsSmallLevel → level_at (level_word o) ≡ Ok o
+pub level_again : (o : Option Price) → IfSome o IsSmallLevel → level_in_word (level_word o) ≡ Ok o
 level_again None h = refl
 level_again (Some l) h =
-    elim (which (bytes_eq (level_word (Some l)) (codes "-"))) [
+    elim (cases_Bool (bytes_eq (level_word (Some l)) (codes "-"))) [
       | inl e ↦ absurd (no_level l ((bytes_eq-Decides (level_word (Some l)) (codes "-")).0 e) (decimal_nonempty l.num h.num))
       | inr e ↦ rw e (mark_again l h)
     ]

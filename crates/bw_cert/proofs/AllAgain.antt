@@ -7,13 +7,13 @@ use Rattle.std.proofs.lemmas.Bool.{le-ltb}
 use Rattle.std.proofs.lemmas.List.Elements.{All-append, All-from_recursion, recursion_from_All}
 use Rattle.bw_model.specs.declared.limits.TheConstants.{MAX_GROUPS}
 use Rattle.bw_model.specs.Host.{Shape, IsHost}
-use Rattle.bw_model.proofs.Instances.{IsHost-accepted, IsInstance-accepted}
+use Rattle.bw_model.proofs.CallerLemmas.{IsHost-accepted, IsInstance-accepted}
 use Rattle.bw_model.specs.declared.row.Row.{Row}
 use Rattle.bw_cert.specs.declared.fault.CertFault.{CertFault}
 use Rattle.bw_cert.specs.declared.groups.Certified.{Certified}
 use Rattle.bw_model.specs.Marks.{Price}
 use Rattle.bw_cert.specs.Spelling.{groups_of, Value, lines_of, line, parent_word, limit_word, flag_word, level_word, head_words, group_words, groups_text, spelling, IsSmallRow, IsSmallLevel, IsValue}
-use Rattle.bw_cert.specs.Reading.{Gives, line_at, head_of, group_of, groups_at, certified_of, certified_view}
+use Rattle.bw_cert.specs.Reading.{ReadsAs, line_at, head_of, group_of, groups_at, certified_of, certified_view}
 use Rattle.bw_cert.proofs.Lines.{line_there}
 use Rattle.bw_cert.proofs.Again.{IsPlain, digits_plain, number_again, parent_again, limit_again, flag_again, level_again, words_again, line_again}
 
@@ -108,8 +108,8 @@ certified_again v h =
       IsInstance-accepted (groups_of v) h.instance,
     ) refl
 
-pub is_only : (text : List ℕ) (r : Result Certified CertFault) → Gives certified_view r (certified_of (lines_of text)) → (v : Value) → IsValue v → text ≡ spelling v → Gives certified_view r (Ok v)
-is_only text r given v h e = subst (λ (x : Result Value CertFault). Gives certified_view r x) (ap (λ (t : List ℕ). certified_of (lines_of t)) e ∙ certified_again v h) given
+pub is_only : (text : List ℕ) (r : Result Certified CertFault) → ReadsAs certified_view r (certified_of (lines_of text)) → (v : Value) → IsValue v → text ≡ spelling v → ReadsAs certified_view r (Ok v)
+is_only text r given v h e = subst (λ (x : Result Value CertFault). ReadsAs certified_view r x) (ap (λ (t : List ℕ). certified_of (lines_of t)) e ∙ certified_again v h) given
 
 abbrev read : Value → Result Value CertFault
 read v = Ok v

@@ -1,3 +1,4 @@
+-- A plan with its tight flags and its levels keeps the conditions of a certificate.
 use Rattle.std.proofs.Common.{◌≡◌, ℕ, ◌<◌, ◌≤◌, List, true, false, Option, None, Some, length, get_or, ltb, refl, ap, sym, ◌∙◌, subst, arith, rules}
 use Rattle.std.specs.Prelude.{sum_by, slice_index, map}
 use Rattle.std.specs.Option.{option_map_or, IsSome}
@@ -12,17 +13,11 @@ use Rattle.bw_model.specs.Plan.{child_weights, IsPlan}
 use Rattle.bw_model.specs.declared.limits.TheConstants.{MAX_CAPACITY}
 use Rattle.bw_model.specs.Demand.{AreMosts, want_of, is_tight}
 use Rattle.bw_model.specs.Certificate.{Certified, IsCertified, is_flagged, level_at, place_of}
-use Rattle.bw_model.proofs.Places.{child_at}
-use Rattle.bw_model.proofs.Optimum.{get_or-map}
-use Rattle.bw_model.proofs.Unique.{listed_child}
-use Rattle.bw_model.proofs.Planned.{tight-bound_at}
-use Rattle.bw_model.proofs.Reach.{capped, most_le_want, most_le_limit}
+use Rattle.bw_model.proofs.CallerLemmas.{child_at, get_or-map, listed_child, tight-bound_at, capped, most_le_want, most_le_limit, best-IsAtLevel}
+use Rattle.bw_model.proofs.CallerLemmas.{AreMosts-capped}
 use Rattle.bw_model.specs.Split.{IsGreatestLast}
-use Rattle.bw_model.proofs.Moves.{best-IsAtLevel}
-use Rattle.bw_model.proofs.Mosts.{AreMosts-capped}
-use Rattle.bw_plan.proofs.Backward.{plan-IsPlanning}
+use Rattle.bw_plan.proofs.CallerLemmas.{plan-IsPlanning, weights_in_range, at_most}
 use Rattle.bw_plan.specs.Shared.{IsPlanning}
-use Rattle.bw_plan.proofs.Shares.{weights_in_range, at_most}
 use Rattle.bw_cert.specs.Levels.{IsLevelAt, AreLevels}
 
 some_limit : (o : Option ℕ) (want : ℕ) → option_map_or (λ limit. ltb limit want) o false ≡ true → IsSome o

@@ -8,7 +8,7 @@ use Rattle.std.proofs.lemmas.List.Elements.{All-from_recursion}
 use Rattle.std.proofs.lemmas.List.Splits.{join_with_byte-slice_split}
 use Rattle.std.proofs.lemmas.Slice.Eq.{bytes_eq-Decides}
 use Rattle.bw_model.specs.declared.limits.TheConstants.{MAX_GROUPS}
-use Rattle.bw_model.proofs.Instances.{accepted-IsInstance}
+use Rattle.bw_model.proofs.CallerLemmas.{accepted-IsInstance}
 use Rattle.bw_model.specs.Host.{Shape, host_refusal}
 use Rattle.bw_model.specs.Refusal.{refusal}
 use Rattle.bw_model.specs.declared.host.HostFault.{HostFault}
@@ -19,7 +19,7 @@ use Rattle.bw_cert.specs.declared.fault.CertFault.TheVariants as faults
 use Rattle.bw_cert.specs.declared.groups.Certified.{Certified}
 use Rattle.bw_model.specs.Marks.{Price}
 use Rattle.bw_cert.specs.Spelling.{groups_of, Columns, Value, lines_of, words_of, line, head_words, group_words, groups_text, spelling, IsSmallRow, IsSmallLevel, IsValue}
-use Rattle.bw_cert.specs.Reading.{◌>>=◌, Gives, number_at, parent_at, limit_at, flag_at, level_at, line_at, word_is, host_unless, host_in, head_of, Group, group_of, with_group, no_groups, groups_at, value_unless, is_over, certified_of, certified_view}
+use Rattle.bw_cert.specs.Reading.{◌>>=◌, ReadsAs, number_at, parent_at, limit_at, flag_at, level_in_word, line_at, word_is, host_unless, host_in, head_of, Group, group_of, with_group, no_groups, groups_at, value_unless, is_over, certified_of, certified_view}
 use Rattle.bw_cert.proofs.WordsFound.{bind_ok, number_found, parent_found, limit_found, flag_found, level_found}
 
 -- seven words read one after the other
@@ -66,7 +66,7 @@ group_found (a ∷ b ∷ c ∷ d ∷ []) g h = absurd cc
 group_found (a ∷ b ∷ c ∷ d ∷ e ∷ []) g h = absurd cc
 group_found (a ∷ b ∷ c ∷ d ∷ e ∷ f ∷ []) g h = absurd cc
 group_found (parent ∷ weight ∷ limit ∷ demand ∷ amount ∷ flag ∷ level ∷ []) g h =
-    let p = seven_ok (parent_at parent) (number_at weight) (limit_at limit) (number_at demand) (number_at amount) (flag_at flag) (level_at level) made g h in
+    let p = seven_ok (parent_at parent) (number_at weight) (limit_at limit) (number_at demand) (number_at amount) (flag_at flag) (level_in_word level) made g h in
     let r0 = parent_found parent p.0 p.7 in
     let r1 = number_found weight p.1 p.8 in
     let r2 = limit_found limit p.2 p.9 in
@@ -253,6 +253,6 @@ certified_found text v e =
       shown ∙ append-nil (line (head_words b.0.0 (length c.0.0.rows)) ++ groups_text c.0.0),
     )
 
-pub is_found : (text : List ℕ) (r : Result Certified CertFault) → Gives certified_view r (certified_of (lines_of text)) → IfOk r (λ c. IsValue (certified_view c) × (text ≡ spelling (certified_view c)))
+pub is_found : (text : List ℕ) (r : Result Certified CertFault) → ReadsAs certified_view r (certified_of (lines_of text)) → IfOk r (λ c. IsValue (certified_view c) × (text ≡ spelling (certified_view c)))
 is_found text (Ok c) given = certified_found text (certified_view c) given
 is_found text (Err e) given = tt

@@ -1,4 +1,5 @@
-use Rattle.std.proofs.Common.{◌≡◌, ℕ, suc, ◌<◌, ◌≤◌, List, [], ◌∷◌, false, Option, None, Some, length, get_or, refl, ap, sym, ◌∙◌, arith}
+-- The greatest last mark of the children of a group is its level.
+use Rattle.std.proofs.Common.{◌≡◌, ℕ, ◌<◌, ◌≤◌, List, false, Option, None, Some, length, get_or, ap, sym, ◌∙◌, arith}
 use Rattle.std.specs.Prelude.{sum, sum_by, slice_index, map, IfSome, IfNone}
 use Rattle.std.proofs.lemmas.List.{length-map}
 use Rattle.std.proofs.lemmas.List.Sums.{sum-map, get_or-le-sum_by}
@@ -9,17 +10,8 @@ use Rattle.bw_model.specs.Marks.{price_of}
 use Rattle.bw_model.specs.Split.{IsGreatestLast}
 use Rattle.bw_model.specs.declared.limits.TheConstants.{MAX_CAPACITY}
 use Rattle.bw_model.specs.Plan.{child_weights}
-use Rattle.bw_model.proofs.Sums.{sum-cons}
-use Rattle.bw_model.proofs.Places.{child_at}
-use Rattle.bw_model.proofs.Optimum.{get_or-map}
 use Rattle.bw_cert.specs.Levels.{IsLevelAt}
-
-sum_none : (xs : List ℕ) → ((k : ℕ) → k < length xs → get_or xs k 0 ≡ 0) → ◌≡◌ {A = ℕ} (sum xs) 0
-sum_none [] h = refl
-sum_none (x ∷ xs) h =
-    let head : x ≡ 0 = h 0 (omega arith) in
-    let rest : sum xs ≡ 0 = sum_none xs (λ k below. h (suc k) (omega arith)) in
-    omega (arith, sum-cons x xs, head, rest)
+use Rattle.bw_model.proofs.CallerLemmas.{sum_none, child_at, get_or-map}
 
 -- each part is small where each amount is
 pub small_parts : (rows : List Row) (g : ℕ) (amounts parts : List ℕ) → length amounts ≡ length rows → parts ≡ map (slice_index amounts) (children_of rows g) →

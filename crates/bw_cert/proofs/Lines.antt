@@ -7,7 +7,7 @@ use Rattle.bw_model.specs.Host.{Shape}
 use Rattle.bw_model.specs.Refusal.{refusal}
 use Rattle.bw_cert.specs.declared.fault.CertFault.TheVariants as faults
 use Rattle.bw_cert.specs.Spelling.{Columns, lines_of, words_of}
-use Rattle.bw_cert.specs.Reading.{two, line_at, head_of, group_of, groups_at, certified_of, is_over}
+use Rattle.bw_cert.specs.Reading.{in_two, line_at, head_of, group_of, groups_at, certified_of, is_over}
 
 pub some_parts : (byte : ℕ) (text : List ℕ) → 0 < length (slice_split (λ b. eqb b byte) text)
 some_parts byte text = omega (arith, length-slice_split (λ b. eqb b byte) text)
@@ -23,7 +23,7 @@ first_of_parts [] h = absurd (omega arith)
 first_of_parts (part ∷ others) h = (part, others, refl)
 
 pub not_two : (byte : ℕ) (text first second rest others : List ℕ) → slice_split (λ b. eqb b byte) text ≡ first ∷ slice_split (λ b. eqb b byte) others
-    → slice_split (λ b. eqb b byte) others ≡ second ∷ slice_split (λ b. eqb b byte) rest → two (slice_split (λ b. eqb b byte) text) ≡ Err faults.BadField
+    → slice_split (λ b. eqb b byte) others ≡ second ∷ slice_split (λ b. eqb b byte) rest → in_two (slice_split (λ b. eqb b byte) text) ≡ Err faults.BadField
 not_two byte text first second rest others e f =
     let more = first_of_parts (slice_split (λ b. eqb b byte) rest) (some_parts byte rest) in
     rw (e, f, more.2) refl

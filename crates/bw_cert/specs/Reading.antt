@@ -17,7 +17,7 @@ use Rattle.bw_cert.specs.declared.fault.CertFault.TheVariants as faults
 use Rattle.bw_cert.specs.declared.groups.GroupLine.{GroupLine}
 use Rattle.bw_cert.specs.declared.groups.Certified.{Certified}
 use Rattle.bw_cert.specs.declared.groups.Columns as declared
-use Rattle.bw_cert.specs.Spelling.{Columns, Value, value_of, words_of}
+use Rattle.bw_cert.specs.Spelling.{Columns, Value, certified_value, words_of}
 
 infixl 10 ◌>>=◌
 abbrev pub ◌>>=◌ : {A B : Type 0} → Result A CertFault → (A → Result B CertFault) → Result B CertFault
@@ -39,9 +39,9 @@ Fails faults.BadField read = read ≡ Err faults.BadField
 Fails faults.CutShort read = read ≡ Err faults.CutShort
 Fails faults.Trailing read = read ≡ Err faults.Trailing
 
-abbrev pub Gives : {X Y : Type 0} → (X → Y) → Result X CertFault → Result Y CertFault → Type 0
-Gives view (Ok x) read = read ≡ Ok (view x)
-Gives view (Err e) read = Fails e read
+abbrev pub ReadsAs : {X Y : Type 0} → (X → Y) → Result X CertFault → Result Y CertFault → Type 0
+ReadsAs view (Ok x) read = read ≡ Ok (view x)
+ReadsAs view (Err e) read = Fails e read
 
 -- ---- words
 
@@ -52,14 +52,16 @@ or_field (Err e) = Err faults.BadField
 abbrev pub number_at : List ℕ → Result ℕ CertFault
 number_at word = or_field (number_read word)
 
-abbrev pub small_in : ℕ → Result ℕ CertFault
-small_in n = if nat_lt n (2 ^ 32) then Ok n else Err faults.BadField
+-- a number that fits 32 bits
+abbrev pub u32_in : ℕ → Result ℕ CertFault
+u32_in n = if nat_lt n (2 ^ 32) then Ok n else Err faults.BadField
 
-abbrev pub small_at : List ℕ → Result ℕ CertFault
-small_at word = number_at word >>= small_in
+-- the number of 32 bits that a word spells
+abbrev pub u32_at : List ℕ → Result ℕ CertFault
+u32_at word = number_at word >>= u32_in
 
 abbrev pub parent_at : List ℕ → Result (Option ℕ) CertFault
-parent_at word = if bytes_eq word (codes "-") then Ok None else (small_at word >>= λ n. Ok (Some n))
+parent_at word = if bytes_eq word (codes "-") then Ok None else (u32_at word >>= λ n. Ok (Some n))
 
 abbrev pub limit_at : List ℕ → Result (Option ℕ) CertFault
 limit_at word = if bytes_eq word (codes "max") then Ok None else (number_at word >>= λ n. Ok (Some n))
@@ -67,10 +69,10 @@ limit_at word = if bytes_eq word (codes "max") then Ok None else (number_at word
 abbrev pub flag_at : List ℕ → Result Bool CertFault
 flag_at word = if bytes_eq word (codes "0") then Ok false else if bytes_eq word (codes "1") then Ok true else Err faults.BadField
 
--- two parts
-abbrev pub two : List (List ℕ) → Result (List ℕ × List ℕ) CertFault
-two (a ∷ b ∷ []) = Ok (a, b)
-two _ = Err faults.BadField
+-- the two parts of what is split in two
+abbrev pub in_two : List (List ℕ) → Result (List ℕ × List ℕ) CertFault
+in_two (a ∷ b ∷ []) = Ok (a, b)
+in_two _ = Err faults.BadField
 
 abbrev pub level_in : ℕ → ℕ → ℕ → Result (Option Price) CertFault
 level_in num den place = if nat_lt 0 num && nat_lt 0 den then Ok (Some (record { num = num; den = den; place = place })) else Err faults.BadField
@@ -78,15 +80,15 @@ level_in num den place = if nat_lt 0 num && nat_lt 0 den then Ok (Some (record {
 -- NUM/DEN@PLACE
 unfoldable pub mark_at : List ℕ → Result (Option Price) CertFault
 mark_at word = do
-  outer ← two (slice_split (λ b. b == 47) word)
-  inner ← two (slice_split (λ b. b == 64) outer.1)
+  outer ← in_two (slice_split (λ b. b == 47) word)
+  inner ← in_two (slice_split (λ b. b == 64) outer.1)
   num ← number_at outer.0
   den ← number_at inner.0
-  place ← small_at inner.1
+  place ← u32_at inner.1
   level_in num den place
 
-abbrev pub level_at : List ℕ → Result (Option Price) CertFault
-level_at word = if bytes_eq word (codes "-") then Ok None else mark_at word
+abbrev pub level_in_word : List ℕ → Result (Option Price) CertFault
+level_in_word word = if bytes_eq word (codes "-") then Ok None else mark_at word
 
 -- ---- lines
 
@@ -135,7 +137,7 @@ group_of (parent ∷ weight ∷ limit ∷ demand ∷ amount ∷ flag ∷ level �
   d ← number_at demand
   a ← number_at amount
   f ← flag_at flag
-  m ← level_at level
+  m ← level_in_word level
   Ok (record { row = record { parent = p; weight = w; limit = l; demand = d }; amount = a; flag = f; level = m })
 group_of _ = Err faults.BadLine
 
@@ -181,4 +183,4 @@ abbrev pub columns_view : declared.Columns → Columns
 columns_view c = record { rows = c.rows.items; amounts = c.amounts.items; flags = c.tight.items; levels = map (option_map price_of) c.levels.items }
 
 abbrev pub certified_view : Certified → Value
-certified_view c = value_of c.instance c.amounts.items c.certificate
+certified_view c = certified_value c.instance c.amounts.items c.certificate

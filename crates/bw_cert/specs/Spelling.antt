@@ -75,8 +75,8 @@ abbrev pub spelling : Value → List ℕ
 spelling v = line (head_words v.shape (length v.groups.rows)) ++ groups_text v.groups
 
 -- what is certified of an instance
-abbrev pub value_of : Groups → List ℕ → Certificate → Value
-value_of i amounts c = record {
+abbrev pub certified_value : Groups → List ℕ → Certificate → Value
+certified_value i amounts c = record {
   shape = i.shape;
   groups = record { rows = i.rows; amounts = amounts; flags = c.tight.items; levels = map (option_map price_of) c.levels.items };
 }

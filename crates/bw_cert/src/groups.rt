@@ -1,7 +1,7 @@
 //! Groups of a certified text, line by line.
 ghost use Rattle.std.specs.Prelude.{◌≡◌};
 ghost use Rattle.bw_cert.specs.Spelling.{lines_of, words_of};
-ghost use Rattle.bw_cert.specs.Reading.{Gives, seen, line_at, group_of, groups_at, group_view, columns_view};
+ghost use Rattle.bw_cert.specs.Reading.{ReadsAs, seen, line_at, group_of, groups_at, group_view, columns_view};
 
 use crate::fault::CertFault;
 use crate::fields::group_words;
@@ -76,7 +76,7 @@ fn group(line: &[u8]) -> Result<GroupLine, CertFault>
 
 /// So many groups, and what stands after their lines.
 pub(crate) fn groups(alloc: Global, count: u64, text: &[u8]) -> Result<(Columns, &[u8]), CertFault>
-    ensures { Gives (λ p. (columns_view p.0, lines_of p.1.now)) result (groups_at count (lines_of text.now)) }
+    ensures { ReadsAs (λ p. (columns_view p.0, lines_of p.1.now)) result (groups_at count (lines_of text.now)) }
 {
     let mut rows = Vec::new(alloc);
     let mut amounts = Vec::new(alloc);

@@ -1,7 +1,7 @@
 //! Certified texts read.
 ghost use Rattle.std.specs.Prelude.{◌≡◌, Ok, IfOk};
 ghost use Rattle.bw_cert.specs.Spelling.{Value, lines_of, words_of, spelling, IsValue};
-ghost use Rattle.bw_cert.specs.Reading.{Gives, head_of, host_in, certified_of, certified_view};
+ghost use Rattle.bw_cert.specs.Reading.{ReadsAs, head_of, host_in, certified_of, certified_view};
 
 use crate::fault::CertFault;
 use crate::fields::head_words;
@@ -45,7 +45,7 @@ fn host(processors: u64, period_us: u64, slice_us: u64) -> Result<HostShape, Cer
 // All of the text.
 #[tactic(auto, unfolding(crate::specs::Reading::certified_of))]
 fn certified(alloc: Global, text: &[u8]) -> Result<Certified, CertFault>
-    ensures { Gives certified_view result (certified_of (lines_of text.now)) }
+    ensures { ReadsAs certified_view result (certified_of (lines_of text.now)) }
 {
     let (line, rest) = first_line(text)?;
     let (shape, count) = head(line)?;
@@ -76,9 +76,9 @@ pub fn read_certified(alloc: Global, text: &[u8]) -> Result<Certified, CertFault
     // What is read is spelled so.
     ensures found { IfOk result (λ c. IsValue (certified_view c) × (text.now ≡ spelling (certified_view c))) }
     // What is spelled so is read, unless memory runs out.
-    ensures only { (v : Value) → IsValue v → text.now ≡ spelling v → Gives certified_view result (Ok v) }
+    ensures only { (v : Value) → IsValue v → text.now ≡ spelling v → ReadsAs certified_view result (Ok v) }
     // Which fault it is.
-    ensures exact { Gives certified_view result (certified_of (lines_of text.now)) }
+    ensures exact { ReadsAs certified_view result (certified_of (lines_of text.now)) }
 {
     certified(alloc, text)
 }

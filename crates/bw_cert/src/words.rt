@@ -3,7 +3,7 @@ ghost use Rattle.std.specs.Prelude.{◌≡◌, ◌==◌, ◌∷◌, [], MatchOpt
 ghost use Rattle.std.specs.Option.{option_map};
 ghost use Rattle.std.specs.List.{slice_split};
 ghost use Rattle.bw_model.specs.Marks.{price_of};
-ghost use Rattle.bw_cert.specs.Reading.{seen, number_at, small_at, parent_at, limit_at, flag_at, level_at, two};
+ghost use Rattle.bw_cert.specs.Reading.{seen, number_at, u32_at, parent_at, limit_at, flag_at, level_in_word, in_two};
 
 use crate::fault::CertFault;
 use bw_model::Mark;
@@ -18,8 +18,8 @@ pub(crate) fn number(word: &[u8]) -> Result<u64, CertFault>
     }
 }
 
-pub(crate) fn small(word: &[u8]) -> Result<u32, CertFault>
-    ensures { result ≡ small_at word.now }
+pub(crate) fn u32_number(word: &[u8]) -> Result<u32, CertFault>
+    ensures { result ≡ u32_at word.now }
 {
     let n = number(word)?;
     if n > 4_294_967_295 {
@@ -34,7 +34,7 @@ pub(crate) fn parent(word: &[u8]) -> Result<Option<u32>, CertFault>
     if word == b"-".as_slice() {
         return Ok(None);
     }
-    Ok(Some(small(word)?))
+    Ok(Some(u32_number(word)?))
 }
 
 pub(crate) fn limit(word: &[u8]) -> Result<Option<u64>, CertFault>
@@ -59,8 +59,8 @@ pub(crate) fn flag(word: &[u8]) -> Result<bool, CertFault>
 }
 
 // The two parts round the one such byte.
-fn two(word: &[u8], byte: u8) -> Option<(&[u8], &[u8])>
-    ensures { MatchOption result (two (slice_split (λ b. b == byte) word.now) ≡ Err CertFault.BadField) (λ p. slice_split (λ b. b == byte) word.now ≡ p.0.now ∷ p.1.now ∷ []) }
+fn split_in_two(word: &[u8], byte: u8) -> Option<(&[u8], &[u8])>
+    ensures { MatchOption result (in_two (slice_split (λ b. b == byte) word.now) ≡ Err CertFault.BadField) (λ p. slice_split (λ b. b == byte) word.now ≡ p.0.now ∷ p.1.now ∷ []) }
 {
     let (front, back) = split_once(word, byte)?;
     match split_once(back, byte) {
@@ -71,20 +71,20 @@ fn two(word: &[u8], byte: u8) -> Option<(&[u8], &[u8])>
 
 #[tactic(auto, unfolding(crate::specs::Reading::mark_at))]
 pub(crate) fn level(word: &[u8]) -> Result<Option<Mark>, CertFault>
-    ensures { seen (option_map price_of) result ≡ level_at word.now }
+    ensures { seen (option_map price_of) result ≡ level_in_word word.now }
 {
     if word == b"-".as_slice() {
         return Ok(None);
     }
-    let Some((num, others)) = two(word, b'/') else {
+    let Some((num, others)) = split_in_two(word, b'/') else {
         return Err(CertFault::BadField);
     };
-    let Some((den, place)) = two(others, b'@') else {
+    let Some((den, place)) = split_in_two(others, b'@') else {
         return Err(CertFault::BadField);
     };
     let num = number(num)?;
     let den = number(den)?;
-    let place = small(place)?;
+    let place = u32_number(place)?;
     match Mark::new(num, den, place) {
         None => Err(CertFault::BadField),
         Some(mark) => Ok(Some(mark)),

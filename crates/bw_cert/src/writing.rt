@@ -3,7 +3,7 @@ ghost use Rattle.std.specs.Prelude.{◌≡◌, ◌++◌, ◌<◌, ◌^◌, lengt
 ghost use Rattle.std.specs.Fmt.{decimal};
 ghost use Rattle.std.specs.Option.{option_map};
 ghost use Rattle.bw_model.specs.Marks.{price_of};
-ghost use Rattle.bw_cert.specs.Spelling.{parent_word, limit_word, flag_word, level_word, line, head_words, group_words, value_of, spelling, IsSmallRow, IsSmallLevel, IsValue};
+ghost use Rattle.bw_cert.specs.Spelling.{parent_word, limit_word, flag_word, level_word, line, head_words, group_words, certified_value, spelling, IsSmallRow, IsSmallLevel, IsValue};
 
 use bw_model::{Certificate, HostShape, Instance, Mark, Row};
 use bw_text::push_number;
@@ -114,9 +114,9 @@ pub fn write_certified(
     requires amounts { length amounts.now ≡ length instance.now.rows }
     requires flags { length certificate.now.tight.items ≡ length instance.now.rows }
     requires levels { length certificate.now.levels.items ≡ length instance.now.rows }
-    ensures text { IfOk result (λ t. string_bytes t ≡ spelling (value_of instance.now amounts.now certificate.now)) }
+    ensures text { IfOk result (λ t. string_bytes t ≡ spelling (certified_value instance.now amounts.now certificate.now)) }
     // So the text is read again as this value.
-    ensures valid { OnOk result (IsValue (value_of instance.now amounts.now certificate.now)) }
+    ensures valid { OnOk result (IsValue (certified_value instance.now amounts.now certificate.now)) }
 {
     let rows = instance.rows();
     let mut out = String::new(alloc);

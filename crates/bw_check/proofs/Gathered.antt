@@ -1,3 +1,4 @@
+-- Sums over the children seen so far, gathered in a table.
 use Rattle.std.proofs.Common.{◌≡◌, ℕ, zero, suc, ◌+◌, ◌*◌, ◌<◌, ◌≤◌, List, Bool, true, false, cond, Some, None, length, get_or, set, replicate, add-one, refl, ap, sym, ◌∙◌, arith, inl, inr}
 use Rattle.std.specs.Prelude.{sum_by}
 use Rattle.std.proofs.lemmas.Bool.{cases_eq}
@@ -5,9 +6,8 @@ use Rattle.std.proofs.lemmas.List.{get_or-set_same, get_or-set_other, length-rep
 use Rattle.std.proofs.Math.ListN.{length-set}
 use Rattle.bw_model.specs.declared.row.Row.{Row}
 use Rattle.bw_model.specs.Groups.{parent_of, is_child, children_of}
-use Rattle.bw_model.proofs.Sums.{sum_below, sum_by-range}
-use Rattle.bw_model.proofs.Totals.{is_child_from_parent, is_child_no, sum_by-children}
-use Rattle.bw_model.proofs.Under.{some_is}
+use Rattle.bw_model.proofs.CallerLemmas.{is_child_from_parent, is_child_no, sum_by-children, sum_below, sum_by-range}
+use Rattle.std.proofs.lemmas.Option.{same_Some}
 use Rattle.bw_model.specs.Certificate.{place_of}
 use Rattle.bw_check.specs.Counts.{sum_of_first, AreGathered, ArePlaces}
 
@@ -30,14 +30,6 @@ sum_below-changed (suc n) i d f h below other here = elim (cases_eq n i) [
     front_same zero e = refl
     front_same (suc m) e = omega (arith, front_same m (λ j lt. e j (omega arith)), e m (omega arith))
 
--- one term is at most the sum
-pub term_le : (n i : ℕ) (f : ℕ → ℕ) → i < n → f i ≤ sum_below n f
-term_le zero i f h = absurd (omega arith)
-term_le (suc n) i f h = elim (cases_eq n i) [
-  | inl same ↦ rw (← same) (omega arith)
-  | inr apart ↦ omega (arith, term_le n i f (omega (arith, apart)))
-]
-
 module _ (rows : List Row) (f : ℕ → ℕ) where
   pub first-below : (n g : ℕ) → sum_of_first rows f n g ≡ sum_below n (λ c. cond (is_child rows g c) (f c) 0)
   first-below n g = sum_by-range (λ c. cond (is_child rows g c) (f c) 0) n
@@ -51,7 +43,7 @@ module _ (rows : List Row) (f : ℕ → ℕ) where
   -- the parent's sum grows by the child's term, and no other does
   pub first-child : (n p g : ℕ) → parent_of rows n ≡ Some p → (g ≡ p → ⊥) → sum_of_first rows f (n + 1) g ≡ sum_of_first rows f n g
   first-child n p g up other =
-      let no_child : is_child rows g n ≡ false = is_child_no rows g n (λ e. other (sym (some_is p g (sym up ∙ e)))) in
+      let no_child : is_child rows g n ≡ false = is_child_no rows g n (λ e. other (sym (same_Some p g (sym up ∙ e)))) in
       first-more n g ∙ rw no_child (omega arith)
 
   pub first-parent : (n p : ℕ) → parent_of rows n ≡ Some p → sum_of_first rows f (n + 1) p ≡ sum_of_first rows f n p + f n
@@ -124,7 +116,7 @@ module _ (rows : List Row) (n : ℕ) (places : List ℕ) (so_far : ArePlaces row
     each = λ c g below above. elim (cases_eq c n) [
       | inl same ↦
           let above_n : parent_of rows n ≡ Some g = rw same at above in
-          let parent : p ≡ g = some_is p g (sym up ∙ above_n) in
+          let parent : p ≡ g = same_Some p g (sym up ∙ above_n) in
           rw (same, get_or-set_same places n q 0 (omega (arith, so_far.one_each)), ← parent)
           (q_is ∙ counted.each p within ∙ sym (place-first rows p n))
       | inr other ↦ rw (get_or-set_other places n c q 0 other) (so_far.each c g (omega (arith, other)) above)

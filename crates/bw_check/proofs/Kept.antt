@@ -1,3 +1,4 @@
+-- The level above a group that has one.
 use Rattle.std.proofs.Common.{◌≡◌, ℕ, ◌<◌, List, true, false, cond, Option, None, Some, length, get_or, eqb, refl, subst, sym, ◌∙◌, arith, inl, inr}
 use Rattle.std.proofs.lemmas.Bool.{cases_Bool, ne_eqb}
 use Rattle.bw_model.specs.declared.mark.Mark.{Mark}

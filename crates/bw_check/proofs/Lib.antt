@@ -1,6 +1,6 @@
-pub mod Verdicts
-pub mod Gathered
-pub mod Kept
-pub mod Bounding
-pub mod Deciding
-pub mod Marking
+mod Verdicts
+mod Gathered
+mod Kept
+mod Bounding
+mod Deciding
+mod Marking

@@ -1,39 +1,18 @@
 -- What the order of marks says of prices, and why amounts leave room for marks.
 use Rattle.std.proofs.Common.{◌≡◌, ℕ, zero, suc, ◌*◌, ◌<◌, ◌≤◌, ◌⊎◌, ◌↔◌, List, true, false, length, get_or, refl, ap, sym, ◌∙◌, arith, inl, inr}
-use Rattle.std.specs.Ordering.{nat_cmp, is_lt, is_le}
-use Rattle.std.specs.declared.cmp.Ordering.TheVariants.{Less, Equal, Greater}
-use Rattle.std.proofs.lemmas.Bool.{cases_Bool, cases_lt, cases_order, lt-ltb, le-ltb, eq-eqb, ne_eqb}
+use Rattle.std.specs.Ordering.{is_lt, is_le}
+use Rattle.std.specs.declared.cmp.Ordering.TheVariants.{Equal, Greater}
+use Rattle.std.proofs.lemmas.Bool.{cases_Bool, cases_lt, cases_order}
 use Rattle.std.proofs.lemmas.List.{get_or_past}
-use Rattle.std.proofs.Math.Nat.{div-le_of_le-mul, mul-le-mul_left}
-use Rattle.bw_model.specs.declared.limits.TheConstants.{MAX_CAPACITY, MAX_PER_PROCESSOR, MIN_SLICE_US}
+use Rattle.bw_model.specs.declared.limits.TheConstants.{MAX_CAPACITY}
 use Rattle.bw_model.specs.declared.mark.Mark.{Mark}
 use Rattle.bw_model.specs.Groups.{Groups, IsInstance, is_leaf}
-use Rattle.bw_model.specs.Host.{Shape, IsHost, slices_per_processor, capacity_of}
+use Rattle.bw_model.specs.Host.{capacity_of}
 use Rattle.bw_model.specs.MarkOrder.{mark_cmp}
 use Rattle.bw_model.specs.Marks.{price_of, IsBelow, IsAtMost}
-use Rattle.bw_model.proofs.ChildSums.{child_le_sum}
-use Rattle.bw_model.proofs.Totals.{leaf_no_child, is_child_from_parent}
-use Rattle.bw_model.proofs.Under.{strong}
 use Rattle.bw_check.specs.Levels.{AreSmall}
 use Rattle.bw_check.specs.Verdict.{IsWithinLimit, IsChildrenSum}
-
-cmp_less : (x y : ℕ) → x < y → nat_cmp x y ≡ Less
-cmp_less x y h = rw (lt-ltb x y h) refl
-
-cmp_equal : (x y : ℕ) → x ≡ y → nat_cmp x y ≡ Equal
-cmp_equal x y e = rw (le-ltb x y (omega (arith, e)), eq-eqb x y e) refl
-
-cmp_greater : (x y : ℕ) → y < x → nat_cmp x y ≡ Greater
-cmp_greater x y h = rw (le-ltb x y (omega arith), ne_eqb x y (λ e. omega arith)) refl
-
-below_less : (m n : Mark) → IsBelow (price_of m) (price_of n) → mark_cmp m n ≡ Less
-below_less m n h = elim h [
-  | inl lt ↦ rw (cmp_less (m.num * n.den) (n.num * m.den) lt) refl
-  | inr t ↦ elim t.1 [
-    | inl p ↦ rw (cmp_equal (m.num * n.den) (n.num * m.den) t.0, cmp_less m.place n.place p) refl
-    | inr p ↦ rw (cmp_equal (m.num * n.den) (n.num * m.den) t.0, cmp_equal m.place n.place p.0, cmp_less m.num n.num p.1) refl
-  ]
-]
+use Rattle.bw_model.proofs.CallerLemmas.{cmp_equal, cmp_greater, below_less, capacity_le, child_le_sum, leaf_no_child, is_child_from_parent, strong}
 
 above_greater : (m n : Mark) → IsBelow (price_of n) (price_of m) → mark_cmp m n ≡ Greater
 above_greater m n h = elim h [
@@ -79,13 +58,6 @@ is_le-IsAtMost m n = (
     | inr (inr same) ↦ ap is_le same
   ],
 )
-
--- no host has more slices than the largest
-capacity_le : (shape : Shape) → IsHost shape → capacity_of shape ≤ MAX_CAPACITY
-capacity_le shape host =
-    let scaled : MAX_PER_PROCESSOR * MIN_SLICE_US ≤ MAX_PER_PROCESSOR * shape.slice_us = mul-le-mul_left MAX_PER_PROCESSOR host.long_slice in
-    let each : slices_per_processor shape ≤ MAX_PER_PROCESSOR = div-le_of_le-mul shape.slice_us (omega (arith, host.short_period, scaled)) in
-    omega (arith, mul-le-mul_left shape.processors each, host.few_processors)
 
 module _ (groups : Groups) (amounts : List ℕ) (valid : IsInstance groups) (each : length amounts ≡ length groups.rows)
     (limited : (g : ℕ) → g < length groups.rows → IsWithinLimit groups amounts g)

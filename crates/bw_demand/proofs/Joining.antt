@@ -2,11 +2,8 @@
 use Rattle.std.proofs.Common.{◌≡◌, ℕ, ◌<◌, ◌≤◌, List, Some, length, get_or, arith}
 use Rattle.bw_model.specs.Groups.{Groups, IsInstance, parent_of}
 use Rattle.bw_model.specs.Allocation.{IsWithinUnder, IsMost}
-use Rattle.bw_model.proofs.Totals.{parent_from_is_child}
-use Rattle.bw_model.proofs.Reach.{reached, joined, joined_at, length-joined, joined_zero, total-joined}
-use Rattle.bw_model.proofs.Under.{is_under-self}
-use Rattle.bw_model.proofs.Mosts.{IsMost-unique, mosts, mosts-capped}
-use Rattle.bw_model.proofs.Reach.{capped-IsMost}
+use Rattle.bw_model.proofs.CallerLemmas.{parent_from_is_child, reached, joined, joined_at, length-joined, joined_zero, total-joined, is_under-self}
+use Rattle.bw_model.proofs.CallerLemmas.{IsMost-unique, mosts, mosts-capped, capped-IsMost}
 use Rattle.bw_demand.specs.Laws.{IsReached, IsJoined}
 
 pub amount-IsReached : (groups : Groups) (g most amount : ℕ) → IsInstance groups → g < length groups.rows → IsMost groups g most →

@@ -1,6 +1,7 @@
-pub mod ByDepth
-pub mod Seen
-pub mod Covered
-pub mod Passed
-pub mod Outside
-pub mod Joining
+pub mod CallerLemmas
+mod ByDepth
+mod Seen
+mod DemandOutside
+mod WantsGathered
+mod LimitingListed
+mod Joining

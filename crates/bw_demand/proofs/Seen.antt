@@ -8,8 +8,7 @@ use Rattle.std.proofs.lemmas.List.{take_all}
 use Rattle.std.proofs.lemmas.List.Folds.{list_any_more, list_any_at}
 use Rattle.bw_model.specs.declared.row.Row.{Row}
 use Rattle.bw_model.specs.Groups.{IsTree, parent_of, depth_of}
-use Rattle.bw_model.proofs.Under.{parent_lt}
-use Rattle.bw_model.proofs.Paths.{depth_of-step}
+use Rattle.bw_model.proofs.CallerLemmas.{parent_lt, depth_of-step}
 use Rattle.bw_demand.specs.Levels.{level_of, AreLevels}
 use Rattle.bw_demand.proofs.ByDepth.{level_row, level_rises, level_has}
 

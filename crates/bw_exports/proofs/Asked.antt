@@ -16,7 +16,7 @@ use Rattle.bw_model.specs.Demand.{limiting_groups, is_tight, has_tight_above}
 use Rattle.std.proofs.lemmas.List.Sums.{length-filter, count_by-le-length}
 use Rattle.bw_model.specs.declared.limits.TheConstants.{MAX_GROUPS}
 use Rattle.std.specs.List.{range_with_len}
-use Rattle.bw_model.proofs.Instances.{IsHost-accepted, IsInstance-accepted}
+use Rattle.bw_model.proofs.CallerLemmas.{IsHost-accepted, IsInstance-accepted}
 use Rattle.bw_exports.specs.Asked.{Table, row_in, rows_in, groups_in, are_even, refusal_number, asked_number, asked_number_with, Answers}
 
 -- uneven columns

@@ -1,4 +1,4 @@
-pub mod Asked
-pub mod Claimed
-pub mod Spelling
-pub mod Fit
+mod Asked
+mod Claimed
+mod Spelling
+mod Fit

@@ -5,8 +5,7 @@ use Rattle.std.specs.Fmt.{decimal}
 use Rattle.std.proofs.lemmas.Bool.{le-ltb}
 use Rattle.std.proofs.lemmas.List.Elements.{All-from_recursion}
 use Rattle.bw_text.specs.Words.{is_white, words}
-use Rattle.bw_text.proofs.Parts.{IsWord, words_next}
-use Rattle.bw_text.proofs.Decimals.{decimal_is_word, decimal_is_number, decimal_value}
+use Rattle.bw_text.proofs.CallerLemmas.{IsWord, words_next, decimal_is_word, decimal_is_number, decimal_value}
 use Rattle.bw_model.specs.declared.limits.TheConstants.{MIN_WEIGHT, MAX_WEIGHT, MAX_BURST_US, MIN_PERIOD_US, MAX_PERIOD_US}
 use Rattle.bw_model.specs.Quota.{IsValid}
 use Rattle.bw_model.specs.declared.quota.Quota.{Quota}

@@ -3,7 +3,7 @@ use Rattle.std.proofs.Common.{◌≡◌, ℕ, ◌≤◌, Bool, true, false, ◌|
 use Rattle.std.specs.Prelude.{codes, IfOk, IfSome}
 use Rattle.bw_model.specs.Quota.{IsValid}
 use Rattle.std.specs.Str.{bytes_eq}
-use Rattle.std.proofs.lemmas.Bool.{le-ltb}
+use Rattle.std.proofs.lemmas.Bool.{le-ltb, cases_Bool}
 use Rattle.std.proofs.lemmas.Bool.Decides.{nat_tests}
 use Rattle.std.proofs.lemmas.Slice.Eq.{bytes_eq-Decides}
 use Rattle.bw_text.specs.Words.{words}
@@ -30,10 +30,6 @@ number_found word n e = or_bad_found (number_of word) n e
 
 number_only : (word : List ℕ) (n : ℕ) → IsNumber word n → number_at word ≡ Ok n
 number_only word n e = rw e refl
-
-which : (b : Bool) → (b ≡ true) ⊎ (b ≡ false)
-which true = inl refl
-which false = inr refl
 
 asked_parts : (b : Bool) (r : Result ℕ FileFault) (asked : Option ℕ) → cond b (Ok None) (r >>= λ n. Ok (Some n)) ≡ Ok asked
     → ((b ≡ true) × (asked ≡ None)) ⊎ ((n : ℕ) × (r ≡ Ok n) × (asked ≡ Some n))
@@ -73,7 +69,7 @@ no_number n e = cc
 -- no number is spelled `max`
 not_max : (word : List ℕ) (n : ℕ) → IsNumber word n → bytes_eq word (codes "max") ≡ false
 not_max word n e =
-    elim (which (bytes_eq word (codes "max"))) [
+    elim (cases_Bool (bytes_eq word (codes "max"))) [
       | inl h ↦ absurd (no_number n (rw (is_max word h) at e))
       | inr h ↦ h
     ]

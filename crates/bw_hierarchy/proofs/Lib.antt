@@ -1,6 +1,6 @@
 -- The files of lemmas.
-pub mod FileNames
-pub mod LastSlash
-pub mod Writes
-pub mod Settings
-pub mod Unwritten
+mod FileNames
+mod LastSlash
+mod Settings
+mod Unwritten
+mod Writes

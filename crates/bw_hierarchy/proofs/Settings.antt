@@ -3,7 +3,7 @@ use Rattle.std.proofs.Common.{◌≡◌, ℕ, Some, None, sym, ap, ◌∙◌}
 use Rattle.bw_tree.specs.Groups.{GroupFields, TreeState}
 use Rattle.bw_tree.specs.Tree.{with_setting, setting_refusal}
 use Rattle.bw_tree.specs.declared.fault.TreeFault.{TreeFault}
-use Rattle.bw_tree.proofs.SetLemmas.{settable_still}
+use Rattle.bw_tree.proofs.CallerLemmas.{settable_still}
 
 -- after one setting the next is not refused
 pub never_refused : (f : GroupFields → GroupFields) (t u : TreeState) (id : ℕ) (fault : TreeFault) → setting_refusal t id ≡ None → u ≡ with_setting f t id

@@ -11,7 +11,7 @@ use Rattle.bw_model.specs.declared.stat.Stat.{Stat as Counters}
 use Rattle.bw_model.specs.declared.quota.Quota.{Quota}
 use Rattle.bw_tree.specs.Groups.{GroupFields, TreeState, group_at, has_group, child_of, onward, walk, find_path}
 use Rattle.bw_tree.specs.Tree.{changed, changed_at, with_setting, set_weight, set_max, set_burst}
-use Rattle.bw_tree.proofs.SetLemmas.{look_set_other, look_set_same, child_set}
+use Rattle.bw_tree.proofs.CallerLemmas.{look_set_other, look_set_same, child_set}
 use Rattle.bw_files.specs.declared.fault.FileFault.{FileFault}
 use Rattle.bw_files.specs.declared.reading.MaxWrite.{MaxWrite}
 use Rattle.bw_files.specs.Reading.{weight_of, burst_of, max_of}

@@ -1,4 +1,4 @@
--- There is one most of each group, and it is the want of the group, cut at its limit.
+-- The most of each group by the rule that finds it.
 use Rattle.std.proofs.Common.{◌≡◌, ℕ, zero, suc, ◌+◌, ◌<◌, ◌≤◌, List, cond, length, get_or, refl, ap, sym, ◌∙◌, arith}
 use Rattle.std.specs.Prelude.{sum_by, slice_index, map}
 use Rattle.std.specs.List.{range_with_len}

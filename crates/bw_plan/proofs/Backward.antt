@@ -1,3 +1,4 @@
+-- The plan goes down from the root by best splits, so each instance has one.
 use Rattle.std.proofs.Common.{◌≡◌, ℕ, zero, suc, ◌<◌, ◌≤◌, List, true, cond, length, get_or, set, replicate, refl, sym, ◌∙◌, subst, arith, inl, inr}
 use Rattle.std.specs.Prelude.{sum, sum_by, slice_index, map}
 use Rattle.std.specs.List.{range_with_len}
@@ -11,13 +12,9 @@ use Rattle.bw_model.specs.Certificate.{place_of}
 use Rattle.bw_model.specs.Split.{IsBestSplit}
 use Rattle.bw_model.specs.Plan.{child_weights, IsPlan}
 use Rattle.bw_model.specs.Demand.{want_of}
-use Rattle.bw_model.proofs.Totals.{is_child_from_parent}
-use Rattle.bw_model.proofs.Places.{child_at}
-use Rattle.bw_model.proofs.Reach.{capped}
-use Rattle.bw_model.proofs.Mosts.{mosts, mosts-capped}
+use Rattle.bw_model.proofs.CallerLemmas.{is_child_from_parent, child_at, capped, mosts, mosts-capped, IsPlan-unique}
 use Rattle.bw_plan.proofs.Existence.{best_split}
 use Rattle.bw_plan.specs.Laws.{HasOnePlan}
-use Rattle.bw_model.proofs.Unique.{IsPlan-unique}
 use Rattle.bw_plan.specs.Shared.{IsShared, IsPlanning}
 use Rattle.bw_plan.proofs.Shares.{begun, enough, shared_more, leaf_more, all_planned, same_done, rows_before, next_fresh, next_marks, before_closed, parent_done, map_is, weights_in_range}
 

@@ -8,11 +8,9 @@ use Rattle.std.proofs.lemmas.List.{take_all}
 use Rattle.std.proofs.lemmas.List.Folds.{list_any_more, list_any_at}
 use Rattle.bw_model.specs.declared.row.Row.{Row}
 use Rattle.bw_model.specs.Groups.{IsTree, parent_of, is_leaf, depth_of}
-use Rattle.bw_model.proofs.Totals.{inner_has_child}
-use Rattle.bw_model.proofs.Paths.{depth_of-step}
+use Rattle.bw_model.proofs.CallerLemmas.{inner_has_child, depth_of-step}
 use Rattle.bw_demand.specs.Levels.{level_of, AreLevels}
-use Rattle.bw_demand.proofs.ByDepth.{level_row, level_rises, level_has}
-use Rattle.bw_demand.proofs.Seen.{among}
+use Rattle.bw_demand.proofs.CallerLemmas.{level_row, level_rises, level_has, among}
 use Rattle.bw_plan.specs.Shared.{is_above}
 
 -- the groups above this depth, and the first k of those at it

@@ -1,9 +1,10 @@
+-- Each amount that the children can take has a best split.
 use Rattle.std.proofs.Common.{◌≡◌, ℕ, zero, suc, ◌+◌, ◌*◌, ◌<◌, ◌≤◌, List, Option, None, Some, length, get_or, set, replicate, refl, arith, inl, inr}
 use Rattle.std.specs.Prelude.{sum}
 use Rattle.std.proofs.lemmas.Bool.{cases_lt}
 use Rattle.bw_model.specs.Split.{IsBestSplit}
 use Rattle.bw_plan.proofs.Cheapest.{BestOf, best_kept, best_first, best_taken, best_stays}
-use Rattle.bw_split.proofs.Filling.{IsFilled, none_filled, filled_more, not_full, filled-IsBestSplit}
+use Rattle.bw_split.proofs.CallerLemmas.{IsFilled, none_filled, filled_more, not_full, filled-IsBestSplit}
 
 -- There is a best split of each amount that the maxima hold.
 module _ (weights most : List ℕ) (same : length weights ≡ length most) (positive : (k : ℕ) → k < length weights → 0 < get_or weights k 0) where

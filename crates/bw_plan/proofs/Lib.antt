@@ -1,7 +1,8 @@
-pub mod Cheapest
-pub mod Existence
-pub mod Easy
-pub mod Shares
-pub mod Backward
-pub mod Collected
-pub mod Done
+pub mod CallerLemmas
+mod Cheapest
+mod Existence
+mod NoSearchNeeded
+mod Shares
+mod Backward
+mod Collected
+mod Done

@@ -1,41 +1,24 @@
-use Rattle.std.proofs.Common.{rules, ◌≡◌, ℕ, zero, suc, ◌*◌, ◌<◌, ◌≤◌, List, [], ◌∷◌, Bool, true, false, true≢false, ◌||◌, eqb, ltb, Some, None, length, get_or, set, replicate, refl, ap, sym, ◌∙◌, arith, inl, inr}
+-- What a walk from the root down has shared out, group by group, is the plan at its end.
+use Rattle.std.proofs.Common.{rules, ◌≡◌, ℕ, zero, suc, ◌<◌, ◌≤◌, List, [], ◌∷◌, Bool, true, false, true≢false, ◌||◌, eqb, ltb, Some, None, length, get_or, set, replicate, refl, ap, sym, ◌∙◌, arith, inl, inr}
 use Rattle.std.specs.Prelude.{All, sum, slice_index, map, filter}
 use Rattle.std.specs.List.{range_with_len}
-use Rattle.std.proofs.lemmas.Bool.{cases_Bool, cases_eq, cases_lt, eq-eqb, ne_eqb, eqb-true, ltb-true, lt-ltb, le-ltb, or_cases}
+use Rattle.std.proofs.lemmas.Bool.{cases_Bool, cases_eq, cases_lt, eq-eqb, ne_eqb, eqb-true, ltb-true, lt-ltb, le-ltb, or_cases, or_parts}
 use Rattle.std.proofs.lemmas.List.{get_or-set_same, get_or-set_other, length-replicate, length-map}
-use Rattle.std.proofs.lemmas.Nat.{mul-le}
-use Rattle.std.proofs.Math.Nat.{div-le_of_le-mul}
 use Rattle.std.proofs.lemmas.List.Sums.{get_or-le-sum_by, sum-map}
 use Rattle.std.proofs.lemmas.List.FromFn.{length-range_with_len}
 use Rattle.std.proofs.Math.ListN.{length-set}
 use Rattle.bw_model.specs.declared.row.Row.{Row}
 use Rattle.bw_model.specs.Groups.{Groups, IsTree, IsInstance, parent_of, is_child, children_of, is_leaf, limit_of, weight_of, sum_of_children}
-use Rattle.bw_model.specs.declared.limits.TheConstants.{MIN_WEIGHT, MAX_WEIGHT, MAX_PROCESSORS, MAX_PER_PROCESSOR, MAX_CAPACITY, MAX_GROUPS}
-use Rattle.bw_model.specs.Host.{Shape, IsHost, slices_per_processor, capacity_of}
+use Rattle.bw_model.specs.declared.limits.TheConstants.{MIN_WEIGHT, MAX_WEIGHT, MAX_CAPACITY, MAX_GROUPS}
+use Rattle.bw_model.specs.Host.{capacity_of}
 use Rattle.bw_model.specs.Plan.{child_weights, IsPlan}
 use Rattle.bw_model.specs.Demand.{want_of}
-use Rattle.bw_model.proofs.Instances.{neither}
-use Rattle.bw_model.proofs.Under.{parent_lt}
-use Rattle.bw_model.proofs.Totals.{is_child_no, parent_from_is_child}
-use Rattle.bw_model.proofs.Places.{child_at}
-use Rattle.bw_model.proofs.Optimum.{get_or-map, same_map}
-use Rattle.bw_model.proofs.Unique.{listed_child}
-use Rattle.bw_model.proofs.Planned.{parent_not_leaf, planned-IsPlan}
-use Rattle.bw_model.proofs.Reach.{capped, most_le_want, most_le_limit}
 use Rattle.bw_split.specs.Conditions.{CanSplit}
-use Rattle.bw_demand.proofs.Passed.{zeros}
 use Rattle.bw_plan.specs.Shared.{IsShared, IsPlanning, CanShare, AreParts, IsGiven}
-use Rattle.bw_plan.proofs.Easy.{given-IsShared, given-leaf}
-
--- a host has few slices
-capacity_small : (shape : Shape) → IsHost shape → capacity_of shape ≤ MAX_CAPACITY
-capacity_small shape host =
-    let fit : shape.period_us ≤ shape.slice_us * MAX_PER_PROCESSOR = omega (arith, host.short_period, host.long_slice) in
-    let each : slices_per_processor shape ≤ MAX_PER_PROCESSOR = div-le_of_le-mul shape.slice_us fit in
-    mul-le shape.processors (slices_per_processor shape) MAX_PROCESSORS MAX_PER_PROCESSOR host.few_processors each
-
-some_is : (p q : ℕ) → Some p ≡ Some q → p ≡ q
-some_is p q e = cc
+use Rattle.bw_plan.proofs.NoSearchNeeded.{given-IsShared, given-leaf}
+use Rattle.bw_model.proofs.CallerLemmas.{capacity_le, parent_lt, is_child_no, parent_from_is_child, child_at, get_or-map, same_map, listed_child}
+use Rattle.bw_model.proofs.CallerLemmas.{parent_not_leaf, planned-IsPlan, capped, most_le_want, most_le_limit, zeros}
+use Rattle.std.proofs.lemmas.Option.{same_Some}
 
 some_none : (p : ℕ) → Some p ≡ None → ⊥
 some_none p e = cc
@@ -84,7 +67,7 @@ module _ (groups : Groups) (valid : IsInstance groups) (most : List ℕ)
   root_small : get_or most 0 0 ≤ MAX_CAPACITY
   root_small =
       let c : get_or most 0 0 ≤ capacity_of groups.shape = most_le_limit groups valid.tree most rule 0 (capacity_of groups.shape) valid.tree.has_root refl in
-      let s : capacity_of groups.shape ≤ MAX_CAPACITY = capacity_small groups.shape valid.host in
+      let s : capacity_of groups.shape ≤ MAX_CAPACITY = capacity_le groups.shape valid.host in
       omega (arith, c, s)
 
   -- the root has its most
@@ -165,7 +148,7 @@ module _ (groups : Groups) (valid : IsInstance groups) (most : List ℕ)
 
     not_done : (h : ℕ) → h < length groups.rows → next h ≡ false → (done h ≡ false) × (h ≡ g → ⊥)
     not_done h lt e =
-        let both : (done h ≡ false) × (eqb g h ≡ false) = neither (done h) (eqb g h) (sym (marks h lt) ∙ e) in
+        let both : (done h ≡ false) × (eqb g h ≡ false) = or_parts (done h) (eqb g h) (sym (marks h lt) ∙ e) in
         (both.0, λ same. true≢false (sym (eq-eqb g h (sym same)) ∙ both.1))
 
     pub shared_more : (before after : List ℕ) → IsPlanning groups most done before → IsShared groups most g before after →
@@ -184,7 +167,7 @@ module _ (groups : Groups) (valid : IsInstance groups) (most : List ℕ)
       unshared = λ c p here e unshared_yet.
           let up : p < c = parent_lt groups.rows valid.tree c p e in
           let was : (done p ≡ false) × (p ≡ g → ⊥) = not_done p (omega (arith, up, here)) unshared_yet in
-          shared.others c here (is_child_no groups.rows g c (λ f. was.1 (some_is p g (sym e ∙ f)))) ∙ so_far.unshared c p here e was.0;
+          shared.others c here (is_child_no groups.rows g c (λ f. was.1 (same_Some p g (sym e ∙ f)))) ∙ so_far.unshared c p here e was.0;
     }
       where
         own_kept : get_or after g 0 ≡ get_or before g 0
@@ -196,7 +179,7 @@ module _ (groups : Groups) (valid : IsInstance groups) (most : List ℕ)
         kept_children : (h : ℕ) → (h ≡ g → ⊥) → map (slice_index after) (children_of groups.rows h) ≡ map (slice_index before) (children_of groups.rows h)
         kept_children h other = same_map (slice_index after) (slice_index before) (children_of groups.rows h) (λ k inside.
             shared.others (get_or (children_of groups.rows h) k 0) (child_at groups.rows h k inside).within (is_child_no groups.rows g (get_or (children_of groups.rows h) k 0)
-            (λ e. other (some_is h g (sym (child_at groups.rows h k inside).parent ∙ e)))))
+            (λ e. other (same_Some h g (sym (child_at groups.rows h k inside).parent ∙ e)))))
 
         child_small : (h : ℕ) → h < length groups.rows → parent_of groups.rows h ≡ Some g → get_or after h 0 ≤ MAX_CAPACITY
         child_small h here e =

@@ -6,10 +6,7 @@ use Rattle.bw_model.specs.Groups.{Groups, IsInstance, IsTree, is_leaf, is_child,
 use Rattle.bw_model.specs.Host.{slices_per_processor, capacity_of}
 use Rattle.bw_model.specs.Allocation.{total}
 use Rattle.bw_model.specs.Plan.{IsPlan}
-use Rattle.bw_model.proofs.Sums.{sum_below-ap}
-use Rattle.bw_model.proofs.ChildSums.{sum_of_children-below}
-use Rattle.bw_model.proofs.Totals.{sum_by-children, total-inner, parent_from_is_child}
-use Rattle.bw_model.proofs.Under.{from_the_last, parent_lt}
+use Rattle.bw_model.proofs.CallerLemmas.{sum_of_children-below, sum_by-children, total-inner, parent_from_is_child, from_the_last, parent_lt, sum_below-ap}
 use Rattle.bw_pool.specs.Drained.{IsPlanned, IsDrawnOut, DrainedWorkersDrawThePlan}
 use Rattle.bw_pool.proofs.Drained.{drained_workers_draw_the_amounts}
 

@@ -8,7 +8,7 @@ use Rattle.bw_model.specs.Groups.{parent_of, is_leaf, path_up, sum_of_children}
 use Rattle.bw_pool.specs.declared.calls.PoolCall.TheVariants.{Draw}
 use Rattle.bw_pool.specs.Pool.{least, raised, got_of, refusal, served, unless_refused, after}
 use Rattle.bw_pool.specs.Drained.{Worker, among, drawn_one, IsPlanned}
-use Rattle.bw_model.proofs.Paths.{reach_parent, path_up-way_up}
+use Rattle.bw_model.proofs.CallerLemmas.{reach_parent, path_up-way_up}
 use Rattle.bw_pool.proofs.Trees.{raised_balanced, length-raised, raised_root, raised_leaf, raised_own, least_rising, raised_within, is_some_at, by_path}
 use Rattle.bw_pool.proofs.Lists.{raised_ge, sum-set, put, put_all, owed_put, owes_one}
 use Rattle.bw_pool.proofs.Holdings.{place_differs}

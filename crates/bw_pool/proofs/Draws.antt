@@ -1,5 +1,5 @@
 -- What the code of a draw computes, in the pool's own terms.
-use Rattle.std.proofs.Common.{◌≡◌, ◌≢◌, ℕ, zero, suc, ◌+◌, ◌-◌, ◌<◌, ◌≤◌, min, List, [], ◌∷◌, length, Bool, true, cond, None, Some, get_or, set, refl, sym, ap, ◌∙◌, subst, arith, eq-eqb, ne_eqb}
+use Rattle.std.proofs.Common.{◌≡◌, ◌≢◌, ℕ, ◌+◌, ◌-◌, ◌<◌, ◌≤◌, min, List, length, Bool, true, cond, None, Some, get_or, set, sym, ap, ◌∙◌, subst, arith, eq-eqb, ne_eqb}
 use Rattle.std.specs.List.{AllByRecursion}
 use Rattle.bw_model.specs.declared.limits.TheConstants.{MAX_PER_PROCESSOR}
 use Rattle.bw_model.specs.declared.row.Row.{Row}
@@ -9,11 +9,7 @@ use Rattle.bw_pool.specs.Pool.{PoolState, IsSound, least, got_of, drew, held_pla
 use Rattle.bw_pool.specs.declared.calls.Short.{Short}
 use Rattle.bw_pool.proofs.Trees.{least_le}
 use Rattle.bw_pool.proofs.Sound.{draw_passed, held_le_processor}
-
-pub or_any : (xs : List ℕ) (i d : ℕ) → i < length xs → get_or xs i d ≡ get_or xs i 0
-or_any [] i d lt = absurd (omega arith)
-or_any (x ∷ xs) zero d lt = refl
-or_any (x ∷ xs) (suc i) d lt = or_any xs i d (omega arith)
+use Rattle.bw_model.proofs.CallerLemmas.{get_or_within}
 
 least_same : (ps ps' : List Row) (d d' ce ce' : List ℕ) (leaf b b' : ℕ) → ps ≡ ps' → d ≡ d' → ce ≡ ce' → b ≡ b'
     → least (λ g. get_or ce g 0 - get_or d g 0) (path_up ps leaf) b ≡ least (λ g. get_or ce' g 0 - get_or d' g 0) (path_up ps' leaf) b'
@@ -28,7 +24,7 @@ pub got_from : (s : PoolState) (seat leaf ask : ℕ) (ps : List Row) (d ce : Lis
     → r ≡ least (λ g. get_or ce g 0 - get_or d g 0) (path_up ps leaf) b → r ≡ got_of s seat leaf ask
 got_from s seat leaf ask ps d ce i b r ok pass ep ed ec ei eb er =
     let lt = (draw_passed s seat leaf ask pass).0 in
-    let own : i ≡ get_or s.by_processor seat 0 = ei ∙ or_any s.by_processor seat i (omega (arith, ok.by_processor)) in
+    let own : i ≡ get_or s.by_processor seat 0 = ei ∙ get_or_within s.by_processor seat i (omega (arith, ok.by_processor)) in
     let bound : b ≡ min ask (s.per_processor - get_or s.by_processor seat 0) = omega arith in
     er ∙ least_same ps s.rows d s.drawn ce s.ceiling leaf b (min ask (s.per_processor - get_or s.by_processor seat 0)) ep ed ec bound
 

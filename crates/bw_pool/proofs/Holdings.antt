@@ -3,8 +3,7 @@ use Rattle.std.proofs.Common.{◌≡◌, ◌≢◌, ℕ, suc, ◌+◌, ◌*◌, 
 use Rattle.std.proofs.lemmas.Bool.{cases_lt}
 use Rattle.std.proofs.lemmas.Bool.Decides.{eqb_tells}
 use Rattle.std.proofs.Math.Nat.{mul-le-mul_right}
-use Rattle.bw_model.proofs.Sums.{sum_below, sum_below-ap, sum_by-range}
-use Rattle.bw_model.proofs.ChildSums.{sum_below-change}
+use Rattle.bw_model.proofs.CallerLemmas.{sum_below-change, sum_below, sum_below-ap, sum_by-range}
 use Rattle.bw_pool.specs.Pool.{PoolState, held_of_seat, held_of_leaf}
 
 -- two places of different seats differ

@@ -1,17 +1,18 @@
 -- The lemmas on pools, drained workers and schedules.
-pub mod Trees
-pub mod Lists
-pub mod Holdings
-pub mod Sound
-pub mod Ways
-pub mod Draws
-pub mod Backs
-pub mod Bounds
-pub mod Workers
-pub mod Drawing
-pub mod Returning
-pub mod Drained
-pub mod Amounts
-pub mod Witness
-pub mod Places
-pub mod Runs
+pub mod CallerLemmas
+mod Amounts
+mod Backs
+mod Bounds
+mod Drained
+mod Drawing
+mod Draws
+mod Holdings
+mod Lists
+mod Places
+mod Returning
+mod Runs
+mod Sound
+mod StepsUp
+mod Trees
+mod Witness
+mod Workers

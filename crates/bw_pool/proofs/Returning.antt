@@ -8,9 +8,7 @@ use Rattle.bw_model.specs.Groups.{is_leaf, path_up, sum_of_children}
 use Rattle.bw_pool.specs.declared.calls.PoolCall.TheVariants.{GiveBack}
 use Rattle.bw_pool.specs.Pool.{held_by, lowered, gave_back, refusal, served, unless_refused, after}
 use Rattle.bw_pool.specs.Drained.{Worker, among, returned_one, IsPlanned}
-use Rattle.bw_model.proofs.Paths.{reach_parent}
-use Rattle.bw_model.proofs.ChildSums.{child_le_sum}
-use Rattle.bw_model.proofs.Planned.{parent_not_leaf}
+use Rattle.bw_model.proofs.CallerLemmas.{reach_parent, child_le_sum, parent_not_leaf}
 use Rattle.bw_pool.proofs.Trees.{lowered_balanced, Rising, length-lowered, lowered_root, lowered_leaf, lowered_own, is_some_at, by_path, parent_below}
 use Rattle.bw_pool.proofs.Lists.{lowered_le, sum-set, put, put_all, owed_put, owed_some, owes_one}
 use Rattle.bw_pool.proofs.Workers.{pool, IsWorkerOf, IsRun}

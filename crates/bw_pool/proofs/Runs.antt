@@ -11,7 +11,7 @@ use Rattle.bw_pool.specs.declared.seats.CoreEvent.{CoreEvent}
 use Rattle.bw_pool.specs.declared.seats.CoreEvent.TheVariants.{Take, Enter, Apply, Leave}
 use Rattle.bw_model.specs.History.{own, entry}
 use Rattle.bw_pool.specs.Seats.{CoreState, start, is_idle, is_done, entered, applied, happens, run, takes}
-use Rattle.bw_model.proofs.Histories.{replay-snoc, legal-snoc}
+use Rattle.bw_model.proofs.CallerLemmas.{replay-snoc, legal-snoc}
 use Rattle.bw_pool.specs.Schedules.{is_in_lock, has_called, is_on_its_way, begun, calls_taken, calls_of, IsOneThread}
 use Rattle.bw_pool.proofs.Places.{get_same, get_other, get_kept, get_last, take_next, count_set, count_some, count_none, get_replicate, map_snoc, length_snoc}
 

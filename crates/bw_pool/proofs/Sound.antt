@@ -7,16 +7,13 @@ use Rattle.std.specs.List.{AllByRecursion}
 use Rattle.bw_model.specs.declared.limits.TheConstants.{MAX_GROUPS, MAX_PROCESSORS, MAX_PER_PROCESSOR}
 use Rattle.bw_model.specs.declared.row.Row.{Row}
 use Rattle.bw_model.specs.Groups.{IsTree, is_leaf, path_up, sum_of_children}
-use Rattle.bw_model.proofs.Sums.{sum_below-zero}
-use Rattle.bw_model.proofs.ChildSums.{child_le_sum, sum_below-term}
-use Rattle.bw_model.proofs.Paths.{path_up-way_up}
-use Rattle.bw_model.proofs.Planned.{parent_not_leaf}
+use Rattle.bw_model.proofs.CallerLemmas.{child_le_sum, sum_below-term, path_up-way_up, parent_not_leaf, zeros, sum_below-zero}
 use Rattle.bw_pool.specs.declared.calls.PoolCall.TheVariants.{Draw}
 use Rattle.bw_pool.specs.declared.calls.Refusal.{Refusal}
 use Rattle.bw_pool.specs.declared.calls.Refusal.TheVariants.{NoProcessor, NoGroup, NotLeaf, ZeroAsk}
 use Rattle.bw_pool.specs.Pool.{PoolState, IsSound, new_pool, left_at, held_place, held_of_seat, held_of_leaf, least, raised, lowered, got_of, drew, gave_back, lowered_ceiling, refusal, leaf_refusal, group_refusal}
 use Rattle.bw_pool.proofs.Trees.{Rising, parent_below, length-raised, length-lowered, least_le, least_all, least_rising, raised_within, raised_balanced, lowered_balanced, raised_leaf, lowered_leaf, raised_own, lowered_own, get_or-set, by_path}
-use Rattle.bw_pool.proofs.Lists.{zeros, sum_of_children-zeros, lowered_le}
+use Rattle.bw_pool.proofs.Lists.{sum_of_children-zeros, lowered_le}
 use Rattle.bw_pool.proofs.Holdings.{seat_sum, leaf_sum, seat_other, leaf_other, seat_own, leaf_own}
 
 pub length_zeros : (n : ℕ) → length (replicate {A = ℕ} n 0) ≡ n

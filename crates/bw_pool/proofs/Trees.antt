@@ -5,9 +5,7 @@ use Rattle.std.specs.List.{AllByRecursion}
 use Rattle.std.specs.Option.{option_map_or}
 use Rattle.bw_model.specs.declared.row.Row.{Row}
 use Rattle.bw_model.specs.Groups.{IsTree, parent_of, is_leaf, path_up, sum_of_children}
-use Rattle.bw_model.proofs.ChildSums.{sum_of_children-set}
-use Rattle.bw_model.proofs.Paths.{reach, reach_parent, way_up, path_up-way_up}
-use Rattle.bw_model.proofs.Planned.{parent_not_leaf}
+use Rattle.bw_model.proofs.CallerLemmas.{sum_of_children-set, reach, reach_parent, way_up, path_up-way_up, parent_not_leaf}
 use Rattle.bw_pool.specs.Pool.{least, raised, lowered}
 
 cond_add : (b : Bool) (x n : ℕ) → cond b (x + n) 0 ≡ cond b x 0 + cond b n 0

@@ -5,10 +5,9 @@ use Rattle.bw_model.specs.declared.row.Row.{Row}
 use Rattle.bw_model.specs.Groups.{IsTree, is_leaf, sum_of_children}
 use Rattle.bw_pool.specs.Pool.{PoolState}
 use Rattle.bw_pool.specs.Drained.{Worker, fresh, among, IsAtEnd, IsPlanned, IsDrawnOut}
-use Rattle.bw_model.proofs.ChildSums.{sum_of_children-left}
-use Rattle.bw_model.proofs.Planned.{parent_not_leaf}
+use Rattle.bw_model.proofs.CallerLemmas.{sum_of_children-left, parent_not_leaf, zeros, sum_zeros}
 use Rattle.bw_pool.proofs.Trees.{Rising, parent_below}
-use Rattle.bw_pool.proofs.Lists.{zeros, sum_zeros, sum_of_children-zeros, sum_equal, owed_count, owed_none}
+use Rattle.bw_pool.proofs.Lists.{sum_of_children-zeros, sum_equal, owed_count, owed_none}
 
 -- the pool in the run: the plan's tree and amounts, and what changes
 abbrev pub pool : ℕ → ℕ → List Row → List ℕ → List ℕ → List ℕ → List ℕ → PoolState

@@ -1,12 +1,12 @@
-pub mod Known
-pub mod LineLemmas
-pub mod Scanning
-pub mod Quiet
-pub mod Kept
-pub mod Running
-pub mod Faults
-pub mod Refusals
-pub mod Words
-pub mod Decimals
-pub mod Totals
-pub mod Within
+mod Known
+mod LineLemmas
+mod Scanning
+mod Quiet
+mod Kept
+mod Running
+mod Faults
+mod Refusals
+mod Words
+mod Decimals
+mod Totals
+mod Within

@@ -1,15 +1,12 @@
 -- A call that went well leaves a watched writer quiet.
-use Rattle.std.proofs.Common.{◌≡◌, ◌∙◌, ℕ, List, length, Bool, true, false, ◌||◌, ◌&&◌, ◌==◌, nat_lt, refl, ap, inl, inr}
+use Rattle.std.proofs.Common.{◌≡◌, ◌∙◌, ℕ, List, length, Bool, false, ◌||◌, ◌&&◌, ◌==◌, nat_lt, refl, ap, inl, inr}
 use Rattle.std.proofs.lemmas.Bool.Decides.{eqb_tells}
 use Rattle.bw_shell.specs.declared.watched.Watched.{Watched}
 use Rattle.bw_shell.specs.Watched.{has_failed, has_stalled, IsQuiet}
+use Rattle.bw_model.proofs.CallerLemmas.{and_no}
 
 or-false : (b : Bool) → b ≡ false → (b || false) ≡ false
 or-false b e = rw e refl
-
-and-false : (b : Bool) → (b && false) ≡ false
-and-false true = refl
-and-false false = refl
 
 pub quiet_write : {T : Type 0} (w v : Watched T) (bytes : List ℕ) (n : ℕ) → IsQuiet w → has_failed v ≡ (has_failed w || false)
     → has_stalled v ≡ (has_stalled w || (nat_lt 0 (length bytes) && (n == 0))) → (n ≡ 0 → ⊥) → IsQuiet v
@@ -17,7 +14,7 @@ quiet_write w v bytes n q f s ne = record {
   not_failed = f ∙ or-false (has_failed w) q.not_failed;
   not_stalled = elim (eqb_tells n 0) [
     | inl h ↦ absurd (ne h.1)
-    | inr h ↦ s ∙ ap (λ b. b || (nat_lt 0 (length bytes) && (n == 0))) q.not_stalled ∙ ap (λ b. nat_lt 0 (length bytes) && b) h.0 ∙ and-false (nat_lt 0 (length bytes))
+    | inr h ↦ s ∙ ap (λ b. b || (nat_lt 0 (length bytes) && (n == 0))) q.not_stalled ∙ ap (λ b. nat_lt 0 (length bytes) && b) h.0 ∙ and_no (nat_lt 0 (length bytes))
   ];
 }
 

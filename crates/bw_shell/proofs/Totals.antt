@@ -4,7 +4,7 @@ use Rattle.std.specs.Prelude.{filter}
 use Rattle.std.specs.List.{range_with_len}
 use Rattle.bw_model.specs.Groups.{Groups}
 use Rattle.bw_model.specs.Demand.{limiting_groups}
-use Rattle.bw_model.proofs.Listing.{range_more}
+use Rattle.bw_model.proofs.CallerLemmas.{range_more}
 use Rattle.bw_tree.specs.Groups.{TreeState}
 use Rattle.bw_shell.specs.GroupLines.{IsPathOf, ArePathsOf, group_lines}
 

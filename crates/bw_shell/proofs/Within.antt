@@ -6,12 +6,9 @@ use Rattle.bw_model.specs.declared.row.Row.{Row}
 use Rattle.bw_model.specs.Groups.{Groups, IsInstance, row_of, is_leaf, is_child, sum_of_children}
 use Rattle.bw_model.specs.Allocation.{total}
 use Rattle.bw_model.specs.Plan.{IsPlan}
-use Rattle.bw_model.proofs.ChildSums.{sum_of_children-below}
-use Rattle.bw_model.proofs.Totals.{parent_from_is_child}
-use Rattle.bw_model.proofs.Under.{from_the_last, parent_lt}
-use Rattle.bw_model.proofs.Sums.{sum_below-le}
+use Rattle.bw_model.proofs.CallerLemmas.{sum_of_children-below, parent_from_is_child, from_the_last, parent_lt, sum_below-le}
 use Rattle.bw_pool.specs.Drained.{IsDrawnOut}
-use Rattle.bw_pool.proofs.Amounts.{plan_is_planned}
+use Rattle.bw_pool.proofs.CallerLemmas.{plan_is_planned}
 use Rattle.bw_tree.specs.Snapshot.{IsDrawnWithin}
 
 module _ (groups : Groups) (amounts : List ℕ) (known : IsInstance groups) (plan : IsPlan groups amounts) (uses : ℕ → Bool) (drawn : List ℕ) (out : IsDrawnOut uses groups.rows amounts drawn) where

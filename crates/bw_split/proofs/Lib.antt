@@ -1,8 +1,9 @@
-pub mod Takes
-pub mod Picks
-pub mod Search
-pub mod LastMarks
-pub mod Lined
-pub mod Filling
-pub mod EmptyStruct
-pub mod Neighbours
+pub mod CallerLemmas
+mod EmptyStruct
+mod Filling
+mod LastMarks
+mod NextMarks
+mod Neighbours
+mod Picks
+mod Search
+mod Takes

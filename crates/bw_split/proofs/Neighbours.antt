@@ -8,9 +8,7 @@ use Rattle.std.proofs.lemmas.List.Sums.{sum_by-set}
 use Rattle.std.proofs.lemmas.List.{get_or-set_same, get_or-set_other}
 use Rattle.bw_model.specs.Marks.{last_mark, next_mark, IsBelow}
 use Rattle.bw_model.specs.Split.{product, cost, IsLexBelow, IsNoWorse, IsSplit, IsBestSplit}
-use Rattle.bw_model.proofs.Costs.{cost-cons}
-use Rattle.bw_model.proofs.Exchange.{level-IsBestSplit}
-use Rattle.bw_model.proofs.Order.{none-IsAtLevel}
+use Rattle.bw_model.proofs.CallerLemmas.{cost-cons, level-IsBestSplit, none-IsAtLevel}
 use Rattle.bw_split.specs.OneSlice.{moved, NoMoveGains, UnmovedIsBest, BestIsUnmoved}
 use Rattle.bw_split.proofs.LastMarks.{LastOf, last_kept, last_first, last_taken, last_stays}
 

@@ -1,13 +1,13 @@
+-- The rest of an amount, a slice each to the first children that take one more a step above the level.
 use Rattle.std.proofs.Common.{◌≡◌, ℕ, ◌+◌, ◌-◌, ◌*◌, ◌<◌, ◌≤◌, ◌⊎◌, List, [], ◌∷◌, ◌++◌, length, get_or, refl, sym, ap, ◌∙◌, arith, inl, inr}
 use Rattle.std.specs.Prelude.{sum}
 use Rattle.std.proofs.lemmas.Bool.{cases_lt, cases_eq}
 use Rattle.std.proofs.lemmas.List.{get_or_append_left, get_or_push, length_push}
 use Rattle.std.proofs.lemmas.List.Sums.{sum_by_push}
 use Rattle.bw_model.specs.Split.{IsBestSplit}
-use Rattle.bw_model.proofs.Sums.{sum_below, sum_below-ap}
-use Rattle.bw_model.proofs.Pairwise.{IsPairwise, pairwise-IsBestSplit}
+use Rattle.bw_model.proofs.CallerLemmas.{IsPairwise, pairwise-IsBestSplit, cross_lt_right, sum_below, sum_below-ap}
 use Rattle.bw_split.specs.Levels.{taken_by_all}
-use Rattle.bw_split.proofs.Takes.{IsTaken, taken-is, taken-mono, taken-step, each_takes, same_cost, below_above, by_all-is, sum-is, sum_below-more}
+use Rattle.bw_split.proofs.Takes.{IsTaken, taken-is, taken-mono, taken-step, each_takes, same_cost, by_all-is, sum-is, sum_below-more}
 use Rattle.bw_model.specs.declared.limits.TheConstants.{MIN_WEIGHT, MAX_WEIGHT}
 use Rattle.bw_split.specs.declared.limits.TheConstants.{STEPS}
 
@@ -120,7 +120,7 @@ module _ (level start rest : ℕ) (weights most parts : List ℕ)
           | inr not_more ↦
               -- the last mark of i is at or below it
               let i_low : (2 * get_or parts i 0 - 1) * STEPS ≤ level * get_or weights i 0 = omega (arith, li.low, not_more) in
-              inl (below_above (2 * get_or parts i 0 - 1) (get_or weights i 0) level STEPS (2 * get_or parts j 0 + 1) (get_or weights j 0)
+              inl (cross_lt_right (2 * get_or parts i 0 - 1) (get_or weights i 0) level STEPS (2 * get_or parts j 0 + 1) (get_or weights j 0)
               wi.0 i_low j_above)
           | inl more ↦
               let i_is : get_or parts i 0 ≡ each_takes (level + 1) weights most i =
@@ -130,7 +130,7 @@ module _ (level start rest : ℕ) (weights most parts : List ℕ)
                 | inr full ↦
                     let j_over : (level + 1) * get_or weights j 0 < (2 * get_or parts j 0 + 1) * STEPS =
                     (let h : (level + 1) * get_or weights j 0 < (2 * STEPS) * each_takes (level + 1) weights most j + STEPS = hj.high (omega (arith, full, room)) in omega (arith, h, full)) in
-                    inl (below_above (2 * get_or parts i 0 - 1) (get_or weights i 0) (level + 1) STEPS (2 * get_or parts j 0 + 1) (get_or weights j 0)
+                    inl (cross_lt_right (2 * get_or parts i 0 - 1) (get_or weights i 0) (level + 1) STEPS (2 * get_or parts j 0 + 1) (get_or weights j 0)
                     wi.0 i_low j_over)
                 | inl short ↦
                     -- both marks are between the two levels

@@ -1,3 +1,4 @@
+-- The search for a level by halves, and the splits that need none.
 use Rattle.std.proofs.Common.{◌≡◌, ℕ, suc, ◌+◌, ◌-◌, ◌*◌, ◌/◌, ◌%◌, ◌^◌, ◌<◌, ◌≤◌, List, [], ◌∷◌, length, get_or, refl, sym, ap, ◌∙◌, arith, inl, inr}
 use Rattle.std.specs.Prelude.{sum, take, min}
 use Rattle.std.proofs.lemmas.Grind.{div_ceil_times}
@@ -5,8 +6,7 @@ use Rattle.std.proofs.lemmas.Bool.{cases_lt}
 use Rattle.std.proofs.lemmas.List.Sums.{sum_by_more, sum_by-take-le}
 use Rattle.std.proofs.Math.Nat.{mul-le-mul_left, pow-suc}
 use Rattle.bw_model.specs.Split.{IsBestSplit}
-use Rattle.bw_model.proofs.Sums.{sum_below, sum_below-le, sum-cons}
-use Rattle.bw_model.proofs.Pairwise.{pairwise-IsBestSplit}
+use Rattle.bw_model.proofs.CallerLemmas.{pairwise-IsBestSplit, sum_below, sum_below-le, sum-cons}
 use Rattle.bw_split.proofs.Takes.{taken-ge, taken-mono, each_takes, sum_below-more}
 use Rattle.bw_model.specs.declared.limits.TheConstants.{MAX_CAPACITY}
 use Rattle.bw_split.specs.declared.limits.TheConstants.{STEPS, GREATEST_LEVEL, MAX_ROUNDS}

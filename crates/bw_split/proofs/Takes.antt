@@ -1,8 +1,9 @@
+-- What children take at a level, one by one and together.
 use Rattle.std.proofs.Common.{◌≡◌, ℕ, zero, suc, ◌+◌, ◌*◌, ◌<◌, ◌≤◌, List, [], ◌∷◌, length, get_or, refl, ◌∙◌, add-one, arith, inl, inr}
 use Rattle.std.specs.Prelude.{sum, min}
 use Rattle.std.proofs.Math.Nat.{mul-le-mul_left, mul-le-mul_right}
-use Rattle.std.proofs.lemmas.Bool.{cases_lt, cases_order}
-use Rattle.bw_model.proofs.Sums.{sum_below, sum-cons, sum_below-front, sum_below-le, sum_below-zero, sum_by-range}
+use Rattle.std.proofs.lemmas.Bool.{cases_order}
+use Rattle.bw_model.proofs.CallerLemmas.{sum_below, sum-cons, sum_below-front, sum_below-le, sum_below-zero, sum_by-range}
 use Rattle.bw_split.specs.Levels.{taken, taken_by_all}
 use Rattle.bw_model.specs.declared.limits.TheConstants.{MAX_WEIGHT, MAX_CAPACITY}
 use Rattle.bw_split.specs.declared.limits.TheConstants.{STEPS, GREATEST_LEVEL, MOST_TAKEN}
@@ -85,15 +86,6 @@ by_all-top amount weights most e positive small enough = rw (by_all-is GREATEST_
     (let p : 0 < get_or weights k 0 = positive k below in
     let q : GREATEST_LEVEL * 1 ≤ GREATEST_LEVEL * get_or weights k 0 = mul-le-mul_left GREATEST_LEVEL p in omega (arith, q)))
     in omega (arith, s', c, small, enough))
-
--- a mark a / d that is at or below the level, against b / f above it, crosswise
-pub below_above : (a d level steps b f : ℕ) → 0 < d → a * steps ≤ level * d → level * f < b * steps → a * f < b * d
-below_above a d level steps b f positive at_most above = elim (cases_lt (a * f) (b * d)) [
-  | inl less ↦ less
-  | inr more ↦ absurd (
-      omega (arith, mul-le-mul_left f at_most, mul-le-mul_left d above, mul-le-mul_left steps more, positive)
-      )
-]
 
 -- two marks that lie between two levels a step apart are of one cost
 not_less : (t a p b q : ℕ) → 0 < q → p ≤ MAX_WEIGHT → q ≤ MAX_WEIGHT → t * p < STEPS * a → STEPS * b ≤ (t + 1) * q → a * q < b * p → ⊥

@@ -14,9 +14,9 @@ use Rattle.bw_tree.specs.Snapshot.{quota_slices, with_burst, bursting, period_li
 use Rattle.bw_tree.specs.Bandwidth.{Call, after_call, CanBook, burst_slices, HasBandwidth, KeepsBandwidth, drawn_at, drawn_in, periods_in, carry_of, carry_at, with_left, HasNoBurst}
 use Rattle.bw_tree.specs.Bandwidth.Call.{Book, Mkdir, Rmdir, SetDemand, SetWeight, SetLimit, SetPeriod, SetBurst}
 use Rattle.bw_tree.proofs.CarryLemmas.{keys_carried}
-use Rattle.bw_tree.proofs.GroupLemmas.{inside}
 use Rattle.bw_tree.proofs.RemoveLemmas.{look_removed_other}
 use Rattle.bw_tree.proofs.SetLemmas.{look_set_other, look_set_same}
+use Rattle.bw_model.proofs.CallerLemmas.{inside}
 
 -- ---- one booked period
 

@@ -13,9 +13,10 @@ use Rattle.bw_tree.specs.declared.child_index.ChildIndex.{ChildIndex}
 use Rattle.bw_tree.specs.Children.{named, child_at, is_listed, AnswersAs, AreNamed, IsIndexOf}
 use Rattle.bw_tree.specs.Groups.{GroupFields, TreeState, group_at, has_children, is_parent, is_child_named, child_of, IsTree, AllAfter, AreRising}
 use Rattle.bw_tree.specs.Tree.{changed, changed_at, new_group}
-use Rattle.bw_tree.proofs.GroupLemmas.{inside, children_push, child_push, child_push_old, bytes_eq_same}
+use Rattle.bw_tree.proofs.GroupLemmas.{children_push, child_push, child_push_old}
 use Rattle.bw_tree.proofs.SetLemmas.{child_set, children_set}
 use Rattle.bw_tree.proofs.RemoveLemmas.{was_other, rising_removed}
+use Rattle.bw_model.proofs.CallerLemmas.{inside, bytes_eq-self}
 
 -- a child with a name has this parent and this name
 pub named_is : (g : GroupFields) (p : ℕ) (n : List ℕ) → is_child_named g p n ≡ true → (g.parent ≡ Some p) × (g.name ≡ n)
@@ -28,7 +29,7 @@ named_is g p n h =
     parent_is (Some q) e = ap Some (eqb-true q p e)
 
 pub is_named : (g : GroupFields) (p : ℕ) → g.parent ≡ Some p → is_child_named g p g.name ≡ true
-is_named g p up = and_from (is_parent g.parent p) (bytes_eq g.name g.name) (ap (λ o. is_parent o p) up ∙ eq-eqb p p refl) (bytes_eq_same g.name)
+is_named g p up = and_from (is_parent g.parent p) (bytes_eq g.name g.name) (ap (λ o. is_parent o p) up ∙ eq-eqb p p refl) (bytes_eq-self g.name)
 
 -- a group that is found after some others has a higher id
 pub after_at : (gs : List (ℕ × GroupFields)) (low q : ℕ) (h : GroupFields) → AllAfter low gs → group_at gs q ≡ Some h → low < q
@@ -84,7 +85,7 @@ some_child (e ∷ es) p has = onto (is_parent e.1.parent p) refl has (some_child
         → (has_children es p ≡ true → (n : List ℕ) × (is_some (child_of es p n) ≡ true))
         → (n : List ℕ) × (is_some (cond (is_child_named e.1 p n) (Some e.0) (child_of es p n)) ≡ true)
     onto true match_is has rest =
-        let both : is_child_named e.1 p e.1.name ≡ true = and_from (is_parent e.1.parent p) (bytes_eq e.1.name e.1.name) match_is (bytes_eq_same e.1.name) in
+        let both : is_child_named e.1 p e.1.name ≡ true = and_from (is_parent e.1.parent p) (bytes_eq e.1.name e.1.name) match_is (bytes_eq-self e.1.name) in
         (e.1.name, ap (λ b. is_some (cond b (Some e.0) (child_of es p e.1.name))) both)
     onto false other has rest = let h = rest has in (h.0, further (is_child_named e.1 p h.0) (child_of es p h.0) h.1)
 

@@ -12,9 +12,7 @@ use Rattle.bw_model.specs.Quota.{in_slices, slices_of}
 use Rattle.bw_model.specs.declared.limits.TheConstants.{MAX_GROUPS, MIN_WEIGHT, MAX_WEIGHT, MAX_DEMAND, MAX_DEPTH, MAX_PATH}
 use Rattle.bw_model.specs.Groups.{no_row, IsInstance, depth_of, IsTree as IsTreeOfRows, parent_of as parent_row}
 use Rattle.bw_model.specs.Refusal.{is_earlier, are_earlier, depths_of, is_root_limited, refusal, demand_above, IsRefused}
-use Rattle.bw_model.proofs.Instances.{earlier-IsTree, refused_none-IsInstance}
 use Rattle.bw_model.specs.Host.{Shape, IsHost}
-use Rattle.bw_model.proofs.Paths.{depth_of-top, depth_of-step}
 use Rattle.std.proofs.lemmas.List.FromFn.{get_or-map-range_with_len, length-map-range_with_len}
 use Rattle.bw_model.specs.declared.quota.Quota.TheVariants.{Max}
 use Rattle.bw_model.specs.declared.instance_fault.InstanceFault.{InstanceFault}
@@ -25,6 +23,7 @@ use Rattle.bw_tree.specs.Tree.{root_group}
 use Rattle.bw_tree.proofs.GroupLemmas.{above_more, above_here, some_of}
 use Rattle.bw_tree.proofs.RemoveLemmas.{children_found}
 use Rattle.bw_tree.proofs.IndexLemmas.{at_more}
+use Rattle.bw_model.proofs.CallerLemmas.{goes_on, earlier-IsTree, refused_none-IsInstance, depth_of-top, depth_of-step}
 
 -- a test of each element, from a test at each place
 pub all_places : {X : Type 0} (p : X → Bool) (xs : List X) (d : X) → ((i : ℕ) → i < length xs → p (get_or xs i d) ≡ true) → list_all p xs ≡ true
@@ -92,10 +91,6 @@ length_rows gs s = length-map (values_of gs) (row_of gs s) ∙ length-map gs (λ
 first_limit : (rows : List Row) (r : Row) → 0 < length rows → is_root_limited rows ≡ is_some (get_or rows 0 r).limit
 first_limit [] r lt = absurd (omega (arith, lt))
 first_limit (x ∷ xs) r lt = refl
-
-clear : {F : Type 0} (b : Bool) (f : F) (rest : Option F) → b ≡ false → rest ≡ None → cond b (Some f) rest ≡ None
-clear true f rest h e = cc
-clear false f rest h e = e
 
 module _ (t : TreeState) (ok : IsTree t) (s : Shape) (d : ℕ × GroupFields) (r : Row) where
   -- the parent stands before
@@ -256,13 +251,13 @@ module _ (t : TreeState) (ok : IsTree t) (s : Shape) (d : ℕ × GroupFields) (r
   pub rows_valid : refusal (rows_of t.groups s) ≡ None
   rows_valid =
       let root = root_first in
-      clear _ _ _ (le-ltb MAX_GROUPS (length (rows_of t.groups s)) (omega (arith, ok.count, length_rows t.groups s)))
-      (clear _ _ _ (ap (λ b. b || not (are_earlier (rows_of t.groups s))) (ne_eqb (length (rows_of t.groups s)) 0 (λ e. omega (arith, e, root.some, length_rows t.groups s))) ∙ ap not rows_earlier)
-      (clear _ _ _ rows_weighted
-      (clear _ _ _ rows_shallow
-      (clear _ _ _ rows_idle
-      (clear _ _ _ rows_small
-      (clear _ _ _ root_free refl))))))
+      goes_on _ _ _ (le-ltb MAX_GROUPS (length (rows_of t.groups s)) (omega (arith, ok.count, length_rows t.groups s)))
+      (goes_on _ _ _ (ap (λ b. b || not (are_earlier (rows_of t.groups s))) (ne_eqb (length (rows_of t.groups s)) 0 (λ e. omega (arith, e, root.some, length_rows t.groups s))) ∙ ap not rows_earlier)
+      (goes_on _ _ _ rows_weighted
+      (goes_on _ _ _ rows_shallow
+      (goes_on _ _ _ rows_idle
+      (goes_on _ _ _ rows_small
+      (goes_on _ _ _ root_free refl))))))
 
 -- a snapshot is an instance
 pub snapshot_IsInstance : (t : TreeState) → IsTree t → (shape : Shape) → IsHost shape → IsInstance (instance_of t shape)

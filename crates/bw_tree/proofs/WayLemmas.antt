@@ -11,7 +11,8 @@ use Rattle.std.proofs.lemmas.List.Folds.{list_all-append}
 use Rattle.std.proofs.lemmas.List.Splits.{join_with_byte-slice_split, length-slice_split, slice_split_none, slice_split_at}
 use Rattle.bw_tree.specs.Groups.{GroupFields, TreeState, group_at, has_group, child_of, onward, walk, find_path, is_name, is_name_byte, IsTree}
 use Rattle.bw_tree.specs.Paths.{with_name, names_at, names_within, names_to, path_at, IsInverse, AreNamesUnique}
-use Rattle.bw_tree.proofs.GroupLemmas.{inside, some_of}
+use Rattle.bw_tree.proofs.GroupLemmas.{some_of}
+use Rattle.bw_model.proofs.CallerLemmas.{inside}
 use Rattle.bw_tree.proofs.IndexLemmas.{child_found, named_is}
 
 -- one step of the way

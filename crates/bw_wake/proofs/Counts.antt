@@ -1,10 +1,8 @@
 -- How a count over the seats changes with one of them.
-use Rattle.std.proofs.Common.{◌≡◌, ◌≢◌, ℕ, zero, suc, ◌+◌, ◌≤◌, ◌⊎◌, ◌==◌, List, [], ◌∷◌, length, set, refl, ap, inl}
-use Rattle.std.proofs.Common.{inr, arith, eq-eqb, ne_eqb, slice_get, Some}
-use mathlib.Core.Logic.{dite}
-use native.Mathlib.Decide.{ℕ_discrete}
+use Rattle.std.proofs.Common.{◌≡◌, ℕ, zero, suc, ◌+◌, ◌≤◌, List, [], ◌∷◌, length, set, refl, ap}
+use Rattle.std.proofs.Common.{arith, slice_get, Some}
 use Rattle.bw_wake.specs.declared.seats.Phase.{Phase}
-use Rattle.bw_wake.specs.Progress.{one_if, count}
+use Rattle.bw_wake.specs.Progress.{count}
 
 pub count_set : (g : Phase → ℕ) (ps : List Phase) (i : ℕ) (p q : Phase) → slice_get ps i ≡ Some p → count g (set ps i q) + g p ≡ count g ps + g q
 count_set g [] i p q e = absurd (cc e)
@@ -39,6 +37,3 @@ pub count_at : (g : Phase → ℕ) (ps : List Phase) (i : ℕ) (p : Phase) → s
 count_at g [] i p e = absurd (cc e)
 count_at g (x ∷ xs) zero p e = let s : x ≡ p = cc e in let a = ap g s in omega arith
 count_at g (x ∷ xs) (suc i) p e = let a = count_at g xs i p e in omega arith
-
-pub same_or_not : (a b : ℕ) → ((a ≡ b) × (one_if (a == b) ≡ 1)) ⊎ ((a ≢ b) × (one_if (a == b) ≡ 0))
-same_or_not a b = dite (ℕ_discrete a b) (λ e. inl (e, ap one_if (eq-eqb a b e))) (λ n. inr (n, ap one_if (ne_eqb a b n)))

@@ -9,7 +9,8 @@ use Rattle.bw_wake.specs.declared.seats.Phase.TheVariants.{Waiting, Marked, Look
 use Rattle.bw_wake.specs.Protocol.{WaitState, word_of}
 use Rattle.bw_wake.specs.Progress.{one_if, busy, sleeps, will_peek, wakes, count}
 use Rattle.bw_wake.proofs.Sound.{waits, holds, may_sleep, Stands, Sound}
-use Rattle.bw_wake.proofs.Counts.{count_set, length_kept, count-le, count_le_at, count_at, same_or_not}
+use Rattle.bw_wake.proofs.Counts.{count_set, length_kept, count-le, count_le_at, count_at}
+use Rattle.bw_model.proofs.CallerLemmas.{equal_or_not}
 use Rattle.bw_wake.proofs.Words.{index_here, index_else, words_kept}
 use Rattle.bw_wake.proofs.WordsApart.{sleeps-waits, may_sleep-waits, from_serving, to_next, window, words_apart}
 
@@ -49,7 +50,7 @@ mark_sound s i t p at is_w is_b is_h is_s is_p is_k r = let M = λ (g : Phase �
           ⊎_elim (λ (h : (t ≡ s.serving) × (one_if (t == s.serving) ≡ 1)). let k = h.1 in absurd (omega arith))
           (λ (h : (t ≢ s.serving) × (one_if (t == s.serving) ≡ 0)).
           let old : Stands s s.serving = sym (elsewhere s.serving (λ same. h.0 (sym (words_apart s r s.serving t (omega arith) mine same)))) ∙ stands in
-          let z = r.peek_owed (omega arith) old in omega arith) (same_or_not t s.serving);
+          let z = r.peek_owed (omega arith) old in omega arith) (equal_or_not one_if t s.serving);
     }
 
 -- by a seat that has not marked yet, and by one that has looked in vain

@@ -1,5 +1,5 @@
 -- What follows from the invariant: the wake-up of a served sleeper is under way, and no state is stuck.
-use Rattle.std.proofs.Common.{◌≡◌, ℕ, zero, suc, ◌+◌, ◌<◌, ◌≤◌, nat_lt, Bool, true, false, ◌&&◌, List, [], ◌∷◌}
+use Rattle.std.proofs.Common.{◌≡◌, ℕ, zero, suc, ◌+◌, ◌<◌, ◌≤◌, nat_lt, Bool, true, false, List, [], ◌∷◌}
 use Rattle.std.proofs.Common.{refl, sym, ◌∙◌, ⊎_elim, arith}
 use Rattle.std.specs.List.{list_all}
 use Rattle.std.proofs.lemmas.Bool.Decides.{leb_tells}
@@ -9,6 +9,7 @@ use Rattle.bw_wake.specs.Protocol.{WaitState}
 use Rattle.bw_wake.specs.Progress.{is_still, is_stuck, busy, sleeps, will_peek, wakes, awake, count, WakeIsUnderWay, GoesOn}
 use Rattle.bw_wake.proofs.Counts.{count-le}
 use Rattle.bw_wake.proofs.Sound.{waits, may_sleep, Stands, Sound}
+use Rattle.std.proofs.lemmas.Bool.{and_parts}
 
 -- a seat that sleeps has looked in vain
 pub sleeps-may_sleep : (x : ℕ) (p : Phase) → sleeps x p ≤ may_sleep x p
@@ -70,14 +71,10 @@ still-none x (Owes k n) e = absurd (cc e)
 still-none x (Found k n) e = absurd (cc e)
 still-none x (Wakes k n) e = absurd (cc e)
 
-both : (a b : Bool) → (a && b) ≡ true → (a ≡ true) × (b ≡ true)
-both true b e = (refl, e)
-both false b e = absurd (cc e)
-
 all_still-none : (x : ℕ) (ps : List Phase) → list_all is_still ps ≡ true
     → count (awake x) ps + count busy ps + count (will_peek x) ps + count (wakes x) ps ≡ 0
 all_still-none x [] e = refl
-all_still-none x (p ∷ ps) e = let d = both (is_still p) (list_all is_still ps) e in let a = still-none x p d.0 in
+all_still-none x (p ∷ ps) e = let d = and_parts (is_still p) (list_all is_still ps) e in let a = still-none x p d.0 in
     let b = all_still-none x ps d.1 in omega arith
 
 pub not_stuck : (s : WaitState) → Sound s → is_stuck s ≡ false
@@ -85,7 +82,7 @@ not_stuck s r = by_test (is_stuck s) refl
   where
     by_test : (b : Bool) → is_stuck s ≡ b → b ≡ false
     by_test false e = refl
-    by_test true e = let d = both (nat_lt s.serving s.next) (list_all is_still s.phases) e in
+    by_test true e = let d = and_parts (nat_lt s.serving s.next) (list_all is_still s.phases) e in
         let lt : s.serving < s.next = less s.serving s.next d.0 in let a = goes_on s r lt in
         let b = all_still-none s.serving s.phases d.1 in absurd (omega arith)
       where

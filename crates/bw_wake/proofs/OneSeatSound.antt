@@ -12,7 +12,8 @@ use Rattle.bw_wake.specs.declared.seats.Phase.TheVariants.{Idle, Marked, Looked,
 use Rattle.bw_wake.specs.Protocol.{WaitState, one_less, word_of, mark_at}
 use Rattle.bw_wake.specs.Progress.{one_if, among, busy, sleeps, will_peek, wakes, count}
 use Rattle.bw_wake.proofs.Sound.{waits, holds, may_sleep, Stands, Sound}
-use Rattle.bw_wake.proofs.Counts.{count_set, length_kept, count-le, same_or_not}
+use Rattle.bw_wake.proofs.Counts.{count_set, length_kept, count-le}
+use Rattle.bw_model.proofs.CallerLemmas.{equal_or_not}
 use Rattle.bw_wake.proofs.Words.{index_here, index_else, words_kept}
 use Rattle.bw_wake.proofs.WordsApart.{may_sleep-waits, to_next}
 
@@ -114,7 +115,7 @@ park_sound s i t at st r = still s i (Looked t) (Asleep t) s.words at refl (λ x
     (λ x some. let a = count_set (sleeps x) s.phases i (Looked t) (Asleep t) at in let c = count_set (wakes x) s.phases i (Looked t) (Asleep t) at in
     ⊎_elim (λ (h : (t ≡ x) × (one_if (t == x) ≡ 1)). inl (subst (Stands s) h.0 st))
     (λ (h : (t ≢ x) × (one_if (t == x) ≡ 0)). let z = h.1 in ⊎_elim (λ (k : Stands s x). inl k)
-    (λ (k : 1 ≤ count (wakes x) s.phases). inr (omega arith)) (r.mark_or_wake x (omega arith))) (same_or_not t x))
+    (λ (k : 1 ≤ count (wakes x) s.phases). inr (omega arith)) (r.mark_or_wake x (omega arith))) (equal_or_not one_if t x))
     (λ some k. let a = count_set (may_sleep s.serving) s.phases i (Looked t) (Asleep t) at in
     let b = count_set (will_peek s.serving) s.phases i (Looked t) (Asleep t) at in let h = r.peek_owed (omega arith) k in omega arith) r
 
@@ -166,7 +167,7 @@ taken_sound s i k n at st some_words r =
     (λ (h : (k ≢ x) × (one_if (k == x) ≡ 0)). let z = h.1 in ⊎_elim
     (λ (m : Stands s x). dite (ℕ_discrete (word_of s x) (word_of s k)) (λ (e : word_of s x ≡ word_of s k). let same : x + 1 ≡ k + 1 = sym m
     ∙ (ap (slice_index s.words) e ∙ st) in absurd (h.0 (omega arith))) (λ ne. inl (elsewhere x ne ∙ m)))
-    (λ (m : 1 ≤ count (wakes x) s.phases). inr (omega arith)) (r.mark_or_wake x (omega arith))) (same_or_not k x))
+    (λ (m : 1 ≤ count (wakes x) s.phases). inr (omega arith)) (r.mark_or_wake x (omega arith))) (equal_or_not one_if k x))
     (λ some m. let a = count_set (may_sleep s.serving) s.phases i (Found k n) (Wakes k n) at in
     let b = count_set (will_peek s.serving) s.phases i (Found k n) (Wakes k n) at in
     dite (ℕ_discrete (word_of s s.serving) (word_of s k)) (λ (e : word_of s s.serving ≡ word_of s k). let z = at_one s.serving e in absurd (omega arith))

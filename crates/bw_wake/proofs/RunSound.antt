@@ -1,11 +1,8 @@
 -- Every event keeps the invariant, so it holds after every list of events: the three laws.
-use Rattle.std.proofs.Common.{◌≡◌, ◌≢◌, ℕ, suc, ◌+◌, ◌≤◌, ◌==◌, nat_lt, Bool, true, false, List, [], ◌∷◌, length, refl, sym, ap, ◌∙◌}
+use Rattle.std.proofs.Common.{◌≡◌, ◌≢◌, ℕ, ◌+◌, ◌==◌, nat_lt, Bool, true, false, List, [], ◌∷◌, length, refl, sym, ap, ◌∙◌}
 use Rattle.std.proofs.Common.{arith, eq-eqb, eqb-true, slice_get, slice_set, Some, None, Option, if◌then◌else◌}
-use Rattle.std.proofs.lemmas.Bool.{le-leb}
 use Rattle.std.proofs.lemmas.Option.{slice_get_within}
 use Rattle.std.specs.List.{list_any}
-use mathlib.Core.Logic.{dite}
-use native.Mathlib.Decide.{dec_le}
 use Rattle.bw_wake.specs.declared.seats.Phase.{Phase}
 use Rattle.bw_wake.specs.declared.seats.Phase.TheVariants.{Idle, Waiting, Marked, Looked, Asleep, Inside, Done, Served, Owes, Found, Wakes}
 use Rattle.bw_wake.specs.declared.seats.Event.{Event}
@@ -20,6 +17,7 @@ use Rattle.bw_wake.proofs.MarkSound.{mark_waiting, mark_looked}
 use Rattle.bw_wake.proofs.OneSeatSound.{apply_sound, miss_sound, park_sound, owes_sound, none_next_sound, found_sound, not_found_sound, taken_sound}
 use Rattle.bw_wake.proofs.OneSeatSound.{untaken_sound}
 use Rattle.bw_wake.proofs.WakeSound.{spurious_wake_sound, take_sound, enter_sound, wake_sound, wake_none_sound, start_sound}
+use Rattle.std.proofs.lemmas.Bool.{ltb-false}
 
 ifs : {x y : WaitState} (b : Bool) → (b ≡ true → Sound x) → (b ≡ false → Sound y) → Sound (if b then x else y)
 ifs true f g = f refl
@@ -40,9 +38,6 @@ true-false e = cc e
 
 differ : (a b : ℕ) → (a == b) ≡ false → a ≢ b
 differ a b e same = true-false (sym (eq-eqb a b same) ∙ e)
-
-not-less : (a b : ℕ) → nat_lt a b ≡ false → b ≤ a
-not-less a b e = dite (dec_le (suc a) b) (λ lt. absurd (true-false (sym (le-leb (suc a) b lt) ∙ e))) (λ n. omega arith)
 
 entered : (s : WaitState) (i t : ℕ) (p : Phase) → slice_get s.phases i ≡ Some p → ((x : ℕ) → waits x p ≡ one_if (t == x)) → busy p ≡ 0 → holds p ≡ 1
     → ((x : ℕ) → sleeps x p ≡ 0) → ((x : ℕ) → will_peek x p ≡ 0) → ((x : ℕ) → wakes x p ≡ 0)
@@ -160,7 +155,7 @@ peek_next_keeps s i (Some (Asleep t)) at r = r
 peek_next_keeps s i (Some Inside) at r = r
 peek_next_keeps s i (Some Done) at r = r
 peek_next_keeps s i (Some (Served t)) at r = if_moved s i (Owes (t + 1) tickets_woken) Idle (nat_lt (t + 1) s.next) (λ e. owes_sound s i t at r)
-    (λ e. none_next_sound s i t at (not-less (t + 1) s.next e) r)
+    (λ e. none_next_sound s i t at (ltb-false (t + 1) s.next e) r)
 peek_next_keeps s i (Some (Owes k n)) at r = r
 peek_next_keeps s i (Some (Found k n)) at r = r
 peek_next_keeps s i (Some (Wakes k n)) at r = r

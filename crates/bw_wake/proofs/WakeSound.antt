@@ -9,7 +9,8 @@ use Rattle.bw_wake.specs.declared.seats.Phase.TheVariants.{Idle, Waiting, Marked
 use Rattle.bw_wake.specs.Protocol.{WaitState, one_less, sleeps_on, start, word_of}
 use Rattle.bw_wake.specs.Progress.{one_if, busy, sleeps, will_peek, wakes, count}
 use Rattle.bw_wake.proofs.Sound.{waits, holds, may_sleep, Stands, Sound}
-use Rattle.bw_wake.proofs.Counts.{count_set, length_kept, count-le, count_at, same_or_not}
+use Rattle.bw_wake.proofs.Counts.{count_set, length_kept, count-le, count_at}
+use Rattle.bw_model.proofs.CallerLemmas.{equal_or_not}
 use Rattle.bw_wake.proofs.WordsApart.{sleeps-waits, from_serving, to_next, words_apart}
 use Rattle.bw_wake.proofs.OneSeatSound.{one_less_none, one_less-will_peek}
 
@@ -49,16 +50,16 @@ take_sound s i at r = let M = λ (g : Phase → ℕ). count_set g s.phases i Idl
           ⊎_elim (λ (h : (s.next ≡ s.serving) × (one_if (s.next == s.serving) ≡ 1)). let q = r.quiet (sym h.0) in
           let f = r.future s.serving (omega arith) in let z = h.1 in omega arith)
           (λ (h : (s.next ≢ s.serving) × (one_if (s.next == s.serving) ≡ 0)). let z = h.1 in
-          let d = r.turn (lower (λ e. h.0 (sym e)) ahead) in omega arith) (same_or_not s.next s.serving);
+          let d = r.turn (lower (λ e. h.0 (sym e)) ahead) in omega arith) (equal_or_not one_if s.next s.serving);
       later = λ x gt lt. let a = M (waits x) in
           ⊎_elim (λ (h : (s.next ≡ x) × (one_if (s.next == x) ≡ 1)). let f = r.future x (omega arith) in let z = h.1 in omega arith)
           (λ (h : (s.next ≢ x) × (one_if (s.next == x) ≡ 0)). let z = h.1 in let d = r.later x gt (lower
-          (λ e. h.0 (sym e)) (omega arith)) in omega arith) (same_or_not s.next x);
+          (λ e. h.0 (sym e)) (omega arith)) in omega arith) (equal_or_not one_if s.next x);
       past = λ x lt. let a = M (waits x) in let d = r.past x lt in ⊎_elim (λ (h : (s.next ≡ x) × (one_if (s.next == x) ≡ 1)). absurd (omega arith))
-          (λ (h : (s.next ≢ x) × (one_if (s.next == x) ≡ 0)). let z = h.1 in omega arith) (same_or_not s.next x);
+          (λ (h : (s.next ≢ x) × (one_if (s.next == x) ≡ 0)). let z = h.1 in omega arith) (equal_or_not one_if s.next x);
       future = λ x le. let a = M (waits x) in let d = r.future x (omega arith) in ⊎_elim
           (λ (h : (s.next ≡ x) × (one_if (s.next == x) ≡ 1)). absurd (omega arith)) (λ (h : (s.next ≢ x) × (one_if (s.next == x) ≡ 0)).
-          let z = h.1 in omega arith) (same_or_not s.next x);
+          let z = h.1 in omega arith) (equal_or_not one_if s.next x);
       quiet = λ e. absurd (omega arith);
       words = omega (arith, r.words, length_kept s.phases i (Waiting s.next));
       mark_or_wake = λ x some. let a = M (sleeps x) in let c = M (wakes x) in ⊎_elim (λ (h : Stands s x). inl h)
@@ -79,7 +80,7 @@ enter_sound s i p at is_w is_b is_h is_s is_p is_k r = let M = λ (g : Phase →
       turn = λ l. let a = M (waits s.serving) in let b = M busy in omega arith;
       later = λ x gt l. let a = M (waits x) in let c = is_w x in let d = r.later x gt l in ⊎_elim
           (λ (h : (s.serving ≡ x) × (one_if (s.serving == x) ≡ 1)). absurd (omega arith)) (λ (h : (s.serving ≢ x) × (one_if (s.serving == x) ≡ 0)).
-          let z = h.1 in omega arith) (same_or_not s.serving x);
+          let z = h.1 in omega arith) (equal_or_not one_if s.serving x);
       past = λ x l. let a = M (waits x) in let d = r.past x l in omega arith;
       future = λ x le. let a = M (waits x) in let d = r.future x le in omega arith;
       quiet = λ e. absurd (omega arith);
@@ -128,7 +129,7 @@ wake_sound s i j k n t at at_j same_word r =
           let mine = count_at (waits t) s.phases j (Asleep t) at_j in let one = ap one_if (eq-eqb t t refl) in
           let tx : t ≡ x = words_apart s r t x (omega arith) (omega arith) (same_word ∙ ap (word_of s) g.0) in
           let two = ap one_if (eq-eqb t x tx) in absurd (omega arith))
-          (λ (g : (k ≢ x) × (one_if (k == x) ≡ 0)). let z = g.1 in inr (omega arith)) (same_or_not k x))
+          (λ (g : (k ≢ x) × (one_if (k == x) ≡ 0)). let z = g.1 in inr (omega arith)) (equal_or_not one_if k x))
           (r.mark_or_wake x (omega arith));
       peek_owed = λ some st. let a = A (may_sleep s.serving) in let b = B (may_sleep s.serving) in
           let c = one_less_none (may_sleep s.serving) refl (λ a b. refl) k n in
@@ -146,7 +147,7 @@ sleeps-on s x (Marked t) = omega arith
 sleeps-on s x (Looked t) = omega arith
 sleeps-on s x (Asleep t) = ⊎_elim (λ (h : (t ≡ x) × (one_if (t == x) ≡ 1)).
     let a = ap one_if (eq-eqb (word_of s t) (word_of s x) (ap (word_of s) h.0)) in omega (arith, h.1))
-    (λ (h : (t ≢ x) × (one_if (t == x) ≡ 0)). omega (arith, h.1)) (same_or_not t x)
+    (λ (h : (t ≢ x) × (one_if (t == x) ≡ 0)). omega (arith, h.1)) (equal_or_not one_if t x)
 sleeps-on s x Inside = omega arith
 sleeps-on s x Done = omega arith
 sleeps-on s x (Served t) = omega arith
@@ -185,7 +186,7 @@ wake_none_sound s i k n at none r = let A = λ (g : Phase → ℕ). count_set g 
           let few = count-le (sleeps k) (λ p. one_if (sleeps_on (length s.words) (word_of s k) p)) s.phases (sleeps-on s k) in
           let nobody = none_any (sleeps_on (length s.words) (word_of s k)) s.phases none in
           let same = ap (λ y. count (sleeps y) s.phases) g.0 in absurd (omega arith))
-          (λ (g : (k ≢ x) × (one_if (k == x) ≡ 0)). let z = g.1 in inr (omega arith)) (same_or_not k x))
+          (λ (g : (k ≢ x) × (one_if (k == x) ≡ 0)). let z = g.1 in inr (omega arith)) (equal_or_not one_if k x))
           (r.mark_or_wake x (omega arith));
       peek_owed = λ some st. let a = A (may_sleep s.serving) in let c = one_less_none (may_sleep s.serving) refl (λ a b. refl) k n in
           let d = A (will_peek s.serving) in let f = one_less-will_peek s.serving k n in let h = r.peek_owed (omega arith) st in omega arith;

@@ -12,20 +12,15 @@ use Rattle.bw_model.specs.Groups.{Groups, IsInstance}
 use Rattle.bw_model.specs.History.{IsLegal, replay, own, own_from, entry_of, StandIn}
 use Rattle.bw_model.specs.Host.{slices_per_processor}
 use Rattle.bw_model.specs.Plan.{child_weights, IsPlan}
-use Rattle.bw_model.proofs.Histories.{own_entries, own_places}
-use Rattle.bw_model.proofs.Limiting.{limited_total-is}
-use Rattle.bw_model.proofs.Mosts.{mosts, mosts-capped, AreMosts-capped}
-use Rattle.bw_model.proofs.Reach.{capped-IsMost}
-use Rattle.bw_split.proofs.Neighbours.{best_is_unmoved}
+use Rattle.bw_model.proofs.CallerLemmas.{own_entries, own_places, limited_total-is, mosts, mosts-capped, AreMosts-capped, capped-IsMost}
+use Rattle.bw_split.proofs.CallerLemmas.{best_is_unmoved}
 use Rattle.bw_plan.specs.Shared.{IsPlanning}
-use Rattle.bw_plan.proofs.Backward.{plan-IsPlanning}
+use Rattle.bw_plan.proofs.CallerLemmas.{plan-IsPlanning}
 use Rattle.bw_pool.specs.declared.calls.PoolCall.{PoolCall}
 use Rattle.bw_pool.specs.declared.calls.PoolReply.{PoolReply}
 use Rattle.bw_pool.specs.Pool.{IsSound, after, answer}
 use Rattle.bw_pool.specs.Drained.{PoolEntry, Drains, fresh, opening, IsDrawnOut}
-use Rattle.bw_pool.proofs.Amounts.{plan_is_planned}
-use Rattle.bw_pool.proofs.Bounds.{never_past_the_plan}
-use Rattle.bw_pool.proofs.Sound.{sound_new}
+use Rattle.bw_pool.proofs.CallerLemmas.{plan_is_planned, never_past_the_plan, sound_new}
 use Rattle.bw_ticket.specs.Holder.{fresh_seat}
 use Rattle.bw_workers.specs.Headline.{of_children, Headline}
 use Rattle.bw_workers.specs.Serving.{AreBack}

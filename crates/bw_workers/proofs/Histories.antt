@@ -5,7 +5,7 @@ use Rattle.std.specs.List.{All}
 use Rattle.std.proofs.lemmas.Bool.{true≢false}
 use Rattle.atomic_table.specs.Seated.{TableId}
 use Rattle.bw_model.specs.History.{own, own_from, entry_of}
-use Rattle.bw_model.proofs.Histories.{own_entries}
+use Rattle.bw_model.proofs.CallerLemmas.{own_entries}
 use Rattle.bw_ticket.specs.Holder.{fresh_seat, fresh_seats}
 use Rattle.bw_pool.specs.declared.calls.PoolCall.{PoolCall}
 use Rattle.bw_pool.specs.declared.calls.PoolCall.TheVariants.{Draw, GiveBack, Lower, Look}

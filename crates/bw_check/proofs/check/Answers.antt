@@ -1,7 +1,7 @@
 use Rattle.std.proofs.Common.{◌≡◌, true, false, refl, sym, ◌∙◌, arith}
 use Rattle.bw_model.specs.Certificate.{certified_of, IsAccepted}
 use Rattle.bw_check.proofs.Verdicts.{refused-not-accepted}
-use Rattle.bw_model.proofs.Optimum.{certified-IsPlan}
+use Rattle.bw_model.proofs.CallerLemmas.{certified-IsPlan}
 use Rattle.bw_check.proofs.Deciding.{wrong_length, refused_at, one_fault_more, small_at, all_free}
 use Rattle.bw_check.proofs.check.Goals as goal
 

@@ -4,7 +4,7 @@ use Rattle.std.proofs.lemmas.List.{length-map}
 use Rattle.bw_model.specs.declared.limits.TheConstants.{MAX_GROUPS}
 use Rattle.bw_model.specs.Groups.{children_of}
 use Rattle.bw_model.specs.Plan.{child_weights}
-use Rattle.bw_plan.proofs.Shares.{few_children, weights_in_range}
+use Rattle.bw_plan.proofs.CallerLemmas.{few_children, weights_in_range}
 use Rattle.bw_cert.proofs.Levelled.{small_parts, to_level}
 use Rattle.bw_cert.proofs.certifying.level_at.Goals as goal
 

@@ -2,7 +2,7 @@ use Rattle.std.proofs.Common.{◌≡◌, None, sym, rules}
 use Rattle.bw_cert.specs.Spelling.{lines_of}
 use Rattle.bw_cert.specs.Reading.{columns_view}
 use Rattle.bw_model.specs.Refusal.{refusal}
-use Rattle.bw_model.proofs.Instances.{IsInstance-accepted}
+use Rattle.bw_model.proofs.CallerLemmas.{IsInstance-accepted}
 use Rattle.bw_cert.proofs.Lines.{not_over, trailing, over, whole}
 use Rattle.bw_cert.proofs.reading.certified.Goals as goal
 

@@ -3,14 +3,14 @@ use Rattle.std.specs.Prelude.{string_bytes}
 use Rattle.std.proofs.lemmas.List.{length-map}
 use Rattle.std.specs.Option.{option_map}
 use Rattle.bw_model.specs.Marks.{price_of}
-use Rattle.bw_cert.specs.Spelling.{value_of, spelling, IsSmallRow}
+use Rattle.bw_cert.specs.Spelling.{certified_value, spelling, IsSmallRow}
 use Rattle.bw_cert.proofs.Written.{rest_text, rest_step, rest_none, written_more, written_all, first_none, first_more, first_all, all_levels, IsSmallMark}
 use Rattle.bw_cert.proofs.writing.write_certified.Goals as goal
 
 pub loop-i-init : goal.loop-i-init
 loop-i-init c =
     let text : string_bytes c.push_head.new.out ++ rest_text c.args.instance.now.rows c.args.amounts.now c.args.certificate.now.tight.items c.args.certificate.now.levels.items 0
-    ≡ spelling (value_of c.args.instance.now c.args.amounts.now c.args.certificate.now) = search rules in
+    ≡ spelling (certified_value c.args.instance.now c.args.amounts.now c.args.certificate.now) = search rules in
     (text, record { of_rows = first_none IsSmallRow _; of_amounts = first_none (λ n. n < 2 ^ 64) _; of_levels = first_none IsSmallMark _ })
 
 pub loop-i-preserved : goal.loop-i-preserved

@@ -2,12 +2,11 @@ use Rattle.std.proofs.Common.{◌≡◌, ◌<◌, ◌≤◌, ◌+◌, ◌-◌, �
 use Rattle.std.proofs.lemmas.Option.{slice_get_read}
 use Rattle.bw_model.specs.declared.row.Row.{Row}
 use Rattle.bw_model.specs.Groups.{limit_of, parent_of}
-use Rattle.bw_model.proofs.Under.{parent_lt}
-use Rattle.bw_model.proofs.Reach.{capped}
+use Rattle.bw_model.proofs.CallerLemmas.{parent_lt, capped, no_parent, get_or_within}
 use Rattle.bw_demand.specs.Levels.{level_of}
 use Rattle.bw_demand.proofs.ByDepth.{level_is, level_within}
 use Rattle.bw_demand.proofs.Seen.{seen_from, seen_at, none_seen, all_seen, first_seen, last_seen, next_seen, fresh, parent_unseen}
-use Rattle.bw_demand.proofs.Passed.{same_seen, nothing_gathered, sum_fits, gathered_child, gathered_root, all_gathered, no_parent, cut-capped, get_or_within}
+use Rattle.bw_demand.proofs.WantsGathered.{same_seen, nothing_gathered, sum_fits, gathered_child, gathered_root, all_gathered, cut-capped}
 use Rattle.bw_demand.proofs.gathering.gather_levels.Goals as goal
 use Rattle.bw_demand.proofs.gathering.gather_levels.Goals.{in-Some, in_default}
 use Rattle.bw_model.specs.declared.limits.TheConstants.{MAX_DEMAND, MAX_GROUPS}

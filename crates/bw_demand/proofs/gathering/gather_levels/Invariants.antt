@@ -1,6 +1,6 @@
 use Rattle.std.proofs.Common.{◌≡◌}
 use Rattle.bw_demand.specs.Levels.{level_of}
-use Rattle.bw_demand.proofs.Passed.{IsGathering}
+use Rattle.bw_demand.proofs.WantsGathered.{IsGathering}
 use Rattle.bw_demand.proofs.Seen.{seen_from, seen_at}
 use Rattle.bw_demand.proofs.gathering.gather_levels.Given as goal
 

@@ -1,4 +1,4 @@
-use Rattle.bw_model.proofs.Bounds.{total-le_bound}
+use Rattle.bw_model.proofs.CallerLemmas.{total-le_bound}
 use Rattle.bw_demand.proofs.laws.bounds_hold.Goals as goal
 
 pub returns : goal.returns

@@ -1,8 +1,8 @@
 use Rattle.std.proofs.Common.{sym, ◌∙◌}
 use Rattle.bw_model.specs.Groups.{limit_of}
 use Rattle.bw_model.specs.Demand.{want_of}
-use Rattle.bw_model.proofs.Mosts.{IsMost-unique, AreMosts-capped}
-use Rattle.bw_demand.proofs.Passed.{cut-capped}
+use Rattle.bw_model.proofs.CallerLemmas.{IsMost-unique, AreMosts-capped}
+use Rattle.bw_demand.proofs.WantsGathered.{cut-capped}
 use Rattle.bw_demand.proofs.laws.most_is_the_want_cut.Goals as goal
 
 pub returns : goal.returns

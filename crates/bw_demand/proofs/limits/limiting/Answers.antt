@@ -4,9 +4,9 @@ use Rattle.bw_model.specs.declared.row.Row.{Row}
 use Rattle.bw_model.specs.declared.limits.TheConstants.{MAX_DEMAND, MAX_GROUPS}
 use Rattle.bw_model.specs.Groups.{parent_of, is_leaf, demand_of}
 use Rattle.bw_model.specs.Demand.{is_tight, has_tight_above}
-use Rattle.bw_model.proofs.Under.{parent_lt}
+use Rattle.bw_model.proofs.CallerLemmas.{parent_lt}
 use Rattle.bw_demand.specs.Demands.{demands_of}
-use Rattle.bw_demand.proofs.Outside.{nothing_listed, above_by_parent, listed_more, rest_small, all_listed, flag_within}
+use Rattle.bw_demand.proofs.LimitingListed.{nothing_listed, above_by_parent, listed_more, rest_small, all_listed, flag_within}
 use Rattle.bw_demand.proofs.limits.limiting.Goals as goal
 use Rattle.bw_demand.proofs.limits.limiting.Goals.{then-is_limiting+in_ok-push, else-is_limiting}
 

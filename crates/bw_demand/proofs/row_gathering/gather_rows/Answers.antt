@@ -2,10 +2,9 @@ use Rattle.bw_model.specs.declared.limits.TheConstants.{MAX_DEMAND, MAX_GROUPS}
 use Rattle.std.proofs.Common.{◌*◌, ◌≡◌, ◌<◌, ◌≤◌, ◌+◌, ◌-◌, ℕ, Some, length, get_or, refl, ap, ◌∙◌, subst, arith, rules}
 use Rattle.bw_model.specs.declared.row.Row.{Row}
 use Rattle.bw_model.specs.Groups.{limit_of, parent_of}
-use Rattle.bw_model.proofs.Under.{parent_lt}
-use Rattle.bw_model.proofs.Reach.{capped}
+use Rattle.bw_model.proofs.CallerLemmas.{parent_lt, capped, no_parent, get_or_within}
 use Rattle.bw_demand.proofs.Seen.{rows_from, no_rows, all_rows, next_row, fresh_row, parent_row_unseen}
-use Rattle.bw_demand.proofs.Passed.{IsGathering, nothing_gathered, sum_fits, gathered_child, gathered_root, all_gathered, no_parent, cut-capped, get_or_within}
+use Rattle.bw_demand.proofs.WantsGathered.{IsGathering, nothing_gathered, sum_fits, gathered_child, gathered_root, all_gathered, cut-capped}
 use Rattle.bw_demand.proofs.row_gathering.gather_rows.Goals as goal
 
 pub loop-g-init : goal.loop-g-init

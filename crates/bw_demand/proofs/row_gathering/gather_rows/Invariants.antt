@@ -1,4 +1,4 @@
-use Rattle.bw_demand.proofs.Passed.{IsGathering}
+use Rattle.bw_demand.proofs.WantsGathered.{IsGathering}
 use Rattle.bw_demand.proofs.Seen.{rows_from}
 use Rattle.bw_demand.proofs.row_gathering.gather_rows.Given as goal
 

@@ -1,7 +1,7 @@
 -- The goals of `write_max` that are answered by hand.
 use Rattle.std.proofs.Common.{sym, ap, ◌∙◌}
 use Rattle.bw_tree.specs.Tree.{with_setting, set_max, set_quota, set_period}
-use Rattle.bw_tree.proofs.SetLemmas.{settings_join}
+use Rattle.bw_tree.proofs.CallerLemmas.{settings_join}
 use Rattle.bw_hierarchy.proofs.Settings.{never_refused}
 use Rattle.bw_hierarchy.proofs.calls.write_max.Goals as goal
 

@@ -1,8 +1,7 @@
 use Rattle.std.proofs.Common.{◌≡◌, ◌<◌, ◌+◌, ℕ, suc, List, length, get_or, replicate, set, ap, subst, ◌∙◌, arith, rules}
 use Rattle.std.proofs.lemmas.Bool.{lt-ltb, le-ltb}
 use Rattle.bw_model.specs.declared.row.Row.{Row}
-use Rattle.bw_model.proofs.Mosts.{AreMosts-capped}
-use Rattle.bw_demand.proofs.Passed.{get_or_within}
+use Rattle.bw_model.proofs.CallerLemmas.{AreMosts-capped, get_or_within}
 use Rattle.bw_plan.specs.Shared.{IsPlanning, AreParts}
 use Rattle.bw_plan.proofs.Shares.{rows_before, begun, can_share, given_more, all_planned, next_fresh, next_marks, before_closed, parent_done}
 use Rattle.bw_plan.proofs.downward.plan_rows.Goals as goal

@@ -1,5 +1,5 @@
 use Rattle.std.proofs.lemmas.List.{get_or_default}
-use Rattle.bw_demand.proofs.ByDepth.{level_within}
+use Rattle.bw_demand.proofs.CallerLemmas.{level_within}
 use Rattle.bw_plan.proofs.level_plan.is_worth_cutting.Goals as goal
 
 pub all_to_split-children-requires : goal.all_to_split-children-requires

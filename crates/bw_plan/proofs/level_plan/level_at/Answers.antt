@@ -1,6 +1,6 @@
 use Rattle.std.proofs.Common.{length, refl}
 use Rattle.std.proofs.lemmas.Option.{slice_get_read}
-use Rattle.bw_demand.proofs.ByDepth.{level_is}
+use Rattle.bw_demand.proofs.CallerLemmas.{level_is}
 use Rattle.bw_plan.proofs.level_plan.level_at.Goals as goal
 
 pub returns : goal.returns

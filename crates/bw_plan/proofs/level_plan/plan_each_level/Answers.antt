@@ -1,7 +1,7 @@
 use Rattle.std.proofs.Common.{◌≡◌, ◌+◌, ◌-◌, ℕ, List, length, get_or, replicate, set, ap, refl, subst, arith, rules}
 use Rattle.bw_model.specs.declared.row.Row.{Row}
 use Rattle.bw_model.specs.Demand.{AreMosts}
-use Rattle.bw_model.proofs.Mosts.{AreMosts-capped}
+use Rattle.bw_model.proofs.CallerLemmas.{AreMosts-capped}
 use Rattle.bw_plan.specs.Shared.{IsPlanning, is_above}
 use Rattle.bw_plan.proofs.Shares.{begun, all_planned}
 use Rattle.bw_plan.proofs.Done.{none_above, inner_above}

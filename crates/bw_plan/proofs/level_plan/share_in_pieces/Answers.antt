@@ -3,10 +3,9 @@ use Rattle.std.specs.declared.alloc.Global.{Global}
 use Rattle.std.proofs.lemmas.List.{get_or_default, length-map}
 use Rattle.std.specs.Prelude.{slice_index}
 use Rattle.bw_model.specs.Groups.{children_of, depth_of}
-use Rattle.bw_model.proofs.Mosts.{AreMosts-capped}
-use Rattle.bw_model.proofs.Totals.{is_child_no}
+use Rattle.bw_model.proofs.CallerLemmas.{AreMosts-capped, is_child_no}
 use Rattle.bw_demand.specs.Levels.{level_of}
-use Rattle.bw_demand.proofs.ByDepth.{level_within, level_row}
+use Rattle.bw_demand.proofs.CallerLemmas.{level_within, level_row}
 use Rattle.bw_plan.specs.Shared.{AreParts, is_above}
 use Rattle.bw_plan.proofs.Shares.{can_share, given_more, same_done}
 use Rattle.bw_plan.proofs.Done.{done_at, first_done, last_done, next_done, fresh, closed, parent_done, parent_above, no_child}

@@ -1,8 +1,8 @@
 use Rattle.std.proofs.Common.{◌≡◌, ◌<◌, ◌≤◌, ◌+◌, ℕ, List, length, get_or, ap, ◌∙◌, arith}
 use Rattle.bw_model.specs.Groups.{depth_of}
-use Rattle.bw_model.proofs.Mosts.{AreMosts-capped}
+use Rattle.bw_model.proofs.CallerLemmas.{AreMosts-capped}
 use Rattle.bw_demand.specs.Levels.{level_of}
-use Rattle.bw_demand.proofs.ByDepth.{level_within, level_row}
+use Rattle.bw_demand.proofs.CallerLemmas.{level_within, level_row}
 use Rattle.bw_plan.specs.Shared.{AreParts, is_above}
 use Rattle.bw_plan.proofs.Shares.{can_share, given_more, same_done}
 use Rattle.bw_plan.proofs.Done.{done_at, first_done, last_done, next_done, fresh, closed, parent_done}

@@ -4,9 +4,7 @@ use Rattle.std.proofs.lemmas.Bool.{both_ways}
 use Rattle.std.proofs.lemmas.List.{get_or-set_same, get_or-set_other, length-set}
 use Rattle.bw_model.specs.declared.row.Row.{Row}
 use Rattle.bw_model.specs.Groups.{is_child, children_of}
-use Rattle.bw_model.proofs.Places.{child_at}
-use Rattle.bw_model.proofs.Totals.{is_child_from_parent}
-use Rattle.bw_demand.proofs.Passed.{get_or_within}
+use Rattle.bw_model.proofs.CallerLemmas.{child_at, is_child_from_parent, get_or_within}
 use Rattle.bw_plan.proofs.Shares.{children_within, children_apart, map_is}
 use Rattle.bw_plan.proofs.sharing.give.Goals as goal
 

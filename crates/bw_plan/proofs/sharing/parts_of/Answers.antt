@@ -1,7 +1,7 @@
 use Rattle.std.proofs.Common.{◌<◌, ℕ, length, ap, sym, ◌∙◌, arith}
 use Rattle.std.proofs.lemmas.Bool.{ne_eqb}
 use Rattle.bw_model.specs.Groups.{children_of}
-use Rattle.bw_model.proofs.Listing.{is_leaf-length}
+use Rattle.bw_model.proofs.CallerLemmas.{is_leaf-length}
 use Rattle.bw_plan.proofs.sharing.parts_of.Goals as goal
 
 pub split_among-requires-clause-inner : goal.split_among-requires-clause-inner

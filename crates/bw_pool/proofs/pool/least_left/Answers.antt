@@ -1,10 +1,10 @@
 -- The next group up keeps the least of what is left.
 use Rattle.std.proofs.Common.{ℕ, ◌-◌, slice_index, ◌∙◌, sym, ap, arith}
 use Rattle.bw_pool.specs.Pool.{least}
-use Rattle.bw_model.proofs.Paths.{way_from}
+use Rattle.bw_model.proofs.CallerLemmas.{way_from}
 use Rattle.bw_model.specs.Groups.{path_up}
 use Rattle.bw_pool.proofs.Trees.{least_all}
-use Rattle.bw_pool.proofs.Ways.{falls, on_the_way, least_goes}
+use Rattle.bw_pool.proofs.StepsUp.{falls, on_the_way, least_goes}
 use Rattle.bw_pool.proofs.pool.least_left.Goals as goal
 
 pub loop-at-smaller : goal.loop-at-smaller

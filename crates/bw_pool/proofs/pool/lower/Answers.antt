@@ -1,7 +1,7 @@
 -- The next group up keeps what is lowered.
 use Rattle.std.proofs.Common.{◌-◌, ◌≤◌, slice_index, ◌∙◌, ap, arith, refl}
-use Rattle.bw_model.proofs.Paths.{reach}
-use Rattle.bw_pool.proofs.Ways.{falls, on_the_way, lowered_goes, fits_goes, untouched_goes}
+use Rattle.bw_model.proofs.CallerLemmas.{reach}
+use Rattle.bw_pool.proofs.StepsUp.{falls, on_the_way, lowered_goes, fits_goes, untouched_goes}
 use Rattle.bw_pool.proofs.pool.lower.Goals as goal
 
 pub loop-at-smaller : goal.loop-at-smaller

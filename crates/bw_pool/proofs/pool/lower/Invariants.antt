@@ -2,7 +2,7 @@
 use Rattle.std.proofs.Common.{◌≡◌, ℕ, ◌<◌, ◌≤◌, length, slice_index, Some}
 use Rattle.std.specs.List.{AllByRecursion}
 use Rattle.bw_pool.specs.Pool.{lowered}
-use Rattle.bw_model.proofs.Paths.{reach, way_from}
+use Rattle.bw_model.proofs.CallerLemmas.{reach, way_from}
 use Rattle.bw_pool.proofs.pool.lower.Given as goal
 
 abbrev pub invariant-loop-at : goal.invariant-loop-at

@@ -1,7 +1,5 @@
 use Rattle.std.proofs.Common.{◌∙◌, ◌<◌, length, arith, sym}
-use Rattle.bw_demand.proofs.Passed.{get_or_within}
-use Rattle.bw_model.proofs.Limiting.{limited_total-is}
-use Rattle.bw_model.proofs.Mosts.{AreMosts-capped}
+use Rattle.bw_model.proofs.CallerLemmas.{get_or_within, limited_total-is, AreMosts-capped}
 use Rattle.bw_shell.proofs.total.total_of.Goals as goal
 
 pub returns : goal.returns

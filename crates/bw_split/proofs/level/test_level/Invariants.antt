@@ -1,5 +1,5 @@
 use Rattle.std.proofs.Common.{◌≡◌, ◌*◌, ◌≤◌}
-use Rattle.bw_model.proofs.Sums.{sum_below}
+use Rattle.bw_model.proofs.CallerLemmas.{sum_below}
 use Rattle.bw_split.proofs.Takes.{each_takes}
 use Rattle.bw_split.proofs.level.test_level.Given as goal
 use Rattle.bw_split.specs.declared.limits.TheConstants.{MOST_TAKEN}

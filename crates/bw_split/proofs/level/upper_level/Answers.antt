@@ -1,5 +1,5 @@
 use Rattle.std.proofs.Common.{◌≡◌, ◌≤◌, ℕ, length, get_or, arith, ap}
-use Rattle.bw_model.proofs.Sums.{sum_below}
+use Rattle.bw_model.proofs.CallerLemmas.{sum_below}
 use Rattle.bw_split.proofs.Takes.{each_takes, by_all-is, by_all-top}
 use Rattle.bw_split.proofs.Search.{raised, mark_level}
 use Rattle.bw_split.proofs.level.upper_level.Goals as goal

@@ -1,5 +1,5 @@
 use Rattle.std.proofs.Common.{◌*◌, ◌≤◌}
-use Rattle.bw_model.proofs.Sums.{sum_below}
+use Rattle.bw_model.proofs.CallerLemmas.{sum_below}
 use Rattle.bw_split.proofs.Takes.{each_takes}
 use Rattle.bw_split.proofs.level.upper_level.Given as goal
 use Rattle.bw_model.specs.declared.limits.TheConstants.{MAX_WEIGHT, MAX_CAPACITY}

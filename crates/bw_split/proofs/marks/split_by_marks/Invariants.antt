@@ -1,7 +1,7 @@
 use Rattle.std.proofs.Common.{replicate, length}
 use Rattle.std.specs.BinaryHeap.{IsHeap, heap_items}
 use Rattle.bw_split.proofs.Filling.{IsFilled}
-use Rattle.bw_split.proofs.Lined.{IsLined, mark_in, by_mark}
+use Rattle.bw_split.proofs.NextMarks.{IsLined, mark_in, by_mark}
 use Rattle.bw_split.proofs.marks.split_by_marks.Given as goal
 
 abbrev pub invariant-loop-i : goal.invariant-loop-i

@@ -5,7 +5,7 @@ use Rattle.bw_model.specs.Host.{slices_per_processor}
 use Rattle.bw_model.specs.History.{IsLegal, replay}
 use Rattle.bw_pool.specs.Pool.{after, answer}
 use Rattle.bw_pool.specs.Drained.{opening, IsDrawnOut}
-use Rattle.bw_pool.proofs.Amounts.{drained_workers_draw_the_plan, plan_is_planned}
+use Rattle.bw_pool.proofs.CallerLemmas.{drained_workers_draw_the_plan, plan_is_planned}
 use Rattle.bw_workers.proofs.Carried.{carried}
 use Rattle.bw_workers.proofs.Histories.{drained_history, seats_ready}
 use Rattle.bw_workers.proofs.serving.serve.Goals as goal

@@ -8,7 +8,8 @@ use Rattle.bw_pool.specs.declared.calls.PoolCall.TheVariants.{Draw}
 use Rattle.bw_pool.specs.Pool.{PoolState, IsSound, refusal, held_place, drew, got_of, short_of}
 use Rattle.bw_pool.specs.Pools.{pool_of}
 use Rattle.bw_pool.proofs.Sound.{draw_passed, place_in, sound_drew}
-use Rattle.bw_pool.proofs.Draws.{or_any, got_from, got_small, held_small, drew_from, room_from, short_none, short_some}
+use Rattle.bw_pool.proofs.Draws.{got_from, got_small, held_small, drew_from, room_from, short_none, short_some}
+use Rattle.bw_model.proofs.CallerLemmas.{get_or_within}
 use Rattle.bw_pool.specs.declared.calls.PoolReply.TheVariants.{Granted}
 use Rattle.bw_pool.proofs.pool.SlicePool.draw.Goals as goal
 use Rattle.bw_pool.proofs.pool.SlicePool.draw.Goals.{then-got-ask, else-got-ask}
@@ -26,7 +27,7 @@ overflow_sub-self-inside c =
     let pass = subst (λ (v : PoolState). refusal v c.args.seat (Draw c.args.leaf c.args.ask) ≡ None) (sym c.self.view_is) c.requires in
     let here = draw_passed (pool_of c.self.inside) c.args.seat c.args.leaf c.args.ask pass in
     let by : c.index.result.now ≡ get_or c.self.inside.by_processor.items c.args.seat c.index.result.now = c.index.ensures in
-    let by' = by ∙ or_any c.self.inside.by_processor.items c.args.seat c.index.result.now (omega (arith, ok.by_processor, here.0)) in
+    let by' = by ∙ get_or_within c.self.inside.by_processor.items c.args.seat c.index.result.now (omega (arith, ok.by_processor, here.0)) in
     omega (arith, by', ok.cap c.args.seat)
 
 pub overflow_add-index_mut : goal.overflow_add-index_mut
@@ -39,7 +40,7 @@ overflow_add-index_mut c =
     c.min-bound.result c.least_left-got.result
     ok pass c.deref.ensures.value c.deref-2.ensures.value c.deref-3.ensures.value c.index.ensures c.min-bound.ensures c.least_left-got.ensures.value in
     let by : c.index_mut.result.now ≡ get_or c.self.inside.by_processor.items c.args.seat c.index_mut.result.now = c.index_mut.ensures.value in
-    let by' = by ∙ or_any c.self.inside.by_processor.items c.args.seat c.index_mut.result.now (omega (arith, ok.by_processor, here.0)) in
+    let by' = by ∙ get_or_within c.self.inside.by_processor.items c.args.seat c.index_mut.result.now (omega (arith, ok.by_processor, here.0)) in
     let small = got_small s c.args.seat c.args.leaf c.args.ask in
     omega (arith, got, small, by', ok.cap c.args.seat, ok.few_slices)
 
@@ -57,7 +58,7 @@ overflow_add-index_mut-2 c =
     let held : c.index_mut-2.result.now ≡ get_or c.self.inside.held.items (c.args.seat * c.len.result + c.args.leaf) c.index_mut-2.result.now =
     c.index_mut-2.ensures.value in
     let held' = held ∙ (ap (λ i. get_or c.self.inside.held.items i c.index_mut-2.result.now) place
-    ∙ or_any c.self.inside.held.items (held_place s c.args.seat c.args.leaf) c.index_mut-2.result.now (place_in s c.args.seat c.args.leaf ok here.0 here.1)) in
+    ∙ get_or_within c.self.inside.held.items (held_place s c.args.seat c.args.leaf) c.index_mut-2.result.now (place_in s c.args.seat c.args.leaf ok here.0 here.1)) in
     let small = got_small s c.args.seat c.args.leaf c.args.ask in
     omega (arith, got, small, held', held_small s c.args.seat c.args.leaf ok here.0 here.1 here.2, ok.few_slices)
 
@@ -71,7 +72,7 @@ invariant_of-self c =
     c.min-bound.result c.least_left-got.result
     ok pass c.deref.ensures.value c.deref-2.ensures.value c.deref-3.ensures.value c.index.ensures c.min-bound.ensures c.least_left-got.ensures.value in
     let by : c.index_mut.result.now ≡ get_or c.self.inside.by_processor.items c.args.seat c.index_mut.result.now = c.index_mut.ensures.value in
-    let by' = by ∙ or_any c.self.inside.by_processor.items c.args.seat c.index_mut.result.now (omega (arith, ok.by_processor, here.0)) in
+    let by' = by ∙ get_or_within c.self.inside.by_processor.items c.args.seat c.index_mut.result.now (omega (arith, ok.by_processor, here.0)) in
     let rows : c.len.result ≡ length c.self.inside.rows.items = c.len.ensures ∙ c.self.inside.rows.ok.0 in
     let place : c.args.seat * c.len.result + c.args.leaf ≡ held_place s c.args.seat c.args.leaf = ap (λ n. c.args.seat * n + c.args.leaf) rows in
     let held : c.index_mut-2.result.now ≡ get_or c.self.inside.held.items (c.args.seat * c.len.result + c.args.leaf) c.index_mut-2.result.now =
@@ -101,7 +102,7 @@ returns-clause-state c =
     c.min-bound.result c.least_left-got.result
     ok pass c.deref.ensures.value c.deref-2.ensures.value c.deref-3.ensures.value c.index.ensures c.min-bound.ensures c.least_left-got.ensures.value in
     let by : c.index_mut.result.now ≡ get_or c.self.inside.by_processor.items c.args.seat c.index_mut.result.now = c.index_mut.ensures.value in
-    let by' = by ∙ or_any c.self.inside.by_processor.items c.args.seat c.index_mut.result.now (omega (arith, ok.by_processor, here.0)) in
+    let by' = by ∙ get_or_within c.self.inside.by_processor.items c.args.seat c.index_mut.result.now (omega (arith, ok.by_processor, here.0)) in
     let rows : c.len.result ≡ length c.self.inside.rows.items = c.len.ensures ∙ c.self.inside.rows.ok.0 in
     let place : c.args.seat * c.len.result + c.args.leaf ≡ held_place s c.args.seat c.args.leaf = ap (λ n. c.args.seat * n + c.args.leaf) rows in
     let held : c.index_mut-2.result.now ≡ get_or c.self.inside.held.items (c.args.seat * c.len.result + c.args.leaf) c.index_mut-2.result.now =

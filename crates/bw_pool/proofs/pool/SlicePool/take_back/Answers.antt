@@ -7,7 +7,7 @@ use Rattle.std.proofs.lemmas.List.{with_items_is}
 use Rattle.bw_model.specs.Groups.{path_up}
 use Rattle.bw_pool.proofs.Trees.{length-lowered}
 use Rattle.bw_pool.proofs.Sound.{place_in, sound_gave_back, held_le_processor, held_le_path}
-use Rattle.bw_pool.proofs.Draws.{or_any}
+use Rattle.bw_model.proofs.CallerLemmas.{get_or_within}
 use Rattle.bw_pool.proofs.Backs.{back_passed, gave_from, enough_from}
 use Rattle.bw_pool.proofs.pool.SlicePool.take_back.Goals as goal
 
@@ -29,7 +29,7 @@ overflow_sub-index_mut c =
     let has = subst (λ (v : PoolState). c.args.n ≤ held_by v c.args.seat c.args.leaf) (sym c.self.view_is) c.requires.held in
     let here = back_passed s c.args.seat c.args.leaf c.args.n pass has in
     let by : c.index_mut.result.now ≡ get_or c.self.inside.by_processor.items c.args.seat c.index_mut.result.now = c.index_mut.ensures.value in
-    let by' = by ∙ or_any c.self.inside.by_processor.items c.args.seat c.index_mut.result.now (omega (arith, ok.by_processor, here.0)) in
+    let by' = by ∙ get_or_within c.self.inside.by_processor.items c.args.seat c.index_mut.result.now (omega (arith, ok.by_processor, here.0)) in
     omega (arith, by', here.3, held_le_processor s c.args.seat c.args.leaf c.args.n ok here.0 here.1 here.2)
 
 pub invariant_of-self : goal.invariant_of-self
@@ -40,7 +40,7 @@ invariant_of-self c =
     let has = subst (λ (v : PoolState). c.args.n ≤ held_by v c.args.seat c.args.leaf) (sym c.self.view_is) c.requires.held in
     let here = back_passed s c.args.seat c.args.leaf c.args.n pass has in
     let by : c.index_mut.result.now ≡ get_or c.self.inside.by_processor.items c.args.seat c.index_mut.result.now = c.index_mut.ensures.value in
-    let by' = by ∙ or_any c.self.inside.by_processor.items c.args.seat c.index_mut.result.now (omega (arith, ok.by_processor, here.0)) in
+    let by' = by ∙ get_or_within c.self.inside.by_processor.items c.args.seat c.index_mut.result.now (omega (arith, ok.by_processor, here.0)) in
     let rows : c.len.result ≡ length c.self.inside.rows.items = c.len.ensures ∙ c.self.inside.rows.ok.0 in
     let place : c.args.seat * c.len.result + c.args.leaf ≡ held_place s c.args.seat c.args.leaf = ap (λ n. c.args.seat * n + c.args.leaf) rows in
     let held : c.index_mut-2.result.now ≡ get_or c.self.inside.held.items (c.args.seat * c.len.result + c.args.leaf) c.index_mut-2.result.now =

@@ -4,7 +4,7 @@ use Rattle.std.specs.List.{join_with_byte}
 use Rattle.std.specs.String.{string_bytes}
 use Rattle.std.proofs.lemmas.List.{append-nil}
 use Rattle.std.specs.Prelude.{Result, Ok, Err, OnOk, is_ok}
-use Rattle.bw_model.proofs.Listing.{no_parent}
+use Rattle.bw_model.proofs.CallerLemmas.{no_parent}
 use Rattle.bw_tree.specs.Groups.{TreeState, IsTree, group_at}
 use Rattle.bw_tree.specs.Paths.{names_to}
 use Rattle.bw_tree.proofs.WayLemmas.{joined_below, joined_first, joined_none}

@@ -9,13 +9,10 @@ use Rattle.bw_model.specs.declared.limits.TheConstants.{MAX_DEMAND, MAX_GROUPS}
 use Rattle.bw_model.specs.Groups.{Groups, IsInstance, parent_of, is_leaf, limit_of, demand_of}
 use Rattle.bw_model.specs.Allocation.{IsGreatestTotal}
 use Rattle.bw_model.specs.Demand.{is_tight, has_tight_above, limiting_groups, demand_outside}
-use Rattle.bw_model.proofs.Sums.{sum_below}
-use Rattle.bw_model.proofs.Under.{parent_lt}
-use Rattle.bw_model.proofs.Limiting.{limited-IsGreatestTotal}
-use Rattle.bw_model.proofs.Mosts.{AreMosts-capped}
-use Rattle.bw_demand.proofs.Covered.{above-child, above-top, demand_outside-is}
+use Rattle.bw_model.proofs.CallerLemmas.{parent_lt, limited-IsGreatestTotal, AreMosts-capped, sum_below}
+use Rattle.bw_demand.proofs.DemandOutside.{above-child, above-top, demand_outside-is}
 use Rattle.bw_demand.specs.Demands.{Demands, IsGathered}
-use Rattle.bw_demand.proofs.Passed.{sum_below-bound}
+use Rattle.bw_demand.proofs.WantsGathered.{sum_below-bound}
 
 -- one number more of a filtered range
 filter-more : (p : ℕ → Bool) (a n : ℕ) → filter p (range_with_len a (suc n)) ≡ filter p (range_with_len a n) ++ cond (p (a + n)) ((a + n) ∷ []) []

@@ -5,9 +5,8 @@ use Rattle.std.specs.List.{list_any, range_with_len}
 use Rattle.std.proofs.lemmas.Bool.{cases_Bool, both_ways, eqb-true, eq-eqb, and_parts, and_from, false_from_ne_true}
 use Rattle.bw_model.specs.Groups.{Groups, IsTree, parent_of, is_leaf, is_under, path_up, demand_of}
 use Rattle.bw_model.specs.Demand.{is_tight, has_tight_above, limiting_groups, demand_outside}
-use Rattle.bw_model.proofs.Sums.{sum_below, sum_below-ap, sum_by-filter_range}
-use Rattle.bw_model.proofs.Under.{strong, parent_lt, path_up-top, path_up-step, is_under-top, is_under-step}
-use Rattle.bw_model.proofs.Totals.{list_any-range, some_in_range}
+use Rattle.bw_model.proofs.CallerLemmas.{any-filter, strong, parent_lt, path_up-top, path_up-step, is_under-top, is_under-step, list_any-range, some_in_range}
+use Rattle.bw_model.proofs.CallerLemmas.{sum_below, sum_below-ap, sum_by-filter_range}
 
 any-ap : (p q : ℕ → Bool) (xs : List ℕ) → ((x : ℕ) → p x ≡ q x) → list_any p xs ≡ list_any q xs
 any-ap p q [] same = refl
@@ -25,13 +24,6 @@ any-or p q (x ∷ xs) = elim (cases_Bool (p x)) [
     or_parts true false c = refl
     or_parts false true c = refl
     or_parts false false c = refl
-
-any-filter : (p q : ℕ → Bool) (xs : List ℕ) → list_any q (filter p xs) ≡ list_any (λ x. p x && q x) xs
-any-filter p q [] = refl
-any-filter p q (x ∷ xs) = elim (cases_Bool (p x)) [
-  | inl e ↦ rw e (ap (λ (b : Bool). q x || b) (any-filter p q xs))
-  | inr e ↦ rw e (any-filter p q xs)
-]
 
 -- a number is in a filtered range where it passes
 any-self : (p : ℕ → Bool) (n l : ℕ) → l < n → list_any (eqb l) (filter p (range_with_len 0 n)) ≡ p l

@@ -1,14 +1,15 @@
-use Rattle.std.proofs.Common.{◌≡◌, ℕ, zero, suc, ◌+◌, ◌*◌, ◌<◌, ◌≤◌, List, [], ◌∷◌, false, cond, eqb, length, get_or, set, replicate, refl, sym, ap, subst, ◌∙◌, arith, inl, inr}
+-- The heap that has the next mark of each child with room, and the slices given by it.
+use Rattle.std.proofs.Common.{◌≡◌, ℕ, suc, ◌+◌, ◌*◌, ◌<◌, ◌≤◌, List, [], ◌∷◌, false, cond, eqb, length, get_or, set, replicate, refl, sym, ap, subst, ◌∙◌, arith, inl, inr}
 use Rattle.std.specs.Prelude.{sum_by}
 use Rattle.std.specs.List.{All}
 use Rattle.std.specs.List.Sorted.{IsPermutation}
-use Rattle.std.specs.Ordering.{is_lt, nat_cmp}
+use Rattle.std.specs.Ordering.{is_lt}
 use Rattle.std.specs.BinaryHeap.{IsUpperBound}
 use Rattle.std.specs.declared.cmp.Reverse.{Reverse}
-use Rattle.std.specs.declared.cmp.Ordering.TheVariants.{Less, Equal}
+use Rattle.std.specs.declared.cmp.Ordering.TheVariants.{Less}
 use Rattle.std.specs.declared.cmp.Ordering.{Ordering}
 use Rattle.bw_model.specs.MarkOrder.{mark_cmp}
-use Rattle.std.proofs.lemmas.Bool.{cases_eq, cases_lt, eq-eqb, ne_eqb, lt-ltb, le-ltb}
+use Rattle.std.proofs.lemmas.Bool.{cases_eq, cases_lt, eq-eqb, ne_eqb}
 use Rattle.std.proofs.lemmas.List.{get_or-set_same, get_or-set_other, length-replicate}
 use Rattle.std.proofs.lemmas.List.Elements.{All-cons, All-head, All-tail, All-nil, All-weaker, All-from_recursion}
 use Rattle.std.proofs.lemmas.List.Sorted.{All-permutation, sum_by_popped, sum_by_pushed}
@@ -17,7 +18,7 @@ use Rattle.std.proofs.Math.ListN.{length-set}
 use Rattle.bw_model.specs.declared.mark.Mark.{Mark}
 use Rattle.bw_model.specs.Marks.{Price, price_of, next_mark, IsBelow}
 use Rattle.bw_model.specs.Split.{IsCheapest}
-use Rattle.bw_model.proofs.Order.{IsBelow-cases}
+use Rattle.bw_model.proofs.CallerLemmas.{below_less, zeros, IsBelow-cases}
 
 module _ {X : Type 0} (mark_of : X → Mark) where
   -- 1 for an item of this place
@@ -215,21 +216,6 @@ mark_in r = r.0
 abbrev pub by_mark : Reverse Mark → Reverse Mark → Ordering
 by_mark x y = mark_cmp y.0 x.0
 
-cmp_less : (x y : ℕ) → x < y → nat_cmp x y ≡ Less
-cmp_less x y h = rw (lt-ltb x y h) refl
-
-cmp_equal : (x y : ℕ) → x ≡ y → nat_cmp x y ≡ Equal
-cmp_equal x y e = rw (le-ltb x y (omega (arith, e)), eq-eqb x y e) refl
-
-below_less : (m n : Mark) → IsBelow (price_of m) (price_of n) → mark_cmp m n ≡ Less
-below_less m n h = elim h [
-  | inl lt ↦ rw (cmp_less (m.num * n.den) (n.num * m.den) lt) refl
-  | inr t ↦ elim t.1 [
-    | inl p ↦ rw (cmp_equal (m.num * n.den) (n.num * m.den) t.0, cmp_less m.place n.place p) refl
-    | inr p ↦ rw (cmp_equal (m.num * n.den) (n.num * m.den) t.0, cmp_equal m.place n.place p.0, cmp_less m.num n.num p.1) refl
-  ]
-]
-
 not_below : (m n : Mark) → is_lt (mark_cmp m n) ≡ false → IsBelow (price_of m) (price_of n) → ⊥
 not_below m n e h = let less : is_lt (mark_cmp m n) ≡ is_lt Less = ap is_lt (below_less m n h) in cc
 
@@ -247,11 +233,6 @@ empty-full n weights most parts [] e lined k below = elim (cases_lt (get_or part
   | inr full ↦ full
 ]
 empty-full n weights most parts (x ∷ xs) e lined k below = absurd (omega arith)
-
-pub zeros : (n k : ℕ) → ◌≡◌ {A = ℕ} (get_or (replicate n 0) k 0) 0
-zeros zero k = refl
-zeros (suc n) zero = refl
-zeros (suc n) (suc k) = zeros n k
 
 -- the first mark of one more child
 pub first-lined : (n : ℕ) (weights most : List ℕ) (size : ℕ) (xs ys : List (Reverse Mark)) (x : Reverse Mark) → IsPermutation (x ∷ xs) ys →

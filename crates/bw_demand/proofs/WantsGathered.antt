@@ -2,20 +2,16 @@ use Rattle.std.proofs.Common.{◌≡◌, ℕ, zero, suc, ◌+◌, ◌*◌, ◌<�
 use Rattle.std.specs.Prelude.{sum_by, slice_index, map, min}
 use Rattle.std.specs.Option.{option_map_or}
 use Rattle.std.proofs.Math.Bool.{or-false}
-use Rattle.std.proofs.lemmas.Bool.{cases_Bool, cases_eq, eq-eqb, ne_eqb, eqb-true, or_cases}
+use Rattle.std.proofs.lemmas.Bool.{cases_Bool, cases_eq, eq-eqb, ne_eqb, eqb-true, or_cases, or_parts}
 use Rattle.std.proofs.lemmas.List.{get_or-set_same, get_or-set_other, length-replicate, length-map}
 use Rattle.std.proofs.Math.ListN.{length-set}
 use Rattle.bw_model.specs.declared.row.Row.{Row}
 use Rattle.bw_model.specs.declared.limits.TheConstants.{MAX_DEMAND, MAX_GROUPS}
 use Rattle.bw_model.specs.Groups.{Groups, IsTree, IsInstance, parent_of, is_child, children_of, is_leaf, limit_of, demand_of}
 use Rattle.bw_model.specs.Demand.{want_of}
-use Rattle.bw_model.proofs.Sums.{sum_below, sum_below-zero, sum_below-ap}
-use Rattle.bw_model.proofs.Instances.{neither}
-use Rattle.bw_model.proofs.Under.{parent_lt}
-use Rattle.bw_model.proofs.Totals.{sum_by-children, is_child_no, is_child_from_parent}
-use Rattle.bw_model.proofs.Optimum.{no_children}
-use Rattle.bw_model.proofs.Reach.{capped, capped-IsMost}
 use Rattle.bw_demand.specs.Demands.{IsGathered}
+use Rattle.bw_model.proofs.CallerLemmas.{sum_below-term, zeros, capped_le_want, parent_lt, sum_by-children, is_child_no, is_child_from_parent, no_children}
+use Rattle.bw_model.proofs.CallerLemmas.{capped, capped-IsMost, sum_below, sum_below-zero, sum_below-ap}
 
 -- one term changed
 pub sum_below-changed : (n i : ℕ) (f h : ℕ → ℕ) → i < n → ((k : ℕ) → k < n → (k ≡ i → ⊥) → h k ≡ f k) →
@@ -29,14 +25,6 @@ sum_below-changed (suc n) i f h below e = elim (cases_eq n i) [
       let front : sum_below n h + f i ≡ sum_below n f + h i = sum_below-changed n i f h (omega (arith, other)) (λ k lt. e k (omega arith)) in
       let last : h n ≡ f n = e n (omega arith) other in
       omega (arith, front, last)
-]
-
--- a term is at most the sum
-pub sum_below-term : (n i : ℕ) (f : ℕ → ℕ) → i < n → f i ≤ sum_below n f
-sum_below-term zero i f below = absurd (omega arith)
-sum_below-term (suc n) i f below = elim (cases_eq i n) [
-  | inl same ↦ rw same (omega arith)
-  | inr other ↦ let front : f i ≤ sum_below n f = sum_below-term n i f (omega (arith, other)) in omega (arith, front)
 ]
 
 pub sum_below-bound : (n : ℕ) (f : ℕ → ℕ) → ((k : ℕ) → k < n → f k ≤ MAX_DEMAND) → sum_below n f ≤ MAX_DEMAND * n
@@ -91,12 +79,6 @@ same_seen groups seen next want most tight same so_far = record {
       omega (arith, e, so_far.small);
 }
 
--- each of many zeros, and past them
-pub zeros : (n k : ℕ) → ◌≡◌ {A = ℕ} (get_or (replicate n 0) k 0) 0
-zeros zero k = refl
-zeros (suc n) zero = refl
-zeros (suc n) (suc k) = zeros n k
-
 demand_at : (rows : List Row) (r : ℕ) → get_or (map (λ (row : Row). row.demand) rows) r 0 ≡ demand_of rows r
 demand_at [] r = refl
 demand_at (row ∷ rows) zero = refl
@@ -139,10 +121,6 @@ nothing_gathered groups valid seen nothing n en want most tight ew em et = recor
     at : (r : ℕ) → get_or want r 0 ≡ demand_of groups.rows r
     at r = ap (λ (xs : List ℕ). get_or xs r 0) ew ∙ demand_at groups.rows r
 
-capped_le : (o : Option ℕ) (want : ℕ) → capped o want ≤ want
-capped_le None want = omega arith
-capped_le (Some limit) want = omega arith
-
 -- one group more, which has not been seen, nor has the group above it
 module _ (groups : Groups) (tree : IsTree groups.rows) (seen next : ℕ → Bool) (g : ℕ) (below : g < length groups.rows)
     (fresh : seen g ≡ false) (marks : (c : ℕ) → c < length groups.rows → next c ≡ (seen c || eqb g c))
@@ -150,7 +128,7 @@ module _ (groups : Groups) (tree : IsTree groups.rows) (seen next : ℕ → Bool
     (want most : List ℕ) (tight : List Bool)
     (so_far : IsGathering groups seen want most tight) (given : ℕ) (is_given : given ≡ capped (limit_of groups g) (get_or want g 0)) where
   given_le : given ≤ get_or want g 0
-  given_le = rw is_given (capped_le (limit_of groups g) (get_or want g 0))
+  given_le = rw is_given (capped_le_want (limit_of groups g) (get_or want g 0))
 
   own_left : left seen want g ≡ get_or want g 0
   own_left = ap (λ (b : Bool). cond b 0 (get_or want g 0)) fresh
@@ -192,7 +170,7 @@ module _ (groups : Groups) (tree : IsTree groups.rows) (seen next : ℕ → Bool
 
   not_seen : (c : ℕ) → c < length groups.rows → next c ≡ false → (seen c ≡ false) × (c ≡ g → ⊥)
   not_seen c lt e =
-      let both : (seen c ≡ false) × (eqb g c ≡ false) = neither (seen c) (eqb g c) (sym (marks c lt) ∙ e) in
+      let both : (seen c ≡ false) × (eqb g c ≡ false) = or_parts (seen c) (eqb g c) (sym (marks c lt) ∙ e) in
       (both.0, λ same. true≢false (sym (eq-eqb g c (sym same)) ∙ both.1))
 
   -- what is left by the others once g is seen
@@ -303,18 +281,7 @@ all_gathered groups valid seen all want most tight done = record {
     rule : (g : ℕ) → g < length groups.rows → get_or most g 0 ≡ capped (limit_of groups g) (want_of groups most g)
     rule g below = done.cut g below (all g below) ∙ ap (capped (limit_of groups g)) (wants g below)
 
--- a row whose parent is no number has none
-pub no_parent : (o : Option ℕ) → ((x : ℕ) → o ≡ Some x → ⊥) → o ≡ None
-no_parent None h = refl
-no_parent (Some x) h = absurd (h x refl)
-
 -- the same rule, as the program says it
 pub cut-capped : (o : Option ℕ) (want : ℕ) → option_map_or (min want) o want ≡ capped o want
 cut-capped None want = refl
 cut-capped (Some limit) want = refl
-
--- the default is not read within a list
-pub get_or_within : (xs : List ℕ) (i d : ℕ) → i < length xs → get_or xs i d ≡ get_or xs i 0
-get_or_within [] i d h = absurd (omega arith)
-get_or_within (x ∷ xs) zero d h = refl
-get_or_within (x ∷ xs) (suc i) d h = get_or_within xs i d (omega arith)

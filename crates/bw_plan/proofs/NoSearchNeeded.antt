@@ -9,19 +9,8 @@ use Rattle.bw_model.specs.declared.row.Row.{Row}
 use Rattle.bw_model.specs.Groups.{Groups, parent_of, is_leaf, children_of, sum_of_children}
 use Rattle.bw_model.specs.Plan.{child_weights}
 use Rattle.bw_model.specs.Split.{IsBestSplit}
-use Rattle.bw_model.proofs.Sums.{sum-cons}
-use Rattle.bw_model.proofs.Places.{child_at}
-use Rattle.bw_model.proofs.Optimum.{get_or-map, IsNoWorse-same}
-use Rattle.bw_model.proofs.Totals.{inner_has_child, leaf_no_child}
-use Rattle.bw_model.proofs.Unique.{listed_child}
 use Rattle.bw_plan.specs.Shared.{IsShared, AreParts, IsGiven}
-
-sum_none : (xs : List ℕ) → ((k : ℕ) → k < length xs → get_or xs k 0 ≡ 0) → ◌≡◌ {A = ℕ} (sum xs) 0
-sum_none [] h = refl
-sum_none (x ∷ xs) h =
-    let head : x ≡ 0 = h 0 (omega arith) in
-    let rest : sum xs ≡ 0 = sum_none xs (λ k below. h (suc k) (omega arith)) in
-    omega (arith, sum-cons x xs, head, rest)
+use Rattle.bw_model.proofs.CallerLemmas.{sum_none, child_at, get_or-map, IsNoWorse-same, inner_has_child, leaf_no_child, listed_child, sum-cons}
 
 part_none : (xs : List ℕ) → sum xs ≡ 0 → (k : ℕ) → k < length xs → get_or xs k 0 ≡ 0
 part_none xs e k below =
