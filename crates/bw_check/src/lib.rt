@@ -10,8 +10,8 @@ ghost use Rattle.bw_check.specs.declared.verdict.Verdict.TheVariants.{Accepted};
 use bw_model::{Certificate, Instance};
 use std::alloc::{AllocError, Global};
 
+mod conditions;
 mod fault;
-mod faults;
 mod laws;
 mod marks;
 mod tables;
@@ -36,15 +36,21 @@ pub fn check(
     ensures exact { IfOk result (λ v. (v ≡ Accepted) ↔ IsAccepted instance.now amounts.now (certified_of certificate.now)) }
     ensures plan { IfOk result (λ v. v ≡ Accepted → IsPlan instance.now amounts.now) }
 {
-    if !faults::are_one_per_row(instance, amounts, certificate) {
+    if !conditions::are_one_per_row(instance, amounts, certificate) {
         return Ok(Verdict::Refused {
             fault: CheckFault::WrongLength,
             group: 0,
         });
     }
     let tables = tables::tables_of(alloc, instance, amounts, certificate)?;
-    for fault in faults::OF_ROWS {
-        if let Some(group) = faults::first_group(instance, amounts, certificate, &tables, fault) {
+    for fault in conditions::OF_ROWS {
+        if let Some(group) = conditions::first_group(
+            instance,
+            amounts,
+            certificate,
+            &tables,
+            fault,
+        ) {
             return Ok(Verdict::Refused { fault, group });
         }
     }

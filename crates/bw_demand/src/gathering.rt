@@ -4,8 +4,8 @@ ghost use Rattle.std.specs.Option.{option_map_or};
 ghost use Rattle.bw_demand.specs.Demands.{demands_of, IsGathered};
 ghost use Rattle.bw_demand.specs.Levels.{AreLevels};
 
-use crate::gathered::Gathered;
-use crate::leveled::levels;
+use crate::demands::Gathered;
+use crate::depths::levels;
 use bw_model::{Instance, Row};
 use std::alloc::{AllocError, Global};
 

@@ -1,18 +1,16 @@
 //! What the groups of an instance want, and what they can be given.
 #![tactic(auto)]
 
-mod gathered;
+mod demands;
+mod depths;
 mod gathering;
 mod laws;
-mod leveled;
-mod limits;
-mod listed;
+mod limiting_groups;
 mod row_gathering;
 
-pub use gathered::Gathered;
+pub use demands::{Gathered, Limiting};
+pub use depths::levels;
 pub use gathering::{gather, gather_levels};
 pub use laws::{allocations_join, amounts_are_reached, bounds_hold, most_is_the_want_cut};
-pub use leveled::levels;
-pub use limits::limiting;
-pub use listed::Limiting;
+pub use limiting_groups::limiting;
 pub use row_gathering::gather_rows;

@@ -2,7 +2,7 @@
 ghost use Rattle.std.specs.Prelude.{IfOk};
 ghost use Rattle.bw_demand.specs.Demands.{demands_of, IsGathered};
 
-use crate::gathered::Gathered;
+use crate::demands::Gathered;
 use crate::gathering::{cut_at, demands_of, is_below};
 use bw_model::Instance;
 use std::alloc::{AllocError, Global};

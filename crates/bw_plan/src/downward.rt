@@ -4,7 +4,7 @@ ghost use Rattle.bw_demand.specs.Demands.{demands_of, IsGathered};
 ghost use Rattle.bw_model.specs.Plan.{IsPlan};
 
 use crate::amounts::Plan;
-use crate::sharing::share_out;
+use crate::share::share_out;
 use bw_demand::{Gathered, gather_rows};
 use bw_model::Instance;
 use std::alloc::{AllocError, Global};

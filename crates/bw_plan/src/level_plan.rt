@@ -9,7 +9,7 @@ ghost use Rattle.bw_plan.specs.Shared.{CanShare, AreParts, IsPlanning, is_above}
 
 use crate::amounts::Plan;
 use crate::downward::plan_rows;
-use crate::sharing::{give, parts_of, share_out};
+use crate::share::{give, parts_of, share_out};
 use bw_demand::{Gathered, gather_rows, levels};
 use bw_model::Instance;
 use bw_model::limits::MAX_PATH;

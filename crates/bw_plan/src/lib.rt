@@ -5,7 +5,7 @@ mod amounts;
 mod downward;
 mod laws;
 mod level_plan;
-mod sharing;
+mod share;
 mod siblings;
 
 pub use amounts::Plan;

@@ -4,18 +4,18 @@
 //! that gives one slice at a time. Both have the same contract, and one list alone meets it.
 #![tactic(auto)]
 
+mod by_marks;
 mod conditions;
 mod count;
-mod greatest;
 mod laws;
 mod level;
+mod level_search;
 pub mod limits;
-mod marks;
 mod work;
 
+pub use by_marks::split_by_marks;
 pub use conditions::can_split;
-pub use greatest::level_of;
 pub use laws::no_move_gains;
-pub use level::{split, split_counted};
-pub use marks::split_by_marks;
+pub use level::level_of;
+pub use level_search::{split, split_counted};
 pub use work::Work;

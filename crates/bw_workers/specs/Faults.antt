@@ -1,7 +1,7 @@
 -- The numbers and names of the refusals.
 use Rattle.std.specs.Prelude.{ℕ, List, codes}
-use Rattle.bw_workers.specs.declared.faults.ServeFault.{ServeFault}
-use Rattle.bw_workers.specs.declared.faults.ServeFault.TheVariants.{NotStarted, OutOfMemory}
+use Rattle.bw_workers.specs.declared.fault.ServeFault.{ServeFault}
+use Rattle.bw_workers.specs.declared.fault.ServeFault.TheVariants.{NotStarted, OutOfMemory}
 
 -- the number that is printed
 abbrev pub serve_fault_number : ServeFault → ℕ

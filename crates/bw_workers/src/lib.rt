@@ -1,11 +1,11 @@
 //! Workers that draw the slices of one period, a thread for each processor.
 #![tactic(auto)]
 
-mod faults;
+mod fault;
 mod gate;
 mod serving;
 mod worker;
 
-pub use faults::ServeFault;
+pub use fault::ServeFault;
 pub use gate::{Gate, NoGate};
 pub use serving::{Served, serve};

@@ -11,7 +11,7 @@ ghost use Rattle.bw_workers.specs.Headline.{Headline};
 ghost use Rattle.bw_workers.specs.Working.{IsLeaves, IsDrainedSeat};
 ghost use Rattle.bw_workers.specs.Serving.{IsReady, AreReady, AreBack};
 
-use crate::faults::ServeFault;
+use crate::fault::ServeFault;
 use crate::gate::Gate;
 use crate::worker::work;
 use bw_model::limits::MAX_GROUPS;

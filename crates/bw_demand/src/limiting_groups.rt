@@ -1,0 +1,73 @@
+//! The groups that limit an instance, from the root down.
+ghost use Rattle.std.specs.Prelude.{◌≡◌, ℕ, ◌<◌, ◌≤◌, ◌+◌, ◌&&◌, ◌||◌, Some, false, not, length, slice_index_or, sum_by, unwrap_or, IfOk, if◌then◌else◌};
+ghost use Rattle.std.specs.Option.{option_map_or};
+ghost use Rattle.bw_model.specs.Allocation.{IsGreatestTotal};
+ghost use Rattle.bw_model.specs.Demand.{limiting_groups, demand_outside};
+ghost use Rattle.bw_model.specs.Groups.{limit_of, parent_of};
+ghost use Rattle.bw_demand.specs.Demands.{demands_of, IsGathered};
+
+use crate::demands::{Gathered, Limiting};
+use bw_model::{Instance, Row};
+use std::alloc::{AllocError, Global};
+
+// Whether the parent of a row is covered.
+fn is_parent_covered(rows: &[Row], covered: &[bool], g: usize) -> bool
+    requires within { g < length rows.now }
+    requires parent { (p : ℕ) → parent_of rows.now g ≡ Some p → p < length covered.now }
+    ensures { result ≡ option_map_or (λ p. slice_index_or covered.now p false) (parent_of rows.now g) false }
+{
+    match rows[g].parent {
+        None => false,
+        Some(parent) => covered[parent as usize],
+    }
+}
+
+fn is_limiting(tight: bool, above: bool) -> bool
+    ensures { result ≡ (tight && not above) }
+{
+    tight && !above
+}
+
+fn is_covered(tight: bool, above: bool) -> bool
+    ensures { result ≡ (tight || above) }
+{
+    tight || above
+}
+
+// What a row adds to the demands outside.
+fn demand_if_outside(leaf: bool, covered: bool, demand: u64) -> u64
+    ensures value { result ≡ (if leaf && not covered then demand else 0) }
+    ensures bound { result ≤ demand }
+{
+    if leaf && !covered { demand } else { 0 }
+}
+
+/// What limits an instance, given its own gathering: the limits of these groups and the rest add up
+/// to the greatest total. Time grows as the number of rows. Refused for want of memory alone.
+pub fn limiting(
+    alloc: Global,
+    instance: &Instance,
+    gathered: &Gathered,
+) -> Result<Limiting, AllocError>
+    requires gathered { IsGathered instance.now (demands_of gathered.now) }
+    ensures groups { IfOk result (λ l. l.groups.items ≡ limiting_groups instance.now gathered.now.most.items) }
+    ensures rest { IfOk result (λ l. l.rest ≡ demand_outside instance.now.rows l.groups.items) }
+    ensures greatest { IfOk result (λ l. IsGreatestTotal instance.now (sum_by (λ g. unwrap_or (limit_of instance.now g) 0) l.groups.items + l.rest)) }
+{
+    let rows = instance.rows();
+    let mut groups: Vec<u32> = Vec::new(alloc);
+    let mut rest = 0u64;
+    // whether a row or one above it is tight
+    let mut covered = vec![in alloc; false; rows.len()]?;
+    for g in 0..rows.len() {
+        let tight = gathered.tight[g];
+        let above = is_parent_covered(rows, covered.as_slice(), g);
+        let here = is_covered(tight, above);
+        covered[g] = here;
+        rest += demand_if_outside(instance.is_leaf(g as u32), here, rows[g].demand);
+        if is_limiting(tight, above) {
+            groups.push(g as u32)?;
+        }
+    }
+    Ok(Limiting { groups, rest })
+}

@@ -1,0 +1,64 @@
+use Rattle.std.proofs.Common.{◌≡◌, ◌≤◌, ◌<◌, ◌+◌, ℕ, List, arith, ◌∙◌, inl, inr}
+use Rattle.std.proofs.lemmas.Bool.{cases_lt}
+use Rattle.bw_split.specs.Levels.{taken_by_all}
+use Rattle.bw_split.proofs.Takes.{by_all-zero, by_all-mono}
+use Rattle.bw_split.proofs.Search.{halved}
+use Rattle.bw_split.proofs.level_search.find_level.Goals as goal
+use Rattle.bw_split.proofs.level_search.find_level.Goals.{then-total-amount, else-total-amount, then-above-level-eq1-via-then-above-level-eq1, then-above-level-eq1-via-else-above-level-eq1+then-rest-eq0-2}
+
+pub loop-round-preserved : goal.loop-round-preserved
+loop-round-preserved c =
+    let inv = c.loop-round.invariant in
+    let h = halved c.loop-round.level c.loop-round.above c.loop-round._round c.loop-round-test.true inv.apart inv.width in
+    elim c.if-total-amount.branch [
+      | then-total-amount w ↦ rw (w.level-is, w.rest-is, w.above-is) (record {
+        apart = omega (arith, c.if-above-level-eq1.false, inv.apart);
+        in_range = omega (arith, inv.in_range, inv.apart);
+        rest_is = inv.rest_is;
+        enough = omega (arith, c.test_level-total.ensures.all, w.if-total-amount.true);
+        width = h.0;
+        rounds = omega (arith, c.test_level-total.ensures.rounds, inv.rounds);
+        picks = c.test_level-total.ensures.picks ∙ inv.picks;
+      })
+      | else-total-amount w ↦ rw (w.level-is, w.rest-is, w.above-is) (record {
+        apart = omega (arith, c.if-above-level-eq1.false, inv.apart);
+        in_range = inv.in_range;
+        rest_is = omega (arith, c.test_level-total.ensures.all, w.if-total-amount.false);
+        enough = inv.enough;
+        width = h.1;
+        rounds = omega (arith, c.test_level-total.ensures.rounds, inv.rounds);
+        picks = c.test_level-total.ensures.picks ∙ inv.picks;
+      })
+    ]
+
+pub returns-then-rest-eq0-clause-rest : goal.returns-then-rest-eq0-clause-rest
+returns-then-rest-eq0-clause-rest c = omega (arith, by_all-zero c.args.weights.now c.args.most.now)
+
+-- some amount isn't taken at level 0
+starts : (amount level : ℕ) (weights most : List ℕ) → (amount ≡ 0 → ⊥) → amount ≤ taken_by_all level weights most → 0 < level
+starts amount level weights most some enough = elim (cases_lt 0 level) [
+  | inl h ↦ h
+  | inr h ↦ absurd (let up : taken_by_all level weights most ≤ taken_by_all 0 weights most = by_all-mono level 0 weights most h in
+      omega (arith, up, some, enough, by_all-zero weights most))
+]
+
+pub loop-round-init : goal.loop-round-init
+loop-round-init c = record {
+  apart = starts c.args.amount c.upper_level-above.result c.args.weights.now c.args.most.now c.if-rest-eq0.false c.upper_level-above.ensures.enough;
+  in_range = c.upper_level-above.ensures.in_range;
+  rest_is = omega (arith, by_all-zero c.args.weights.now c.args.most.now);
+  enough = c.upper_level-above.ensures.enough;
+  width = omega (arith, c.upper_level-above.ensures.in_range);
+  rounds = omega arith;
+  picks = omega arith;
+}
+
+pub returns-then-above-level-eq1-clause-enough : goal.returns-then-above-level-eq1-clause-enough
+returns-then-above-level-eq1-clause-enough c =
+    let inv = c.loop-round.invariant in
+    elim c.then-above-level-eq1.branch [
+      | then-above-level-eq1-via-then-above-level-eq1 w ↦
+          omega (arith, inv.enough, by_all-mono c.loop-round.above (c.loop-round.level + 1) c.args.weights.now c.args.most.now (omega (arith, w.if-above-level-eq1.true)))
+      | then-above-level-eq1-via-else-above-level-eq1+then-rest-eq0-2 w ↦
+          omega (arith, inv.rest_is, w.if-rest-eq0-2.true, by_all-mono c.loop-round.level (c.loop-round.level + 1) c.args.weights.now c.args.most.now (omega arith))
+    ]

@@ -1,0 +1,7 @@
+use Rattle.std.proofs.Common.{rules}
+use Rattle.bw_split.specs.Levels.{taken}
+use Rattle.bw_split.proofs.level_search.takes.Goals as goal
+
+pub returns-clause-taken : goal.returns-clause-taken
+unfolding taken
+returns-clause-taken c = search rules
