@@ -1,7 +1,7 @@
 -- What the commands work on, as contracts see it.
 use Rattle.std.specs.Prelude.{ℕ, Bool}
 use Rattle.bw_commands.specs.State.{State}
-use Rattle.bw_commands.specs.declared.command.Commands.{Commands}
+use Rattle.bw_commands.specs.declared.perform.Commands.{Commands}
 
 -- by which leaves a gate uses
 abbrev pub state_of : {G : Type 0} → (G → ℕ → Bool) → Commands G → State

@@ -2,6 +2,8 @@
 use Rattle.std.specs.Prelude.{ℕ, List, [], ◌∷◌, ◌++◌, codes}
 use Rattle.std.specs.Fmt.{decimal}
 use Rattle.bw_hierarchy.specs.Faults.{fault_number, fault_name}
+use Rattle.bw_workers.specs.declared.faults.ServeFault.{ServeFault}
+use Rattle.bw_workers.specs.declared.faults.ServeFault.TheVariants as serve
 use Rattle.bw_commands.specs.declared.fault.ScriptFault.{ScriptFault}
 use Rattle.bw_commands.specs.declared.fault.ScriptFault.TheVariants.{BadNumber, Call, NotStarted, OutOfMemory, BadCommand, BadText, LineTooLong}
 
@@ -22,6 +24,11 @@ name_of OutOfMemory = codes "OutOfMemory"
 name_of BadCommand = codes "BadCommand"
 name_of BadText = codes "BadText"
 name_of LineTooLong = codes "LineTooLong"
+
+-- why a period is not served, as a refusal of its line
+abbrev pub of_serve_fault : ServeFault → ScriptFault
+of_serve_fault serve.NotStarted = NotStarted
+of_serve_fault serve.OutOfMemory = OutOfMemory
 
 -- the line that a refusal prints
 unfoldable pub error_line : ScriptFault → List ℕ

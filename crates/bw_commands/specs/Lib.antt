@@ -1,6 +1,8 @@
 pub mod State
 pub mod Fault
 pub mod Word
+pub mod Command
+pub mod Parsed
 pub mod GroupLines
 pub mod Total
 pub mod Planned

@@ -1,6 +1,7 @@
 -- What a line of a script means: the text that it prints, and the state after it.
-use Rattle.std.specs.Prelude.{ℕ, ◌≡◌, ◌⊎◌, List, [], ◌∷◌, ◌++◌, Bool, true, false, ◌==◌, ◌&&◌, not, nat_lt, if◌then◌else◌, codes, length, Result, Ok, Err, Option, Some, None}
-use Rattle.std.specs.Str.{bytes_eq, is_utf8}
+use Rattle.std.specs.Prelude.{ℕ, ◌≡◌, ◌⊎◌, List, [], ◌∷◌, ◌++◌, nat_lt, if◌then◌else◌, codes, length, Result, Ok, Err, Option, Some, None}
+use Rattle.std.specs.Option.{option_map_or}
+use Rattle.std.specs.Str.{is_utf8}
 use Rattle.bw_text.specs.Number.{number_of}
 use Rattle.bw_hierarchy.specs.State.{with_tree, rmdir_of, demand_set_of}
 use Rattle.bw_hierarchy.specs.Calls.{mkdir_of}
@@ -12,7 +13,8 @@ use Rattle.bw_commands.specs.Planned.{IsPlanText}
 use Rattle.bw_commands.specs.CertifiedPlan.{IsCertifiedPlan}
 use Rattle.bw_commands.specs.Period.{IsPeriod}
 use Rattle.bw_commands.specs.Reported.{IsReport}
-use Rattle.bw_commands.specs.Word.{first_word, after_word}
+use Rattle.bw_commands.specs.Command.{Command, command_of_line}
+use Rattle.bw_commands.specs.Command as command
 use Rattle.bw_commands.specs.Fault.{error_line}
 use Rattle.bw_commands.specs.declared.fault.ScriptFault.{ScriptFault}
 use Rattle.bw_commands.specs.declared.fault.ScriptFault.TheVariants as fault
@@ -69,49 +71,23 @@ write_outcome s path file text = call_outcome s (λ tree. ok_line) (λ tree. wit
 
 -- ---- lines
 
-abbrev pub is_empty : List ℕ → Bool
-is_empty [] = true
-is_empty (b ∷ bs) = false
+-- what a command does
+abbrev pub outcome_of_command : State → Command → Outcome
+outcome_of_command s command.Nothing = Silent
+outcome_of_command s (command.Mkdir path) = mkdir_outcome s path
+outcome_of_command s (command.Rmdir path) = rmdir_outcome s path
+outcome_of_command s (command.Demand path number) = demand_outcome s path (number_of number)
+outcome_of_command s (command.Read path file) = read_outcome s path file
+outcome_of_command s (command.Write path file text) = write_outcome s path file text
+outcome_of_command s command.Total = Total
+outcome_of_command s command.Plan = Plan
+outcome_of_command s command.Cert = Cert
+outcome_of_command s command.Period = Period
+outcome_of_command s command.Report = Report
 
--- no word, or one that begins with `#`
-abbrev pub is_silent : List ℕ → Bool
-is_silent [] = true
-is_silent (b ∷ bs) = b == 35
-
--- a command of one word
-unfoldable pub outcome_of_word : State → List ℕ → Outcome
-outcome_of_word s verb =
-    (if bytes_eq verb (codes "total") then Total
-    else if bytes_eq verb (codes "plan") then Plan
-    else if bytes_eq verb (codes "cert") then Cert
-    else if bytes_eq verb (codes "period") then Period
-    else if bytes_eq verb (codes "report") then Report
-    else refused s fault.BadCommand)
-
--- a command on a file of the group at a path
-unfoldable pub outcome_of_file_words : State → List ℕ → List ℕ → List ℕ → List ℕ → List ℕ → Outcome
-outcome_of_file_words s verb path file next text =
-    (if bytes_eq verb (codes "read") && (not (is_empty file) && is_empty next) then read_outcome s path file
-    else if bytes_eq verb (codes "write") && not (is_empty file) then write_outcome s path file text
-    else refused s fault.BadCommand)
-
--- the command with its words, at most four, and all that stands after the third
-unfoldable pub outcome_of_words : State → List ℕ → List ℕ → List ℕ → List ℕ → List ℕ → Outcome
-outcome_of_words s verb first second third text =
-    (if is_silent verb then Silent
-    else if is_empty first then outcome_of_word s verb
-    else if bytes_eq verb (codes "mkdir") && (not (is_empty first) && is_empty second) then mkdir_outcome s first
-    else if bytes_eq verb (codes "demand") && (not (is_empty second) && is_empty third) then demand_outcome s first (number_of second)
-    else if bytes_eq verb (codes "rmdir") && (not (is_empty first) && is_empty second) then rmdir_outcome s first
-    else outcome_of_file_words s verb first second third text)
-
--- a line of text
+-- a line of text: what its command does, or the refusal where it names none
 unfoldable pub outcome_of_text : State → List ℕ → Outcome
-outcome_of_text s line =
-    let a = after_word line in
-    let b = after_word a in
-    let c = after_word b in
-    outcome_of_words s (first_word line) (first_word a) (first_word b) (first_word c) c
+outcome_of_text s line = option_map_or (outcome_of_command s) (command_of_line line) (refused s fault.BadCommand)
 
 -- what is kept of a line: nothing where it is too long
 abbrev pub kept_of : List ℕ → Option (List ℕ)

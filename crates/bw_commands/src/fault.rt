@@ -3,6 +3,7 @@ ghost use Rattle.std.specs.Prelude.{◌≡◌, ◌≤◌, ◌<◌, length};
 ghost use Rattle.bw_commands.specs.Fault.{number_of, name_of};
 
 use bw_hierarchy::Fault;
+use bw_workers::ServeFault;
 use std::alloc::AllocError;
 use thiserror::Error;
 
@@ -51,6 +52,20 @@ impl From<AllocError> for ScriptFault {
 
     fn from(_: AllocError) -> ScriptFault {
         ScriptFault::OutOfMemory
+    }
+}
+
+impl From<ServeFault> for ScriptFault {
+    ghost use Rattle.std.specs.Prelude.{◌≡◌};
+    ghost use Rattle.bw_commands.specs.Fault.{of_serve_fault};
+
+    ghost from_gives = { λ fault e. e ≡ of_serve_fault fault };
+
+    fn from(fault: ServeFault) -> ScriptFault {
+        match fault {
+            ServeFault::NotStarted => ScriptFault::NotStarted,
+            ServeFault::OutOfMemory => ScriptFault::OutOfMemory,
+        }
     }
 }
 

@@ -2,17 +2,14 @@
 //! answer.
 #![tactic(auto)]
 
-mod certified_plan;
-mod command;
+mod answers;
 mod fault;
-mod period;
-mod planned;
+mod parse;
+mod perform;
 mod put;
-mod put_text;
-mod report;
-mod total;
 mod word;
 
-pub use command::Commands;
 pub use fault::ScriptFault;
+pub use parse::Command;
+pub use perform::Commands;
 pub use put::{REFUSAL_BYTES, put_error};
