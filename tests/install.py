@@ -250,7 +250,7 @@ def sees_the_lists(copy):
     copy.is_checked("no handles, after a build")
     copy.write("HANDLES", handles)
     copy.is_native("the same handles")
-    copy.write("crates.txt", lines.replace("bw_shell may_wait=15:", "bw_shell may_wait=15:\tbw_new").replace("bw_model:", " bw_new :\nbw_model:"))
+    copy.write("crates.txt", lines.replace("bw_shell may_wait=10:", "bw_shell may_wait=10:\tbw_new").replace("bw_model:", " bw_new :\nbw_model:"))
     copy.is_checked("a new crate")
     copy.write("crates/bw_new/src/lib.rt", "of bw_new\n")
     copy.build()

@@ -1,9 +1,8 @@
 -- What other crates may cite of this one's proofs, each passed on from the module that proves it.
 pub use Rattle.bw_model.proofs.Basics.{sum_below, sum-cons, sum_below-front, sum_below-ap, sum_below-le, sum_below-zero, sum_by-range, sum_by-filter_range}
-pub use Rattle.bw_model.proofs.Basics.{sum_below-change, sum_below-term, and_no, passed, goes_on, no_parent, strong, from_the_last, list_any-range}
+pub use Rattle.bw_model.proofs.Basics.{sum_below-change, sum_below-term, and_no, passed, goes_on, no_parent, cancel_le, strong, from_the_last, list_any-range}
 pub use Rattle.bw_model.proofs.Basics.{some_in_range, any-filter, same_map, range_more, listed, zeros, sum_zeros, sum_none, get_or_within, bytes_eq-true}
 pub use Rattle.bw_model.proofs.Basics.{bytes_eq-self, inside, equal_or_not}
-pub use Rattle.bw_model.proofs.Costs.{cost-cons}
 pub use Rattle.bw_model.proofs.Exchange.{level-IsBestSplit}
 pub use Rattle.bw_model.proofs.Under.{parent_lt, path_up-top, path_up-step, is_under-top, is_under-step, is_under-self}
 pub use Rattle.bw_model.proofs.Totals.{parent_from_is_child, is_child_from_parent, is_child_no, sum_by-children, leaf_no_child, inner_has_child, total-inner}
@@ -15,7 +14,7 @@ pub use Rattle.bw_model.proofs.Reach.{capped, joined, joined_at, length-joined, 
 pub use Rattle.bw_model.proofs.Reach.{reached, capped-IsMost}
 pub use Rattle.bw_model.proofs.Planned.{parent_not_leaf, tight-bound_at, planned-IsPlan}
 pub use Rattle.bw_model.proofs.Limiting.{limited_total-is, limited-IsGreatestTotal}
-pub use Rattle.bw_model.proofs.NoGainfulMove.{best-IsAtLevel}
+pub use Rattle.bw_model.proofs.NoGainfulMove.{product-remove, cost-set, lex_at, product-pos, best-IsAtLevel}
 pub use Rattle.bw_model.proofs.Order.{cross_lt_right, IsBelow-trans, IsBelow-irrefl, IsBelow-cases, none-IsAtLevel, step-IsAtLevel, below_less}
 pub use Rattle.bw_model.proofs.Pairwise.{IsPairwise, pairwise-IsBestSplit}
 pub use Rattle.bw_model.proofs.Histories.{replay-snoc, legal-snoc, own_from-snoc, own_from-other, own_entries, own_places}

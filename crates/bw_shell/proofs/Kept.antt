@@ -3,9 +3,9 @@ use Rattle.std.proofs.Common.{◌≡◌, ℕ, List, Some, refl, inl, inr}
 use Rattle.std.specs.Str.{IsUtf8, is_utf8}
 use Rattle.std.proofs.lemmas.Str.{IsUtf8-from_is_utf8, is_utf8-from_IsUtf8}
 use Rattle.std.proofs.lemmas.Bool.{cases_Bool}
-use Rattle.bw_shell.specs.State.{State}
-use Rattle.bw_shell.specs.Script.{outcome_of_kept, outcome_of_text, refused}
-use Rattle.bw_shell.specs.declared.fault.ScriptFault.TheVariants as fault
+use Rattle.bw_commands.specs.State.{State}
+use Rattle.bw_commands.specs.Script.{outcome_of_kept, outcome_of_text, refused}
+use Rattle.bw_commands.specs.declared.fault.ScriptFault.TheVariants as fault
 
 pub outcome_of_kept-text : (s : State) (line : List ℕ) → IsUtf8 line → outcome_of_kept s (Some line) ≡ outcome_of_text s line
 unfolding outcome_of_kept

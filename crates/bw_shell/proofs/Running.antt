@@ -1,7 +1,7 @@
 -- What a run has taken so far, and what follows at each of its ends.
 use Rattle.std.proofs.Common.{ℕ, List, ◌++◌, Option}
 use Rattle.std.specs.Io.KnownBytes.{Appends, Consumes, Keeps}
-use Rattle.bw_shell.specs.State.{State}
+use Rattle.bw_commands.specs.State.{State}
 use Rattle.bw_shell.specs.Lines.{lines_of, whole_lines_of}
 use Rattle.bw_shell.specs.Scan.{Scan, TakesBytes, Finishes, begin}
 use Rattle.bw_shell.specs.Stream.{AppendsFront, Transcribes, TranscribesFront}

@@ -2,11 +2,11 @@
 use Rattle.std.proofs.Common.{◌≡◌, ◌<◌, ◌≤◌, ◌+◌, ℕ, List, [], ◌∷◌, ◌++◌, refl, sym, ◌∙◌, ap, subst, arith, append_assoc, append-nil, length-append, length, Some, None, inl, inr}
 use Rattle.std.proofs.lemmas.Bool.{cases_lt, lt-ltb, le-ltb}
 use Rattle.std.proofs.lemmas.Bool.Decides.{eqb_tells}
-use Rattle.bw_shell.specs.State.{State}
-use Rattle.bw_shell.specs.Script.{Outcome, IsAnswer, IsOutcome, outcome_of_kept, kept_of}
-use Rattle.bw_shell.specs.Script.Outcome.{Silent, Prints, Total, Plan, Cert, Period, Report}
-use Rattle.bw_shell.specs.Fault.{error_line}
-use Rattle.bw_shell.specs.declared.fault.ScriptFault.TheVariants.{OutOfMemory}
+use Rattle.bw_commands.specs.State.{State}
+use Rattle.bw_commands.specs.Script.{Outcome, IsAnswer, IsOutcome, outcome_of_kept, kept_of}
+use Rattle.bw_commands.specs.Script.Outcome.{Silent, Prints, Total, Plan, Cert, Period, Report}
+use Rattle.bw_commands.specs.Fault.{error_line}
+use Rattle.bw_commands.specs.declared.fault.ScriptFault.TheVariants.{OutOfMemory}
 use Rattle.bw_shell.specs.Transcript.{Answers, IsTranscript}
 use Rattle.bw_shell.specs.Lines.{lines_of, whole_lines_of}
 use Rattle.bw_shell.specs.Scan.{Scan, TakesByte, TakesBytes, Finishes, kept_with, begin}

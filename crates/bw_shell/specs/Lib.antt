@@ -1,16 +1,5 @@
-pub mod State
-pub mod Fault
 pub mod Watched
 pub mod Lines
-pub mod Word
-pub mod GroupLines
-pub mod Total
-pub mod Planned
-pub mod CertifiedPlan
-pub mod Period
-pub mod Reported
-pub mod Script
-pub mod Commands
 pub mod Transcript
 pub mod Scan
 pub mod Stream

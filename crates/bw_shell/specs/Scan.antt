@@ -1,7 +1,7 @@
 -- A script byte by byte: the state, and what is kept of the line so far.
 use Rattle.std.specs.Prelude.{ℕ, ◌≡◌, ◌≢◌, List, [], ◌∷◌, ◌++◌, nat_lt, if◌then◌else◌, length, Option, Some, None}
-use Rattle.bw_shell.specs.State.{State}
-use Rattle.bw_shell.specs.Script.{outcome_of_kept, IsOutcome, line_bytes}
+use Rattle.bw_commands.specs.State.{State}
+use Rattle.bw_commands.specs.Script.{outcome_of_kept, IsOutcome, line_bytes}
 
 pub record Scan : Type 0 where
   pub state : State

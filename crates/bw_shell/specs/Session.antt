@@ -1,7 +1,7 @@
 -- A session as contracts see it.
 use Rattle.std.specs.Prelude.{ℕ, Bool, if◌then◌else◌, Some, None}
 use Rattle.bw_shell.specs.declared.session.Session.{Session}
-use Rattle.bw_shell.specs.Commands.{state_of}
+use Rattle.bw_commands.specs.Commands.{state_of}
 use Rattle.bw_shell.specs.Scan.{Scan}
 
 -- by which leaves a gate uses

@@ -1,7 +1,7 @@
 -- What a run does to the known bytes of its reader and its writer.
 use Rattle.std.specs.Prelude.{ℕ, ◌≡◌, List, ◌++◌, Option}
 use Rattle.std.specs.Io.KnownBytes.{Appends, Consumes}
-use Rattle.bw_shell.specs.State.{State}
+use Rattle.bw_commands.specs.State.{State}
 use Rattle.bw_shell.specs.Transcript.{IsTranscript}
 
 -- known bytes grow by a front of the text

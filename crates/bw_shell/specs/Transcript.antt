@@ -1,7 +1,7 @@
 -- A transcript: the answers to the lines of a script, one after another.
 use Rattle.std.specs.Prelude.{ℕ, ◌≡◌, List, [], ◌∷◌, ◌++◌}
-use Rattle.bw_shell.specs.State.{State}
-use Rattle.bw_shell.specs.Script.{IsAnswer}
+use Rattle.bw_commands.specs.State.{State}
+use Rattle.bw_commands.specs.Script.{IsAnswer}
 
 -- From s these lines may print this text, with the state t after them.
 unfoldable pub Answers : State → List (List ℕ) → List ℕ → State → Type 0

@@ -2,24 +2,14 @@
 //! is written to any writer.
 #![tactic(auto)]
 
-mod certified_plan;
-mod command;
-mod fault;
-mod period;
-mod planned;
-mod put;
-mod put_text;
-mod report;
 pub mod script;
 mod send;
 mod session;
 mod status;
 mod text_check;
-mod total;
 mod watched;
-mod word;
 
-pub use fault::ScriptFault;
+pub use bw_commands::ScriptFault;
 pub use script::{RunFault, run, run_gated};
 pub use status::{status_of_check, status_of_run};
 pub use text_check::check_text;

@@ -5,12 +5,10 @@ ghost use Rattle.std.specs.Io.KnownBytes.{Appends};
 ghost use Rattle.bw_shell.specs.Stream.{AppendsFront};
 ghost use Rattle.bw_shell.specs.Watched.{inner_of, has_failed, has_stalled, IsQuiet};
 
-use crate::command::Commands;
-use crate::fault::ScriptFault;
-use crate::put::{REFUSAL_BYTES, put_error};
 use crate::script::RunFault;
 use crate::send::send;
 use crate::watched::Watched;
+use bw_commands::{Commands, REFUSAL_BYTES, ScriptFault, put_error};
 use bw_model::HostShape;
 use bw_workers::Gate;
 use std::alloc::{AllocError, Global};
@@ -22,7 +20,7 @@ use std::thread::Threads;
 pub const LINE_BYTES: usize = 65536;
 
 ghost use Rattle.bw_shell.specs.declared.session.TheConstants.{LINE_BYTES};
-ghost use Rattle.bw_shell.specs.declared.put.TheConstants.{REFUSAL_BYTES};
+ghost use Rattle.bw_commands.specs.declared.put.TheConstants.{REFUSAL_BYTES};
 
 #[derive(Drop)]
 pub struct Session<'a, G> {
@@ -39,9 +37,9 @@ pub struct Session<'a, G> {
 impl<'a, G: Gate> Session<'a, G> {
     ghost use Rattle.std.specs.Prelude.{◌≡◌, ◌||◌, ◌++◌, List, ℕ, [], true, IfOk, OnOk, OnErr, IfErr};
     ghost use Rattle.std.specs.Io.KnownBytes.{Appends};
-    ghost use Rattle.bw_shell.specs.State.{start};
+    ghost use Rattle.bw_commands.specs.State.{start};
     ghost use Rattle.bw_shell.specs.Scan.{Scan, begin, AnswersKept, TakesByte, TakesBytes, Finishes, kept_with};
-    ghost use Rattle.bw_shell.specs.Script.{Performs, outcome_of_kept};
+    ghost use Rattle.bw_commands.specs.Script.{Performs, outcome_of_kept};
     ghost use Rattle.bw_shell.specs.Session.{scan_of};
     ghost use Rattle.bw_shell.specs.Stream.{AppendsFront};
     ghost use Rattle.bw_shell.specs.Watched.{inner_of, has_failed, has_stalled, IsQuiet};

@@ -1,47 +1,16 @@
 -- One slice moved between siblings: what it costs, that no such move gains in the best split, and that a split without one is best.
-use Rattle.std.proofs.Common.{◌≡◌, ◌≢◌, ℕ, zero, suc, ◌+◌, ◌-◌, ◌*◌, ◌<◌, ◌≤◌, ◌⊎◌, List, [], ◌∷◌, Option, None, Some, length, get_or, set, refl, ap, sym, ◌∙◌, arith, inl, inr}
+use Rattle.std.proofs.Common.{◌≡◌, ◌≢◌, ℕ, zero, suc, ◌+◌, ◌-◌, ◌*◌, ◌<◌, ◌≤◌, ◌⊎◌, List, Option, None, Some, length, get_or, set, ap, sym, ◌∙◌, arith, inl, inr}
 use Rattle.std.specs.Prelude.{sum, remove}
-use Rattle.std.proofs.Math.Nat.{mul-le-mul_left, le_of_mul-le-mul_left, mul-pos}
+use Rattle.std.proofs.Math.Nat.{mul-le-mul_left, mul-pos}
 use Rattle.std.proofs.Math.ListN.{length-set}
 use Rattle.std.proofs.lemmas.Bool.{cases_lt, cases_order, cases_eq}
 use Rattle.std.proofs.lemmas.List.Sums.{sum_by-set}
 use Rattle.std.proofs.lemmas.List.{get_or-set_same, get_or-set_other}
 use Rattle.bw_model.specs.Marks.{last_mark, next_mark, IsBelow}
-use Rattle.bw_model.specs.Split.{product, cost, IsLexBelow, IsNoWorse, IsSplit, IsBestSplit}
-use Rattle.bw_model.proofs.CallerLemmas.{cost-cons, level-IsBestSplit, none-IsAtLevel}
+use Rattle.bw_model.specs.Split.{product, cost, IsNoWorse, IsSplit, IsBestSplit}
+use Rattle.bw_model.proofs.CallerLemmas.{level-IsBestSplit, none-IsAtLevel, product-remove, cost-set, lex_at, product-pos, cancel_le}
 use Rattle.bw_split.specs.OneSlice.{moved, NoMoveGains, UnmovedIsBest, BestIsUnmoved}
 use Rattle.bw_split.proofs.LastMarks.{LastOf, last_kept, last_first, last_taken, last_stays}
-
--- the siblings' weights of the child at k, times its own
-product-remove : (ws : List ℕ) (k : ℕ) → k < length ws → get_or ws k 0 * product (remove ws k) ≡ product ws
-product-remove [] k h = absurd (omega arith)
-product-remove (w ∷ ws) zero h = refl
-product-remove (w ∷ ws) (suc k) h = omega (arith, ap (λ (n : ℕ). w * n) (product-remove ws k (omega arith)))
-
--- one part changed
-cost-set : (ws xs : List ℕ) (k v : ℕ) → length ws ≡ length xs → k < length xs →
-    cost ws (set xs k v) + get_or xs k 0 * get_or xs k 0 * product (remove ws k) ≡ cost ws xs + v * v * product (remove ws k)
-cost-set ws [] k v e h = absurd (omega arith)
-cost-set [] (x ∷ xs) k v e h = absurd (omega arith)
-cost-set (w ∷ ws) (x ∷ xs) zero v e h = omega (arith, cost-cons w x ws xs, cost-cons w v ws xs)
-cost-set (w ∷ ws) (x ∷ xs) (suc k) v e h =
-    omega (arith, cost-cons w x ws xs, cost-cons w x ws (set xs k v), ap (λ (n : ℕ). w * n) (cost-set ws xs k v (omega arith) (omega arith)))
-
--- lists that agree before k, where the first has the smaller number
-lex_at : (xs ys : List ℕ) (k : ℕ) → k < length xs → k < length ys → ((j : ℕ) → j < k → get_or xs j 0 ≡ get_or ys j 0) →
-    get_or xs k 0 < get_or ys k 0 → IsLexBelow xs ys
-lex_at [] ys k h l e lt = absurd (omega arith)
-lex_at (x ∷ xs) [] k h l e lt = absurd (omega arith)
-lex_at (x ∷ xs) (y ∷ ys) zero h l e lt = inl lt
-lex_at (x ∷ xs) (y ∷ ys) (suc k) h l e lt =
-    inr (e 0 (omega arith), lex_at xs ys k (omega arith) (omega arith) (λ j below. e (suc j) (omega arith)) lt)
-
-product-pos : (ws : List ℕ) → ((k : ℕ) → k < length ws → 0 < get_or ws k 0) → 0 < product ws
-product-pos [] h = omega arith
-product-pos (w ∷ ws) h = mul-pos (h 0 (omega arith)) (product-pos ws (λ k below. h (suc k) (omega arith)))
-
-cancel_le : (k m n : ℕ) → 0 < k → k * m ≤ k * n → m ≤ n
-cancel_le k m n pos h = le_of_mul-le-mul_left h pos
 
 -- costs of one slice, with the siblings' weights in place of a quotient
 module _ (wi wj Wi Wj P a b : ℕ) (posi : 0 < wi) (posj : 0 < wj) (posP : 0 < P) (ei : wi * Wi ≡ P) (ej : wj * Wj ≡ P) where

@@ -1,6 +1,6 @@
 use Rattle.std.proofs.Common.{[], sym, subst, inl, inr, arith, Bool}
 use Rattle.bw_shell.specs.declared.script.RunFault.TheVariants.{Read, Write}
-use Rattle.bw_shell.specs.State.{start}
+use Rattle.bw_commands.specs.State.{start}
 use Rattle.bw_shell.specs.Scan.{TakesBytes, begin}
 use Rattle.bw_shell.proofs.Known.{Appends-nil, Consumes-nil, OnOk-map, moves_err}
 use Rattle.bw_shell.proofs.Scanning.{TakesBytes-nil}

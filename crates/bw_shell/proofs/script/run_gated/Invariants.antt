@@ -1,6 +1,6 @@
 use Rattle.std.proofs.Common.{◌≡◌, ℕ, List}
 use Rattle.std.specs.Io.KnownBytes.{Appends, Consumes}
-use Rattle.bw_shell.specs.State.{start}
+use Rattle.bw_commands.specs.State.{start}
 use Rattle.bw_shell.specs.Session.{scan_of}
 use Rattle.bw_shell.specs.Scan.{TakesBytes, begin}
 use Rattle.bw_shell.specs.Watched.{inner_of, read_calls, IsQuiet}

@@ -1,7 +1,7 @@
 use Rattle.std.proofs.Common.{refl, inl, sym, subst}
 use Rattle.std.specs.Str.{IsUtf8}
-use Rattle.bw_shell.specs.Commands.{state_of}
-use Rattle.bw_shell.specs.Script.{outcome_of_kept}
+use Rattle.bw_commands.specs.Commands.{state_of}
+use Rattle.bw_commands.specs.Script.{outcome_of_kept}
 use Rattle.bw_shell.proofs.Kept.{outcome_of_kept-text, outcome_of_kept-bad}
 use Rattle.bw_shell.proofs.session.Session.form.Goals as goal
 

@@ -1,0 +1,6 @@
+mod Faults
+mod Refusals
+mod Words
+mod Decimals
+mod Totals
+mod Within

@@ -1,0 +1,13 @@
+pub mod State
+pub mod Fault
+pub mod Word
+pub mod Command
+pub mod Parsed
+pub mod GroupLines
+pub mod Total
+pub mod Planned
+pub mod CertifiedPlan
+pub mod Period
+pub mod Reported
+pub mod Script
+pub mod Commands

@@ -1,0 +1,139 @@
+-- What a line of a script means: the text that it prints, and the state after it.
+use Rattle.std.specs.Prelude.{ℕ, ◌≡◌, ◌⊎◌, List, [], ◌∷◌, ◌++◌, nat_lt, if◌then◌else◌, codes, length, Result, Ok, Err, Option, Some, None}
+use Rattle.std.specs.Option.{option_map_or}
+use Rattle.std.specs.Str.{is_utf8}
+use Rattle.bw_text.specs.Number.{number_of}
+use Rattle.bw_hierarchy.specs.State.{with_tree, rmdir_of, demand_set_of}
+use Rattle.bw_hierarchy.specs.Calls.{mkdir_of}
+use Rattle.bw_hierarchy.specs.Files.{read_of, write_of}
+use Rattle.bw_hierarchy.specs.declared.fault.Fault.{Fault}
+use Rattle.bw_commands.specs.State.{State, with_hierarchy}
+use Rattle.bw_commands.specs.Total.{IsTotal}
+use Rattle.bw_commands.specs.Planned.{IsPlanText}
+use Rattle.bw_commands.specs.CertifiedPlan.{IsCertifiedPlan}
+use Rattle.bw_commands.specs.Period.{IsPeriod}
+use Rattle.bw_commands.specs.Reported.{IsReport}
+use Rattle.bw_commands.specs.Command.{Command, command_of_line}
+use Rattle.bw_commands.specs.Command as command
+use Rattle.bw_commands.specs.Fault.{error_line}
+use Rattle.bw_commands.specs.declared.fault.ScriptFault.{ScriptFault}
+use Rattle.bw_commands.specs.declared.fault.ScriptFault.TheVariants as fault
+
+-- a line with more bytes is not kept
+abbrev pub line_bytes : ℕ
+line_bytes = 65536
+
+-- What a line does: nothing at all, or it prints a text and leaves a state, or it prints the total, the plan, the plan's
+-- certified text or the counters, or it serves a period.
+pub data Outcome : Type 0 where
+  Silent : Outcome
+  Prints : (text : List ℕ) (after : State) → Outcome
+  Total : Outcome
+  Plan : Outcome
+  Cert : Outcome
+  Period : Outcome
+  Report : Outcome
+
+abbrev pub refused : State → ScriptFault → Outcome
+refused s f = Prints (error_line f) s
+
+-- ---- the commands
+
+-- a call on the hierarchy: its refusal, or the text that its value prints and the state that it leaves
+abbrev pub call_outcome : {A : Type 0} → State → (A → List ℕ) → (A → State) → Result A Fault → Outcome
+call_outcome s text after (Ok x) = Prints (text x) (after x)
+call_outcome s text after (Err f) = refused s (fault.Call f)
+
+-- what a change prints
+abbrev pub ok_line : List ℕ
+ok_line = codes "ok" ++ 10 ∷ []
+
+-- `mkdir P`
+unfoldable pub mkdir_outcome : State → List ℕ → Outcome
+mkdir_outcome s path = call_outcome s (λ made. ok_line) (λ made. with_hierarchy s (with_tree s.hierarchy made.1)) (mkdir_of s.hierarchy.tree path)
+
+-- `rmdir P`
+unfoldable pub rmdir_outcome : State → List ℕ → Outcome
+rmdir_outcome s path = call_outcome s (λ after. ok_line) (with_hierarchy s) (rmdir_of s.hierarchy path)
+
+-- `demand P N`, where N spells this number
+unfoldable pub demand_outcome : State → List ℕ → Option ℕ → Outcome
+demand_outcome s path None = refused s fault.BadNumber
+demand_outcome s path (Some demand) = call_outcome s (λ after. ok_line) (with_hierarchy s) (demand_set_of s.hierarchy path demand)
+
+-- `read P FILE`
+unfoldable pub read_outcome : State → List ℕ → List ℕ → Outcome
+read_outcome s path file = call_outcome s (λ text. text) (λ text. s) (read_of s.hierarchy path file)
+
+-- `write P FILE TEXT`
+unfoldable pub write_outcome : State → List ℕ → List ℕ → List ℕ → Outcome
+write_outcome s path file text = call_outcome s (λ tree. ok_line) (λ tree. with_hierarchy s (with_tree s.hierarchy tree)) (write_of s.hierarchy.tree path file text)
+
+-- ---- lines
+
+-- what a command does
+abbrev pub outcome_of_command : State → Command → Outcome
+outcome_of_command s command.Nothing = Silent
+outcome_of_command s (command.Mkdir path) = mkdir_outcome s path
+outcome_of_command s (command.Rmdir path) = rmdir_outcome s path
+outcome_of_command s (command.Demand path number) = demand_outcome s path (number_of number)
+outcome_of_command s (command.Read path file) = read_outcome s path file
+outcome_of_command s (command.Write path file text) = write_outcome s path file text
+outcome_of_command s command.Total = Total
+outcome_of_command s command.Plan = Plan
+outcome_of_command s command.Cert = Cert
+outcome_of_command s command.Period = Period
+outcome_of_command s command.Report = Report
+
+-- a line of text: what its command does, or the refusal where it names none
+unfoldable pub outcome_of_text : State → List ℕ → Outcome
+outcome_of_text s line = option_map_or (outcome_of_command s) (command_of_line line) (refused s fault.BadCommand)
+
+-- what is kept of a line: nothing where it is too long
+abbrev pub kept_of : List ℕ → Option (List ℕ)
+kept_of line = (if nat_lt line_bytes (length line) then None else Some line)
+
+unfoldable pub outcome_of_kept : State → Option (List ℕ) → Outcome
+outcome_of_kept s None = refused s fault.LineTooLong
+outcome_of_kept s (Some line) = (if is_utf8 line then outcome_of_text s line else refused s fault.BadText)
+
+-- a line
+abbrev pub outcome_of : State → List ℕ → Outcome
+outcome_of s line = outcome_of_kept s (kept_of line)
+
+-- ---- answers
+
+-- From s the outcome is this text, with the state next after it.
+abbrev pub Gives : State → Outcome → List ℕ → State → Type 0
+Gives s Silent text next = (text ≡ []) × (next ≡ s)
+Gives s (Prints answer after) text next = (text ≡ answer) × (next ≡ after)
+Gives s Total text next = IsTotal s.hierarchy text × (next ≡ s)
+Gives s Plan text next = IsPlanText s.hierarchy text × (next ≡ s)
+Gives s Cert text next = IsCertifiedPlan s.hierarchy text × (next ≡ s)
+Gives s Period text next = IsPeriod s.hierarchy s.uses text next.hierarchy × (next.uses ≡ s.uses)
+Gives s Report text next = IsReport s.hierarchy text × (next ≡ s)
+
+-- what may stand in place of an answer: want of memory where anything is printed, and where a period is served a thread
+-- that was refused
+abbrev pub IsSpare : Outcome → List ℕ → Type 0
+IsSpare Silent text = ⊥
+IsSpare (Prints answer after) text = text ≡ error_line fault.OutOfMemory
+IsSpare Total text = text ≡ error_line fault.OutOfMemory
+IsSpare Plan text = text ≡ error_line fault.OutOfMemory
+IsSpare Cert text = text ≡ error_line fault.OutOfMemory
+IsSpare Period text = (text ≡ error_line fault.OutOfMemory) ⊎ (text ≡ error_line fault.NotStarted)
+IsSpare Report text = text ≡ error_line fault.OutOfMemory
+
+-- From s the answer to a line may be this text, with the state next after it: what the line means, or what may stand
+-- in its place, with nothing changed.
+abbrev pub IsOutcome : State → Outcome → List ℕ → State → Type 0
+IsOutcome s outcome text next = Gives s outcome text next ⊎ (IsSpare outcome text × (next ≡ s))
+
+abbrev pub IsAnswer : State → List ℕ → List ℕ → State → Type 0
+IsAnswer s line text next = IsOutcome s (outcome_of s line) text next
+
+-- What a call that forms the answer may do: at Ok the answer is in the buffer and the change is made; at Err nothing
+-- is changed, and the refusal is the line's, or stands in place of its answer.
+abbrev pub Performs : {U : Type 0} → State → Outcome → Result U ScriptFault → List ℕ → State → Type 0
+Performs s outcome (Ok u) text next = Gives s outcome text next
+Performs s outcome (Err f) text next = (next ≡ s) × IsOutcome s outcome (error_line f) s

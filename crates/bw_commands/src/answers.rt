@@ -1,0 +1,13 @@
+//! The answers that speak of all groups, one file for each.
+mod cert;
+mod period;
+mod plan;
+mod report;
+mod text;
+mod total;
+
+pub(crate) use cert::put_certified;
+pub(crate) use period::serve_period;
+pub(crate) use plan::put_plan;
+pub(crate) use report::put_report;
+pub(crate) use total::put_total;

@@ -1,0 +1,31 @@
+//! The answer to `cert`.
+ghost use Rattle.std.specs.Prelude.{◌≡◌, ◌≤◌, ◌++◌, ℕ, List, OnOk, IfErr};
+ghost use Rattle.std.specs.Vec.{vec_capacity};
+ghost use Rattle.bw_commands.specs.CertifiedPlan.{IsCertifiedPlan};
+
+use bw_cert::{certify, write_certified};
+use bw_hierarchy::{Fault, Hierarchy};
+use bw_plan::plan_levels;
+use bw_tree::TreeFault;
+use std::alloc::Global;
+use std::thread::Threads;
+
+/// Appends the answer to `cert`: the certified text of the plan. It fails for want of memory alone.
+pub fn put_certified<H: Threads + Sync>(
+    rt: &H,
+    alloc: Global,
+    hierarchy: &Hierarchy,
+    answer: &mut Vec<u8>,
+) -> Result<(), Fault>
+    ensures ok { OnOk result ((text : List ℕ) × IsCertifiedPlan hierarchy.now text × (answer.new.items ≡ answer.old.items ++ text)) }
+    ensures err { IfErr result (λ fault. fault ≡ Fault.Tree TreeFault.OutOfMemory) }
+    ensures room { vec_capacity answer.old ≤ vec_capacity answer.new }
+{
+    let (instance, _ids, _base) = hierarchy.snapshot()?;
+    let plan = plan_levels(rt, alloc, &instance)?;
+    let amounts = plan.amounts.as_slice();
+    let certificate = certify(alloc, &instance, &plan)?;
+    let text = write_certified(alloc, &instance, amounts, &certificate)?;
+    answer.extend_from_slice(text.as_bytes())?;
+    Ok(())
+}

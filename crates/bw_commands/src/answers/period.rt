@@ -1,0 +1,41 @@
+//! One period, and the answer to `period`.
+ghost use Rattle.std.specs.Prelude.{◌≡◌, ◌≤◌, ◌++◌, ℕ, List, OnOk, OnErr, IfErr};
+ghost use Rattle.std.specs.Vec.{vec_capacity};
+ghost use Rattle.bw_commands.specs.Fault.{error_line};
+ghost use Rattle.bw_commands.specs.Period.{IsPeriod};
+ghost use Rattle.bw_commands.specs.Script.{Period, IsSpare};
+
+use super::text::put_number_line;
+use crate::fault::ScriptFault;
+use bw_demand::{gather_levels, levels};
+use bw_hierarchy::Hierarchy;
+use bw_plan::plan_gathered;
+use bw_workers::{Gate, serve};
+use std::alloc::Global;
+use std::sync::Wait;
+use std::thread::Threads;
+
+/// Serves one period, appends the answer, the slices that its workers drew at the root, and then counts the period for
+/// each group and notes what it left of its limit. An `Err` changes neither.
+#[tactic(auto, unfolding(crate::specs::Fault::error_line))]
+pub fn serve_period<G: Gate, H: Threads + Wait + Sync>(
+    rt: &H,
+    alloc: Global,
+    hierarchy: &mut Hierarchy,
+    gate: &G,
+    answer: &mut Vec<u8>,
+) -> Result<(), ScriptFault>
+    ensures ok { OnOk result ((text : List ℕ) × IsPeriod hierarchy.old (G.used gate.now) text hierarchy.new × (answer.new.items ≡ answer.old.items ++ text)) }
+    ensures err { OnErr result (hierarchy.new ≡ hierarchy.old) }
+    ensures spare { IfErr result (λ fault. IsSpare Period (error_line fault)) }
+    ensures room { vec_capacity answer.old ≤ vec_capacity answer.new }
+{
+    let (instance, ids, base) = hierarchy.snapshot()?;
+    let levels = levels(alloc, &instance)?;
+    let gathered = gather_levels(alloc, &instance, levels.as_slice())?;
+    let plan = plan_gathered(rt, alloc, &instance, levels.as_slice(), &gathered)?;
+    let served = serve(rt, alloc, &instance, &plan, gate)?;
+    put_number_line(alloc, b"served ", served.drawn[0], answer)?;
+    hierarchy.book(&instance, &ids, &base, &gathered, &served.drawn)?;
+    Ok(())
+}

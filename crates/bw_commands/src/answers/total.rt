@@ -1,0 +1,98 @@
+//! The answer to `total`.
+ghost use Rattle.std.specs.Prelude.{◌≡◌, ◌≤◌, ◌<◌, ◌++◌, ◌∷◌, [], ℕ, List, Some, codes, length, unwrap_or, slice_index, string_bytes, OnOk, IfOk, IfErr};
+ghost use Rattle.std.specs.Fmt.{decimal};
+ghost use Rattle.std.specs.Map.{keys_of};
+ghost use Rattle.std.specs.Vec.{vec_capacity};
+ghost use Rattle.bw_model.specs.Groups.{limit_of};
+ghost use Rattle.bw_model.specs.Demand.{limited_total};
+ghost use Rattle.bw_demand.specs.Demands.{demands_of, IsGathered};
+ghost use Rattle.bw_commands.specs.GroupLines.{IsPathOf, ArePathsOf};
+ghost use Rattle.bw_commands.specs.Total.{IsTotal, limit_line, limit_lines};
+
+use super::text::{put_number, put_number_line, put_path};
+use bw_demand::{Gathered, gather, limiting};
+use bw_hierarchy::{Fault, Hierarchy};
+use bw_model::Instance;
+use bw_tree::{GroupId, Tree, TreeFault};
+use std::alloc::{AllocError, Global};
+
+/// Appends the answer to `total`: the greatest total, a line for each limiting group in order of
+/// creation, and the demands outside them, in slices of one period. It fails for want of memory alone.
+pub fn put_total(alloc: Global, hierarchy: &Hierarchy, answer: &mut Vec<u8>) -> Result<(), Fault>
+    ensures ok { OnOk result ((text : List ℕ) × IsTotal hierarchy.now text × (answer.new.items ≡ answer.old.items ++ text)) }
+    ensures err { IfErr result (λ fault. fault ≡ Fault.Tree TreeFault.OutOfMemory) }
+    ensures room { vec_capacity answer.old ≤ vec_capacity answer.new }
+{
+    let (instance, ids, _base) = hierarchy.snapshot()?;
+    let gathered = gather(alloc, &instance)?;
+    let limits = limiting(alloc, &instance, &gathered)?;
+    let total = total_of(&instance, &gathered);
+    put_number_line(alloc, b"total ", total, answer)?;
+    put_limits(
+        alloc,
+        hierarchy.tree(),
+        &instance,
+        ids.as_slice(),
+        limits.groups.as_slice(),
+        answer,
+    )?;
+    put_number_line(alloc, b"demand ", limits.rest, answer)?;
+    Ok(())
+}
+
+// The greatest total: the most of the root.
+fn total_of(instance: &Instance, gathered: &Gathered) -> u64
+    requires { IsGathered instance.now (demands_of gathered.now) }
+    ensures { result ≡ limited_total instance.now gathered.now.most.items }
+{
+    // its contract says that there is a root
+    let _rows = instance.rows();
+    gathered.most[0]
+}
+
+// Appends a line for each of these rows.
+fn put_limits(
+    alloc: Global,
+    tree: &Tree,
+    instance: &Instance,
+    ids: &[GroupId],
+    groups: &[u32],
+    answer: &mut Vec<u8>,
+) -> Result<(), AllocError>
+    requires ids { ids.now ≡ keys_of tree.now.groups }
+    requires each { length ids.now ≡ length instance.now.rows }
+    requires within { (k : ℕ) → k < length groups.now → slice_index groups.now k < length instance.now.rows }
+    ensures ok { OnOk result ((paths : List (List ℕ)) × ArePathsOf tree.now groups.now paths
+        × (answer.new.items ≡ answer.old.items ++ limit_lines instance.now groups.now paths)) }
+    ensures room { vec_capacity answer.old ≤ vec_capacity answer.new }
+{
+    for g in groups {
+        put_limit(alloc, tree, instance, ids, *g, answer)?;
+    }
+    Ok(())
+}
+
+// Appends the line of one row.
+fn put_limit(
+    alloc: Global,
+    tree: &Tree,
+    instance: &Instance,
+    ids: &[GroupId],
+    g: u32,
+    answer: &mut Vec<u8>,
+) -> Result<(), AllocError>
+    requires ids { ids.now ≡ keys_of tree.now.groups }
+    requires each { length ids.now ≡ length instance.now.rows }
+    requires within { g < length instance.now.rows }
+    ensures ok { OnOk result ((path : List ℕ) × IsPathOf tree.now g path
+        × (answer.new.items ≡ answer.old.items ++ limit_line instance.now g path)) }
+    ensures room { vec_capacity answer.old ≤ vec_capacity answer.new }
+{
+    let Ok(path) = tree.path_of(ids[g as usize]) else {
+        return Err(AllocError);
+    };
+    let limit = instance.limit(g).unwrap_or(0);
+    put_number(alloc, b"limit ", limit, answer)?;
+    put_path(path.as_str(), answer)?;
+    Ok(())
+}

@@ -1,0 +1,15 @@
+//! The commands of a script: each changes or reads a host and its tree of groups, and each has one
+//! answer.
+#![tactic(auto)]
+
+mod answers;
+mod fault;
+mod parse;
+mod perform;
+mod put;
+mod word;
+
+pub use fault::ScriptFault;
+pub use parse::Command;
+pub use perform::Commands;
+pub use put::{REFUSAL_BYTES, put_error};

@@ -1,0 +1,216 @@
+//! The commands of a script, on a host and its tree of groups.
+ghost use Rattle.std.specs.Prelude.{◌≡◌, ◌≤◌, [], IfOk};
+ghost use Rattle.std.specs.Vec.{vec_capacity};
+ghost use Rattle.bw_text.specs.Number.{number_of};
+ghost use Rattle.bw_commands.specs.Script.{outcome_of_command, outcome_of_text, mkdir_outcome, rmdir_outcome, demand_outcome, read_outcome, write_outcome, ok_line, Performs, Total, Plan, Cert, Period, Report};
+ghost use Rattle.bw_commands.specs.State.{start};
+ghost use Rattle.bw_commands.specs.Commands.{state_of};
+ghost use Rattle.bw_commands.specs.Parsed.{meaning_of};
+ghost use Rattle.bw_commands.specs.declared.put.TheConstants.{REFUSAL_BYTES};
+
+use crate::answers::{put_certified, put_plan, put_report, put_total, serve_period};
+use crate::fault::ScriptFault;
+use crate::parse::Command;
+use crate::put::{REFUSAL_BYTES, put};
+use bw_hierarchy::{Fault, Hierarchy};
+use bw_model::HostShape;
+use bw_text::{NumberFault, read_number};
+use bw_workers::Gate;
+use std::alloc::Global;
+use std::sync::Wait;
+use std::thread::Threads;
+
+/// A host and its tree of groups, on which the lines of a script work, and the gate of its workers.
+#[derive(Drop)]
+pub struct Commands<'a, G> {
+    hierarchy: Hierarchy,
+    gate: &'a G,
+}
+
+impl<'a, G: Gate> Commands<'a, G> {
+    /// The root alone.
+    pub fn new(alloc: Global, shape: HostShape, gate: &'a G) -> Result<Commands<'a, G>, Fault>
+        ensures { IfOk result (λ c. state_of G.used c ≡ start shape (G.used gate.now)) }
+    {
+        let hierarchy = Hierarchy::new(alloc, shape)?;
+        Ok(Commands { hierarchy, gate })
+    }
+
+    // `mkdir P`, whose answer is `ok`.
+    #[tactic(auto, unfolding(crate::specs::Script::mkdir_outcome))]
+    fn mkdir(&mut self, path: &str) -> Result<(), ScriptFault>
+        ensures { Performs (state_of G.used self.old) (mkdir_outcome (state_of G.used self.old) path.now) result ok_line (state_of G.used self.new) }
+    {
+        let _id = self.hierarchy.mkdir(path)?;
+        Ok(())
+    }
+
+    // `rmdir P`, whose answer is `ok`.
+    #[tactic(auto, unfolding(crate::specs::Script::rmdir_outcome))]
+    fn rmdir(&mut self, path: &str) -> Result<(), ScriptFault>
+        ensures { Performs (state_of G.used self.old) (rmdir_outcome (state_of G.used self.old) path.now) result ok_line (state_of G.used self.new) }
+    {
+        Ok(self.hierarchy.rmdir(path)?)
+    }
+
+    // `demand P N`, whose answer is `ok`.
+    #[tactic(auto, unfolding(crate::specs::Script::demand_outcome))]
+    fn demand(&mut self, path: &str, number: &str) -> Result<(), ScriptFault>
+        ensures { Performs (state_of G.used self.old) (demand_outcome (state_of G.used self.old) path.now (number_of number.now)) result ok_line (state_of G.used self.new) }
+    {
+        let demand = match read_number(number.as_bytes()) {
+            Ok(demand) => demand,
+            Err(NumberFault::BadForm) => return Err(ScriptFault::BadNumber),
+            // above every demand that a group may have
+            Err(NumberFault::TooGreat) => u64::MAX,
+        };
+        Ok(self.hierarchy.set_demand(path, demand)?)
+    }
+
+    // `read P FILE`
+    #[tactic(auto, unfolding(crate::specs::Script::read_outcome))]
+    fn read(&self, path: &str, file: &str, answer: &mut Vec<u8>) -> Result<(), ScriptFault>
+        requires { answer.old.items ≡ [] }
+        ensures outcome { Performs (state_of G.used self.now) (read_outcome (state_of G.used self.now) path.now file.now) result answer.new.items (state_of G.used self.now) }
+        ensures room { vec_capacity answer.old ≤ vec_capacity answer.new }
+    {
+        let text = self.hierarchy.read_file(path, file)?;
+        answer.extend_from_slice(text.as_bytes())?;
+        Ok(())
+    }
+
+    // `write P FILE TEXT`, whose answer is `ok`.
+    #[tactic(auto, unfolding(crate::specs::Script::write_outcome))]
+    fn write(&mut self, path: &str, file: &str, text: &str) -> Result<(), ScriptFault>
+        ensures { Performs (state_of G.used self.old) (write_outcome (state_of G.used self.old) path.now file.now text.now) result ok_line (state_of G.used self.new) }
+    {
+        Ok(self.hierarchy.write_file(path, file, text.as_bytes())?)
+    }
+
+    // `total`
+    #[tactic(auto, unfolding(crate::specs::Fault::error_line))]
+    fn total(&self, alloc: Global, answer: &mut Vec<u8>) -> Result<(), ScriptFault>
+        requires { answer.old.items ≡ [] }
+        ensures outcome { Performs (state_of G.used self.now) Total result answer.new.items (state_of G.used self.now) }
+        ensures room { vec_capacity answer.old ≤ vec_capacity answer.new }
+    {
+        Ok(put_total(alloc, &self.hierarchy, answer)?)
+    }
+
+    // `plan`
+    #[tactic(auto, unfolding(crate::specs::Fault::error_line))]
+    fn plan<H: Threads + Sync>(
+        &self,
+        rt: &H,
+        alloc: Global,
+        answer: &mut Vec<u8>,
+    ) -> Result<(), ScriptFault>
+        requires { answer.old.items ≡ [] }
+        ensures outcome { Performs (state_of G.used self.now) Plan result answer.new.items (state_of G.used self.now) }
+        ensures room { vec_capacity answer.old ≤ vec_capacity answer.new }
+    {
+        Ok(put_plan(rt, alloc, &self.hierarchy, answer)?)
+    }
+
+    // `cert`
+    #[tactic(auto, unfolding(crate::specs::Fault::error_line))]
+    fn cert<H: Threads + Sync>(
+        &self,
+        rt: &H,
+        alloc: Global,
+        answer: &mut Vec<u8>,
+    ) -> Result<(), ScriptFault>
+        requires { answer.old.items ≡ [] }
+        ensures outcome { Performs (state_of G.used self.now) Cert result answer.new.items (state_of G.used self.now) }
+        ensures room { vec_capacity answer.old ≤ vec_capacity answer.new }
+    {
+        Ok(put_certified(rt, alloc, &self.hierarchy, answer)?)
+    }
+
+    // `period`
+    fn period<H: Threads + Wait + Sync>(
+        &mut self,
+        rt: &H,
+        alloc: Global,
+        answer: &mut Vec<u8>,
+    ) -> Result<(), ScriptFault>
+        requires { answer.old.items ≡ [] }
+        ensures outcome { Performs (state_of G.used self.old) Period result answer.new.items (state_of G.used self.new) }
+        ensures room { vec_capacity answer.old ≤ vec_capacity answer.new }
+    {
+        Ok(serve_period(rt, alloc, &mut self.hierarchy, self.gate, answer)?)
+    }
+
+    // `report`
+    #[tactic(auto, unfolding(crate::specs::Fault::error_line))]
+    fn report(&self, alloc: Global, answer: &mut Vec<u8>) -> Result<(), ScriptFault>
+        requires { answer.old.items ≡ [] }
+        ensures outcome { Performs (state_of G.used self.now) Report result answer.new.items (state_of G.used self.now) }
+        ensures room { vec_capacity answer.old ≤ vec_capacity answer.new }
+    {
+        Ok(put_report(alloc, &self.hierarchy, answer)?)
+    }
+
+    // Forms the whole answer to a command in an empty buffer, and then makes its change.
+    fn perform<H: Threads + Wait + Sync>(
+        &mut self,
+        rt: &H,
+        alloc: Global,
+        command: Command<'_>,
+        answer: &mut Vec<u8>,
+    ) -> Result<(), ScriptFault>
+        requires empty { answer.old.items ≡ [] }
+        requires room { REFUSAL_BYTES ≤ vec_capacity answer.old }
+        ensures outcome { Performs (state_of G.used self.old) (outcome_of_command (state_of G.used self.old) (meaning_of command.entry))
+            result answer.new.items (state_of G.used self.new) }
+        ensures room { vec_capacity answer.old ≤ vec_capacity answer.new }
+    {
+        match command {
+            Command::Nothing => Ok(()),
+            Command::Mkdir { path } => {
+                put(answer, b"ok\n");
+                self.mkdir(path)
+            }
+            Command::Rmdir { path } => {
+                put(answer, b"ok\n");
+                self.rmdir(path)
+            }
+            Command::Demand { path, number } => {
+                put(answer, b"ok\n");
+                self.demand(path, number)
+            }
+            Command::Read { path, file } => self.read(path, file, answer),
+            Command::Write { path, file, text } => {
+                put(answer, b"ok\n");
+                self.write(path, file, text)
+            }
+            Command::Total => self.total(alloc, answer),
+            Command::Plan => self.plan(rt, alloc, answer),
+            Command::Cert => self.cert(rt, alloc, answer),
+            Command::Period => self.period(rt, alloc, answer),
+            Command::Report => self.report(alloc, answer),
+        }
+    }
+
+    /// Forms the whole answer to a line of text in an empty buffer, and then makes its change.
+    /// An `Err` changes nothing.
+    #[tactic(auto, unfolding(crate::specs::Script::outcome_of_text))]
+    pub fn answer<H: Threads + Wait + Sync>(
+        &mut self,
+        rt: &H,
+        alloc: Global,
+        line: &str,
+        answer: &mut Vec<u8>,
+    ) -> Result<(), ScriptFault>
+        requires empty { answer.old.items ≡ [] }
+        requires room { REFUSAL_BYTES ≤ vec_capacity answer.old }
+        ensures outcome { Performs (state_of G.used self.old) (outcome_of_text (state_of G.used self.old) line.now)
+            result answer.new.items (state_of G.used self.new) }
+        ensures room { vec_capacity answer.old ≤ vec_capacity answer.new }
+    {
+        match Command::parse(line) {
+            Some(command) => self.perform(rt, alloc, command, answer),
+            None => Err(ScriptFault::BadCommand),
+        }
+    }
+}

@@ -1,0 +1,49 @@
+//! The words of a line. Spaces and tabs stand between them.
+ghost use Rattle.std.specs.Prelude.{◌≡◌, ◌≤◌, ◌<◌, length, not, position, IfSome, IsCharBoundary};
+ghost use Rattle.bw_commands.specs.Word.{is_blank, word_len_of, blank_len_of, first_word, after_word};
+
+fn is_blank(byte: u8) -> bool
+    ensures { result ≡ is_blank byte }
+{
+    byte == b' ' || byte == b'\t'
+}
+
+fn first_blank(text: &[u8]) -> Option<usize>
+    ensures value { result ≡ position is_blank text.now }
+    ensures within { IfSome result (λ n. n < length text.now) }
+{
+    text.iter().position(|b| is_blank(*b))
+}
+
+fn first_other(text: &[u8]) -> Option<usize>
+    ensures value { result ≡ position (λ b. not (is_blank b)) text.now }
+    ensures within { IfSome result (λ n. n < length text.now) }
+{
+    text.iter().position(|b| !is_blank(*b))
+}
+
+// How many bytes stand before the first blank.
+fn word_len(text: &str) -> usize
+    ensures value { result ≡ word_len_of text.now }
+    ensures boundary { IsCharBoundary text.now result }
+{
+    first_blank(text.as_bytes()).unwrap_or(text.len())
+}
+
+// How many blanks the text begins with.
+fn blank_len(text: &str) -> usize
+    ensures value { result ≡ blank_len_of text.now }
+    ensures boundary { IsCharBoundary text.now result }
+{
+    first_other(text.as_bytes()).unwrap_or(text.len())
+}
+
+/// The first word, and what stands after it.
+#[tactic(auto, unfolding(crate::specs::Word::first_word, crate::specs::Word::after_word))]
+pub fn split_word(text: &str) -> (&str, &str)
+    ensures word { result.0.now ≡ first_word text.now }
+    ensures rest { result.1.now ≡ after_word text.now }
+{
+    let (_, text) = text.split_at(blank_len(text));
+    text.split_at(word_len(text))
+}
