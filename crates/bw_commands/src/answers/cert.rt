@@ -3,9 +3,10 @@ ghost use Rattle.std.specs.Prelude.{◌≡◌, ◌≤◌, ◌++◌, ℕ, List, O
 ghost use Rattle.std.specs.Vec.{vec_capacity};
 ghost use Rattle.bw_commands.specs.CertifiedPlan.{IsCertifiedPlan};
 
-use bw_cert::{certify, write_certified};
+use bw_cert::{certify_gathered, write_certified};
+use bw_demand::gather_rows;
 use bw_hierarchy::{Fault, Hierarchy};
-use bw_plan::plan_levels;
+use bw_plan::plan_gathered;
 use bw_tree::TreeFault;
 use std::alloc::Global;
 use std::thread::Threads;
@@ -22,9 +23,10 @@ pub fn put_certified<H: Threads + Sync>(
     ensures room { vec_capacity answer.old ≤ vec_capacity answer.new }
 {
     let (instance, _ids, _base) = hierarchy.snapshot()?;
-    let plan = plan_levels(rt, alloc, &instance)?;
+    let gathered = gather_rows(alloc, &instance)?;
+    let plan = plan_gathered(rt, alloc, &instance, &gathered)?;
     let amounts = plan.amounts.as_slice();
-    let certificate = certify(alloc, &instance, &plan)?;
+    let certificate = certify_gathered(alloc, &instance, gathered, &plan)?;
     let text = write_certified(alloc, &instance, amounts, &certificate)?;
     answer.extend_from_slice(text.as_bytes())?;
     Ok(())

@@ -7,7 +7,7 @@ ghost use Rattle.bw_commands.specs.Script.{Period, IsSpare};
 
 use super::text::put_number_line;
 use crate::fault::ScriptFault;
-use bw_demand::{gather_levels, levels};
+use bw_demand::gather_rows;
 use bw_hierarchy::Hierarchy;
 use bw_plan::plan_gathered;
 use bw_workers::{Gate, serve};
@@ -31,9 +31,8 @@ pub fn serve_period<G: Gate, H: Threads + Wait + Sync>(
     ensures room { vec_capacity answer.old ≤ vec_capacity answer.new }
 {
     let (instance, ids, base) = hierarchy.snapshot()?;
-    let levels = levels(alloc, &instance)?;
-    let gathered = gather_levels(alloc, &instance, levels.as_slice())?;
-    let plan = plan_gathered(rt, alloc, &instance, levels.as_slice(), &gathered)?;
+    let gathered = gather_rows(alloc, &instance)?;
+    let plan = plan_gathered(rt, alloc, &instance, &gathered)?;
     let served = serve(rt, alloc, &instance, &plan, gate)?;
     put_number_line(alloc, b"served ", served.drawn[0], answer)?;
     hierarchy.book(&instance, &ids, &base, &gathered, &served.drawn)?;
