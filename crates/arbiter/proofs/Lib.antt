@@ -1,3 +1,4 @@
+-- The files of lemmas.
 mod RunWalk
 mod RunFaults
 mod NumberReads

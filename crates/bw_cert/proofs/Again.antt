@@ -13,7 +13,7 @@ use Rattle.std.proofs.lemmas.List.Splits.{slice_split_at, slice_split_none}
 use Rattle.std.proofs.lemmas.Slice.Eq.{bytes_eq-Decides}
 use Rattle.bw_text.specs.Number.{number_read}
 use Rattle.bw_text.proofs.CallerLemmas.{digit_range, decimal_is_read, digits_of_decimal}
-use Rattle.bw_model.specs.Marks.{Price}
+use Rattle.bw_model.specs.Marks.{MarkValue}
 use Rattle.bw_cert.specs.Spelling.{lines_of, words_of, line, parent_word, limit_word, flag_word, level_word, IsSmallLevel}
 use Rattle.bw_cert.specs.Reading.{number_at, u32_at, parent_at, limit_at, flag_at, mark_at, level_in_word}
 
@@ -83,7 +83,7 @@ two_parts : (c : ℕ) (front back : List ℕ) → eqb c c ≡ true → IsFree c 
 two_parts c front back here f g =
     slice_split_at (λ b. eqb b c) front c back f here ∙ ap (λ (ps : List (List ℕ)). front ∷ ps) (slice_split_none (λ b. eqb b c) back g)
 
-mark_again : (l : Price) → IsSmallLevel l → mark_at (level_word (Some l)) ≡ Ok (Some l)
+mark_again : (l : MarkValue) → IsSmallLevel l → mark_at (level_word (Some l)) ≡ Ok (Some l)
 unfolding mark_at
 mark_again l h =
     let grouped : level_word (Some l) ≡ decimal l.num ++ 47 ∷ (decimal l.den ++ 64 ∷ decimal l.place) = simp append_assoc in
@@ -92,10 +92,10 @@ mark_again l h =
     let inner = two_parts 64 (decimal l.den) (decimal l.place) refl (digits_below 64 l.den h.den (omega arith)) (digits_below 64 l.place (omega (arith, h.place)) (omega arith)) in
     ap mark_at grouped ∙ rw (outer, inner, number_again l.num h.num, number_again l.den h.den, u32_again l.place h.place, lt-ltb 0 l.num h.some_num, lt-ltb 0 l.den h.some_den) refl
 
-no_level : (l : Price) → level_word (Some l) ≡ codes "-" → 0 < length (decimal l.num) → ⊥
+no_level : (l : MarkValue) → level_word (Some l) ≡ codes "-" → 0 < length (decimal l.num) → ⊥
 no_level l e some = omega (arith, some, simp length-append at (ap length e))
 
-pub level_again : (o : Option Price) → IfSome o IsSmallLevel → level_in_word (level_word o) ≡ Ok o
+pub level_again : (o : Option MarkValue) → IfSome o IsSmallLevel → level_in_word (level_word o) ≡ Ok o
 level_again None h = refl
 level_again (Some l) h =
     elim (cases_Bool (bytes_eq (level_word (Some l)) (codes "-"))) [

@@ -11,7 +11,7 @@ use Rattle.bw_model.proofs.CallerLemmas.{IsHost-accepted, IsInstance-accepted}
 use Rattle.bw_model.specs.declared.row.Row.{Row}
 use Rattle.bw_cert.specs.declared.fault.CertFault.{CertFault}
 use Rattle.bw_cert.specs.declared.groups.Certified.{Certified}
-use Rattle.bw_model.specs.Marks.{Price}
+use Rattle.bw_model.specs.Marks.{MarkValue}
 use Rattle.bw_cert.specs.Spelling.{groups_of, Value, lines_of, line, parent_word, limit_word, flag_word, level_word, head_words, group_words, groups_text, spelling, IsSmallRow, IsSmallLevel, IsValue}
 use Rattle.bw_cert.specs.Reading.{ReadsAs, line_at, head_of, group_of, groups_at, certified_of, certified_view}
 use Rattle.bw_cert.proofs.Lines.{line_there}
@@ -32,7 +32,7 @@ plain_flag : (flag : Bool) → IsPlain (flag_word flag)
 plain_flag true = plain_code 49 (omega arith)
 plain_flag false = plain_code 48 (omega arith)
 
-plain_level : (o : Option Price) → IfSome o IsSmallLevel → IsPlain (level_word o)
+plain_level : (o : Option MarkValue) → IfSome o IsSmallLevel → IsPlain (level_word o)
 plain_level None h = plain_code 45 (omega arith)
 plain_level (Some l) h =
     let a = All-append (λ b. 33 ≤ b) (decimal l.num) (codes "/") (digits_plain l.num h.num) (plain_code 47 (omega arith)) in
@@ -40,11 +40,11 @@ plain_level (Some l) h =
     let c = All-append (λ b. 33 ≤ b) (decimal l.num ++ codes "/" ++ decimal l.den) (codes "@") b (plain_code 64 (omega arith)) in
     All-append (λ b. 33 ≤ b) (decimal l.num ++ codes "/" ++ decimal l.den ++ codes "@") (decimal l.place) c (digits_plain l.place (omega (arith, h.place)))
 
-plain_group : (r : Row) (a : ℕ) (f : Bool) (m : Option Price) → IsSmallRow r → a < 2 ^ 64 → IfSome m IsSmallLevel → AllByRecursion IsPlain (group_words r a f m)
+plain_group : (r : Row) (a : ℕ) (f : Bool) (m : Option MarkValue) → IsSmallRow r → a < 2 ^ 64 → IfSome m IsSmallLevel → AllByRecursion IsPlain (group_words r a f m)
 plain_group r a f m row amount level =
     (plain_parent r.parent row.parent, (digits_plain r.weight row.weight, (plain_limit r.limit row.limit, (digits_plain r.demand row.demand, (digits_plain a amount, (plain_flag f, (plain_level m level, tt)))))))
 
-group_again : (r : Row) (a : ℕ) (f : Bool) (m : Option Price) → IsSmallRow r → a < 2 ^ 64 → IfSome m IsSmallLevel
+group_again : (r : Row) (a : ℕ) (f : Bool) (m : Option MarkValue) → IsSmallRow r → a < 2 ^ 64 → IfSome m IsSmallLevel
     → group_of (group_words r a f m) ≡ Ok (record { row = r; amount = a; flag = f; level = m })
 unfolding group_of
 group_again r a f m row amount level =
@@ -54,7 +54,7 @@ one_line : (first : List ℕ) (others : List (List ℕ)) (rest : List ℕ) → A
     → line_at (lines_of (line (first ∷ others) ++ rest)) ≡ Ok (join_with_byte 32 (first ∷ others), lines_of rest)
 one_line first others rest h = line_there (line (first ∷ others) ++ rest) (join_with_byte 32 (first ∷ others)) rest (line_again first others rest h)
 
-groups_again : (rows : List Row) (amounts : List ℕ) (flags : List Bool) (levels : List (Option Price))
+groups_again : (rows : List Row) (amounts : List ℕ) (flags : List Bool) (levels : List (Option MarkValue))
     → length amounts ≡ length rows → length flags ≡ length rows → length levels ≡ length rows
     → AllByRecursion IsSmallRow rows → AllByRecursion (λ a. a < 2 ^ 64) amounts → AllByRecursion (λ o. IfSome o IsSmallLevel) levels
     → groups_at (length rows) (lines_of (groups_text (record { rows = rows; amounts = amounts; flags = flags; levels = levels })))

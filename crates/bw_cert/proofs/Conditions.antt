@@ -7,14 +7,14 @@ use Rattle.std.proofs.lemmas.List.{length-map}
 use Rattle.std.proofs.lemmas.List.Sums.{sum-map}
 use Rattle.bw_model.specs.declared.mark.Mark.{Mark}
 use Rattle.bw_model.specs.Groups.{Groups, IsInstance, children_of, is_leaf, limit_of, demand_of, weight_of}
-use Rattle.bw_model.specs.Marks.{Price, price_of, last_mark, next_mark, IsBelow, IsAtMost}
+use Rattle.bw_model.specs.Marks.{MarkValue, price_of, last_mark, next_mark, IsBelow, IsAtMost}
 use Rattle.bw_model.specs.Split.{IsBestSplit, IsAtLevel}
 use Rattle.bw_model.specs.Plan.{child_weights, IsPlan}
 use Rattle.bw_model.specs.declared.limits.TheConstants.{MAX_CAPACITY}
-use Rattle.bw_model.specs.Demand.{AreMosts, want_of, is_tight}
+use Rattle.bw_model.specs.Demand.{AreMaxTotals, want_of, is_tight}
 use Rattle.bw_model.specs.Certificate.{Certified, IsCertified, is_flagged, level_at, place_of}
 use Rattle.bw_model.proofs.CallerLemmas.{child_at, get_or-map, listed_child, tight-bound_at, capped, most_le_want, most_le_limit, best-IsAtLevel}
-use Rattle.bw_model.proofs.CallerLemmas.{AreMosts-capped}
+use Rattle.bw_model.proofs.CallerLemmas.{AreMaxTotals-capped}
 use Rattle.bw_model.specs.Split.{IsGreatestLast}
 use Rattle.bw_plan.proofs.CallerLemmas.{plan-IsPlanning, weights_in_range, at_most}
 use Rattle.bw_plan.specs.Shared.{IsPlanning}
@@ -24,17 +24,17 @@ some_limit : (o : Option ℕ) (want : ℕ) → option_map_or (λ limit. ltb limi
 some_limit None want e = absurd (false≢true e)
 some_limit (Some m) want e = search rules
 
-last_to : (x y w v k p : ℕ) (level : Price) → x ≡ y → w ≡ v → k ≡ p →
+last_to : (x y w v k p : ℕ) (level : MarkValue) → x ≡ y → w ≡ v → k ≡ p →
     (0 < x → IsAtMost (last_mark x w k) level) → 0 < y → IsAtMost (last_mark y v p) level
 last_to x y w v k p level ex ew ek h = rw (sym ex, sym ew, sym ek) h
 
-next_to : (x y w v k p m b : ℕ) (level : Price) → x ≡ y → w ≡ v → k ≡ p → m ≡ b →
+next_to : (x y w v k p m b : ℕ) (level : MarkValue) → x ≡ y → w ≡ v → k ≡ p → m ≡ b →
     (x < m → IsBelow level (next_mark x w k)) → y < b → IsBelow level (next_mark y v p)
 next_to x y w v k p m b level ex ew ek em h = rw (sym ex, sym ew, sym ek, sym em) h
 
-module _ (groups : Groups) (valid : IsInstance groups) (most : List ℕ) (mosts : AreMosts groups most) (amounts : List ℕ) (is_plan : IsPlan groups amounts) where
+module _ (groups : Groups) (valid : IsInstance groups) (most : List ℕ) (mosts : AreMaxTotals groups most) (amounts : List ℕ) (is_plan : IsPlan groups amounts) where
   rule : (g : ℕ) → g < length groups.rows → get_or most g 0 ≡ capped (limit_of groups g) (want_of groups most g)
-  rule = AreMosts-capped groups valid.tree most mosts
+  rule = AreMaxTotals-capped groups valid.tree most mosts
 
   planned : IsPlanning groups most (λ _. true) amounts
   planned = plan-IsPlanning groups valid most rule amounts is_plan

@@ -17,7 +17,7 @@ use Rattle.bw_model.specs.declared.instance_fault.InstanceFault.TheVariants.{Too
 use Rattle.bw_cert.specs.declared.fault.CertFault.{CertFault}
 use Rattle.bw_cert.specs.declared.fault.CertFault.TheVariants as faults
 use Rattle.bw_cert.specs.declared.groups.Certified.{Certified}
-use Rattle.bw_model.specs.Marks.{Price}
+use Rattle.bw_model.specs.Marks.{MarkValue}
 use Rattle.bw_cert.specs.Spelling.{groups_of, Columns, Value, lines_of, words_of, line, head_words, group_words, groups_text, spelling, IsSmallRow, IsSmallLevel, IsValue}
 use Rattle.bw_cert.specs.Reading.{◌>>=◌, ReadsAs, number_at, parent_at, limit_at, flag_at, level_in_word, line_at, word_is, host_unless, host_in, head_of, Group, group_of, with_group, no_groups, groups_at, value_unless, is_over, certified_of, certified_view}
 use Rattle.bw_cert.proofs.WordsFound.{bind_ok, number_found, parent_found, limit_found, flag_found, level_found}
@@ -49,7 +49,7 @@ pub record IsGroup (ws : List (List ℕ)) (g : Group) : Type 0 where
   pub amount : g.amount < 2 ^ 64
   pub level : IfSome g.level IsSmallLevel
 
-abbrev made : Option ℕ → ℕ → Option ℕ → ℕ → ℕ → Bool → Option Price → Result Group CertFault
+abbrev made : Option ℕ → ℕ → Option ℕ → ℕ → ℕ → Bool → Option MarkValue → Result Group CertFault
 made p w l d a f m = Ok (record { row = record { parent = p; weight = w; limit = l; demand = d }; amount = a; flag = f; level = m })
 
 same_seven : (a b c d e f g a' b' c' d' e' f' g' : List ℕ) → a ≡ a' → b ≡ b' → c ≡ c' → d ≡ d' → e ≡ e' → f ≡ f' → g ≡ g'

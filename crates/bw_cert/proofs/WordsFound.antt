@@ -10,7 +10,7 @@ use Rattle.bw_text.specs.declared.number.NumberFault.{NumberFault}
 use Rattle.bw_text.proofs.CallerLemmas.{read_is_decimal}
 use Rattle.bw_cert.specs.declared.fault.CertFault.{CertFault}
 use Rattle.bw_cert.specs.declared.fault.CertFault.TheVariants as faults
-use Rattle.bw_model.specs.Marks.{Price}
+use Rattle.bw_model.specs.Marks.{MarkValue}
 use Rattle.bw_cert.specs.Spelling.{parent_word, limit_word, flag_word, level_word, IsSmallLevel}
 use Rattle.bw_cert.specs.Reading.{◌>>=◌, or_field, number_at, u32_in, u32_at, parent_at, limit_at, flag_at, in_two, level_in, mark_at, level_in_word}
 use Rattle.std.proofs.lemmas.Bool.{ltb-true}
@@ -78,12 +78,12 @@ in_two_found (a ∷ b ∷ c ∷ parts) p e = absurd cc
 rejoined : (byte : ℕ) (word front back : List ℕ) → slice_split (λ b. eqb b byte) word ≡ front ∷ back ∷ [] → word ≡ front ++ byte ∷ back
 rejoined byte word front back e = sym (join_with_byte-slice_split byte word) ∙ ap (join_with_byte byte) e
 
-level_parts : (b c : Bool) (l : Price) (o : Option Price) → cond (b && c) (Ok (Some l)) (Err faults.BadField) ≡ Ok o → (b ≡ true) × (c ≡ true) × (o ≡ Some l)
+level_parts : (b c : Bool) (l : MarkValue) (o : Option MarkValue) → cond (b && c) (Ok (Some l)) (Err faults.BadField) ≡ Ok o → (b ≡ true) × (c ≡ true) × (o ≡ Some l)
 level_parts true true l o e = (refl, refl, cc)
 level_parts true false l o e = absurd cc
 level_parts false c l o e = absurd cc
 
-mark_found : (word : List ℕ) (o : Option Price) → mark_at word ≡ Ok o → (word ≡ level_word o) × IfSome o IsSmallLevel
+mark_found : (word : List ℕ) (o : Option MarkValue) → mark_at word ≡ Ok o → (word ≡ level_word o) × IfSome o IsSmallLevel
 unfolding mark_at
 mark_found word o e =
     let a = bind_ok (in_two (slice_split (λ b. eqb b 47) word)) (λ outer. in_two (slice_split (λ b. eqb b 64) outer.1) >>= λ inner. number_at outer.0 >>= λ num. number_at inner.0 >>= λ den. u32_at inner.1 >>= λ place. level_in num den place) o e in
@@ -101,11 +101,11 @@ mark_found word o e =
     let grouped : decimal n.0 ++ 47 ∷ (decimal d.0 ++ 64 ∷ decimal p.0) ≡ decimal n.0 ++ codes "/" ++ decimal d.0 ++ codes "@" ++ decimal p.0 = simp append_assoc in
     rw l.2 (text ∙ grouped, record { num = num.1; some_num = ltb-true 0 n.0 l.0; den = den.1; some_den = ltb-true 0 d.0 l.1; place = place.1 })
 
-none_mark : (b : Bool) (r : Result (Option Price) CertFault) (o : Option Price) → cond b (Ok None) r ≡ Ok o → ((b ≡ true) × (o ≡ None)) ⊎ (r ≡ Ok o)
+none_mark : (b : Bool) (r : Result (Option MarkValue) CertFault) (o : Option MarkValue) → cond b (Ok None) r ≡ Ok o → ((b ≡ true) × (o ≡ None)) ⊎ (r ≡ Ok o)
 none_mark true r o e = inl (refl, cc)
 none_mark false r o e = inr e
 
-pub level_found : (word : List ℕ) (o : Option Price) → level_in_word word ≡ Ok o → (word ≡ level_word o) × IfSome o IsSmallLevel
+pub level_found : (word : List ℕ) (o : Option MarkValue) → level_in_word word ≡ Ok o → (word ≡ level_word o) × IfSome o IsSmallLevel
 level_found word o e =
     elim (none_mark (bytes_eq word (codes "-")) (mark_at word) o e) [
       | inl p ↦ rw p.1 (bytes_eq-true word (codes "-") p.0, tt)

@@ -1,9 +1,10 @@
+-- What the levels and the flags of a plan's own certificate are.
 use Rattle.std.specs.Prelude.{◌≡◌, ℕ, ◌<◌, List, false, Option, Some, None, length, map, slice_index}
 use Rattle.bw_model.specs.declared.mark.Mark.{Mark}
 use Rattle.bw_model.specs.Groups.{Groups, children_of, is_leaf}
 use Rattle.bw_model.specs.Marks.{price_of}
 use Rattle.bw_model.specs.Plan.{child_weights}
-use Rattle.bw_model.specs.Demand.{AreMosts, is_tight}
+use Rattle.bw_model.specs.Demand.{AreMaxTotals, is_tight}
 use Rattle.bw_model.specs.Certificate.{Certified, is_flagged, level_at}
 use Rattle.bw_model.specs.Split.{IsGreatestLast}
 
@@ -22,5 +23,5 @@ AreLevels groups amounts certificate = (g : ℕ) → g < length groups.rows → 
 -- exactly the tight groups are flagged
 pub record AreTightFlags (groups : Groups) (certificate : Certified) : Type 0 where
   pub most : List ℕ
-  pub mosts : AreMosts groups most
+  pub mosts : AreMaxTotals groups most
   pub each : (g : ℕ) → g < length groups.rows → is_flagged certificate g ≡ is_tight groups most g

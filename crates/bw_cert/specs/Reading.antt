@@ -10,7 +10,7 @@ use Rattle.bw_model.specs.declared.host.HostFault.{HostFault}
 use Rattle.bw_model.specs.declared.row.Row.{Row}
 use Rattle.bw_model.specs.declared.instance_fault.InstanceFault.{InstanceFault}
 use Rattle.bw_model.specs.declared.instance_fault.InstanceFault.TheVariants.{TooMany}
-use Rattle.bw_model.specs.Marks.{Price, price_of}
+use Rattle.bw_model.specs.Marks.{MarkValue, price_of}
 use Rattle.bw_model.specs.declared.limits.TheConstants.{MAX_GROUPS}
 use Rattle.bw_cert.specs.declared.fault.CertFault.{CertFault}
 use Rattle.bw_cert.specs.declared.fault.CertFault.TheVariants as faults
@@ -74,11 +74,11 @@ abbrev pub in_two : List (List ℕ) → Result (List ℕ × List ℕ) CertFault
 in_two (a ∷ b ∷ []) = Ok (a, b)
 in_two _ = Err faults.BadField
 
-abbrev pub level_in : ℕ → ℕ → ℕ → Result (Option Price) CertFault
+abbrev pub level_in : ℕ → ℕ → ℕ → Result (Option MarkValue) CertFault
 level_in num den place = if nat_lt 0 num && nat_lt 0 den then Ok (Some (record { num = num; den = den; place = place })) else Err faults.BadField
 
 -- NUM/DEN@PLACE
-unfoldable pub mark_at : List ℕ → Result (Option Price) CertFault
+unfoldable pub mark_at : List ℕ → Result (Option MarkValue) CertFault
 mark_at word = do
   outer ← in_two (slice_split (λ b. b == 47) word)
   inner ← in_two (slice_split (λ b. b == 64) outer.1)
@@ -87,7 +87,7 @@ mark_at word = do
   place ← u32_at inner.1
   level_in num den place
 
-abbrev pub level_in_word : List ℕ → Result (Option Price) CertFault
+abbrev pub level_in_word : List ℕ → Result (Option MarkValue) CertFault
 level_in_word word = if bytes_eq word (codes "-") then Ok None else mark_at word
 
 -- ---- lines
@@ -127,7 +127,7 @@ pub record Group : Type 0 where
   pub row : Row
   pub amount : ℕ
   pub flag : Bool
-  pub level : Option Price
+  pub level : Option MarkValue
 
 unfoldable pub group_of : List (List ℕ) → Result Group CertFault
 group_of (parent ∷ weight ∷ limit ∷ demand ∷ amount ∷ flag ∷ level ∷ []) = do

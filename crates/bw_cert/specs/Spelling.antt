@@ -5,7 +5,7 @@ use Rattle.std.specs.Fmt.{decimal}
 use Rattle.bw_model.specs.Host.{Shape}
 use Rattle.bw_model.specs.Groups.{Groups, IsInstance}
 use Rattle.bw_model.specs.declared.row.Row.{Row}
-use Rattle.bw_model.specs.Marks.{Price, price_of}
+use Rattle.bw_model.specs.Marks.{MarkValue, price_of}
 use Rattle.bw_model.specs.declared.certificate.Certificate.{Certificate}
 use Rattle.std.specs.Option.{option_map}
 
@@ -14,7 +14,7 @@ pub record Columns : Type 0 where
   pub rows : List Row
   pub amounts : List ℕ
   pub flags : List Bool
-  pub levels : List (Option Price)
+  pub levels : List (Option MarkValue)
 
 -- all that a text says
 pub record Value : Type 0 where
@@ -49,7 +49,7 @@ flag_word true = codes "1"
 flag_word false = codes "0"
 
 -- `-` for none, else `NUM/DEN@PLACE`
-abbrev pub level_word : Option Price → List ℕ
+abbrev pub level_word : Option MarkValue → List ℕ
 level_word None = codes "-"
 level_word (Some l) = decimal l.num ++ codes "/" ++ decimal l.den ++ codes "@" ++ decimal l.place
 
@@ -58,11 +58,11 @@ abbrev pub head_words : Shape → ℕ → List (List ℕ)
 head_words h count = codes "bw" ∷ codes "1" ∷ decimal h.processors ∷ decimal h.period_us ∷ decimal h.slice_us ∷ decimal count ∷ []
 
 -- the words of a group's line
-abbrev pub group_words : Row → ℕ → Bool → Option Price → List (List ℕ)
+abbrev pub group_words : Row → ℕ → Bool → Option MarkValue → List (List ℕ)
 group_words r amount flag level = parent_word r.parent ∷ decimal r.weight ∷ limit_word r.limit ∷ decimal r.demand ∷ decimal amount ∷ flag_word flag ∷ level_word level ∷ []
 
 -- the words of each group's line
-abbrev pub groups_words : List Row → List ℕ → List Bool → List (Option Price) → List (List (List ℕ))
+abbrev pub groups_words : List Row → List ℕ → List Bool → List (Option MarkValue) → List (List (List ℕ))
 groups_words (r ∷ rs) (amount ∷ amounts) (flag ∷ flags) (level ∷ levels) = group_words r amount flag level ∷ groups_words rs amounts flags levels
 groups_words _ _ _ _ = []
 
@@ -89,7 +89,7 @@ pub record IsSmallRow (r : Row) : Type 0 where
   pub demand : r.demand < 2 ^ 64
 
 -- the numbers of a level: 64 bits and above 0, but for the place
-pub record IsSmallLevel (l : Price) : Type 0 where
+pub record IsSmallLevel (l : MarkValue) : Type 0 where
   pub num : l.num < 2 ^ 64
   pub some_num : 1 ≤ l.num
   pub den : l.den < 2 ^ 64

@@ -1,3 +1,4 @@
+-- The files of lemmas.
 mod Verdicts
 mod Gathered
 mod Kept

@@ -1,3 +1,4 @@
+-- The files of definitions.
 pub mod Counts
 pub mod Faults
 pub mod Levels

@@ -1,3 +1,4 @@
+-- The files of lemmas.
 mod Faults
 mod Refusals
 mod Words

@@ -1,3 +1,4 @@
+-- The files of definitions.
 pub mod State
 pub mod Fault
 pub mod Word

@@ -115,19 +115,19 @@ Gives s Report text next = IsReport s.hierarchy text × (next ≡ s)
 
 -- what may stand in place of an answer: want of memory where anything is printed, and where a period is served a thread
 -- that was refused
-abbrev pub IsSpare : Outcome → List ℕ → Type 0
-IsSpare Silent text = ⊥
-IsSpare (Prints answer after) text = text ≡ error_line fault.OutOfMemory
-IsSpare Total text = text ≡ error_line fault.OutOfMemory
-IsSpare Plan text = text ≡ error_line fault.OutOfMemory
-IsSpare Cert text = text ≡ error_line fault.OutOfMemory
-IsSpare Period text = (text ≡ error_line fault.OutOfMemory) ⊎ (text ≡ error_line fault.NotStarted)
-IsSpare Report text = text ≡ error_line fault.OutOfMemory
+abbrev pub IsAllowedFailure : Outcome → List ℕ → Type 0
+IsAllowedFailure Silent text = ⊥
+IsAllowedFailure (Prints answer after) text = text ≡ error_line fault.OutOfMemory
+IsAllowedFailure Total text = text ≡ error_line fault.OutOfMemory
+IsAllowedFailure Plan text = text ≡ error_line fault.OutOfMemory
+IsAllowedFailure Cert text = text ≡ error_line fault.OutOfMemory
+IsAllowedFailure Period text = (text ≡ error_line fault.OutOfMemory) ⊎ (text ≡ error_line fault.NotStarted)
+IsAllowedFailure Report text = text ≡ error_line fault.OutOfMemory
 
 -- From s the answer to a line may be this text, with the state next after it: what the line means, or what may stand
 -- in its place, with nothing changed.
 abbrev pub IsOutcome : State → Outcome → List ℕ → State → Type 0
-IsOutcome s outcome text next = Gives s outcome text next ⊎ (IsSpare outcome text × (next ≡ s))
+IsOutcome s outcome text next = Gives s outcome text next ⊎ (IsAllowedFailure outcome text × (next ≡ s))
 
 abbrev pub IsAnswer : State → List ℕ → List ℕ → State → Type 0
 IsAnswer s line text next = IsOutcome s (outcome_of s line) text next

@@ -2,7 +2,7 @@
 use Rattle.std.specs.Prelude.{◌≡◌, ℕ, List, [], ◌∷◌, ◌++◌, codes, unwrap_or}
 use Rattle.std.specs.Fmt.{decimal}
 use Rattle.bw_model.specs.Groups.{Groups, limit_of}
-use Rattle.bw_model.specs.Demand.{AreMosts, limiting_groups, limited_total, demand_outside}
+use Rattle.bw_model.specs.Demand.{AreMaxTotals, limiting_groups, limited_total, demand_outside}
 use Rattle.bw_tree.specs.Snapshot.{instance_of}
 use Rattle.bw_hierarchy.specs.State.{HierarchyState}
 use Rattle.bw_commands.specs.GroupLines.{ArePathsOf, group_lines}
@@ -30,6 +30,6 @@ total_text groups most paths =
 pub record IsTotal (h : HierarchyState) (text : List ℕ) : Type 0 where
   pub most : List ℕ
   pub paths : List (List ℕ)
-  pub mosts : AreMosts (instance_of h.tree h.shape) most
+  pub mosts : AreMaxTotals (instance_of h.tree h.shape) most
   pub named : ArePathsOf h.tree (limiting_groups (instance_of h.tree h.shape) most) paths
   pub is : text ≡ total_text (instance_of h.tree h.shape) most paths

@@ -1,3 +1,4 @@
+-- The files of lemmas.
 pub mod CallerLemmas
 mod ByDepth
 mod Seen

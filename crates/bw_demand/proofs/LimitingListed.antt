@@ -1,3 +1,4 @@
+-- The list of the limiting groups, as far as the rows have been walked.
 use Rattle.std.proofs.Common.{◌≡◌, ℕ, zero, suc, ◌+◌, ◌*◌, ◌<◌, ◌≤◌, List, [], ◌∷◌, ◌++◌, Bool, false, cond, ◌&&◌, ◌||◌, not, None, Some, length, get_or, set, replicate, refl, ap, sym, ◌∙◌, arith, inl, inr}
 use Rattle.std.specs.Prelude.{sum_by, filter, unwrap_or}
 use Rattle.std.specs.List.{range_with_len}
@@ -9,7 +10,7 @@ use Rattle.bw_model.specs.declared.limits.TheConstants.{MAX_DEMAND, MAX_GROUPS}
 use Rattle.bw_model.specs.Groups.{Groups, IsInstance, parent_of, is_leaf, limit_of, demand_of}
 use Rattle.bw_model.specs.Allocation.{IsGreatestTotal}
 use Rattle.bw_model.specs.Demand.{is_tight, has_tight_above, limiting_groups, demand_outside}
-use Rattle.bw_model.proofs.CallerLemmas.{parent_lt, limited-IsGreatestTotal, AreMosts-capped, sum_below}
+use Rattle.bw_model.proofs.CallerLemmas.{parent_lt, limited-IsGreatestTotal, AreMaxTotals-capped, sum_below}
 use Rattle.bw_demand.proofs.DemandOutside.{above-child, above-top, demand_outside-is}
 use Rattle.bw_demand.specs.Demands.{Demands, IsGathered}
 use Rattle.bw_demand.proofs.WantsGathered.{sum_below-bound}
@@ -116,7 +117,7 @@ module _ (groups : Groups) (valid : IsInstance groups) (d : Demands) (known : Is
       let rests : rest ≡ demand_outside groups.rows (filter (λ h. is_tight groups d.most h && not (has_tight_above groups d.most h)) (range_with_len 0 (length groups.rows))) =
       so_far.added ∙ ap (λ (n : ℕ). sum_below n (λ l. cond (is_leaf groups.rows l && not (is_tight groups d.most l || has_tight_above groups d.most l)) (demand_of groups.rows l) 0)) e
       ∙ sym (demand_outside-is groups valid.tree d.most) in
-      (whole, rw whole rests, rw (whole, rests) (limited-IsGreatestTotal groups valid.tree d.most (AreMosts-capped groups valid.tree d.most known.mosts)))
+      (whole, rw whole rests, rw (whole, rests) (limited-IsGreatestTotal groups valid.tree d.most (AreMaxTotals-capped groups valid.tree d.most known.mosts)))
 
 -- the default is not read within a list
 pub flag_within : (xs : List Bool) (i : ℕ) (x y : Bool) → i < length xs → get_or xs i x ≡ get_or xs i y

@@ -1,6 +1,7 @@
+-- What is gathered of an instance: one most, want and flag for each row.
 use Rattle.std.specs.Prelude.{◌≡◌, ℕ, ◌<◌, List, Bool, false, length, slice_index, slice_index_or}
 use Rattle.bw_model.specs.Groups.{Groups}
-use Rattle.bw_model.specs.Demand.{AreMosts, want_of, is_tight}
+use Rattle.bw_model.specs.Demand.{AreMaxTotals, want_of, is_tight}
 use Rattle.bw_demand.specs.declared.demands.Gathered.{Gathered}
 
 -- for each row its want, its most, and whether it is tight
@@ -17,6 +18,6 @@ demands_of gathered = record { want = gathered.want.items; most = gathered.most.
 pub record IsGathered (groups : Groups) (demands : Demands) : Type 0 where
   pub wants_each : length demands.want ≡ length groups.rows
   pub flags_each : length demands.tight ≡ length groups.rows
-  pub mosts : AreMosts groups demands.most
+  pub mosts : AreMaxTotals groups demands.most
   pub wants : (g : ℕ) → g < length groups.rows → slice_index demands.want g ≡ want_of groups demands.most g
   pub flags : (g : ℕ) → g < length groups.rows → slice_index_or demands.tight g false ≡ is_tight groups demands.most g

@@ -1,9 +1,10 @@
+-- The laws of what can be given.
 use Rattle.std.specs.Prelude.{◌≡◌, ℕ, ◌<◌, ◌≤◌, List, Some, length, min, slice_index}
 use Rattle.std.specs.Option.{option_map_or}
 use Rattle.bw_model.specs.Groups.{Groups, IsInstance, parent_of, limit_of}
 use Rattle.bw_model.specs.Allocation.{total, IsWithin, IsWithinUnder, IsMost}
 use Rattle.bw_model.specs.Certificate.{Certified, AreBounds}
-use Rattle.bw_model.specs.Demand.{AreMosts, want_of}
+use Rattle.bw_model.specs.Demand.{AreMaxTotals, want_of}
 
 -- some allocation that keeps the demands and the limits at g and below it gives this amount to g
 abbrev pub IsReached : Groups → ℕ → ℕ → Type 0
@@ -27,7 +28,7 @@ MostIsUnique = (groups : Groups) (g one two : ℕ) → IsMost groups g one → I
 
 -- the most of each group is its want, cut at its limit
 abbrev pub MostIsTheWantCut : Type 0
-MostIsTheWantCut = (groups : Groups) (most : List ℕ) → IsInstance groups → AreMosts groups most → (g : ℕ) → g < length groups.rows →
+MostIsTheWantCut = (groups : Groups) (most : List ℕ) → IsInstance groups → AreMaxTotals groups most → (g : ℕ) → g < length groups.rows →
     slice_index most g ≡ option_map_or (min (want_of groups most g)) (limit_of groups g) (want_of groups most g)
 
 -- allocations of the children of a group join into one

@@ -1,3 +1,4 @@
+-- The files of lemmas.
 mod Asked
 mod Claimed
 mod Spelling

@@ -1,3 +1,4 @@
+-- The files of definitions.
 pub mod Asked
 pub mod Numbers
 pub mod Checked

@@ -22,5 +22,5 @@ pub use Rattle.bw_model.proofs.Paths.{parent_at, depth_le, way_from, way_up, pat
 pub use Rattle.bw_model.proofs.Instances.{earlier-IsTree, IsHost-accepted, refused_none-IsInstance, accepted-IsInstance, IsInstance-accepted, capacity_le}
 pub use Rattle.bw_model.proofs.Listing.{is_leaf-length}
 pub use Rattle.bw_model.proofs.ChildSums.{sum_of_children-below, sum_of_children-set, sum_of_children-left, child_le_sum, sum_of_children-zero}
-pub use Rattle.bw_model.proofs.Mosts.{IsMost-unique, mosts, mosts-capped, AreMosts-capped}
+pub use Rattle.bw_model.proofs.Mosts.{IsMost-unique, mosts, mosts-capped, AreMaxTotals-capped}
 pub use Rattle.bw_model.specs.MarkLaws.{cmp_equal, cmp_greater}

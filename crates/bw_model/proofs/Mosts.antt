@@ -5,7 +5,7 @@ use Rattle.std.specs.List.{range_with_len}
 use Rattle.std.proofs.lemmas.List.FromFn.{get_or-map-range_with_len}
 use Rattle.bw_model.specs.Groups.{Groups, IsTree, children_of, is_leaf, limit_of, demand_of}
 use Rattle.bw_model.specs.Allocation.{IsMost}
-use Rattle.bw_model.specs.Demand.{AreMosts, want_of}
+use Rattle.bw_model.specs.Demand.{AreMaxTotals, want_of}
 use Rattle.bw_model.proofs.Under.{parent_lt}
 use Rattle.bw_model.proofs.Bounds.{children-ap}
 use Rattle.bw_model.proofs.Reach.{capped, capped-IsMost}
@@ -59,9 +59,9 @@ module _ (groups : Groups) (tree : IsTree groups.rows) where
       (children-ap groups.rows (most_within (length groups.rows)) (slice_index mosts) g (λ c here e. sym (mosts_at c here)))
 
   -- the rule by which the most of each group is found
-  pub AreMosts-capped : (most : List ℕ) → AreMosts groups most →
+  pub AreMaxTotals-capped : (most : List ℕ) → AreMaxTotals groups most →
       (g : ℕ) → g < length groups.rows → get_or most g 0 ≡ capped (limit_of groups g) (want_of groups most g)
-  AreMosts-capped most known g below =
+  AreMaxTotals-capped most known g below =
       same g below ∙ mosts-capped g below ∙ ap (capped (limit_of groups g)) (sym (want_of-ap most mosts g same))
     where
       same : (g : ℕ) → g < length groups.rows → get_or most g 0 ≡ get_or mosts g 0

@@ -1,7 +1,7 @@
 //! The plan, one level after another, and the groups of a level side by side.
 ghost use Rattle.std.specs.Prelude.{◌≡◌, ◌+◌, ◌<◌, length, All, IfOk, OnOk, slice_index};
 ghost use Rattle.std.specs.List.{AllZip};
-ghost use Rattle.bw_model.specs.Demand.{AreMosts};
+ghost use Rattle.bw_model.specs.Demand.{AreMaxTotals};
 ghost use Rattle.bw_model.specs.Plan.{IsPlan};
 ghost use Rattle.bw_demand.specs.Demands.{demands_of, IsGathered};
 ghost use Rattle.bw_demand.specs.Levels.{AreLevels, level_of};
@@ -151,7 +151,7 @@ fn share_in_place(
     depth: usize,
     amounts: &mut Vec<u64>,
 ) -> Result<(), AllocError>
-    requires mosts { AreMosts instance.now most.now }
+    requires mosts { AreMaxTotals instance.now most.now }
     requires levels { AreLevels instance.now.rows levels.now }
     requires depth { depth < length levels.now }
     requires planning { IsPlanning instance.now most.now (is_above instance.now.rows depth) amounts.old.items }
@@ -177,7 +177,7 @@ fn share_in_pieces(
     piece: usize,
     amounts: &mut Vec<u64>,
 ) -> Result<(), AllocError>
-    requires mosts { AreMosts instance.now most.now }
+    requires mosts { AreMaxTotals instance.now most.now }
     requires levels { AreLevels instance.now.rows levels.now }
     requires depth { depth < length levels.now }
     requires planning { IsPlanning instance.now most.now (is_above instance.now.rows depth) amounts.old.items }
@@ -203,7 +203,7 @@ fn share_level(
     depth: usize,
     amounts: &mut Vec<u64>,
 ) -> Result<(), AllocError>
-    requires mosts { AreMosts instance.now most.now }
+    requires mosts { AreMaxTotals instance.now most.now }
     requires levels { AreLevels instance.now.rows levels.now }
     requires depth { depth + 1 < length levels.now }
     requires planning { IsPlanning instance.now most.now (is_above instance.now.rows depth) amounts.old.items }

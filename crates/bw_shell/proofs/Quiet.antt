@@ -2,14 +2,14 @@
 use Rattle.std.proofs.Common.{◌≡◌, ◌∙◌, ℕ, List, length, Bool, false, ◌||◌, ◌&&◌, ◌==◌, nat_lt, refl, ap, inl, inr}
 use Rattle.std.proofs.lemmas.Bool.Decides.{eqb_tells}
 use Rattle.bw_shell.specs.declared.watched.Watched.{Watched}
-use Rattle.bw_shell.specs.Watched.{has_failed, has_stalled, IsQuiet}
+use Rattle.bw_shell.specs.Watched.{has_failed, has_stalled, HasNoFault}
 use Rattle.bw_model.proofs.CallerLemmas.{and_no}
 
 or-false : (b : Bool) → b ≡ false → (b || false) ≡ false
 or-false b e = rw e refl
 
-pub quiet_write : {T : Type 0} (w v : Watched T) (bytes : List ℕ) (n : ℕ) → IsQuiet w → has_failed v ≡ (has_failed w || false)
-    → has_stalled v ≡ (has_stalled w || (nat_lt 0 (length bytes) && (n == 0))) → (n ≡ 0 → ⊥) → IsQuiet v
+pub quiet_write : {T : Type 0} (w v : Watched T) (bytes : List ℕ) (n : ℕ) → HasNoFault w → has_failed v ≡ (has_failed w || false)
+    → has_stalled v ≡ (has_stalled w || (nat_lt 0 (length bytes) && (n == 0))) → (n ≡ 0 → ⊥) → HasNoFault v
 quiet_write w v bytes n q f s ne = record {
   not_failed = f ∙ or-false (has_failed w) q.not_failed;
   not_stalled = elim (eqb_tells n 0) [
@@ -18,5 +18,5 @@ quiet_write w v bytes n q f s ne = record {
   ];
 }
 
-pub quiet_read : {T : Type 0} (w v : Watched T) → IsQuiet w → has_failed v ≡ (has_failed w || false) → has_stalled v ≡ has_stalled w → IsQuiet v
+pub quiet_read : {T : Type 0} (w v : Watched T) → HasNoFault w → has_failed v ≡ (has_failed w || false) → has_stalled v ≡ has_stalled w → HasNoFault v
 quiet_read w v q f s = record { not_failed = f ∙ or-false (has_failed w) q.not_failed; not_stalled = s ∙ q.not_stalled }

@@ -1,3 +1,4 @@
+-- The files of definitions.
 pub mod Watched
 pub mod Lines
 pub mod Transcript

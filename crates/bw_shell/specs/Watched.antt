@@ -30,6 +30,6 @@ takes_none bytes (Ok n) = nat_lt 0 (length bytes) && (n == 0)
 takes_none bytes (Err e) = false
 
 -- no call has failed or taken no bytes
-pub record IsQuiet {T : Type 0} (w : Watched T) : Type 0 where
+pub record HasNoFault {T : Type 0} (w : Watched T) : Type 0 where
   pub not_failed : has_failed w ≡ false
   pub not_stalled : has_stalled w ≡ false

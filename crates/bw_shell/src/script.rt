@@ -6,7 +6,7 @@ ghost use Rattle.bw_shell.specs.Lines.{lines_of, whole_lines_of};
 ghost use Rattle.bw_shell.specs.Scan.{Scan, TakesBytes};
 ghost use Rattle.bw_shell.specs.Session.{scan_of};
 ghost use Rattle.bw_shell.specs.Stream.{AppendsFront, Transcribes, TranscribesFront};
-ghost use Rattle.bw_shell.specs.Watched.{inner_of, has_failed, has_stalled, read_calls, IsFresh, IsQuiet};
+ghost use Rattle.bw_shell.specs.Watched.{inner_of, has_failed, has_stalled, read_calls, IsFresh, HasNoFault};
 
 use crate::session::Session;
 use crate::watched::Watched;
@@ -50,15 +50,15 @@ fn read_some<H: Threads + Wait + Sync, G: Gate, R: Read, W: Write>(
     writer: &mut Watched<W>,
 ) -> Result<bool, RunFault>
     requires room { 0 < length piece.old }
-    requires reader { IsQuiet reader.old }
-    requires writer { IsQuiet writer.old }
+    requires reader { HasNoFault reader.old }
+    requires writer { HasNoFault writer.old }
     ensures reads { read_calls reader.new ≡ min (read_calls reader.old + 1) (2 ^ 64 - 1) }
     ensures ok { OnOk result ((input text : List ℕ)
         × TakesBytes (scan_of G.used session.old) input text (scan_of G.used session.new)
         × Consumes (R.remaining (inner_of reader.old)) (R.remaining (inner_of reader.new)) input
         × Appends (W.contents (inner_of writer.old)) (W.contents (inner_of writer.new)) text) }
-    ensures reader_quiet { OnOk result (IsQuiet reader.new) }
-    ensures writer_quiet { OnOk result (IsQuiet writer.new) }
+    ensures reader_quiet { OnOk result (HasNoFault reader.new) }
+    ensures writer_quiet { OnOk result (HasNoFault writer.new) }
     ensures end { IfOk result (λ more. more ≡ false → IsAtEnd (R.remaining (inner_of reader.new))) }
     ensures read { IsErrOf result RunFault.Read → Keeps (R.remaining (inner_of reader.old)) (R.remaining (inner_of reader.new)) }
     ensures read_when { IsErrOf result RunFault.Read → has_failed reader.new ≡ true }
@@ -97,8 +97,8 @@ pub fn run_gated<H: AllocGlobal + Threads + Wait + Sync, G: Gate, R: Read, W: Wr
         (R.remaining (inner_of reader.old)) (R.remaining (inner_of reader.new))
         (W.contents (inner_of writer.old)) (W.contents (inner_of writer.new))) }
     ensures end { OnOk result (IsAtEnd (R.remaining (inner_of reader.new))) }
-    ensures reader_quiet { OnOk result (IsQuiet reader.new) }
-    ensures writer_quiet { OnOk result (IsQuiet writer.new) }
+    ensures reader_quiet { OnOk result (HasNoFault reader.new) }
+    ensures writer_quiet { OnOk result (HasNoFault writer.new) }
 
     // After a read fault it is the transcript of the whole lines read.
     ensures read { IsErrOf result RunFault.Read → Transcribes (start shape (G.used gate.now)) whole_lines_of
@@ -152,8 +152,8 @@ pub fn run<H: AllocGlobal + Threads + Wait + Sync, R: Read, W: Write>(
         (R.remaining (inner_of reader.old)) (R.remaining (inner_of reader.new))
         (W.contents (inner_of writer.old)) (W.contents (inner_of writer.new))) }
     ensures end { OnOk result (IsAtEnd (R.remaining (inner_of reader.new))) }
-    ensures reader_quiet { OnOk result (IsQuiet reader.new) }
-    ensures writer_quiet { OnOk result (IsQuiet writer.new) }
+    ensures reader_quiet { OnOk result (HasNoFault reader.new) }
+    ensures writer_quiet { OnOk result (HasNoFault writer.new) }
 
     // After a read fault it is the transcript of the whole lines read.
     ensures read { IsErrOf result RunFault.Read → Transcribes (start shape (λ leaf. true)) whole_lines_of

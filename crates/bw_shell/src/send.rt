@@ -2,7 +2,7 @@
 ghost use Rattle.std.specs.Prelude.{◌≡◌, ◌||◌, false, true, OnOk, OnErr, IfErr};
 ghost use Rattle.std.specs.Io.KnownBytes.{Appends};
 ghost use Rattle.bw_shell.specs.Stream.{AppendsFront};
-ghost use Rattle.bw_shell.specs.Watched.{inner_of, has_failed, has_stalled, IsQuiet};
+ghost use Rattle.bw_shell.specs.Watched.{inner_of, has_failed, has_stalled, HasNoFault};
 
 use crate::script::RunFault;
 use crate::watched::Watched;
@@ -10,9 +10,9 @@ use std::io::Write;
 
 /// Writes all of the text.
 pub fn send<W: Write>(writer: &mut Watched<W>, text: &[u8]) -> Result<(), RunFault>
-    requires { IsQuiet writer.old }
+    requires { HasNoFault writer.old }
     ensures ok { OnOk result (Appends (W.contents (inner_of writer.old)) (W.contents (inner_of writer.new)) text.now) }
-    ensures quiet { OnOk result (IsQuiet writer.new) }
+    ensures quiet { OnOk result (HasNoFault writer.new) }
     ensures err { OnErr result (AppendsFront (W.contents (inner_of writer.old)) (W.contents (inner_of writer.new)) text.now) }
     ensures blame { OnErr result ((has_failed writer.new || has_stalled writer.new) ≡ true) }
     ensures fault { IfErr result (λ f. f ≡ RunFault.Write) }
@@ -30,9 +30,9 @@ pub fn send<W: Write>(writer: &mut Watched<W>, text: &[u8]) -> Result<(), RunFau
 
 /// Writes all of the text and flushes the writer.
 pub fn send_line<W: Write>(writer: &mut Watched<W>, text: &[u8]) -> Result<(), RunFault>
-    requires { IsQuiet writer.old }
+    requires { HasNoFault writer.old }
     ensures ok { OnOk result (Appends (W.contents (inner_of writer.old)) (W.contents (inner_of writer.new)) text.now) }
-    ensures quiet { OnOk result (IsQuiet writer.new) }
+    ensures quiet { OnOk result (HasNoFault writer.new) }
     ensures err { OnErr result (AppendsFront (W.contents (inner_of writer.old)) (W.contents (inner_of writer.new)) text.now) }
     ensures blame { OnErr result ((has_failed writer.new || has_stalled writer.new) ≡ true) }
     ensures fault { IfErr result (λ f. f ≡ RunFault.Write) }

@@ -3,7 +3,7 @@ ghost use Rattle.std.specs.Prelude.{◌≡◌, ◌≤◌, ◌<◌, ◌+◌, ◌+
 ghost use Rattle.std.specs.Vec.{vec_capacity};
 ghost use Rattle.std.specs.Io.KnownBytes.{Appends};
 ghost use Rattle.bw_shell.specs.Stream.{AppendsFront};
-ghost use Rattle.bw_shell.specs.Watched.{inner_of, has_failed, has_stalled, IsQuiet};
+ghost use Rattle.bw_shell.specs.Watched.{inner_of, has_failed, has_stalled, HasNoFault};
 
 use crate::script::RunFault;
 use crate::send::send;
@@ -42,7 +42,7 @@ impl<'a, G: Gate> Session<'a, G> {
     ghost use Rattle.bw_commands.specs.Script.{Performs, outcome_of_kept};
     ghost use Rattle.bw_shell.specs.Session.{scan_of};
     ghost use Rattle.bw_shell.specs.Stream.{AppendsFront};
-    ghost use Rattle.bw_shell.specs.Watched.{inner_of, has_failed, has_stalled, IsQuiet};
+    ghost use Rattle.bw_shell.specs.Watched.{inner_of, has_failed, has_stalled, HasNoFault};
 
     /// Takes all the room that lines and refusals need.
     pub fn new(alloc: Global, shape: HostShape, gate: &'a G) -> Result<Session<'a, G>, AllocError>
@@ -106,10 +106,10 @@ impl<'a, G: Gate> Session<'a, G> {
         byte: u8,
         writer: &mut Watched<W>,
     ) -> Result<(), RunFault>
-        requires { IsQuiet writer.old }
+        requires { HasNoFault writer.old }
         ensures ok { OnOk result ((text : List ℕ) × TakesByte (scan_of G.used self.old) byte text (scan_of G.used self.new)
             × Appends (W.contents (inner_of writer.old)) (W.contents (inner_of writer.new)) text) }
-        ensures quiet { OnOk result (IsQuiet writer.new) }
+        ensures quiet { OnOk result (HasNoFault writer.new) }
         ensures err { OnErr result ((text : List ℕ) × (t : Scan) × TakesByte (scan_of G.used self.old) byte text t
             × AppendsFront (W.contents (inner_of writer.old)) (W.contents (inner_of writer.new)) text) }
         ensures blame { OnErr result ((has_failed writer.new || has_stalled writer.new) ≡ true) }
@@ -131,10 +131,10 @@ impl<'a, G: Gate> Session<'a, G> {
         piece: &[u8],
         writer: &mut Watched<W>,
     ) -> Result<(), RunFault>
-        requires { IsQuiet writer.old }
+        requires { HasNoFault writer.old }
         ensures ok { OnOk result ((text : List ℕ) × TakesBytes (scan_of G.used self.old) piece.now text (scan_of G.used self.new)
             × Appends (W.contents (inner_of writer.old)) (W.contents (inner_of writer.new)) text) }
-        ensures quiet { OnOk result (IsQuiet writer.new) }
+        ensures quiet { OnOk result (HasNoFault writer.new) }
         ensures err { OnErr result ((text : List ℕ) × (t : Scan) × TakesBytes (scan_of G.used self.old) piece.now text t
             × AppendsFront (W.contents (inner_of writer.old)) (W.contents (inner_of writer.new)) text) }
         ensures blame { OnErr result ((has_failed writer.new || has_stalled writer.new) ≡ true) }
@@ -156,10 +156,10 @@ impl<'a, G: Gate> Session<'a, G> {
         piece: &[u8],
         writer: &mut Watched<W>,
     ) -> Result<(), RunFault>
-        requires { IsQuiet writer.old }
+        requires { HasNoFault writer.old }
         ensures ok { OnOk result ((text : List ℕ) × TakesBytes (scan_of G.used self.old) piece.now text (scan_of G.used self.new)
             × Appends (W.contents (inner_of writer.old)) (W.contents (inner_of writer.new)) text) }
-        ensures quiet { OnOk result (IsQuiet writer.new) }
+        ensures quiet { OnOk result (HasNoFault writer.new) }
         ensures err { OnErr result ((text : List ℕ) × (t : Scan) × TakesBytes (scan_of G.used self.old) piece.now text t
             × AppendsFront (W.contents (inner_of writer.old)) (W.contents (inner_of writer.new)) text) }
         ensures blame { OnErr result ((has_failed writer.new || has_stalled writer.new) ≡ true) }
@@ -181,10 +181,10 @@ impl<'a, G: Gate> Session<'a, G> {
         rt: &H,
         writer: &mut Watched<W>,
     ) -> Result<(), RunFault>
-        requires { IsQuiet writer.old }
+        requires { HasNoFault writer.old }
         ensures ok { OnOk result ((text : List ℕ) × Finishes (scan_of G.used self.old) text
             × Appends (W.contents (inner_of writer.old)) (W.contents (inner_of writer.new)) text) }
-        ensures quiet { OnOk result (IsQuiet writer.new) }
+        ensures quiet { OnOk result (HasNoFault writer.new) }
         ensures err { OnErr result ((text : List ℕ) × Finishes (scan_of G.used self.old) text
             × AppendsFront (W.contents (inner_of writer.old)) (W.contents (inner_of writer.new)) text) }
         ensures blame { OnErr result ((has_failed writer.new || has_stalled writer.new) ≡ true) }
@@ -204,10 +204,10 @@ impl<'a, G: Gate> Session<'a, G> {
         rt: &H,
         writer: &mut Watched<W>,
     ) -> Result<(), RunFault>
-        requires { IsQuiet writer.old }
+        requires { HasNoFault writer.old }
         ensures ok { OnOk result ((text : List ℕ) × Finishes (scan_of G.used self.old) text
             × Appends (W.contents (inner_of writer.old)) (W.contents (inner_of writer.new)) text) }
-        ensures quiet { OnOk result (IsQuiet writer.new) }
+        ensures quiet { OnOk result (HasNoFault writer.new) }
         ensures err { OnErr result ((text : List ℕ) × Finishes (scan_of G.used self.old) text
             × AppendsFront (W.contents (inner_of writer.old)) (W.contents (inner_of writer.new)) text) }
         ensures blame { OnErr result ((has_failed writer.new || has_stalled writer.new) ≡ true) }

@@ -3,7 +3,7 @@ ghost use Rattle.std.specs.Prelude.{◌≡◌, ◌≢◌, ◌⊎◌, ◌||◌, �
 ghost use Rattle.std.specs.Io.KnownBytes.{Appends, Consumes, IsAtEnd, Keeps};
 ghost use Rattle.bw_shell.specs.Stream.{AppendsFront};
 ghost use Rattle.bw_shell.specs.CheckText.{line_of, verdict_line, fault_line, is_accepted, IsFinding, HoldsPlan, Checks, ChecksFront, ReadsTooMuch};
-ghost use Rattle.bw_shell.specs.Watched.{inner_of, has_failed, has_stalled, read_calls, IsFresh, IsQuiet};
+ghost use Rattle.bw_shell.specs.Watched.{inner_of, has_failed, has_stalled, read_calls, IsFresh, HasNoFault};
 
 use crate::script::{READ_CALLS, RunFault, piece_room};
 use crate::send::send_line;
@@ -36,13 +36,13 @@ fn take_piece<R: Read>(
 ) -> Result<bool, RunFault>
     requires room { 0 < length piece.old }
     requires small { length text.old.items ≤ TEXT_BYTES }
-    requires reader { IsQuiet reader.old }
+    requires reader { HasNoFault reader.old }
     ensures reads { read_calls reader.new ≡ min (read_calls reader.old + 1) (2 ^ 64 - 1) }
     ensures ok { OnOk result ((bytes : List ℕ)
         × Consumes (R.remaining (inner_of reader.old)) (R.remaining (inner_of reader.new)) bytes
         × (text.new.items ≡ text.old.items ++ bytes)) }
     ensures small { OnOk result (length text.new.items ≤ TEXT_BYTES) }
-    ensures quiet { OnOk result (IsQuiet reader.new) }
+    ensures quiet { OnOk result (HasNoFault reader.new) }
     ensures end { IfOk result (λ more. more ≡ false → IsAtEnd (R.remaining (inner_of reader.new))) }
     ensures read_when { IsErrOf result RunFault.Read → (has_failed reader.new ≡ true) ⊎ ((bytes : List ℕ)
         × Consumes (R.remaining (inner_of reader.old)) (R.remaining (inner_of reader.new)) bytes
@@ -70,7 +70,7 @@ fn read_text<R: Read>(alloc: Global, reader: &mut Watched<R>) -> Result<Vec<u8>,
     ensures ok { IfOk result (λ v. Consumes (R.remaining (inner_of reader.old)) (R.remaining (inner_of reader.new)) v.items) }
     ensures small { IfOk result (λ v. length v.items ≤ TEXT_BYTES) }
     ensures end { OnOk result (IsAtEnd (R.remaining (inner_of reader.new))) }
-    ensures quiet { OnOk result (IsQuiet reader.new) }
+    ensures quiet { OnOk result (HasNoFault reader.new) }
     ensures read_when { IsErrOf result RunFault.Read → (has_failed reader.new ≡ true) ⊎ (read_calls reader.new ≡ READ_CALLS)
         ⊎ ReadsTooMuch (R.remaining (inner_of reader.old)) (R.remaining (inner_of reader.new)) }
     ensures write { IfErr result (λ f. f ≢ RunFault.Write) }
@@ -163,9 +163,9 @@ fn answer<W: Write>(
     finding: Finding,
     writer: &mut Watched<W>,
 ) -> Result<(), RunFault>
-    requires { IsQuiet writer.old }
+    requires { HasNoFault writer.old }
     ensures ok { OnOk result (Appends (W.contents (inner_of writer.old)) (W.contents (inner_of writer.new)) (line_of finding)) }
-    ensures quiet { OnOk result (IsQuiet writer.new) }
+    ensures quiet { OnOk result (HasNoFault writer.new) }
     ensures write { IsErrOf result RunFault.Write → AppendsFront (W.contents (inner_of writer.old)) (W.contents (inner_of writer.new)) (line_of finding) }
     ensures write_when { IsErrOf result RunFault.Write → (has_failed writer.new || has_stalled writer.new) ≡ true }
     ensures memory { IsErrOf result RunFault.Memory → writer.new ≡ writer.old }
@@ -195,8 +195,8 @@ pub fn check_text<R: Read, W: Write>(
         (R.remaining (inner_of reader.old)) (R.remaining (inner_of reader.new))
         (W.contents (inner_of writer.old)) (W.contents (inner_of writer.new))) }
     ensures end { OnOk result (IsAtEnd (R.remaining (inner_of reader.new))) }
-    ensures reader_quiet { OnOk result (IsQuiet reader.new) }
-    ensures writer_quiet { OnOk result (IsQuiet writer.new) }
+    ensures reader_quiet { OnOk result (HasNoFault reader.new) }
+    ensures writer_quiet { OnOk result (HasNoFault writer.new) }
 
     // After a read fault nothing is written.
     ensures read { IsErrOf result RunFault.Read → writer.new ≡ writer.old }

@@ -16,7 +16,7 @@ use Rattle.std.proofs.lemmas.List.Sorted.{All-permutation, sum_by_popped, sum_by
 use Rattle.std.proofs.lemmas.List.Sums.{sum_by-cons}
 use Rattle.std.proofs.Math.ListN.{length-set}
 use Rattle.bw_model.specs.declared.mark.Mark.{Mark}
-use Rattle.bw_model.specs.Marks.{Price, price_of, next_mark, IsBelow}
+use Rattle.bw_model.specs.Marks.{MarkValue, price_of, next_mark, IsBelow}
 use Rattle.bw_model.specs.Split.{IsCheapest}
 use Rattle.bw_model.proofs.CallerLemmas.{below_less, zeros, IsBelow-cases}
 
@@ -130,8 +130,8 @@ module _ {X : Type 0} (mark_of : X → Mark) where
           price-is (mark_of y) (get_or parts k 0) (get_or weights k 0) k
           (next.num ∙ ap (λ (p : ℕ). 2 * get_or parts p 0 + 1) f.2) (next.den ∙ ap (λ (p : ℕ). get_or weights p 0) f.2) f.2 in
           elim (IsBelow-cases (price_of (mark_of x)) (price_of (mark_of y))) [
-            | inl under ↦ subst (λ (p : Price). IsBelow p (next_mark (get_or parts k 0) (get_or weights k 0) k)) is_x
-                (subst (λ (p : Price). IsBelow (price_of (mark_of x)) p) is_y under)
+            | inl under ↦ subst (λ (p : MarkValue). IsBelow p (next_mark (get_or parts k 0) (get_or weights k 0) k)) is_x
+                (subst (λ (p : MarkValue). IsBelow (price_of (mark_of x)) p) is_y under)
             | inr (inl over) ↦ absurd (f.1.1 over)
             | inr (inr same) ↦ absurd (apart (sym f.2 ∙ sym same.1))
           ];

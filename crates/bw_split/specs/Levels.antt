@@ -1,3 +1,4 @@
+-- What the children take at a level.
 use Rattle.std.specs.Prelude.{ℕ, ◌+◌, ◌*◌, ◌/◌, List, length, sum_by, slice_index, min}
 use Rattle.std.specs.List.{range_with_len}
 use Rattle.bw_split.specs.declared.limits.TheConstants.{STEPS}

@@ -1,3 +1,4 @@
+-- The files of definitions.
 pub mod Conditions
 pub mod Levels
 pub mod Counts

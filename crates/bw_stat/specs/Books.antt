@@ -14,10 +14,10 @@ pub record Share : Type 0 where
   pub burst_usec : ℕ
 
 -- the slices that a group wanted above its limit; nothing is counted for the root, which has no parent
-abbrev pub short : Option ℕ → Option ℕ → ℕ → ℕ
-short None limit want = 0
-short (Some parent) None want = 0
-short (Some parent) (Some limit) want = want - limit
+abbrev pub withheld_slices : Option ℕ → Option ℕ → ℕ → ℕ
+withheld_slices None limit want = 0
+withheld_slices (Some parent) None want = 0
+withheld_slices (Some parent) (Some limit) want = want - limit
 
 -- the slices that a group drew above its quota; nothing is counted for the root, which has no parent
 abbrev pub burst : Option ℕ → Option ℕ → ℕ → ℕ
@@ -28,8 +28,8 @@ burst (Some parent) (Some quota) drawn = drawn - quota
 abbrev pub share_of : ℕ → Row → Option ℕ → ℕ → ℕ → Share
 share_of slice_us row quota want drawn = record {
   usage_usec = drawn * slice_us;
-  is_throttled = nat_lt 0 (short row.parent row.limit want);
-  withheld_usec = short row.parent row.limit want * slice_us;
+  is_throttled = nat_lt 0 (withheld_slices row.parent row.limit want);
+  withheld_usec = withheld_slices row.parent row.limit want * slice_us;
   is_burst = nat_lt 0 (burst row.parent quota drawn);
   burst_usec = burst row.parent quota drawn * slice_us;
 }

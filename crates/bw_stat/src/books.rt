@@ -3,7 +3,7 @@ ghost use Rattle.std.specs.Prelude.{◌≡◌, ◌+◌, ◌*◌, ◌<◌, ◌≤
 ghost use Rattle.std.specs.Option.{option_copied};
 ghost use Rattle.std.specs.List.{IsDistinct};
 ghost use Rattle.indexmap.specs.IndexMap.{spare};
-ghost use Rattle.bw_stat.specs.Books.{short, burst, cut, one_if, added, share_of, shares_of, stat_at, or_zeros, with_share, booked, forgotten};
+ghost use Rattle.bw_stat.specs.Books.{withheld_slices, burst, cut, one_if, added, share_of, shares_of, stat_at, or_zeros, with_share, booked, forgotten};
 
 use bw_demand::Gathered;
 use bw_model::{Instance, Row, Stat};
@@ -153,8 +153,8 @@ fn or_zeros(stat: Option<Stat>) -> Stat
 }
 
 // The slices that a group wanted above its limit. Nothing is counted for the root.
-fn short(row: &Row, want: u64) -> u64
-    ensures { result ≡ short row.now.parent row.now.limit want }
+fn withheld_slices(row: &Row, want: u64) -> u64
+    ensures { result ≡ withheld_slices row.now.parent row.now.limit want }
 {
     match (row.parent, row.limit) {
         (Some(_), Some(limit)) => want.saturating_sub(limit),
@@ -182,13 +182,13 @@ fn more(counter: u64, slices: u64, slice_us: u64) -> u64
 fn added(stat: Stat, slice_us: u64, row: &Row, quota: Option<u64>, want: u64, drawn: u64) -> Stat
     ensures { result ≡ added stat (share_of slice_us row.now quota want drawn) }
 {
-    let short = short(row, want);
+    let withheld = withheld_slices(row, want);
     let burst = burst(row, quota, drawn);
     Stat {
         usage_usec: more(stat.usage_usec, drawn, slice_us),
         nr_periods: stat.nr_periods.saturating_add(1),
-        nr_throttled: stat.nr_throttled.saturating_add(u64::from(short > 0)),
-        throttled_usec: more(stat.throttled_usec, short, slice_us),
+        nr_throttled: stat.nr_throttled.saturating_add(u64::from(withheld > 0)),
+        throttled_usec: more(stat.throttled_usec, withheld, slice_us),
         nr_bursts: stat.nr_bursts.saturating_add(u64::from(burst > 0)),
         burst_usec: more(stat.burst_usec, burst, slice_us),
     }

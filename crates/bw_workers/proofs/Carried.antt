@@ -7,12 +7,12 @@ use Rattle.atomic_table.specs.Seated.{TableId}
 use Rattle.bw_model.specs.declared.history.Made.{Made}
 use Rattle.bw_model.specs.declared.limits.TheConstants.{MAX_PER_PROCESSOR}
 use Rattle.bw_model.specs.Allocation.{total, IsMost, IsGreatestTotal}
-use Rattle.bw_model.specs.Demand.{AreMosts}
+use Rattle.bw_model.specs.Demand.{AreMaxTotals}
 use Rattle.bw_model.specs.Groups.{Groups, IsInstance}
 use Rattle.bw_model.specs.History.{IsLegal, replay, own, own_from, entry_of, StandIn}
 use Rattle.bw_model.specs.Host.{slices_per_processor}
 use Rattle.bw_model.specs.Plan.{child_weights, IsPlan}
-use Rattle.bw_model.proofs.CallerLemmas.{own_entries, own_places, limited_total-is, mosts, mosts-capped, AreMosts-capped, capped-IsMost}
+use Rattle.bw_model.proofs.CallerLemmas.{own_entries, own_places, limited_total-is, mosts, mosts-capped, AreMaxTotals-capped, capped-IsMost}
 use Rattle.bw_split.proofs.CallerLemmas.{best_is_unmoved}
 use Rattle.bw_plan.specs.Shared.{IsPlanning}
 use Rattle.bw_plan.proofs.CallerLemmas.{plan-IsPlanning}
@@ -34,7 +34,7 @@ module _ (groups : Groups) (valid : IsInstance groups) where
   pub all_mosts : List ℕ
   all_mosts = map at_row (range_with_len 0 (length groups.rows))
 
-  pub are_mosts : AreMosts groups all_mosts
+  pub are_mosts : AreMaxTotals groups all_mosts
   unfolding all_mosts at_row
   are_mosts = record {
     one_each = length-map-range_with_len at_row 0 (length groups.rows);
@@ -45,9 +45,9 @@ module _ (groups : Groups) (valid : IsInstance groups) where
 
 -- the plan's phrases
 module _ (groups : Groups) (valid : IsInstance groups) (amounts : List ℕ) (is_plan : IsPlan groups amounts)
-    (most : List ℕ) (known : AreMosts groups most) where
+    (most : List ℕ) (known : AreMaxTotals groups most) where
   pub planning : IsPlanning groups most (λ _. true) amounts
-  planning = plan-IsPlanning groups valid most (AreMosts-capped groups valid.tree most known) amounts is_plan
+  planning = plan-IsPlanning groups valid most (AreMaxTotals-capped groups valid.tree most known) amounts is_plan
 
   pub top_total : total groups.rows is_plan.allocation 0 ≡ get_or amounts 0 0
   top_total = sym (ap (λ (xs : List ℕ). get_or xs 0 0) is_plan.amounts_are
@@ -114,7 +114,7 @@ pub carried : (uses : ℕ → Bool) (groups : Groups) (amounts : List ℕ) (lock
     IsDrawnOut uses groups.rows amounts drawn → Headline uses groups amounts history drawn
 carried uses groups amounts lock_id seats history drawn valid is_plan long back owns callers legal replayed out =
     let most : List ℕ = all_mosts groups valid in
-    let known : AreMosts groups most = are_mosts groups valid in
+    let known : AreMaxTotals groups most = are_mosts groups valid in
     let down : IsPlanning groups most (λ _. true) amounts = planning groups valid amounts is_plan most known in
     record {
       allocation = is_plan.allocation;
@@ -123,7 +123,7 @@ carried uses groups amounts lock_id seats history drawn valid is_plan long back 
       within = is_plan.best.within;
       most = most;
       mosts = known;
-      limiting_groups = limited_total-is groups valid.tree most (AreMosts-capped groups valid.tree most known) ∙ sym down.top;
+      limiting_groups = limited_total-is groups valid.tree most (AreMaxTotals-capped groups valid.tree most known) ∙ sym down.top;
       least_cost = λ g below inner. down.splits g below refl inner;
       no_gainful_move = λ g below inner.
           best_is_unmoved (get_or amounts g 0) (child_weights groups.rows g) (of_children groups.rows most g) (of_children groups.rows amounts g)

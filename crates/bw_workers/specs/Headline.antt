@@ -4,7 +4,7 @@ use Rattle.std.specs.List.{All}
 use Rattle.bw_model.specs.declared.history.Made.{Made}
 use Rattle.bw_model.specs.declared.row.Row.{Row}
 use Rattle.bw_model.specs.Allocation.{IsWithin, IsGreatestTotal}
-use Rattle.bw_model.specs.Demand.{AreMosts, limited_total}
+use Rattle.bw_model.specs.Demand.{AreMaxTotals, limited_total}
 use Rattle.bw_model.specs.Groups.{Groups, children_of, is_leaf}
 use Rattle.bw_model.specs.History.{IsLegal, replay, own, entry_of, StandIn}
 use Rattle.bw_model.specs.Host.{slices_per_processor}
@@ -32,7 +32,7 @@ pub record Headline (uses : ℕ → Bool) (groups : Groups) (amounts : List ℕ)
   pub within : IsWithin groups allocation
   -- shown by limiting groups: their limits and the demands outside them add up to what is served;
   pub most : List ℕ
-  pub mosts : AreMosts groups most
+  pub mosts : AreMaxTotals groups most
   pub limiting_groups : limited_total groups most ≡ slice_index amounts 0
   -- in every group its split has the least cost of all splits of that amount,
   pub least_cost : (g : ℕ) → g < length groups.rows → is_leaf groups.rows g ≡ false →

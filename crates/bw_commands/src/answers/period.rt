@@ -3,7 +3,7 @@ ghost use Rattle.std.specs.Prelude.{◌≡◌, ◌≤◌, ◌++◌, ℕ, List, O
 ghost use Rattle.std.specs.Vec.{vec_capacity};
 ghost use Rattle.bw_commands.specs.Fault.{error_line};
 ghost use Rattle.bw_commands.specs.Period.{IsPeriod};
-ghost use Rattle.bw_commands.specs.Script.{Period, IsSpare};
+ghost use Rattle.bw_commands.specs.Script.{Period, IsAllowedFailure};
 
 use super::text::put_number_line;
 use crate::fault::ScriptFault;
@@ -27,7 +27,7 @@ pub fn serve_period<G: Gate, H: Threads + Wait + Sync>(
 ) -> Result<(), ScriptFault>
     ensures ok { OnOk result ((text : List ℕ) × IsPeriod hierarchy.old (G.used gate.now) text hierarchy.new × (answer.new.items ≡ answer.old.items ++ text)) }
     ensures err { OnErr result (hierarchy.new ≡ hierarchy.old) }
-    ensures spare { IfErr result (λ fault. IsSpare Period (error_line fault)) }
+    ensures spare { IfErr result (λ fault. IsAllowedFailure Period (error_line fault)) }
     ensures room { vec_capacity answer.old ≤ vec_capacity answer.new }
 {
     let (instance, ids, base) = hierarchy.snapshot()?;

@@ -1,7 +1,7 @@
 use Rattle.std.proofs.Common.{◌≡◌, ℕ, ◌<◌, get_or, subst, ap, sym, ◌∙◌, arith}
 use Rattle.bw_model.specs.declared.mark.Mark.{Mark}
 use Rattle.bw_model.specs.Groups.{weight_of}
-use Rattle.bw_model.specs.Marks.{Price, price_of, next_mark, IsBelow}
+use Rattle.bw_model.specs.Marks.{MarkValue, price_of, next_mark, IsBelow}
 use Rattle.bw_model.specs.Certificate.{certified_of}
 use Rattle.bw_check.proofs.Kept.{each_above, from_above}
 use Rattle.bw_check.proofs.Marking.{is_lt-IsBelow}
@@ -21,9 +21,9 @@ returns-else-bounds-c c =
     let room : get_or amounts c.args.c 0 < get_or bounds c.args.c 0 = omega (arith, c.from.ensures, c.if-bounds-c.false) in (
       λ e g other up shares is _.
           each_above groups amounts certificate c.args.c places c.requires.places c.requires.within claim c.in-Some.level (sym c.in-Some.ensures)
-          (subst (λ (p : Price). IsBelow (price_of c.in-Some.level) p) price (ordered.0 (sym c.lt.ensures ∙ e)))
+          (subst (λ (p : MarkValue). IsBelow (price_of c.in-Some.level) p) price (ordered.0 (sym c.lt.ensures ∙ e)))
           g other up shares is,
-      λ h. c.lt.ensures ∙ ordered.1 (subst (λ (p : Price). IsBelow (price_of c.in-Some.level) p) (sym price)
+      λ h. c.lt.ensures ∙ ordered.1 (subst (λ (p : MarkValue). IsBelow (price_of c.in-Some.level) p) (sym price)
           (from_above groups amounts certificate c.args.c places c.requires.places c.requires.within claim c.in-Some.level (sym c.in-Some.ensures)
           (λ g other up shares is. h g other up shares is room))),
     )

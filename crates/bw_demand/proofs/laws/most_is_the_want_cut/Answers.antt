@@ -1,7 +1,7 @@
 use Rattle.std.proofs.Common.{sym, ◌∙◌}
 use Rattle.bw_model.specs.Groups.{limit_of}
 use Rattle.bw_model.specs.Demand.{want_of}
-use Rattle.bw_model.proofs.CallerLemmas.{IsMost-unique, AreMosts-capped}
+use Rattle.bw_model.proofs.CallerLemmas.{IsMost-unique, AreMaxTotals-capped}
 use Rattle.bw_demand.proofs.WantsGathered.{cut-capped}
 use Rattle.bw_demand.proofs.laws.most_is_the_want_cut.Goals as goal
 
@@ -9,5 +9,5 @@ pub returns : goal.returns
 returns c = record {
   unique = IsMost-unique;
   rule = λ groups most valid known g below.
-      AreMosts-capped groups valid.tree most known g below ∙ sym (cut-capped (limit_of groups g) (want_of groups most g));
+      AreMaxTotals-capped groups valid.tree most known g below ∙ sym (cut-capped (limit_of groups g) (want_of groups most g));
 }

@@ -1,7 +1,7 @@
 use Rattle.std.proofs.Common.{◌≡◌, ◌<◌, ◌+◌, ℕ, suc, List, length, get_or, replicate, set, ap, subst, ◌∙◌, arith, rules}
 use Rattle.std.proofs.lemmas.Bool.{lt-ltb, le-ltb}
 use Rattle.bw_model.specs.declared.row.Row.{Row}
-use Rattle.bw_model.proofs.CallerLemmas.{AreMosts-capped, get_or_within}
+use Rattle.bw_model.proofs.CallerLemmas.{AreMaxTotals-capped, get_or_within}
 use Rattle.bw_plan.specs.Shared.{IsPlanning, AreParts}
 use Rattle.bw_plan.proofs.Shares.{rows_before, begun, can_share, given_more, all_planned, next_fresh, next_marks, before_closed, parent_done}
 use Rattle.bw_plan.proofs.downward.plan_rows.Goals as goal
@@ -14,7 +14,7 @@ loop-g-init c =
     c.index.ensures ∙ get_or_within c.args.gathered.now.most.items 0 c.index.result.now (omega (arith, root, c.requires.mosts.one_each)) in
     let zeros : c.in_ok-amounts.amounts.items ≡ replicate {A = ℕ} (length c.rows-count.result.now) 0 = search rules in
     begun c.args.instance.now c.rows-count.ensures.valid c.args.gathered.now.most.items
-    (AreMosts-capped c.args.instance.now c.rows-count.ensures.valid.tree c.args.gathered.now.most.items c.requires.mosts)
+    (AreMaxTotals-capped c.args.instance.now c.rows-count.ensures.valid.tree c.args.gathered.now.most.items c.requires.mosts)
     (rows_before 0) (λ h _. le-ltb h 0 (omega arith))
     (length c.rows-count.result.now) c.index.result.now (set c.in_ok-amounts.amounts.items 0 c.index.result.now) long read
     (ap (λ (xs : List ℕ). set xs 0 c.index.result.now) zeros)
@@ -27,7 +27,7 @@ share_out-requires-clause-can_share c =
     let long : length c.rows-count.result.now ≡ length groups.rows = ap (length {A = Row}) c.rows-count.ensures.rows in
     let inside : c.loop-g.g < length groups.rows = omega (arith, long, c.loop-g-test.true) in
     rw c.as_slice-most.ensures.value
-    (can_share groups valid most (AreMosts-capped groups valid.tree most c.requires.mosts)
+    (can_share groups valid most (AreMaxTotals-capped groups valid.tree most c.requires.mosts)
     (rows_before c.loop-g.g) c.loop-g.g c.loop-g.amounts.items inside c.loop-g.invariant (parent_done groups valid.tree c.loop-g.g))
 
 pub loop-g-preserved : goal.loop-g-preserved
@@ -42,7 +42,7 @@ loop-g-preserved c =
     let parts : AreParts groups most before c.loop-g.g shared.0 = rw c.as_slice-most.ensures.value at shared.1 in
     let next : suc c.loop-g.g ≡ c.loop-g.g + 1 = omega arith in
     subst (λ (n : ℕ). IsPlanning groups most (rows_before n) c.share_out.new.amounts.items) next
-    (given_more groups valid most (AreMosts-capped groups valid.tree most c.requires.mosts)
+    (given_more groups valid most (AreMaxTotals-capped groups valid.tree most c.requires.mosts)
     (rows_before c.loop-g.g) (rows_before (suc c.loop-g.g)) c.loop-g.g inside (next_fresh groups valid.tree c.loop-g.g)
     (next_marks groups valid.tree c.loop-g.g) (before_closed groups valid.tree c.loop-g.g) (parent_done groups valid.tree c.loop-g.g)
     shared.0 before c.share_out.new.amounts.items c.loop-g.invariant parts shared.2)
@@ -53,5 +53,5 @@ returns c =
     let valid = c.rows-count.ensures.valid in
     let most = c.args.gathered.now.most.items in
     let long : length c.rows-count.result.now ≡ length groups.rows = ap (length {A = Row}) c.rows-count.ensures.rows in
-    all_planned groups valid most (AreMosts-capped groups valid.tree most c.requires.mosts)
+    all_planned groups valid most (AreMaxTotals-capped groups valid.tree most c.requires.mosts)
     (rows_before c.loop-g.g) c.loop-g.amounts.items (λ h below _. lt-ltb h c.loop-g.g (omega (arith, long, below, c.loop-g-test.false))) c.loop-g.invariant

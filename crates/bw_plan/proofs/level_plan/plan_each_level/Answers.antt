@@ -1,7 +1,7 @@
 use Rattle.std.proofs.Common.{◌≡◌, ◌+◌, ◌-◌, ℕ, List, length, get_or, replicate, set, ap, refl, subst, arith, rules}
 use Rattle.bw_model.specs.declared.row.Row.{Row}
-use Rattle.bw_model.specs.Demand.{AreMosts}
-use Rattle.bw_model.proofs.CallerLemmas.{AreMosts-capped}
+use Rattle.bw_model.specs.Demand.{AreMaxTotals}
+use Rattle.bw_model.proofs.CallerLemmas.{AreMaxTotals-capped}
 use Rattle.bw_plan.specs.Shared.{IsPlanning, is_above}
 use Rattle.bw_plan.proofs.Shares.{begun, all_planned}
 use Rattle.bw_plan.proofs.Done.{none_above, inner_above}
@@ -12,10 +12,10 @@ loop-below-init g c =
     let groups = c.args.instance.now in
     let valid = c.rows.ensures.valid in
     let most = c.as_slice-most.result.now in
-    let known : AreMosts groups most = rw c.as_slice-most.ensures.value c.requires.gathered.mosts in
+    let known : AreMaxTotals groups most = rw c.as_slice-most.ensures.value c.requires.gathered.mosts in
     let long : length c.rows.result.now ≡ length groups.rows = ap (length {A = Row}) c.rows.ensures.rows in
     let zeros : c.in_ok-amounts.amounts.items ≡ replicate {A = ℕ} (length c.rows.result.now) 0 = search rules in
-    begun groups valid most (AreMosts-capped groups valid.tree most known)
+    begun groups valid most (AreMaxTotals-capped groups valid.tree most known)
     (is_above groups.rows 0) (λ h _. none_above groups.rows h)
     (length c.rows.result.now) (get_or most 0 0) (set c.in_ok-amounts.amounts.items 0 (get_or most 0 0)) long refl
     (ap (λ (xs : List ℕ). set xs 0 (get_or most 0 0)) zeros)
@@ -31,8 +31,8 @@ returns g c =
     let groups = c.args.instance.now in
     let valid = c.rows.ensures.valid in
     let most = c.as_slice-most.result.now in
-    let known : AreMosts groups most = rw c.as_slice-most.ensures.value c.requires.gathered.mosts in
-    all_planned groups valid most (AreMosts-capped groups valid.tree most known)
+    let known : AreMaxTotals groups most = rw c.as_slice-most.ensures.value c.requires.gathered.mosts in
+    all_planned groups valid most (AreMaxTotals-capped groups valid.tree most known)
     (is_above groups.rows (c.loop-below.below - 1)) c.loop-below.amounts.items
     (λ h _ inner. inner_above groups.rows valid.tree c.args.levels.now (c.loop-below.below - 1) c.requires.levels (omega (arith, c.loop-below-test.false, c.loop-below.auto.below-end)) h inner)
     c.loop-below.invariant

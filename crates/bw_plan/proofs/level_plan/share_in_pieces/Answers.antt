@@ -3,7 +3,7 @@ use Rattle.std.specs.declared.alloc.Global.{Global}
 use Rattle.std.proofs.lemmas.List.{get_or_default, length-map}
 use Rattle.std.specs.Prelude.{slice_index}
 use Rattle.bw_model.specs.Groups.{children_of, depth_of}
-use Rattle.bw_model.proofs.CallerLemmas.{AreMosts-capped, is_child_no}
+use Rattle.bw_model.proofs.CallerLemmas.{AreMaxTotals-capped, is_child_no}
 use Rattle.bw_demand.specs.Levels.{level_of}
 use Rattle.bw_demand.proofs.CallerLemmas.{level_within, level_row}
 use Rattle.bw_plan.specs.Shared.{AreParts, is_above}
@@ -22,7 +22,7 @@ parts_of_level-requires-clause-can_share g c = λ κs outlives k d lt.
     let here : k < length (level_of groups.rows c.args.depth) = rw level at lt in
     let at_depth = level_row groups.rows c.args.depth k here in
     rw (get_or_default c.level_at-level.result.now k d 0 lt, level, c.as_slice.ensures.value)
-    (can_share groups valid most (AreMosts-capped groups valid.tree most c.requires.mosts)
+    (can_share groups valid most (AreMaxTotals-capped groups valid.tree most c.requires.mosts)
     (is_above groups.rows c.args.depth) (get_or (level_of groups.rows c.args.depth) k 0) before at_depth.within c.requires.planning
     (λ p up. parent_above groups.rows valid.tree c.args.depth (get_or (level_of groups.rows c.args.depth) k 0) p at_depth.depth up))
 
@@ -32,7 +32,7 @@ loop-k-init g c = record {
       let groups = c.args.instance.now in
       let valid = c.rows-rows.ensures.valid in
       let most = c.args.most.now in
-      same_done groups valid most (AreMosts-capped groups valid.tree most c.requires.mosts)
+      same_done groups valid most (AreMaxTotals-capped groups valid.tree most c.requires.mosts)
       (is_above groups.rows c.args.depth) (done_at groups.rows c.args.depth 0) c.args.amounts.now.items
       (λ h _. first_done groups.rows c.args.depth h) c.requires.planning;
   held = λ j _. refl;
@@ -45,7 +45,7 @@ returns g c =
     let most = c.args.most.now in
     let level = c.level_at-level.ensures in
     let whole : length (level_of groups.rows c.args.depth) ≤ c.loop-k.k = omega (arith, c.loop-k-test.false, ap (length {A = ℕ}) level) in
-    same_done groups valid most (AreMosts-capped groups valid.tree most c.requires.mosts)
+    same_done groups valid most (AreMaxTotals-capped groups valid.tree most c.requires.mosts)
     (done_at groups.rows c.args.depth c.loop-k.k) (is_above groups.rows (c.args.depth + 1)) c.loop-k.amounts.items
     (λ h below. last_done groups.rows c.args.depth c.loop-k.k h below whole) c.loop-k.invariant.planning
 
@@ -95,7 +95,7 @@ loop-k-preserved g c =
     let parts : AreParts groups most c.loop-k.amounts.items row c.as_slice-in-loop-k.result.now = λ has two.
     rw (kept, parts_are) (found (rw kept at has) two) in
     record {
-      planning = given_more groups valid most (AreMosts-capped groups valid.tree most c.requires.mosts)
+      planning = given_more groups valid most (AreMaxTotals-capped groups valid.tree most c.requires.mosts)
           (done_at groups.rows d c.loop-k.k) (done_at groups.rows d (c.loop-k.k + 1)) row inside
           (fresh groups.rows d c.loop-k.k row here is) (λ h _. next_done groups.rows d c.loop-k.k row h here is)
           (λ h p _ e up. closed groups.rows valid.tree d c.loop-k.k h p e up)

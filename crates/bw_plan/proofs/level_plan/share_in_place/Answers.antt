@@ -1,6 +1,6 @@
 use Rattle.std.proofs.Common.{◌≡◌, ◌<◌, ◌≤◌, ◌+◌, ℕ, List, length, get_or, ap, ◌∙◌, arith}
 use Rattle.bw_model.specs.Groups.{depth_of}
-use Rattle.bw_model.proofs.CallerLemmas.{AreMosts-capped}
+use Rattle.bw_model.proofs.CallerLemmas.{AreMaxTotals-capped}
 use Rattle.bw_demand.specs.Levels.{level_of}
 use Rattle.bw_demand.proofs.CallerLemmas.{level_within, level_row}
 use Rattle.bw_plan.specs.Shared.{AreParts, is_above}
@@ -13,7 +13,7 @@ loop-k-init c =
     let groups = c.args.instance.now in
     let valid = c.rows-rows.ensures.valid in
     let most = c.args.most.now in
-    same_done groups valid most (AreMosts-capped groups valid.tree most c.requires.mosts)
+    same_done groups valid most (AreMaxTotals-capped groups valid.tree most c.requires.mosts)
     (is_above groups.rows c.args.depth) (done_at groups.rows c.args.depth 0) c.args.amounts.now.items
     (λ h _. first_done groups.rows c.args.depth h) c.requires.planning
 
@@ -29,7 +29,7 @@ share_out-requires-clause-can_share c =
     let is : row ≡ get_or (level_of groups.rows d) c.loop-k.k 0 = ap (λ (xs : List ℕ). get_or xs c.loop-k.k 0) level in
     let inside : row < length groups.rows = level_within groups.rows d c.loop-k.k c.level_at-level.result.now level c.loop-k-test.true in
     let deep : depth_of groups.rows row ≡ d = ap (depth_of groups.rows) is ∙ (level_row groups.rows d c.loop-k.k here).depth in
-    (can_share groups valid most (AreMosts-capped groups valid.tree most c.requires.mosts)
+    (can_share groups valid most (AreMaxTotals-capped groups valid.tree most c.requires.mosts)
     (done_at groups.rows d c.loop-k.k) row c.loop-k.amounts.items inside c.loop-k.invariant
     (λ p up. parent_done groups.rows valid.tree d c.loop-k.k row p deep up))
 
@@ -47,7 +47,7 @@ loop-k-preserved c =
     let deep : depth_of groups.rows row ≡ d = ap (depth_of groups.rows) is ∙ (level_row groups.rows d c.loop-k.k here).depth in
     let shared = c.in_ok-share_out.ensures in
     let parts : AreParts groups most c.loop-k.amounts.items row shared.0 = shared.1 in
-    given_more groups valid most (AreMosts-capped groups valid.tree most c.requires.mosts)
+    given_more groups valid most (AreMaxTotals-capped groups valid.tree most c.requires.mosts)
     (done_at groups.rows d c.loop-k.k) (done_at groups.rows d (c.loop-k.k + 1)) row inside
     (fresh groups.rows d c.loop-k.k row here is) (λ h _. next_done groups.rows d c.loop-k.k row h here is)
     (λ h p _ e up. closed groups.rows valid.tree d c.loop-k.k h p e up)
@@ -60,6 +60,6 @@ returns c =
     let valid = c.rows-rows.ensures.valid in
     let most = c.args.most.now in
     let whole : length (level_of groups.rows c.args.depth) ≤ c.loop-k.k = omega (arith, c.loop-k-test.false, ap (length {A = ℕ}) c.level_at-level.ensures) in
-    same_done groups valid most (AreMosts-capped groups valid.tree most c.requires.mosts)
+    same_done groups valid most (AreMaxTotals-capped groups valid.tree most c.requires.mosts)
     (done_at groups.rows c.args.depth c.loop-k.k) (is_above groups.rows (c.args.depth + 1)) c.loop-k.amounts.items
     (λ h below. last_done groups.rows c.args.depth c.loop-k.k h below whole) c.loop-k.invariant

@@ -3,7 +3,7 @@ use Rattle.std.specs.Io.KnownBytes.{Appends, Consumes}
 use Rattle.bw_commands.specs.State.{start}
 use Rattle.bw_shell.specs.Session.{scan_of}
 use Rattle.bw_shell.specs.Scan.{TakesBytes, begin}
-use Rattle.bw_shell.specs.Watched.{inner_of, read_calls, IsQuiet}
+use Rattle.bw_shell.specs.Watched.{inner_of, read_calls, HasNoFault}
 use Rattle.bw_shell.proofs.script.run_gated.Given as goal
 
 abbrev pub invariant-loop-turn : goal.invariant-loop-turn
@@ -11,7 +11,7 @@ invariant-loop-turn g l = record {
   taken : (input text : List ℕ) × TakesBytes (begin (start l.fn.shape (g.G.Gate.used l.fn.gate))) input text (scan_of g.G.Gate.used l.session)
       × Consumes (g.R.Read.remaining (inner_of l.initial.reader)) (g.R.Read.remaining (inner_of l.reader)) input
       × Appends (g.W.Write.contents (inner_of l.initial.writer)) (g.W.Write.contents (inner_of l.writer)) text;
-  reader_quiet : IsQuiet l.reader;
-  writer_quiet : IsQuiet l.writer;
+  reader_quiet : HasNoFault l.reader;
+  writer_quiet : HasNoFault l.writer;
   calls : read_calls l.reader ≡ l.turn;
 }

@@ -1,12 +1,12 @@
 use Rattle.std.proofs.Common.{◌≡◌, ◌++◌, ℕ, List, length}
 use Rattle.std.specs.Io.KnownBytes.{Appends}
-use Rattle.bw_shell.specs.Watched.{inner_of, IsQuiet}
+use Rattle.bw_shell.specs.Watched.{inner_of, HasNoFault}
 use Rattle.bw_shell.proofs.send.send.Given as goal
 
 abbrev pub invariant-loop-rest : goal.invariant-loop-rest
 invariant-loop-rest g l = record {
   sent : (front : List ℕ) × Appends (g.W.Write.contents (inner_of l.initial.writer)) (g.W.Write.contents (inner_of l.writer)) front × (l.text ≡ front ++ l.rest);
-  quiet : IsQuiet l.writer;
+  quiet : HasNoFault l.writer;
 }
 
 abbrev pub decreases-loop-rest : goal.decreases-loop-rest

@@ -1,6 +1,6 @@
 use Rattle.std.proofs.Common.{◌≡◌, ◌≤◌, length}
 use Rattle.std.specs.Io.KnownBytes.{Consumes}
-use Rattle.bw_shell.specs.Watched.{inner_of, read_calls, IsQuiet}
+use Rattle.bw_shell.specs.Watched.{inner_of, read_calls, HasNoFault}
 use Rattle.bw_shell.specs.declared.text_check.TheConstants.{TEXT_BYTES}
 use Rattle.bw_shell.proofs.text_check.read_text.Given as goal
 
@@ -8,6 +8,6 @@ abbrev pub invariant-loop-turn : goal.invariant-loop-turn
 invariant-loop-turn g l = record {
   read : Consumes (g.R.Read.remaining (inner_of l.initial.reader)) (g.R.Read.remaining (inner_of l.reader)) l.text.items;
   small : length l.text.items ≤ TEXT_BYTES;
-  quiet : IsQuiet l.reader;
+  quiet : HasNoFault l.reader;
   calls : read_calls l.reader ≡ l.turn;
 }
