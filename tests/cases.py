@@ -12,7 +12,9 @@ import subprocess
 import sys
 import tempfile
 
-TOP = os.path.dirname(os.path.dirname(os.path.abspath(__file__)))
+import native
+
+TOP = native.TOP
 PROGRAM = os.path.abspath(sys.argv[1]) if len(sys.argv) > 1 else f"{TOP}/crates/arbiter/out/arbiter"
 SECONDS = 60
 AT_ONCE = 64
@@ -32,25 +34,20 @@ NO_THREAD = b"error 70 NotStarted\n"
 NO_MEMORY = b"error 71 OutOfMemory\n"
 
 
-def run(words, given=b"", seconds=SECONDS, **how):
+def ran(words, given=b"", seconds=SECONDS, **how):
     """Runs the program: exit status, standard output, standard error. One that does not end is killed and has no status."""
-    streams = {"stdin": subprocess.PIPE, "stdout": subprocess.PIPE, "stderr": subprocess.PIPE, **how}
-    given = given if streams["stdin"] == subprocess.PIPE else None
-    with subprocess.Popen([PROGRAM, *words], **streams) as process:
-        try:
-            out, err = process.communicate(given, timeout=seconds)
-        except subprocess.TimeoutExpired:
-            process.kill()
-            out, err = process.communicate()
-            return f"no end in {seconds} seconds", out, err
-    return process.returncode, out, err
+    try:
+        ended = native.run([PROGRAM, *words], given, seconds, **how)
+    except subprocess.TimeoutExpired:
+        return f"no end in {seconds} seconds", b"", b""
+    return ended.returncode, ended.stdout, ended.stderr
 
 
 def refused_run(library, words, given, **refused):
     """Runs the program with calls refused, named as tests/refuse.c names them: its answer, and a letter for each."""
     with tempfile.TemporaryFile() as told:
         named = {name: str(value) for name, value in refused.items()}
-        answer = run(words, given, env={"LD_PRELOAD": library, "TELL": str(told.fileno()), **named}, pass_fds=[told.fileno()])
+        answer = ran(words, given, env={"LD_PRELOAD": library, "TELL": str(told.fileno()), **named}, pass_fds=[told.fileno()])
         told.seek(0)
         return answer, told.read()
 
@@ -100,7 +97,7 @@ def refused_in_turn(library, words, given):
 
 def transcript(words, lines):
     """What `run` writes for these lines, which has to end well."""
-    status, out, err = run(words, b"".join(lines))
+    status, out, err = ran(words, b"".join(lines))
     if (status, err) != (0, b""):
         raise ValueError(f"{words}: status {status}, {err[:200]!r}")
     return out

@@ -10,7 +10,9 @@ import subprocess
 import sys
 import time
 
-TOP = os.path.dirname(os.path.dirname(os.path.abspath(__file__)))
+import native
+
+TOP = native.TOP
 ARBITER = [f"{TOP}/arbiter"]
 SECONDS = 60
 
@@ -115,17 +117,9 @@ CASES = [
 ]
 
 
-def run(arguments, **how):
+def run(arguments, given=b"", **how):
     """Runs ./arbiter. One that does not end is killed with all that it started, and is a failed case."""
-    given = how.pop("input", None)
-    streams = {"stdin": None if given is None else subprocess.PIPE, "stdout": subprocess.PIPE, "stderr": subprocess.PIPE, **how}
-    with subprocess.Popen([*ARBITER, *arguments], start_new_session=True, **streams) as process:
-        try:
-            out, err = process.communicate(given, timeout=SECONDS)
-        except subprocess.TimeoutExpired:
-            os.killpg(process.pid, signal.SIGKILL)
-            raise
-    return subprocess.CompletedProcess(process.args, process.returncode, out, err)
+    return native.run([*ARBITER, *arguments], given, SECONDS, **how)
 
 
 def told(name, ended, out, err, status):
@@ -142,13 +136,13 @@ def told(name, ended, out, err, status):
 
 def case(row):
     name, arguments, given, out, err, status = row
-    return told(name, run(arguments, input=given), out, err, status)
+    return told(name, run(arguments, given=given), out, err, status)
 
 
 def full_device(word, given):
     """A device that takes no byte: a write fault."""
     with open("/dev/full", "wb") as device:
-        ended = run([word], input=given, stdout=device)
+        ended = run([word], given=given, stdout=device)
     return told(f"{word} on a full device", ended, NOTHING, same(b"arbiter: write fault\n"), 1)
 
 
@@ -164,15 +158,15 @@ def folder_as_input(word):
 
 def certified(script):
     """The certified text that `cert` writes at the end of a script is accepted by the checker."""
-    written = run(["run"], input=script + b"cert\n").stdout
+    written = run(["run"], given=script + b"cert\n").stdout
     text = written[written.index(b"bw 1 "):]
-    return told("a certified plan", run(["check"], input=text), same(b"accepted\n"), NOTHING, 0)
+    return told("a certified plan", run(["check"], given=text), same(b"accepted\n"), NOTHING, 0)
 
 
 def counters_script():
     """The example of one period answers as the case of the same lines does."""
     with open(f"{TOP}/examples/counters.script", "rb") as script:
-        return told("counters.script", run(["run"], input=script.read()), same(COUNTERS_SAID), NOTHING, 0)
+        return told("counters.script", run(["run"], given=script.read()), same(COUNTERS_SAID), NOTHING, 0)
 
 
 def line_in_time(stream, until):
@@ -213,7 +207,7 @@ def many_lines():
     names = [f"g{number}" for number in range(4095)]
     script = "".join([*(f"mkdir {name}\n" for name in names), *(f"demand {name} 20\n" for name in names), "total\n"])
     began = time.monotonic()
-    ended = run(["run"], input=script.encode())
+    ended = run(["run"], given=script.encode())
     print(f"  {2 * len(names) + 1} lines in {time.monotonic() - began:.2f} seconds")
     return told("many lines", ended, same(b"ok\n" * (2 * len(names)) + b"total 20\nlimit 20 .\ndemand 0\n"), NOTHING, 0)
 

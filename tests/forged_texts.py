@@ -8,10 +8,11 @@ import collections
 import random
 import sys
 
-from cases import CERTIFIED, Cases, each, run
+from cases import CERTIFIED, Cases, each, ran
 from plan_model import Host, line_for
 
-TELLING = b"019 \n-@/x\xff"
+# All digits, what parts and marks a text, and bytes that stand in none.
+TELLING = b"0123456789 \n\t-+/@max\x00\xff"
 CUT_SHORT = (3, b"error 42 CutShort\n", b"")
 
 # Changes of the text of two groups, and the line for each.
@@ -35,7 +36,7 @@ SEED = 20240611
 
 
 def checked(text):
-    return run(["check"], text)
+    return ran(["check"], text)
 
 
 def wrong_answer(text, answer):
@@ -140,7 +141,7 @@ def one_script(seed):
     """Runs one random script, and checks the certified text at its end: what is wrong, and that text."""
     numbers, given, wanted, text = random_script(seed)
     words = ["run", "--processors", str(numbers[0]), "--period", str(numbers[1]), "--slice", str(numbers[2])]
-    answer = run(words, given)
+    answer = ran(words, given)
     if answer != (0, wanted, b""):
         return f"script {seed}: {words} {given!r}: {answer} and not {wanted!r}", text
     return wrong_answer(text, checked(text)) or (None if line_for(text)[0] == b"accepted\n" else f"script {seed}: not accepted"), text

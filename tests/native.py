@@ -1,11 +1,11 @@
-"""Shared by tests/documents.py and tests/tools.py: the program that they run, and how."""
+"""Shared by all files of cases: the native program, where it is current, and how a process is run."""
 import os
 import signal
 import subprocess
 import sys
 
 TOP = os.path.dirname(os.path.dirname(os.path.abspath(__file__)))
-CURRENT = '. tests/lib.sh && need_rt test && is_current && echo "$program"'
+CURRENT = '. tests/lib.sh && is_current && echo "$program"'
 
 
 def program(words):
@@ -22,7 +22,9 @@ def program(words):
 
 def run(words, given, seconds, **how):
     """Runs a program in a process group of its own, which is ended with all its children where it takes too long."""
-    with subprocess.Popen(words, stdin=subprocess.PIPE, stdout=subprocess.PIPE, stderr=subprocess.PIPE, start_new_session=True, **how) as talk:
+    streams = {"stdin": subprocess.PIPE, "stdout": subprocess.PIPE, "stderr": subprocess.PIPE, **how}
+    given = given if streams["stdin"] == subprocess.PIPE else None
+    with subprocess.Popen(words, start_new_session=True, **streams) as talk:
         try:
             out, err = talk.communicate(given, timeout=seconds)
         except subprocess.TimeoutExpired:

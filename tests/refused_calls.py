@@ -42,7 +42,7 @@ def swept(library, name, refused):
 def crate_swept(counted, library, crate, program):
     """All tests of a crate."""
     cases.PROGRAM, refused = program, {}
-    status, out, err = cases.run(["--list"])
+    status, out, err = cases.ran(["--list"])
     names = re.findall(r"^(\S+): test$", out.decode(), re.MULTILINE)
     if status or not names or f"tests: {len(names)}\n" not in out.decode():
         counted.case(crate, lambda: f"status {status}, {out[:200]!r}, {err[:200]!r}")

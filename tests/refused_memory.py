@@ -10,7 +10,7 @@ import collections
 import sys
 import tempfile
 
-from cases import CERTIFIED, MEMORY, NO_MEMORY, NO_THREAD, Cases, in_place_of_a_line, refused_in_turn, refusing_library, run, script, transcript
+from cases import CERTIFIED, MEMORY, NO_MEMORY, NO_THREAD, Cases, in_place_of_a_line, refused_in_turn, refusing_library, ran, script, transcript
 
 # What the program answers where memory is refused while the words of the command line are read: as before any first read.
 WORDS_REFUSED = MEMORY
@@ -92,7 +92,7 @@ def run_swept(name, library, words, lines):
 
 def answer_swept(name, job, library, words, given, ended):
     """A run that writes one answer and ends with this status, each of its allocations refused."""
-    answer = run(words, given)
+    answer = ran(words, given)
     if answer[0] != ended or MEMORY == answer or WORDS_REFUSED == answer:
         return f"status {answer[0]}, {answer[1][:200]!r}, {answer[2][:200]!r}"
     allowed = {answer: "the same answer", WORDS_REFUSED: "words not read", MEMORY: ENDED}

@@ -13,7 +13,7 @@ import sys
 import tempfile
 import time
 
-from cases import NO_THREAD, PROGRAM, SECONDS, Cases, each, in_place_of_a_line, refused_run, refusing_library, run, transcript
+from cases import NO_THREAD, PROGRAM, SECONDS, Cases, each, in_place_of_a_line, refused_run, refusing_library, ran, transcript
 
 # A stack that no address space has room for: the C library asks for as much for each thread.
 STACK_BYTES = 1 << 40
@@ -126,7 +126,7 @@ def without_periods(words, lines):
 
 
 def each_refused_by_limits(words):
-    return differs(run(words, b"".join(PERIODS), preexec_fn=limited), without_periods(words, PERIODS))
+    return differs(ran(words, b"".join(PERIODS), preexec_fn=limited), without_periods(words, PERIODS))
 
 
 def each_refused(library, words):
@@ -160,7 +160,7 @@ def nth_refused(library, processors, step):
 
 def booked_after_serving(library):
     """A period whose thread is refused leaves no counter and no burst, and the same script with that thread does."""
-    wrong = differs(run(["run"], b"".join(BOOKING)), BOOKING_SERVED)
+    wrong = differs(ran(["run"], b"".join(BOOKING)), BOOKING_SERVED)
     if wrong:
         return f"served: {wrong}"
     answer, _ = refused_run(library, ["run"], b"".join(BOOKING), REFUSE_START=1)
@@ -212,13 +212,13 @@ def large_planned(library, inner, each_has):
     is refused."""
     words = ["run", "--processors", "64", "--slice", "1000"]
     given = large_tree(inner, each_has)
-    status, whole, err = run(words, given)
+    status, whole, err = ran(words, given)
     text = whole[whole.find(b"bw 1 "):]
     if (status, err) != (0, b"") or not text.startswith(b"bw 1 64 100000 1000 16384\n"):
         return f"status {status}, {err[:200]!r}, {text[:100]!r}"
-    if run(["check"], text) != (0, b"accepted\n", b""):
+    if ran(["check"], text) != (0, b"accepted\n", b""):
         return "the certified text is not accepted"
-    wrong = differs(run(words, given, preexec_fn=limited), whole)
+    wrong = differs(ran(words, given, preexec_fn=limited), whole)
     if wrong:
         return f"by limits: {wrong}"
     answer, told = refused_run(library, words, given, REFUSE_START="each")

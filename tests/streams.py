@@ -13,7 +13,7 @@ import subprocess
 import sys
 import tempfile
 
-from cases import CERTIFIED, PROGRAM, READ_FAULT, SECONDS, TOP, WRITE_FAULT, Cases, each, run, script, transcript
+from cases import CERTIFIED, PROGRAM, READ_FAULT, SECONDS, TOP, WRITE_FAULT, Cases, each, ran, script, transcript
 
 SCRIPT = b"".join(script("counters.script"))
 TWO_CERTIFIED = CERTIFIED["two groups"]
@@ -44,7 +44,7 @@ def cut(words, given, taken):
     try:
         os.write(write, given[:taken])
         os.set_blocking(read, False)
-        return run(words, stdin=read)
+        return ran(words, stdin=read)
     finally:
         os.close(read)
         os.close(write)
@@ -81,14 +81,14 @@ def bounded(most):
 def short_file(words, given, most):
     """The program writes to a file that may have so many bytes: its answer, with what the file has."""
     with tempfile.TemporaryFile() as file:
-        status, _, err = run(words, given, stdout=file, preexec_fn=lambda: bounded(most), restore_signals=False)
+        status, _, err = ran(words, given, stdout=file, preexec_fn=lambda: bounded(most), restore_signals=False)
         file.seek(0)
         return status, file.read(), err
 
 
 def writer_fails(words, given, ended):
     """After every number of bytes: these bytes of the transcript, and the fault."""
-    whole = run(words, given)
+    whole = ran(words, given)
     if whole[0] != ended or whole[2] != b"":
         return f"{whole}"[:300]
     answers = each(functools.partial(short_file, words, given), range(len(whole[1]) + 1))
@@ -105,7 +105,7 @@ def reader_gone(words, given, ignored):
     read, write = os.pipe()
     os.close(read)
     try:
-        status, _, err = run(words, given, stdout=write, restore_signals=not ignored)
+        status, _, err = ran(words, given, stdout=write, restore_signals=not ignored)
     finally:
         os.close(write)
     return differs((status, b"", err), WRITE_FAILED)
@@ -133,7 +133,7 @@ def opened(path, flags, words, wanted):
     """The program with a file as standard input."""
     file = os.open(path, flags)
     try:
-        return differs(run(words, stdin=file), wanted)
+        return differs(ran(words, stdin=file), wanted)
     finally:
         os.close(file)
 
@@ -143,7 +143,7 @@ def long_text(folder, text, wanted):
     path = f"{folder}/text"
     with open(path, "wb") as file:
         file.write(text)
-    return opened(path, os.O_RDONLY, ["check"], wanted) or differs(run(["check"], text), wanted)
+    return opened(path, os.O_RDONLY, ["check"], wanted) or differs(ran(["check"], text), wanted)
 
 
 def main():

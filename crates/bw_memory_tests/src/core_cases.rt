@@ -8,7 +8,7 @@ use std::test::Fail;
 /// The plan of the instance.
 const AMOUNTS: [u64; 5] = [20, 10, 3, 7, 10];
 
-fn pool(rt: &impl Abort, alloc: Global) -> Result<SlicePool, Fail> {
+pub(crate) fn pool(rt: &impl Abort, alloc: Global) -> Result<SlicePool, Fail> {
     let instance = made(rt, alloc)?;
     assert_eq!(rt; instance.rows().len(), 5);
     match SlicePool::new(alloc, &instance, &AMOUNTS) {

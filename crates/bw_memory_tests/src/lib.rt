@@ -9,4 +9,8 @@ mod hierarchy_cases;
 #[cfg(test)]
 mod instance_cases;
 #[cfg(test)]
+mod text_cases;
+#[cfg(test)]
+mod thread_cases;
+#[cfg(test)]
 mod tree_cases;

@@ -1,13 +1,10 @@
-//! Tests of scripts and of checked texts, over streams in memory that may fail.
+//! Tests of the shell over readers and writers that fail. The answers to scripts and the lines for certified texts stand in
+//! tests/worked of the repository, which the native program is run on.
 #![tactic(auto)]
 
 #[cfg(test)]
 mod check_text_cases;
 #[cfg(test)]
-mod commands_cases;
-#[cfg(test)]
-mod period_cases;
-#[cfg(test)]
-mod shell_cases;
-#[cfg(test)]
 mod stream_cases;
+#[cfg(test)]
+mod streams;

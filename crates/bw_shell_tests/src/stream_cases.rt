@@ -1,9 +1,8 @@
 //! The script of one period over readers and writers that fail.
 ghost use Rattle.std.specs.Prelude.{◌<◌};
 
-use crate::commands_cases::joined;
-use crate::period_cases::ONE_PERIOD;
-use crate::shell_cases::{Broken, Choked, host};
+use crate::streams::{Broken, Choked};
+use bw_model::HostShape;
 use bw_shell::{RunFault, Watched, run, status_of_run};
 use std::alloc::{AllocError, Global};
 use std::io;
@@ -11,6 +10,53 @@ use std::process::Abort;
 use std::sync::Wait;
 use std::test::Fail;
 use std::thread::Threads;
+
+// One processor, a period of 100 ms and slices of 5 ms: 20 slices.
+pub(crate) fn host() -> Result<HostShape, Fail> {
+    Ok(HostShape::new(1, 100000, 5000)?)
+}
+
+// The lines of one period of one processor, and their answers.
+const ONE_PERIOD: [(&str, &str); 14] = [
+    ("mkdir pod", "ok"),
+    ("mkdir pod/x", "ok"),
+    ("mkdir pod/y", "ok"),
+    ("mkdir job", "ok"),
+    ("write pod cpu.max 50000 100000", "ok"),
+    ("write pod/y cpu.weight 300", "ok"),
+    ("demand pod/x 20", "ok"),
+    ("demand pod/y 20", "ok"),
+    ("demand job 20", "ok"),
+    ("total", "total 20\nlimit 20 .\ndemand 0"),
+    ("plan", "20 .\n10 pod\n3 pod/x\n7 pod/y\n10 job"),
+    ("period", "served 20"),
+    (
+        "read pod cpu.stat",
+        "usage_usec 50000\nnr_periods 1\nnr_throttled 1\nthrottled_usec 150000\nnr_bursts 0\nburst_usec 0",
+    ),
+    (
+        "report",
+        "          usage_usec    periods  throttled       throttled_usec group
+              100000          1          0                    0 .
+               50000          1          1               150000 pod
+               15000          1          0                    0 pod/x
+               35000          1          0                    0 pod/y
+               50000          1          0                    0 job",
+    ),
+];
+
+// The lines of a script, and their answers.
+fn joined(alloc: Global, cases: &[(&str, &str)]) -> Result<(String, String), AllocError> {
+    let mut script = String::new(alloc);
+    let mut wanted = String::new(alloc);
+    for (line, answer) in cases {
+        script.push_str(line)?;
+        script.push('\n')?;
+        wanted.push_str(answer)?;
+        wanted.push('\n')?;
+    }
+    Ok((script, wanted))
+}
 
 // The answers to the lines that lie whole within so many bytes of the script.
 fn answers_within(alloc: Global, bytes: usize) -> Result<String, AllocError> {

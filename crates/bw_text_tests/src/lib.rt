@@ -1,10 +1,7 @@
-//! Tests of what is read and written as text: files, settings by path, counters, certified texts.
+//! Tests of files, settings by path and counters that no script line reaches; what one does reach stands in tests/worked of the
+//! repository, which the native program is run on.
 #![tactic(auto)]
 
-#[cfg(test)]
-mod burst_cases;
-#[cfg(test)]
-mod cert_cases;
 #[cfg(test)]
 mod files_cases;
 #[cfg(test)]

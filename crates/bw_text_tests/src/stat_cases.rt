@@ -1,11 +1,11 @@
-//! Counters over several periods, and the report's bytes. A call that is refused for memory is made once more on
-//! the same books, which it has not changed.
+//! Counters at their greatest values and of groups that are forgotten, which no script line reaches. A call that is refused for
+//! memory is made once more on the same books, which it has not changed.
 ghost use Rattle.std.specs.Prelude.{nat_eq};
 ghost use Rattle.std.specs.List.{IsDistinct};
 
 use bw_demand::gather;
 use bw_model::{HostShape, Instance, InstanceFault, Row, Stat};
-use bw_stat::{Books, report_head, report_line};
+use bw_stat::{Books, report_line};
 use std::alloc::{AllocError, Global};
 use std::process::Abort;
 use std::test::Fail;
@@ -23,8 +23,8 @@ fn instance_once(alloc: Global, shape: HostShape, rows: &[Row]) -> Result<Instan
     Instance::new(alloc, rows.to_vec(alloc)?, shape)
 }
 
-fn instance_of(alloc: Global, processors: u64, rows: &[Row]) -> Result<Instance, Fail> {
-    let shape = HostShape::new(processors, 100_000, 5000)?;
+fn instance_of(alloc: Global, rows: &[Row]) -> Result<Instance, Fail> {
+    let shape = HostShape::new(1, 100_000, 5000)?;
     match instance_once(alloc, shape, rows) {
         Ok(instance) => Ok(instance),
         Err(_) => Ok(instance_once(alloc, shape, rows)?),
@@ -32,7 +32,7 @@ fn instance_of(alloc: Global, processors: u64, rows: &[Row]) -> Result<Instance,
 }
 
 // A group pod with a limit of 10 over x and y of weights 100 and 300, and a group job beside it.
-fn pod(alloc: Global, processors: u64) -> Result<Instance, Fail> {
+fn pod(alloc: Global) -> Result<Instance, Fail> {
     let rows = [
         row(None, 100, None, 0),
         row(Some(0), 100, Some(10), 0),
@@ -40,7 +40,7 @@ fn pod(alloc: Global, processors: u64) -> Result<Instance, Fail> {
         row(Some(1), 300, None, 20),
         row(Some(0), 100, None, 20),
     ];
-    instance_of(alloc, processors, &rows)
+    instance_of(alloc, &rows)
 }
 
 fn book_once(
@@ -88,16 +88,16 @@ fn ids_of_pod() -> [u64; 5]
 // The quota of each row, where no limit is above the quota.
 const QUOTAS: [Option<u64>; 5] = [None, Some(10), None, None, None];
 
+// Counts so many periods, in each of which the rows of pod draw these slices.
 fn book_pod(
     rt: &impl Abort,
     alloc: Global,
     books: &mut Books,
-    processors: u64,
     periods: u64,
     base: &[Option<u64>],
     drawn: &[u64],
 ) -> Result<(), Fail> {
-    let instance = pod(alloc, processors)?;
+    let instance = pod(alloc)?;
     let ids = ids_of_pod();
     for _ in 0..periods {
         book(rt, alloc, books, &instance, ids.as_slice(), base, drawn)?;
@@ -105,57 +105,16 @@ fn book_pod(
     Ok(())
 }
 
-fn counters(
-    usage_usec: u64,
-    nr_periods: u64,
-    nr_throttled: u64,
-    throttled_usec: u64,
-) -> Option<Stat> {
-    bursting(usage_usec, nr_periods, nr_throttled, throttled_usec, 0, 0)
-}
-
-fn bursting(
-    usage_usec: u64,
-    nr_periods: u64,
-    nr_throttled: u64,
-    throttled_usec: u64,
-    nr_bursts: u64,
-    burst_usec: u64,
-) -> Option<Stat> {
+// Usage, periods, and bursts with what was drawn in them; nothing was throttled.
+fn counters(usage_usec: u64, nr_periods: u64, nr_bursts: u64, burst_usec: u64) -> Option<Stat> {
     Some(Stat {
         usage_usec,
         nr_periods,
-        nr_throttled,
-        throttled_usec,
+        nr_throttled: 0,
+        throttled_usec: 0,
         nr_bursts,
         burst_usec,
     })
-}
-
-// Fifty periods in which all is used, on four processors: pod wants 40 slices and has 10 of them.
-#[test]
-fn fifty_periods(rt: HostRuntime) -> Result<(), Fail> {
-    let alloc = rt.alloc();
-    let mut books = Books::new(alloc);
-    book_pod(&rt, alloc, &mut books, 4, 50, &QUOTAS, &[30, 10, 3, 7, 20])?;
-    assert_eq!(rt; books.of(0), counters(7_500_000, 50, 0, 0));
-    assert_eq!(rt; books.of(7), counters(2_500_000, 50, 50, 7_500_000));
-    assert_eq!(rt; books.of(3), counters(750_000, 50, 0, 0));
-    assert_eq!(rt; books.of(9), counters(1_750_000, 50, 0, 0));
-    assert_eq!(rt; books.of(4), counters(5_000_000, 50, 0, 0));
-    Ok(())
-}
-
-// One processor: the root wants more than the host has, which isn't counted, and job uses nothing.
-#[test]
-fn unused_slices(rt: HostRuntime) -> Result<(), Fail> {
-    let alloc = rt.alloc();
-    let mut books = Books::new(alloc);
-    book_pod(&rt, alloc, &mut books, 1, 1, &QUOTAS, &[10, 10, 3, 7, 0])?;
-    assert_eq!(rt; books.of(0), counters(50_000, 1, 0, 0));
-    assert_eq!(rt; books.of(7), counters(50_000, 1, 1, 150_000));
-    assert_eq!(rt; books.of(4), counters(0, 1, 0, 0));
-    Ok(())
 }
 
 // A group that is forgotten begins anew where it is booked again, and the others go on.
@@ -163,118 +122,50 @@ fn unused_slices(rt: HostRuntime) -> Result<(), Fail> {
 fn forgotten_groups(rt: HostRuntime) -> Result<(), Fail> {
     let alloc = rt.alloc();
     let mut books = Books::new(alloc);
-    book_pod(&rt, alloc, &mut books, 1, 2, &QUOTAS, &[20, 10, 3, 7, 10])?;
+    book_pod(&rt, alloc, &mut books, 2, &QUOTAS, &[20, 10, 3, 7, 10])?;
     books.forget(4);
     books.forget(8);
     assert_eq!(rt; books.of(4), None);
     assert_eq!(rt; books.of(3), counters(30_000, 2, 0, 0));
-    book_pod(&rt, alloc, &mut books, 1, 1, &QUOTAS, &[20, 10, 3, 7, 10])?;
+    book_pod(&rt, alloc, &mut books, 1, &QUOTAS, &[20, 10, 3, 7, 10])?;
     assert_eq!(rt; books.of(4), counters(50_000, 1, 0, 0));
     assert_eq!(rt; books.of(3), counters(45_000, 3, 0, 0));
     Ok(())
 }
 
-// Two periods in which groups draw more than their quotas. The root counts none of it, nor does a group without quota.
-#[test]
-fn bursts(rt: HostRuntime) -> Result<(), Fail> {
-    let alloc = rt.alloc();
-    let mut books = Books::new(alloc);
-    let base = [Some(1), Some(6), None, Some(2), Some(10)];
-    book_pod(&rt, alloc, &mut books, 1, 2, &base, &[20, 10, 3, 7, 10])?;
-    assert_eq!(rt; books.of(0), counters(200_000, 2, 0, 0));
-    assert_eq!(rt; books.of(7), bursting(100_000, 2, 2, 300_000, 2, 40_000));
-    assert_eq!(rt; books.of(3), counters(30_000, 2, 0, 0));
-    assert_eq!(rt; books.of(9), bursting(70_000, 2, 0, 0, 2, 50_000));
-    assert_eq!(rt; books.of(4), counters(100_000, 2, 0, 0));
-    Ok(())
-}
-
-// The slices drawn above a quota of 0, in microseconds, stay at their greatest value.
-#[test]
-fn greatest_burst(rt: HostRuntime) -> Result<(), Fail> {
-    let alloc = rt.alloc();
-    let mut books = Books::new(alloc);
-    let base = [None, Some(10), Some(0), None, None];
-    book_pod(
-        &rt,
-        alloc,
-        &mut books,
-        1,
-        2,
-        &base,
-        &[20, 10, u64::MAX, 7, 10],
-    )?;
-    assert_eq!(rt; books.of(3), bursting(u64::MAX, 2, 0, 0, 2, u64::MAX));
-    Ok(())
-}
-
-// A counter stays at its greatest value.
+// A counter stays at its greatest value. Of the root no burst is counted, whatever its quota.
 #[test]
 fn greatest_counters(rt: HostRuntime) -> Result<(), Fail> {
     let alloc = rt.alloc();
     let mut books = Books::new(alloc);
-    book_pod(
-        &rt,
-        alloc,
-        &mut books,
-        1,
-        1,
-        &QUOTAS,
-        &[u64::MAX, 10, 3, 7, 10],
-    )?;
-    assert_eq!(rt; books.of(0), counters(u64::MAX, 1, 0, 0));
-    book_pod(&rt, alloc, &mut books, 1, 1, &QUOTAS, &[20, 10, 3, 7, 10])?;
+    let base = [Some(1), Some(10), Some(0), None, None];
+    let drawn = [u64::MAX, 10, u64::MAX, 7, 10];
+    book_pod(&rt, alloc, &mut books, 2, &base, &drawn)?;
     assert_eq!(rt; books.of(0), counters(u64::MAX, 2, 0, 0));
+    assert_eq!(rt; books.of(3), counters(u64::MAX, 2, 2, u64::MAX));
+    book_pod(&rt, alloc, &mut books, 1, &QUOTAS, &[20, 10, 3, 7, 10])?;
+    assert_eq!(rt; books.of(0), counters(u64::MAX, 3, 0, 0));
     Ok(())
 }
 
+// Numbers that are wider than their columns.
 #[test]
-fn report_lines(rt: HostRuntime) -> Result<(), Fail> {
-    let alloc = rt.alloc();
+fn wide_line(rt: HostRuntime) -> Result<(), Fail> {
+    let stat = Stat {
+        usage_usec: u64::MAX,
+        nr_periods: u64::MAX,
+        nr_throttled: 12_345_678_901,
+        throttled_usec: u64::MAX,
+        nr_bursts: 7,
+        burst_usec: 8,
+    };
+    let line = match report_line(rt.alloc(), &stat, "a/b") {
+        Ok(line) => line,
+        Err(_) => report_line(rt.alloc(), &stat, "a/b")?,
+    };
     assert_eq!(rt;
-        report_head(),
-        "          usage_usec    periods  throttled       throttled_usec group\n"
+        line.as_str(),
+        "18446744073709551615 18446744073709551615 12345678901 18446744073709551615 a/b\n"
     );
-    let table = [
-        (
-            50_000,
-            1,
-            1,
-            150_000,
-            "pod",
-            "               50000          1          1               150000 pod\n",
-        ),
-        (
-            100_000,
-            1,
-            0,
-            0,
-            ".",
-            "              100000          1          0                    0 .\n",
-        ),
-        (
-            u64::MAX,
-            u64::MAX,
-            12_345_678_901,
-            u64::MAX,
-            "a/b",
-            "18446744073709551615 18446744073709551615 12345678901 18446744073709551615 a/b\n",
-        ),
-    ];
-    for (usage_usec, nr_periods, nr_throttled, throttled_usec, path, wanted) in table {
-        let stat = Stat {
-            usage_usec,
-            nr_periods,
-            nr_throttled,
-            throttled_usec,
-            nr_bursts: 7,
-            burst_usec: 8,
-        };
-        let line = match report_line(alloc, &stat, path) {
-            Ok(line) => line,
-            Err(_) => report_line(alloc, &stat, path)?,
-        };
-        assert_eq!(rt; line.as_str(), wanted);
-    }
     Ok(())
 }
