@@ -1,4 +1,4 @@
--- What a level says of the marks of the children below it.
+-- The level above a child.
 use Rattle.std.specs.Prelude.{ℕ, ◌<◌, ◌≤◌, ◌==◌, List, Option, None, Some, slice_index, if◌then◌else◌}
 use Rattle.std.specs.Option.{option_map_or}
 use Rattle.bw_model.specs.declared.limits.TheConstants.{MAX_CAPACITY}

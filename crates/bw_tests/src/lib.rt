@@ -1,4 +1,5 @@
-//! Tests of the layers below: worked values from outside, and memory that is refused.
+//! Tests of the layers below that no script line and no certified text reaches; what one does reach stands in tests/worked of
+//! the repository, which the native program is run on.
 #![tactic(auto)]
 
 #[cfg(test)]
@@ -6,9 +7,9 @@ mod check_cases;
 #[cfg(test)]
 mod demand_cases;
 #[cfg(test)]
-mod model_cases;
+mod level_cases;
 #[cfg(test)]
-mod plan_cases;
+mod model_cases;
 #[cfg(test)]
 mod pool_cases;
 #[cfg(test)]

@@ -1,49 +1,9 @@
-//! Hosts, instances and marks, against worked values.
+//! Quotas, instances and marks, against worked values.
 use bw_model::limits::{MAX_PERIOD_US, MAX_QUOTA_US, MIN_PERIOD_US};
-use bw_model::{HostFault, HostShape, Instance, InstanceFault, Mark, Quota, Row};
+use bw_model::{HostShape, Instance, InstanceFault, Mark, Quota, Row};
 use std::alloc::{AllocError, Global};
 use std::process::Abort;
 use std::test::Fail;
-
-#[test]
-fn hosts(rt: HostRuntime) -> Result<(), Fail> {
-    let refused = [
-        (
-            (0, 100_000, 5_000),
-            HostFault::BadProcessors,
-            1u8,
-            "BadProcessors",
-        ),
-        (
-            (65, 100_000, 5_000),
-            HostFault::BadProcessors,
-            1,
-            "BadProcessors",
-        ),
-        ((0, 999, 999), HostFault::BadProcessors, 1, "BadProcessors"),
-        ((1, 999, 1_000), HostFault::BadPeriod, 2, "BadPeriod"),
-        ((1, 1_000_001, 1_000), HostFault::BadPeriod, 2, "BadPeriod"),
-        ((1, 100_000, 3_000), HostFault::BadSlice, 3, "BadSlice"),
-        ((1, 100_000, 999), HostFault::BadSlice, 3, "BadSlice"),
-        ((1, 1_000, 2_000), HostFault::BadSlice, 3, "BadSlice"),
-    ];
-    for ((processors, period_us, slice_us), fault, number, name) in refused {
-        assert!(rt; HostShape::new(processors, period_us, slice_us) == Err(fault));
-        assert_eq!(rt; fault.number(), number);
-        assert_eq!(rt; fault.name(), name);
-    }
-    let shapes = [
-        ((1, 100_000, 5_000), 20, 20),
-        ((64, 1_000_000, 1_000), 1_000, 64_000),
-        ((2, 1_000, 1_000), 1, 2),
-    ];
-    for ((processors, period_us, slice_us), per_processor, capacity) in shapes {
-        let shape = HostShape::new(processors, period_us, slice_us)?;
-        assert_eq!(rt; shape.per_processor(), per_processor);
-        assert_eq!(rt; shape.capacity(), capacity);
-    }
-    Ok(())
-}
 
 #[test]
 fn quotas(rt: HostRuntime) -> Result<(), Fail> {
@@ -125,81 +85,6 @@ fn assert_refused(
     }
     assert_eq!(rt; fault.number(), number);
     assert_eq!(rt; fault.name(), name);
-    Ok(())
-}
-
-#[test]
-fn refused_rows(rt: HostRuntime) -> Result<(), Fail> {
-    let alloc = rt.alloc();
-    let root = idle(None);
-    let child = idle(Some(0));
-    let weightless = Row { weight: 0, ..child };
-    let heavy = Row {
-        weight: 10_001,
-        ..child
-    };
-    let busy = Row { demand: 1, ..child };
-    let greedy = Row {
-        demand: 1_000_001,
-        ..child
-    };
-    let limited_root = Row {
-        limit: Some(20),
-        ..root
-    };
-    let below_first = idle(Some(1));
-    let cases: [(&[Row], InstanceFault, u8, &str); 11] = [
-        (&[], InstanceFault::BadParent, 5, "BadParent"),
-        (&[child], InstanceFault::BadParent, 5, "BadParent"),
-        (&[root, root], InstanceFault::BadParent, 5, "BadParent"),
-        (
-            &[root, below_first],
-            InstanceFault::BadParent,
-            5,
-            "BadParent",
-        ),
-        (
-            &[root, weightless, below_first],
-            InstanceFault::BadWeight,
-            6,
-            "BadWeight",
-        ),
-        (&[root, heavy], InstanceFault::BadWeight, 6, "BadWeight"),
-        (
-            &[root, busy, below_first],
-            InstanceFault::InnerDemand,
-            8,
-            "InnerDemand",
-        ),
-        (
-            &[root, greedy],
-            InstanceFault::DemandTooLarge,
-            9,
-            "DemandTooLarge",
-        ),
-        (
-            &[limited_root, child],
-            InstanceFault::RootLimited,
-            10,
-            "RootLimited",
-        ),
-        // the least number that applies to any row
-        (
-            &[limited_root, greedy, weightless],
-            InstanceFault::BadWeight,
-            6,
-            "BadWeight",
-        ),
-        (
-            &[limited_root, greedy, below_first],
-            InstanceFault::InnerDemand,
-            8,
-            "InnerDemand",
-        ),
-    ];
-    for (rows, fault, number, name) in cases {
-        assert_refused(&rt, alloc, rows, fault, number, name)?;
-    }
     Ok(())
 }
 

@@ -1,5 +1,4 @@
-//! Splits of one list of siblings, by a level and by marks, against worked values and a plain program.
-use bw_model::Mark;
+//! Splits of one list of siblings, by a level and by marks, against all lists and a plain program.
 use bw_split::{Work, can_split, level_of, split, split_by_marks, split_counted};
 use std::alloc::{AllocError, Global};
 use std::process::Abort;
@@ -26,82 +25,6 @@ fn assert_split(
         Err(_) => split_by_marks(alloc, amount, weights, most)?,
     };
     assert_eq!(rt; by_marks.as_slice(), wanted);
-    Ok(())
-}
-
-/// Asserts that two children with weights 100 and 300 are given these parts of their sum, and that the level is the mark.
-fn assert_step(
-    rt: &impl Abort,
-    alloc: Global,
-    parts: [u64; 2],
-    level: Option<Mark>,
-    mark: Option<Mark>,
-) -> Result<(), AllocError> {
-    let amount = parts[0].saturating_add(parts[1]);
-    assert_split(rt, alloc, amount, &[100, 300], &[20, 20], &parts)?;
-    assert_eq!(rt; level, mark);
-    Ok(())
-}
-
-#[test]
-fn worked_splits(rt: HostRuntime) -> Result<(), Fail> {
-    let alloc = rt.alloc();
-    assert_split(&rt, alloc, 0, &[], &[], &[])?;
-    assert_split(&rt, alloc, 0, &[1, 5], &[64001, 3], &[0, 0])?;
-    assert_split(&rt, alloc, 1, &[100, 300], &[1, 1], &[0, 1])?;
-    assert_split(&rt, alloc, 1, &[9999, 10000], &[1, 1], &[0, 1])?;
-    assert_split(&rt, alloc, 3, &[100, 100], &[3, 3], &[2, 1])?;
-    assert_split(&rt, alloc, 20, &[100, 200], &[20, 20], &[7, 13])?;
-    assert_split(&rt, alloc, 20, &[100, 100, 100], &[20, 20, 20], &[7, 7, 6])?;
-    assert_split(&rt, alloc, 20, &[1, 10000], &[20, 20], &[0, 20])?;
-    assert_split(&rt, alloc, 20, &[100, 100], &[2, 20], &[2, 18])?;
-    assert_split(&rt, alloc, 22, &[100, 100], &[2, 20], &[2, 20])?;
-    assert_split(&rt, alloc, 64000, &[1], &[64000], &[64000])?;
-    assert_split(&rt, alloc, 64000, &[1], &[64001], &[64000])?;
-    assert_split(
-        &rt,
-        alloc,
-        64000,
-        &[10000, 10000],
-        &[64000, 64000],
-        &[32000, 32000],
-    )?;
-    let level = level_of(&[32000, 32000], &[10000, 10000]);
-    assert_eq!(rt; level, Mark::new(63999, 10000, 1));
-    Ok(())
-}
-
-/// The split of each amount up to 10 among weights 100 and 300, and the mark of the slice that was given last.
-#[test]
-fn marks_in_order(rt: HostRuntime) -> Result<(), Fail> {
-    let alloc = rt.alloc();
-    let level = level_of(&[0, 1], &[100, 300]);
-    assert_step(&rt, alloc, [0, 1], level, Mark::new(1, 300, 1))?;
-    let level = level_of(&[1, 1], &[100, 300]);
-    assert_step(&rt, alloc, [1, 1], level, Mark::new(1, 100, 0))?;
-    let level = level_of(&[1, 2], &[100, 300]);
-    assert_step(&rt, alloc, [1, 2], level, Mark::new(3, 300, 1))?;
-    let level = level_of(&[1, 3], &[100, 300]);
-    assert_step(&rt, alloc, [1, 3], level, Mark::new(5, 300, 1))?;
-    let level = level_of(&[1, 4], &[100, 300]);
-    assert_step(&rt, alloc, [1, 4], level, Mark::new(7, 300, 1))?;
-    let level = level_of(&[2, 4], &[100, 300]);
-    assert_step(&rt, alloc, [2, 4], level, Mark::new(3, 100, 0))?;
-    let level = level_of(&[2, 5], &[100, 300]);
-    assert_step(&rt, alloc, [2, 5], level, Mark::new(9, 300, 1))?;
-    let level = level_of(&[2, 6], &[100, 300]);
-    assert_step(&rt, alloc, [2, 6], level, Mark::new(11, 300, 1))?;
-    let level = level_of(&[2, 7], &[100, 300]);
-    assert_step(&rt, alloc, [2, 7], level, Mark::new(13, 300, 1))?;
-    let level = level_of(&[3, 7], &[100, 300]);
-    assert_step(&rt, alloc, [3, 7], level, Mark::new(5, 100, 0))?;
-    let third = Mark::new(5, 100, 0).ok_or("a mark")?;
-    let eighth = Mark::new(15, 300, 1).ok_or("a mark")?;
-    assert!(rt; third < eighth && eighth > third && third != eighth);
-    let half = Mark::new(1, 2, 0).ok_or("a mark")?;
-    let same_half = Mark::new(2, 4, 0).ok_or("a mark")?;
-    assert!(rt; half < same_half && half != same_half);
-    assert!(rt; Mark::new(0, 1, 0).is_none() && Mark::new(1, 0, 0).is_none());
     Ok(())
 }
 
