@@ -2,8 +2,8 @@
 use Rattle.std.specs.Prelude.{ℕ, List, [], ◌∷◌, ◌++◌, codes}
 use Rattle.std.specs.Fmt.{decimal}
 use Rattle.bw_hierarchy.specs.Faults.{fault_number, fault_name}
-use Rattle.bw_workers.specs.declared.faults.ServeFault.{ServeFault}
-use Rattle.bw_workers.specs.declared.faults.ServeFault.TheVariants as serve
+use Rattle.bw_workers.specs.declared.fault.ServeFault.{ServeFault}
+use Rattle.bw_workers.specs.declared.fault.ServeFault.TheVariants as serve
 use Rattle.bw_commands.specs.declared.fault.ScriptFault.{ScriptFault}
 use Rattle.bw_commands.specs.declared.fault.ScriptFault.TheVariants.{BadNumber, Call, NotStarted, OutOfMemory, BadCommand, BadText, LineTooLong}
 
