@@ -1,0 +1,5 @@
+use Rattle.bw_laws.proofs.CertAccepted.{cert_IsAcceptedText}
+use Rattle.bw_laws.proofs.joined.cert_is_accepted.Goals as goal
+
+pub returns : goal.returns
+returns c = cert_IsAcceptedText

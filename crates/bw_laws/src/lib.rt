@@ -1,0 +1,10 @@
+//! Laws that join the layers, each the contract of a function that does nothing.
+#![tactic(auto)]
+
+mod joined;
+mod numbers;
+
+pub use joined::cert_is_accepted;
+pub use numbers::{
+    group_numbers, host_numbers, lock_numbers, script_numbers, split_numbers, tree_numbers,
+};
