@@ -1,0 +1,5 @@
+use Rattle.bw_laws.proofs.GivenIds.{new_groups}
+use Rattle.bw_laws.proofs.counted.new_groups_count_nothing.Goals as goal
+
+pub returns : goal.returns
+returns c = new_groups
