@@ -11,6 +11,7 @@ import subprocess
 import sys
 import tempfile
 
+import documents
 import native
 
 sys.path.insert(0, f"{native.TOP}/tools")
@@ -20,6 +21,9 @@ SECONDS = 120
 SEED = 20260730
 HOST_OF_ONE = arbiter.Host(1, 100000, 5000)
 LEVEL = re.compile(r"(\d+)/(\d+)@(\d+)\Z")
+# the numbers that share/arbiter.h lists, with the names of docs/NUMBERS.md
+NUMBERS = {*range(1, 11), *range(40, 44), *range(50, 59), 71}
+NAMES = {row[0]: row[1] for row in documents.in_the_table() if row[0] in NUMBERS}
 WORKED = {
     "the root alone": (HOST_OF_ONE, [(None, 100, None, 0)], [0]),
     "two groups": (HOST_OF_ONE, [(None, 100, None, 0), (0, 100, None, 20), (0, 200, None, 20)], [20, 7, 13]),
@@ -62,6 +66,7 @@ def number_of(call, *words):
     try:
         call(*words)
     except arbiter.Refused as refused:
+        same(refused.name, NAMES[refused.number], f"the name of {refused.number}")
         return refused.number, refused.row
     return 0, None
 
@@ -228,7 +233,7 @@ def wrong_claims(library, program):
                 line[4:] = [str(other[g]), str(int(other_flags[g])), "-" if level is None else f"{level[0]}/{level[1]}@{level[2]}"]
             forged = "".join(" ".join(line) + "\n" for line in words).encode()
             same(number_of(library.check_text, forged), (number, row), f"text {number}")
-            same(native.run([program, "check"], forged, SECONDS).stdout.decode(), f"refused {number} {arbiter.NAMES[number]} {row}\n", f"the program, {number}")
+            same(native.run([program, "check"], forged, SECONDS).stdout.decode(), f"refused {number} {NAMES[number]} {row}\n", f"the program, {number}")
 
 
 def texts(library, program):
@@ -239,9 +244,24 @@ def texts(library, program):
     others += [text[:at] + b"9" + text[at + 1:] for at in range(0, len(text), 5)]
     for each in others:
         number, row = number_of(library.check_text, each)
-        name = arbiter.NAMES.get(number)
+        name = NAMES.get(number)
         line = "accepted" if number == 0 else f"error {number} {name}" if row is None else f"refused {number} {name} {row}"
         same(line, native.run([program, "check"], each, SECONDS).stdout.decode().strip(), f"text {each[:60]}")
+
+
+def names(library, _):
+    """The name of each number of the header, and of no other; with room for it and the 0 behind it or nothing written."""
+    same(set(NAMES), NUMBERS, "numbers in docs/NUMBERS.md")
+    same(arbiter.NAME_ROOM, 1 + max(map(len, NAMES.values())), "room for each name")
+    for number in [*range(1000), *(2**bits + low for bits in range(10, 32) for low in (0, 1, 71)), 2**32 - 1]:
+        same(library.name(number), NAMES.get(number), f"the name of {number}")
+    for number in (0, 1, 39, 54, 59, 71, 2**32 - 1):
+        text = NAMES.get(number, "").encode()
+        for length in range(arbiter.NAME_ROOM + 2):
+            room = ctypes.create_string_buffer(b"~" * 32, 32)
+            same(library.calls.arbiter_name(arbiter.U32(number), room, arbiter.SIZE(length)), len(text), f"length of the name of {number}")
+            front = text + b"\0" if text and len(text) < length else b""
+            same(room.raw, front + b"~" * (32 - len(front)), f"the name of {number} in {length} bytes")
 
 
 def greatest_tree(library, program):
@@ -283,7 +303,7 @@ def from_c(_, __):
             same(subprocess.run([f"{folder}/{name}"], check=False, timeout=SECONDS).returncode, 0, f"{name}.c, by the number of its test")
 
 
-CHECKS = [from_c, worked, refused, wrong_lengths, uneven_levels, keeps_on_refusal, wrong_claims, texts, random_trees, greatest_tree, out_of_range]
+CHECKS = [from_c, worked, refused, wrong_lengths, uneven_levels, keeps_on_refusal, wrong_claims, texts, names, random_trees, greatest_tree, out_of_range]
 
 
 def checked(check, library, program):
