@@ -1,12 +1,14 @@
 #!/usr/bin/env python3
 """The C library, called from Python through tools/arbiter.py, against the program's own answers.
 
-The shared library is linked into a temporary folder from crates/bw_exports/out/libbw_exports.a, which `rt lib` makes.
-The first word is the native program, else the one that ./build made. It ends with 'N passed, M failed'.
+The library is the one that ./build --install DIR or ./test made. The first word is the native program, else the one that
+./build made. It ends with 'N passed, M failed'.
 """
 import ctypes
+import os
 import random
 import re
+import shutil
 import subprocess
 import sys
 import tempfile
@@ -287,18 +289,22 @@ def out_of_range(library, _):
         raise AssertionError(f"{row} was taken")
 
 
+def kit_clang():
+    """The clang of the Rattle kit."""
+    return os.path.join(os.path.dirname(os.path.realpath(shutil.which("rt"))), "../toolchain/bin/clang")
+
+
 def from_c(_, __):
-    """The C programs with the header, linked to the archive by the kit's clang, which has no headers of its own."""
-    clang, runtime = arbiter.kit_files()
+    """The C programs with the header, linked to the static library by the kit's clang, which has no headers of its own."""
     with tempfile.TemporaryDirectory() as folder:
         with open(f"{folder}/stddef.h", "w", encoding="ascii") as file:
             file.write("typedef __SIZE_TYPE__ size_t;\n")
         with open(f"{folder}/stdint.h", "w", encoding="ascii") as file:
             for bits in (8, 32, 64):
                 file.write(f"typedef __UINT{bits}_TYPE__ uint{bits}_t;\n#define UINT{bits}_MAX __UINT{bits}_MAX__\n")
-        words = [clang, "-std=c11", "-Wall", "-Wextra", "-Wpedantic", "-Werror", "-fuse-ld=lld", f"-I{folder}"]
+        words = [kit_clang(), "-std=c11", "-Wall", "-Wextra", "-Wpedantic", "-Werror", "-fuse-ld=lld", f"-I{folder}"]
         for name, wrapped in [("library", []), ("library_memory", ["malloc", "realloc", "free"])]:
-            made = ["-o", f"{folder}/{name}", f"{native.TOP}/tests/{name}.c", arbiter.ARCHIVE, runtime, *[f"-Wl,--wrap={each}" for each in wrapped]]
+            made = ["-o", f"{folder}/{name}", f"{native.TOP}/tests/{name}.c", f"{native.library()}.a", *[f"-Wl,--wrap={each}" for each in wrapped]]
             subprocess.run([*words, *made], check=True, timeout=SECONDS)
             same(subprocess.run([f"{folder}/{name}"], check=False, timeout=SECONDS).returncode, 0, f"{name}.c, by the number of its test")
 
@@ -315,15 +321,8 @@ def checked(check, library, program):
 
 
 def main():
-    program = native.program(sys.argv[1:])
-    with tempfile.TemporaryDirectory() as folder:
-        try:
-            library = arbiter.Library(arbiter.built(folder))
-        except (OSError, subprocess.SubprocessError) as error:
-            print(f"FAILED: the shared library is not made: {error}")
-            print("0 passed, 1 failed")
-            return 1
-        wrong = [each for each in (checked(check, library, program) for check in CHECKS) if each]
+    program, library = native.program(sys.argv[1:]), arbiter.Library(f"{native.library()}.so")
+    wrong = [each for each in (checked(check, library, program) for check in CHECKS) if each]
     for each in wrong:
         print(f"FAILED: {each}")
     print(f"{len(CHECKS) - len(wrong)} passed, {len(wrong)} failed")

@@ -1,10 +1,10 @@
 """The planner and the checker of arbiter as a Python module, over the library that share/arbiter.h describes.
 
     import arbiter
-    library = arbiter.Library("libarbiter.so")     # arbiter.built() makes one from the proved archive
+    library = arbiter.Library("DIR/lib/libarbiter.so")      # ./build --install DIR puts it there
     host = arbiter.Host(processors=1, period_us=100000, slice_us=5000)
     rows = [arbiter.Row(), arbiter.Row(parent=0, demand=20), arbiter.Row(parent=0, weight=200, demand=20)]
-    library.plan(host, rows)                       # [20, 7, 13]
+    library.plan(host, rows)                                # [20, 7, 13]
 
 It needs the standard library alone. The code that plans and checks is proved; this file is not.
 """
@@ -13,12 +13,9 @@ from __future__ import annotations
 import ctypes
 import dataclasses
 import os
-import shutil
-import subprocess
 
 TOP = os.path.dirname(os.path.dirname(os.path.abspath(__file__)))
-ARCHIVE = f"{TOP}/crates/bw_exports/out/libbw_exports.a"
-SONAME = "libarbiter.so"
+BUILT = f"{TOP}/crates/bw_exports/out/libarbiter.so"
 NO_PARENT, NO_LIMIT = 2**32 - 1, 2**64 - 1
 U8, U32, U64, SIZE = ctypes.c_uint8, ctypes.c_uint32, ctypes.c_uint64, ctypes.c_size_t
 NAME_ROOM = 17
@@ -59,26 +56,6 @@ class Certificate:
     levels: list
 
 
-def kit_files():
-    """The clang of the Rattle kit, and what its libraries in C need at run time."""
-    rt = shutil.which("rt")
-    if rt is None:
-        raise FileNotFoundError("the command rt of the Rattle kit is not on the PATH")
-    kit = os.path.dirname(os.path.dirname(os.path.realpath(rt)))
-    return f"{kit}/toolchain/bin/clang", f"{kit}/c/liblibc_c.a"
-
-
-def built(folder, archive=ARCHIVE):
-    """Links the shared library into a folder, by the kit's clang, from the archive that `rt lib` makes."""
-    clang, runtime = kit_files()
-    if not os.path.isfile(archive):
-        raise FileNotFoundError(f"{archive} is not there: `rt lib` in crates/bw_exports makes it")
-    made = f"{folder}/{SONAME}"
-    whole = ["-Wl,--whole-archive", archive, "-Wl,--no-whole-archive", runtime, f"-Wl,--exclude-libs,{os.path.basename(runtime)}"]
-    subprocess.run([clang, "-shared", "-fuse-ld=lld", f"-Wl,-soname,{SONAME}", "-o", made, *whole], check=True)
-    return made
-
-
 def in_range(number, bits, what):
     """A number that the column holds: ctypes itself would cut it."""
     if not 0 <= number < 2**bits:
@@ -103,10 +80,10 @@ def given(*columns):
 
 
 class Library:
-    """The calls of one shared library: at a path, else at $ARBITER_LIBRARY, else beside the repository's archive."""
+    """The calls of one shared library: at a path, else at $ARBITER_LIBRARY, else the one that this repository has built."""
 
     def __init__(self, path=None):
-        path = path or os.environ.get("ARBITER_LIBRARY") or f"{os.path.dirname(ARCHIVE)}/{SONAME}"
+        path = path or os.environ.get("ARBITER_LIBRARY") or BUILT
         self.calls = ctypes.CDLL(os.path.abspath(path))
         for name in ("plan", "certify", "check", "check_text", "limiting", "name"):
             getattr(self.calls, f"arbiter_{name}").restype = U32
