@@ -1,8 +1,8 @@
 #!/usr/bin/env python3
-"""The C library, called from Python through tools/arbiter.py, against the program's own answers.
+"""The C library, called from Python through tools/arbiter.py, from C and from Rust, against the program's own answers.
 
 The library is the one that ./build --install DIR or ./test made. The first word is the native program, else the one that
-./build made. It ends with 'N passed, M failed'.
+./build made. It ends with 'N passed, M failed'; what the machine cannot try is told as left out, and is in neither number.
 """
 import ctypes
 import os
@@ -56,6 +56,10 @@ REFUSED = [
 
 def rows_of(tuples):
     return [arbiter.Row(*each) for each in tuples]
+
+
+class LeftOut(Exception):
+    """Why a case cannot be tried on this machine; it counts neither as passed nor as failed."""
 
 
 def same(found, wanted, what):
@@ -309,24 +313,49 @@ def from_c(_, __):
             same(subprocess.run([f"{folder}/{name}"], check=False, timeout=SECONDS).returncode, 0, f"{name}.c, by the number of its test")
 
 
-CHECKS = [from_c, worked, refused, wrong_lengths, uneven_levels, keeps_on_refusal, wrong_claims, texts, names, random_trees, greatest_tree, out_of_range]
+RUST_PRINTS = "[20, 7, 13]\nlimited by rows [0], 0 slices outside them\nrefused 57 LastMarkAbove 1\n"
+
+
+def cargo(*words, cwd, **env):
+    """What cargo prints, without a network, what it makes going into the folder."""
+    given = {**os.environ, "ARBITER_LIB": os.path.dirname(native.library()), "CARGO_TARGET_DIR": f"{cwd}/target", **env}
+    ended = native.run(["cargo", *words], b"", SECONDS, cwd=cwd, env=given)
+    same(ended.returncode, 0, f"cargo {words[0]}: {ended.stderr.decode()[-400:]}")
+    return ended.stdout.decode()
+
+
+def from_rust(_, __):
+    """The Rust crate: its tests, those in its page too, and its example's answer."""
+    if not (shutil.which("cargo") and shutil.which("rustc")):
+        raise LeftOut("no cargo and rustc here")
+    with tempfile.TemporaryDirectory() as folder:
+        shutil.copytree(f"{native.TOP}/share/rust", f"{folder}/arbiter", ignore=shutil.ignore_patterns("target", "Cargo.lock"))
+        ran = re.findall(r"^test result: ok. (\d+) passed; 0 failed", cargo("test", "--offline", cwd=f"{folder}/arbiter"), re.M)
+        same([int(each) > 0 for each in ran], [True, True], "tests of the crate and of its page")
+        same(cargo("run", "--offline", "--quiet", "--example", "two_groups", cwd=f"{folder}/arbiter"), RUST_PRINTS, "the example")
+
+
+CHECKS = [from_c, from_rust, worked, refused, wrong_lengths, uneven_levels, keeps_on_refusal, wrong_claims, texts, names, random_trees, greatest_tree, out_of_range]
 
 
 def checked(check, library, program):
+    """Whether a check passed, or None where it is left out."""
     try:
         check(library, program)
+    except LeftOut as why:
+        print(f"left out: {check.__name__}: {why}")
+        return None
     except (AssertionError, OSError, ValueError, KeyError, IndexError, StopIteration, arbiter.Refused, subprocess.SubprocessError) as error:
-        return f"{check.__name__}: {error or type(error).__name__}"
-    return None
+        print(f"FAILED: {check.__name__}: {error or type(error).__name__}")
+        return False
+    return True
 
 
 def main():
     program, library = native.program(sys.argv[1:]), arbiter.Library(f"{native.library()}.so")
-    wrong = [each for each in (checked(check, library, program) for check in CHECKS) if each]
-    for each in wrong:
-        print(f"FAILED: {each}")
-    print(f"{len(CHECKS) - len(wrong)} passed, {len(wrong)} failed")
-    return 1 if wrong else 0
+    passed = [checked(check, library, program) for check in CHECKS]
+    print(f"{passed.count(True)} passed, {passed.count(False)} failed")
+    return 1 if False in passed else 0
 
 
 if __name__ == "__main__":
