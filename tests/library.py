@@ -295,6 +295,8 @@ def out_of_range(library, _):
 
 def kit_clang():
     """The clang of the Rattle kit."""
+    if not shutil.which("rt"):
+        raise FileNotFoundError("the command rt of the Rattle kit is not on the PATH")
     return os.path.join(os.path.dirname(os.path.realpath(shutil.which("rt"))), "../toolchain/bin/clang")
 
 
@@ -335,7 +337,66 @@ def from_rust(_, __):
         same(cargo("run", "--offline", "--quiet", "--example", "two_groups", cwd=f"{folder}/arbiter"), RUST_PRINTS, "the example")
 
 
-CHECKS = [from_c, from_rust, worked, refused, wrong_lengths, uneven_levels, keeps_on_refusal, wrong_claims, texts, names, random_trees, greatest_tree, out_of_range]
+def installed_below(folder):
+    """What ./build --install puts below lib and include, from its own list."""
+    with open(f"{native.TOP}/build", encoding="utf-8") as file:
+        rows = re.findall(r"^  (\S+) ((?:lib|include)/\S+) \d+$", file.read(), re.M)
+    for source, place in rows:
+        source = source.strip('"').replace("$library", native.library())
+        os.makedirs(os.path.dirname(f"{folder}/{place}"), exist_ok=True)
+        shutil.copy(os.path.join(native.TOP, source), f"{folder}/{place}")
+    same(len(rows), 4, "files of the library")
+
+
+def embedded(language):
+    """The files, the command and the answer of docs/EMBEDDING.md for a language."""
+    files, command = {}, None
+    for _, kind, words, text, _ in documents.fences("EMBEDDING.md"):
+        if kind == "command":
+            command = text
+        elif kind == "answer" and language in {each for each, _ in files.values()}:
+            return {name: body for name, (_, body) in files.items()}, command, text
+        elif kind == "answer":
+            files, command = {}, None
+        elif kind:
+            files[words] = (kind, text)
+    raise ValueError(f"docs/EMBEDDING.md has no example in {language}")
+
+
+def example(language, *needed):
+    """An example of docs/EMBEDDING.md prints what stands below it."""
+    missing = [each for each in needed if not shutil.which(each)]
+    if missing:
+        raise LeftOut(f"no {' and no '.join(missing)} here")
+    files, command, answer = embedded(language)
+    with tempfile.TemporaryDirectory() as folder:
+        installed_below(f"{folder}/installed")
+        for name, text in files.items():
+            os.makedirs(os.path.dirname(f"{folder}/work/{name}"), exist_ok=True)
+            with open(f"{folder}/work/{name}", "w", encoding="utf-8") as file:
+                file.write(text)
+        below = f"{folder}/installed/lib"
+        env = {**os.environ, "DIR": f"{folder}/installed", "REPOSITORY": native.TOP, "PKG_CONFIG_PATH": f"{below}/pkgconfig", "LD_LIBRARY_PATH": below}
+        ended = native.run(["bash", "-e", "-c", command], b"", SECONDS, cwd=f"{folder}/work", env=env)
+    same((ended.returncode, ended.stderr.decode(), ended.stdout.decode()), (0, "", answer), f"the example in {language}")
+
+
+def example_in_c(_, __):
+    """The example in C, with the header that is installed, over the shared library and with the static one."""
+    example("c", "cc", "pkg-config")
+
+
+def example_in_python(_, __):
+    """The example in Python."""
+    example("python", "python3")
+
+
+def example_in_rust(_, __):
+    """The example in Rust."""
+    example("rust", "cargo", "rustc", "pkg-config")
+
+
+CHECKS = [from_c, from_rust, example_in_c, example_in_python, example_in_rust, worked, refused, wrong_lengths, uneven_levels, keeps_on_refusal, wrong_claims, texts, names, random_trees, greatest_tree, out_of_range]
 
 
 def checked(check, library, program):
