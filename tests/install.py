@@ -539,7 +539,8 @@ def library_is_linked(copy):
     same(copy.read(f"{LIBRARY}.a"), "archive\nrun time\n", "the static library")
     for part in (" -shared ", " -Wl,-soname,libarbiter.so ", " -Wl,--whole-archive crates/bw_exports/out/libbw_exports.a ", "/c/liblibc_c.a "):
         holds(part, copy.read(f"{LIBRARY}.so"), "how the shared library is linked")
-    same(sorted(os.listdir(f"{copy.top}/crates/bw_exports/out")), [f"libarbiter.{each}" for each in ("a", "so", "sources")] + ["libbw_exports.a"], "what is in out/")
+    made = ["libarbiter.a", "libarbiter.so", "libarbiter.sources", "libbw_exports.a"]
+    same(sorted(os.listdir(f"{copy.top}/crates/bw_exports/out")), made, "what is in out/")
 
 
 def library_where_needed(copy):
@@ -685,9 +686,8 @@ def items(text, head):
 
 
 def man_page_agrees(program):
-    """The library has the version of the program, and the man page has the options with their ranges and defaults, the subcommands, the script's commands and the statuses of the help."""
+    """The man page has the options with their ranges and defaults, the subcommands, the script's commands and the statuses of the help."""
     page = share("arbiter.1")
-    same(re.search(r"^Version: (.*)$", share("arbiter.pc"), re.M).group(1), native.run([program, "--version"], b"", SECONDS).stdout.decode().split()[1], "version")
     same(re.search(r"^\.Nd (.*)$", page, re.M).group(1).lower(), helped(program).split("\n")[0].lower(), "what the program is")
     valued = {long: row for long, row in options(program, "run").items() if row[1]}
     listed = items(page, "Fl")
@@ -707,6 +707,13 @@ def man_page_agrees(program):
     same(set(listed), set(statuses), "exit statuses")
     for number, what in statuses.items():
         holds(what.lower(), listed[number].lower(), f"exit status {number}")
+
+
+def library_has_the_version(program):
+    """The library has the version of the program."""
+    version = native.run([program, "--version"], b"", SECONDS).stdout.decode().split()[1]
+    same(re.search(r"^Version: (.*)$", share("arbiter.pc"), re.M).group(1), version, "the version in arbiter.pc")
+    same(re.search(r'^version = "(\d+)\.0\.0"$', share("rust/Cargo.toml"), re.M).group(1), version, "the version of the Rust crate")
 
 
 def man_page_examples(program):
@@ -819,7 +826,8 @@ OF_COPIES = [passes_all_through, runs_without_the_kit, tells_the_first_run, sees
              sees_an_edit_in_disguise, reads_once, sees_the_kit, needs_program_and_stamp, runs_at_once, builds_where_needed, takes_no_wrong_program,
              test_notes_its_program, reads_its_words, installs, library_is_linked, library_where_needed, no_wrong_library, tells_where_it_cannot,
              installs_whole_or_not]
-OF_PROGRAM = [help_is_read, man_page_agrees, man_page_examples, man_page_is_clean, bash_completes, zsh_completes, fish_completes, installed_program_runs]
+OF_PROGRAM = [help_is_read, man_page_agrees, library_has_the_version, man_page_examples, man_page_is_clean, bash_completes,
+              zsh_completes, fish_completes, installed_program_runs]
 
 
 def checked(check, program):

@@ -396,7 +396,8 @@ def example_in_rust(_, __):
     example("rust", "cargo", "rustc", "pkg-config")
 
 
-CHECKS = [from_c, from_rust, example_in_c, example_in_python, example_in_rust, worked, refused, wrong_lengths, uneven_levels, keeps_on_refusal, wrong_claims, texts, names, random_trees, greatest_tree, out_of_range]
+CHECKS = [from_c, from_rust, example_in_c, example_in_python, example_in_rust, worked, refused, wrong_lengths, uneven_levels,
+          keeps_on_refusal, wrong_claims, texts, names, random_trees, greatest_tree, out_of_range]
 
 
 def checked(check, library, program):
