@@ -16,7 +16,7 @@
  * processors * (period_us / slice_us). These four columns, and each column of an answer, are of one length; each answers 50
  * where they are not.
  *
- * Answers: 0, or
+ * Answers of all calls but arbiter_name: 0, or
  *   1 to 3    the host is refused (BadProcessors, BadPeriod, BadSlice)
  *   4 to 10   the rows are (TooMany, BadParent, BadWeight, TooDeep, InnerDemand, DemandTooLarge, RootLimited)
  *   40 to 43  the text is (BadLine, BadField, CutShort, Trailing)
@@ -24,8 +24,8 @@
  *   51 to 58  the amounts are not the plan by this certificate
  *   71        memory was refused (OutOfMemory)
  * The first that applies in this order is answered, but 50 for the columns before the others, and 71 at any time.
- * docs/NUMBERS.md says what to do about each. Where a call does not answer 0, all that it may write is as it was, but for
- * `row`, as said below.
+ * arbiter_name gives the name of each, and docs/NUMBERS.md says what to do about it. Where a call does not answer 0, all that
+ * it may write is as it was, but for `row`, as said below.
  */
 #ifndef ARBITER_H
 #define ARBITER_H
@@ -39,6 +39,8 @@ extern "C" {
 
 #define ARBITER_NO_PARENT UINT32_MAX
 #define ARBITER_NO_LIMIT UINT64_MAX
+/* Room for each name and the 0 behind it. */
+#define ARBITER_NAME_ROOM 17
 
 /* Writes the plan to `amounts`. */
 uint32_t arbiter_plan(uint64_t processors, uint64_t period_us, uint64_t slice_us,
@@ -74,6 +76,10 @@ uint32_t arbiter_limiting(uint64_t processors, uint64_t period_us, uint64_t slic
                           const uint32_t *parents, size_t parents_length, const uint64_t *weights, size_t weights_length,
                           const uint64_t *limits, size_t limits_length, const uint64_t *demands, size_t demands_length,
                           uint32_t *groups, size_t groups_length, uint32_t *count, uint64_t *rest);
+
+/* How many characters the name of a fault's number has, 0 where the number is no fault's. The name is written to the front of
+ * `name` with a 0 behind it where there is room for both; else, and where the answer is 0, `name` is as it was. */
+uint32_t arbiter_name(uint32_t number, char *name, size_t name_length);
 
 #ifdef __cplusplus
 }

@@ -30,6 +30,8 @@ FENCE = re.compile(r"^```(\S*) ?(.*)$")
 KINDS = ("script", "certified", "command", "python")
 # pages of docs/ that must hold something to run, so that a page that loses all its blocks is seen
 PAGES = ("USING.md", "CERTIFIED.md", "DRIVING.md", "NODE.md", "TOOLS.md")
+# its examples are run by tests/library.py
+EMBEDDING = "EMBEDDING.md"
 
 
 class Block:
@@ -254,7 +256,7 @@ def numbers_are_on_pages():
     """A number that another page names has the name that the table gives it."""
     names = {row[0]: row[1] for row in in_the_table()}
     known, wrong = set(names.values()), []
-    for page in PAGES:
+    for page in (*PAGES, EMBEDDING):
         with open(f"{TOP}/docs/{page}", encoding="utf-8") as file:
             text = file.read()
         for number, name in re.findall(r"\b(\d+) ([A-Z][a-z]+(?:[A-Z][a-z]+)+)\b", text):
@@ -266,7 +268,7 @@ def numbers_are_on_pages():
 def links_stand():
     """Each page that a page points to is there."""
     wrong = []
-    for page in (*PAGES, "NUMBERS.md"):
+    for page in (*PAGES, EMBEDDING, "NUMBERS.md"):
         with open(f"{TOP}/docs/{page}", encoding="utf-8") as file:
             for target in re.findall(r"\]\(([^)#]+)\)", file.read()):
                 if not os.path.exists(f"{TOP}/docs/{target}"):

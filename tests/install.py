@@ -26,8 +26,14 @@ COMMANDS = "bash cat chmod cmp cp env find grep mkdir mktemp mv readlink rm rmdi
 COPIED = ("arbiter", "build", "test", "crates.txt", "HANDLES", "tests/lib.sh")
 OUT = "crates/arbiter/out"
 PROGRAM, STAMP, TIMES = f"{OUT}/arbiter", f"{OUT}/arbiter.sources", f"{OUT}/arbiter.times"
+LIBRARY = "crates/bw_exports/out/libarbiter"
+PROVED, LIBRARY_PROVED = "rt run -- --help", "rt lib"
 INSTALLED = {
     "bin/arbiter": (PROGRAM, 0o755),
+    "lib/libarbiter.so": (f"{LIBRARY}.so", 0o755),
+    "lib/libarbiter.a": (f"{LIBRARY}.a", 0o644),
+    "lib/pkgconfig/arbiter.pc": ("share/arbiter.pc", 0o644),
+    "include/arbiter.h": ("share/arbiter.h", 0o644),
     "share/man/man1/arbiter.1": ("share/arbiter.1", 0o644),
     "share/bash-completion/completions/arbiter": ("share/completions/arbiter.bash", 0o644),
     "share/zsh/site-functions/_arbiter": ("share/completions/_arbiter", 0o644),
@@ -43,7 +49,24 @@ case $1 in
   version) cat "$top/version" ;;
   try) echo "checked: $*"; echo "run=ended status=5" >&2; exit 5 ;;
   run) . "$top/while"; mkdir -p out && cp "$top/made" out/made && chmod 755 out/made && mv -f out/made out/arbiter ;;
+  lib) . "$top/while"; mkdir -p out && echo archive >out/libbw_exports.a ;;
 esac
+"""
+# these link nothing, and write what they were given
+KIT_AR = """#!/bin/sh
+[ "$1" = qcL ] && [ ! -e "$2" ] || exit 1
+made=$2
+shift 2
+cat "$@" >"$made"
+"""
+KIT_CLANG = """#!/bin/sh
+for word; do
+  [ "$before" = -o ] && made=$word
+  before=$word
+done
+. "${0%/*}/while"
+echo "linked: $*" >"$made"
+chmod 755 "$made"
 """
 
 
@@ -86,10 +109,10 @@ class Copy:
         for name in COMMANDS:
             os.symlink(shutil.which(name), f"{self.bin}/{name}")
         self.counted("sha256sum")
-        for name, text in (("bin/rt", KIT), ("KIT-ID", "kit 1\n"), ("version", "kit 1\n"), ("while", ""), ("made", NATIVE)):
-            os.makedirs(os.path.dirname(f"{self.kit}/{name}"), exist_ok=True)
+        for name, text in (("bin/rt", KIT), ("toolchain/bin/clang", KIT_CLANG), ("toolchain/bin/llvm-ar", KIT_AR), ("toolchain/bin/while", ""),
+                           ("c/liblibc_c.a", "run time\n"), ("KIT-ID", "kit 1\n"), ("version", "kit 1\n"), ("while", ""), ("made", NATIVE)):
             self.write(f"../kit/{name}", text)
-        os.chmod(f"{self.kit}/bin/rt", 0o755)
+            os.chmod(f"{self.kit}/{name}", 0o755 if "bin/" in name else 0o644)
         self.rt_there(True)
 
     @staticmethod
@@ -139,6 +162,17 @@ class Copy:
         same(status, 0, f"./build: {err}")
         self.log()
         return out
+
+    def proved(self):
+        """What was proved since the last look."""
+        return [line for line in self.log() if line in (PROVED, LIBRARY_PROVED)]
+
+    def installs(self, folder, what, wanted=()):
+        """An installation, and what it has to prove first."""
+        self.log()
+        status, out, err = self.call(["./build", "--install", folder])
+        same((status, self.proved()), (0, list(wanted)), f"{what}: {err}")
+        return out, err
 
     def runs(self):
         """Which program ./arbiter runs."""
@@ -434,6 +468,8 @@ def test_notes_its_program(copy):
         status, out, err = copy.call(["./test"])
         same((status, out.split("\n")[-2]), (0, f"{5 + len(files)} passed, 0 failed"), f"./test: {err}")
         same(copy.runs(), runs, "after ./test")
+        same(copy.proved(), [LIBRARY_PROVED], "what ./test proves after the gate")
+        copy.installs(f"{copy.folder}/there", "after ./test", [] if runs == "native" else [PROVED])
 
 
 def reads_its_words(copy):
@@ -443,6 +479,8 @@ def reads_its_words(copy):
     same(copy.call(["./build", "-h"])[1], out, "-h")
     for part in ("--install DIR", "DIR/bin/arbiter", *(f"\n  {place}\n" for place in INSTALLED)):
         holds(part, out, "--help")
+    with open(f"{TOP}/docs/BUILDING.md", encoding="utf-8") as file:
+        same(set(re.findall(r"^    DIR/(\S+)$", file.read(), re.M)), set(INSTALLED), "what docs/BUILDING.md lists")
     no_folder = [(words, "needs a folder") for words in (["--install"], ["--install", ""], ["--install="])]
     for words, part in ((["--frob"], "'--frob'"), (["dir"], "'dir'"), *no_folder):
         status, out, err = copy.call(["./build", *words])
@@ -479,7 +517,7 @@ def installs(copy):
     folder = f"{copy.folder}/from here/to a/new place"
     for place in INSTALLED:
         holds(f"build: installed {folder}/{place}\n", out, "standard output")
-    same(copy.log().count("rt run -- --help"), 1, "builds")
+    same(copy.proved(), [PROVED, LIBRARY_PROVED], "what was proved")
     is_installed(copy, folder)
     copy.rt_there(False)
     copy.write("precious", "precious\n")
@@ -492,6 +530,57 @@ def installs(copy):
     is_installed(copy, folder)
     same(copy.read("precious"), "precious\n", "what a link pointed to")
     same(native.run([f"{folder}/bin/arbiter", "a"], b"", SECONDS, env={}, cwd="/").stdout, b"native: a\n", "the installed program by itself")
+
+
+def library_is_linked(copy):
+    """The two libraries are linked from the proved archive and what the kit's code needs, the shared one with its name; its proof is told before."""
+    _, err = copy.installs("there", "a first installation", [PROVED, LIBRARY_PROVED])
+    holds(f"build: proving and linking {LIBRARY}.so; from nothing this proves eight crates, five to eight minutes", err, "standard error")
+    same(copy.read(f"{LIBRARY}.a"), "archive\nrun time\n", "the static library")
+    for part in (" -shared ", " -Wl,-soname,libarbiter.so ", " -Wl,--whole-archive crates/bw_exports/out/libbw_exports.a ", "/c/liblibc_c.a "):
+        holds(part, copy.read(f"{LIBRARY}.so"), "how the shared library is linked")
+    made = ["libarbiter.a", "libarbiter.so", "libarbiter.sources", "libbw_exports.a"]
+    same(sorted(os.listdir(f"{copy.top}/crates/bw_exports/out")), made, "what is in out/")
+
+
+def library_where_needed(copy):
+    """The C library is made for an installation alone, and again where its own sources, or the files themselves, are others."""
+    copy.build()
+    same(copy.there(f"{LIBRARY}.so"), False, "a library without an installation")
+    out, _ = copy.installs("there", "a first installation", [LIBRARY_PROVED])
+    holds(f"build: {PROGRAM} is current\nbuild: {LIBRARY}.so, in ", out, "a first installation")
+    out, err = copy.installs("there", "a second one")
+    holds(f"build: {PROGRAM} is current\nbuild: {LIBRARY}.so is current\n", out, "a second one")
+    same(err, "", "a second one")
+    for crate, wanted in (("bw_exports", [LIBRARY_PROVED]), ("bw_shell", [PROVED]), ("bw_plan", [PROVED, LIBRARY_PROVED]), ("bw_tests", [])):
+        copy.write(copy.sources(crate)[0], "edited\n")
+        copy.installs("there", f"after an edit of {crate}", wanted)
+        copy.installs("there", f"again, after an edit of {crate}")
+    copy.write(f"{LIBRARY}.a", "another\n")
+    copy.installs("there", "another static library", [LIBRARY_PROVED])
+    os.remove(f"{copy.top}/{LIBRARY}.so")
+    copy.installs("there", "no shared library", [LIBRARY_PROVED])
+    is_installed(copy, f"{copy.top}/there")
+
+
+def no_wrong_library(copy):
+    """Where the library's proof or its linking fails, or sources are changed meanwhile, nothing is installed; without the kit neither."""
+    copy.build()
+    path = copy.sources("bw_check")[1]
+    for hook, during, part in (("while", "echo it is wrong >&2; exit 1\n", "it is wrong\nbuild: not built\n"),
+                               ("toolchain/bin/while", "echo no room >&2; exit 1\n", "no room\nbuild: not built\n"),
+                               ("while", f"echo late >>{copy.top}/{path}\n", f"{LIBRARY}.so is not taken as current: sources were changed while it was made")):
+        copy.write(f"../kit/{hook}", during)
+        status, _, err = copy.call(["./build", "--install", "there"])
+        same((status, copy.there("there")), (1, False), part)
+        holds(part, err, part)
+        same([place for place in files_below(f"{copy.top}/crates/bw_exports") if "/link" in place], [], f"left in out/: {part}")
+        copy.write(f"../kit/{hook}", "")
+    copy.build()
+    copy.rt_there(False)
+    status, _, err = copy.call(["./build", "--install", "there"])
+    same((status, copy.there("there")), (2, False), "without the kit")
+    holds("build: the command rt of the Rattle kit is not on the PATH", err, "without the kit")
 
 
 def tells_where_it_cannot(copy):
@@ -509,17 +598,20 @@ def tells_where_it_cannot(copy):
             same(status, 1, place)
             same("installed" in out, False, f"{place}: {out}")
             holds(f"build: not installed in {place}\n", err, place)
-            same(copy.log().count("rt run -- --help"), 0, f"builds before {place}")
+            same(copy.proved(), [], f"what was proved before {place}")
     same(copy.read("file"), "precious\n", "the file in the way")
 
 
 def installs_whole_or_not(copy):
     """Where a copy is cut short, or a folder stands where a file belongs, the old files stay as they were and no other is there."""
-    copy.build()
-    copy.settle()
     folder = f"{copy.folder}/there"
+    copy.installs(f"{copy.folder}/elsewhere", "a first installation", [PROVED, LIBRARY_PROVED])
+    copy.settle()
+    # times that are remembered here are not written below, where a file may not grow
+    copy.installs(f"{copy.folder}/elsewhere", "a second one")
     cut = ["bash", "-c", f"ulimit -f 2; exec ./build --install {folder}"]
-    same(os.path.getsize(f"{copy.top}/share/arbiter.1") > 2048 > os.path.getsize(f"{copy.top}/{PROGRAM}"), True, "the man page alone is cut")
+    made = max(os.path.getsize(f"{copy.top}/{name}") for name in (PROGRAM, f"{LIBRARY}.so", f"{LIBRARY}.a"))
+    same(os.path.getsize(f"{copy.top}/share/arbiter.1") > 2048 > made, True, "the man page is cut, and nothing that was made")
     status, _, err = copy.call(cut)
     same(status, 1, "a copy that is cut short")
     holds(f"build: not installed in {folder}\n", err, "a copy that is cut short")
@@ -615,6 +707,13 @@ def man_page_agrees(program):
     same(set(listed), set(statuses), "exit statuses")
     for number, what in statuses.items():
         holds(what.lower(), listed[number].lower(), f"exit status {number}")
+
+
+def library_has_the_version(program):
+    """The library has the version of the program."""
+    version = native.run([program, "--version"], b"", SECONDS).stdout.decode().split()[1]
+    same(re.search(r"^Version: (.*)$", share("arbiter.pc"), re.M).group(1), version, "the version in arbiter.pc")
+    same(re.search(r'^version = "(\d+)\.0\.0"$', share("rust/Cargo.toml"), re.M).group(1), version, "the version of the Rust crate")
 
 
 def man_page_examples(program):
@@ -725,8 +824,10 @@ def installed_program_runs(program):
 
 OF_COPIES = [passes_all_through, runs_without_the_kit, tells_the_first_run, sees_every_source, leaves_other_crates_out, sees_the_lists, sees_files_come_and_go,
              sees_an_edit_in_disguise, reads_once, sees_the_kit, needs_program_and_stamp, runs_at_once, builds_where_needed, takes_no_wrong_program,
-             test_notes_its_program, reads_its_words, installs, tells_where_it_cannot, installs_whole_or_not]
-OF_PROGRAM = [help_is_read, man_page_agrees, man_page_examples, man_page_is_clean, bash_completes, zsh_completes, fish_completes, installed_program_runs]
+             test_notes_its_program, reads_its_words, installs, library_is_linked, library_where_needed, no_wrong_library, tells_where_it_cannot,
+             installs_whole_or_not]
+OF_PROGRAM = [help_is_read, man_page_agrees, library_has_the_version, man_page_examples, man_page_is_clean, bash_completes,
+              zsh_completes, fish_completes, installed_program_runs]
 
 
 def checked(check, program):

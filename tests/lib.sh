@@ -1,11 +1,30 @@
-# Shared by ./arbiter, ./build and ./test: where the toolchain and the native program are, and whether that is current.
-# Paths are relative to the top of the repository, where these functions are called.
+# Shared by ./arbiter, ./build and ./test: where the toolchain, the native program and the C library are, and whether these
+# are current. Paths are relative to the top of the repository, where these functions are called.
 
 program=crates/arbiter/out/arbiter
-# What the program was made from: the kit's line, a hash of the sources, a hash of the program itself.
-stamp=crates/arbiter/out/arbiter.sources
-# Sizes and times of all files of which the stamp is known to be true, so that they need not be read again.
-times=crates/arbiter/out/arbiter.times
+# the C library, .so and .a
+library=crates/bw_exports/out/libarbiter
+
+# Each of these two says what the functions below speak of. Sets `crate`, and `made`, what is made of it and of all crates
+# below it, a file first that can be run or loaded.
+of_program() {
+  crate=arbiter made=("$program")
+  of_stamp "$program"
+}
+
+of_library() {
+  crate=bw_exports made=("$library.so" "$library.a")
+  of_stamp "$library"
+}
+
+of_stamp() {
+  # What it was made from: the kit's line, a hash of the sources, a hash of what was made.
+  stamp=$1.sources
+  # Sizes and times of all files of which the stamp is known to be true, so that they need not be read again.
+  times=$1.times
+}
+
+of_program
 
 need_rt() {
   command -v rt >/dev/null 2>&1 && return 0
@@ -14,7 +33,7 @@ need_rt() {
 }
 
 # Sets `kit` to the line that `rt version` prints. It is read from the kit itself, whose command takes longer than all
-# else here. Where no rt is on the PATH it is the line of the stamp: the program is of that kit, and no other is there.
+# else here. Where no rt is on the PATH it is the line of the stamp: what was made is of that kit, and no other is there.
 find_kit() {
   local rt id
   kit=''
@@ -28,12 +47,12 @@ find_kit() {
   fi
 }
 
-# Sets `crate_lines` to the lines of crates.txt of the program and of all crates below it, and `folders` to where their
-# sources lie. The crates of tests and plan_bench stand above or beside it and are no part of it.
+# Sets `crate_lines` to the lines of crates.txt of the crate and of all crates below it, and `folders` to where their
+# sources lie. What stands above or beside it, as the crates of tests and plan_bench, is no part of it.
 find_crates() {
-  local -A line_of=() seen=([arbiter]=yes)
+  local -A line_of=() seen=(["$crate"]=yes)
   local all line name part at
-  local crates=(arbiter)
+  local crates=("$crate")
   crate_lines=() folders=()
   mapfile -t all <crates.txt
   for line in "${all[@]}"; do
@@ -54,7 +73,7 @@ find_crates() {
   done
 }
 
-# Two lines: the kit's, and a hash of every source that the program is built from. It fails where a file cannot be read.
+# Two lines: the kit's, and a hash of every source that it is built from. It fails where a file cannot be read.
 sources_now() (
   set -o pipefail
   find_kit
@@ -67,18 +86,20 @@ sources_now() (
   } | sha256sum
 )
 
-# Those lines and a hash of the program: the stamp, where that is true.
-stamp_now() {
-  sources_now && sha256sum <"$program"
-}
+# Those lines and a hash of what was made: the stamp, where that is true.
+stamp_now() (
+  set -o pipefail
+  sources_now && cat -- "${made[@]}" | sha256sum
+)
 
 # Name, size, time of the last write, time of the last change and inode number of each file that the stamp speaks of, and
 # of the stamp; `fresh` after those that were changed less than two seconds ago. The order is that of the folders: where
 # it is another one the next time, the files are read once more.
 times_now() {
+  local file named=(-name '*.antt' -o -name '*.rt')
   find_crates
-  find -L "$program" "$stamp" crates.txt HANDLES "${folders[@]}" -type f \
-    \( -name '*.antt' -o -name '*.rt' -o -path "$program" -o -path "$stamp" -o -path crates.txt -o -path HANDLES \) \
+  for file in "${made[@]}" "$stamp" crates.txt HANDLES; do named+=(-o -path "$file"); done
+  find -L "${made[@]}" "$stamp" crates.txt HANDLES "${folders[@]}" -type f \( "${named[@]}" \) \
     -printf '%p %s %T@ %C@ %i' \( -newerct '2 seconds ago' -printf ' fresh' -o -true \) -printf '\n' 2>/dev/null
 }
 
@@ -91,7 +112,7 @@ replace() { # FILE TEXT
   return 1
 }
 
-# Whether the native program is there and made from the sources and by the kit that are here.
+# Whether what is spoken of is there and made from the sources and by the kit that are here.
 #
 # The files are read only where the times differ from those of the last time that the stamp was found true. What could go
 # unseen is a change that leaves names, sizes, inode numbers and times as they were. The time of the last write can be set
@@ -102,10 +123,10 @@ replace() { # FILE TEXT
 # a file's last change; a write past the file system, to the disk below; a writer that has mapped the file into memory and
 # writes again to a page before the system has written that out; a file system that keeps no such times, or shows those of
 # another machine late. No editor, git, copy or compiler does such a thing by itself, and where one is feared,
-# `rm crates/arbiter/out/arbiter.times` has all files read again.
+# `rm crates/*/out/*.times` has all files read again.
 is_current() {
   local stamped_kit now found
-  [ -x "$program" ] && [ -f "$stamp" ] || return 1
+  [ -x "${made[0]}" ] && [ -f "$stamp" ] || return 1
   find_kit
   read -r stamped_kit <"$stamp"
   [ -n "$kit" ] && [ "$kit" = "$stamped_kit" ] || return 1
@@ -118,17 +139,31 @@ is_current() {
   return 0
 }
 
-# Forgets the native program's stamp, before that is made anew.
+# Forgets the stamp, before what it speaks of is made anew.
 forget_stamp() {
   rm -f "$stamp" "$times"
 }
 
-# Writes the stamp of a program that was just made from these sources, unless they were changed meanwhile.
+# Writes the stamp of what was just made from these sources, unless they were changed meanwhile.
 write_stamp() { # SOURCES, the lines of sources_now before it was made
   local now
   if [ -z "$1" ] || ! now=$(sources_now) || [ "$now" != "$1" ]; then
-    echo "$program is not taken as current: sources were changed while it was made, or cannot be read" >&2
+    echo "${made[0]} is not taken as current: sources were changed while it was made, or cannot be read" >&2
     return 1
   fi
   now=$(stamp_now) && replace "$stamp" "$now"
+}
+
+# Proves the C library's crate, and links from its archive the two libraries, with what the kit's code in C needs at run time.
+make_library() {
+  local rt runtime folder archive=crates/bw_exports/out/libbw_exports.a
+  rt=$(readlink -f "$(command -v rt)")
+  runtime=${rt%/*/*}/c/liblibc_c.a
+  (cd crates/bw_exports && rt lib </dev/null) && folder=$(mktemp -d crates/bw_exports/out/link.XXXXXX) || return 1
+  "${rt%/*/*}/toolchain/bin/llvm-ar" qcL "$folder/libarbiter.a" "$archive" "$runtime" &&
+    "${rt%/*/*}/toolchain/bin/clang" -shared -fuse-ld=lld -Wl,-soname,libarbiter.so -o "$folder/libarbiter.so" \
+      -Wl,--whole-archive "$archive" -Wl,--no-whole-archive "$runtime" "-Wl,--exclude-libs,${runtime##*/}" &&
+    mv -f "$folder/libarbiter.so" "$folder/libarbiter.a" "${library%/*}" && rmdir "$folder" && return 0
+  rm -rf "$folder"
+  return 1
 }

@@ -1,6 +1,13 @@
 /* Calls the C library as a C program does: 0 where each answer is the one that is known. */
 #include "../share/arbiter.h"
 
+static int is_same(const char *one, const char *other)
+{
+    while (*one && *one == *other)
+        one++, other++;
+    return *one == *other;
+}
+
 int main(void)
 {
     const uint32_t parents[3] = {ARBITER_NO_PARENT, 0, 0};
@@ -10,6 +17,7 @@ int main(void)
     uint64_t amounts[3] = {1, 1, 1}, nums[3], dens[3], rest = 1;
     uint8_t flags[3];
     uint32_t places[3], groups[3], count = 9, row = 9;
+    char name[ARBITER_NAME_ROOM] = "as it was";
 
     if (arbiter_plan(0, 100000, 5000, parents, 3, weights, 3, limits, 3, demands, 3, amounts, 3) != 1 || amounts[0] != 1)
         return 1;
@@ -34,5 +42,11 @@ int main(void)
         return 9;
     if (arbiter_check_text((const uint8_t *)"bw 1 1 100000 5000 1\n- 100 max 0 0 0 -\n", 39, &row) != 0)
         return 10;
+    if (arbiter_name(0, name, sizeof name) != 0 || arbiter_name(57, name, 13) != 13 || !is_same(name, "as it was"))
+        return 11;
+    if (arbiter_name(57, name, 14) != 13 || !is_same(name, "LastMarkAbove"))
+        return 12;
+    if (arbiter_name(58, name, sizeof name) != 16 || !is_same(name, "NextMarkNotAbove"))
+        return 13;
     return 0;
 }

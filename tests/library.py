@@ -1,16 +1,19 @@
 #!/usr/bin/env python3
-"""The C library, called from Python through tools/arbiter.py, against the program's own answers.
+"""The C library, called from Python through tools/arbiter.py, from C and from Rust, against the program's own answers.
 
-The shared library is linked into a temporary folder from crates/bw_exports/out/libbw_exports.a, which `rt lib` makes.
-The first word is the native program, else the one that ./build made. It ends with 'N passed, M failed'.
+The library is the one that ./build --install DIR or ./test made. The first word is the native program, else the one that
+./build made. It ends with 'N passed, M failed'; what the machine cannot try is told as left out, and is in neither number.
 """
 import ctypes
+import os
 import random
 import re
+import shutil
 import subprocess
 import sys
 import tempfile
 
+import documents
 import native
 
 sys.path.insert(0, f"{native.TOP}/tools")
@@ -20,6 +23,9 @@ SECONDS = 120
 SEED = 20260730
 HOST_OF_ONE = arbiter.Host(1, 100000, 5000)
 LEVEL = re.compile(r"(\d+)/(\d+)@(\d+)\Z")
+# the numbers that share/arbiter.h lists, with the names of docs/NUMBERS.md
+NUMBERS = {*range(1, 11), *range(40, 44), *range(50, 59), 71}
+NAMES = {row[0]: row[1] for row in documents.in_the_table() if row[0] in NUMBERS}
 WORKED = {
     "the root alone": (HOST_OF_ONE, [(None, 100, None, 0)], [0]),
     "two groups": (HOST_OF_ONE, [(None, 100, None, 0), (0, 100, None, 20), (0, 200, None, 20)], [20, 7, 13]),
@@ -52,6 +58,10 @@ def rows_of(tuples):
     return [arbiter.Row(*each) for each in tuples]
 
 
+class LeftOut(Exception):
+    """Why a case cannot be tried on this machine; it counts neither as passed nor as failed."""
+
+
 def same(found, wanted, what):
     if found != wanted:
         raise AssertionError(f"{what}: {str(found)[:200]} and not {str(wanted)[:200]}")
@@ -62,6 +72,7 @@ def number_of(call, *words):
     try:
         call(*words)
     except arbiter.Refused as refused:
+        same(refused.name, NAMES[refused.number], f"the name of {refused.number}")
         return refused.number, refused.row
     return 0, None
 
@@ -228,7 +239,7 @@ def wrong_claims(library, program):
                 line[4:] = [str(other[g]), str(int(other_flags[g])), "-" if level is None else f"{level[0]}/{level[1]}@{level[2]}"]
             forged = "".join(" ".join(line) + "\n" for line in words).encode()
             same(number_of(library.check_text, forged), (number, row), f"text {number}")
-            same(native.run([program, "check"], forged, SECONDS).stdout.decode(), f"refused {number} {arbiter.NAMES[number]} {row}\n", f"the program, {number}")
+            same(native.run([program, "check"], forged, SECONDS).stdout.decode(), f"refused {number} {NAMES[number]} {row}\n", f"the program, {number}")
 
 
 def texts(library, program):
@@ -239,9 +250,24 @@ def texts(library, program):
     others += [text[:at] + b"9" + text[at + 1:] for at in range(0, len(text), 5)]
     for each in others:
         number, row = number_of(library.check_text, each)
-        name = arbiter.NAMES.get(number)
+        name = NAMES.get(number)
         line = "accepted" if number == 0 else f"error {number} {name}" if row is None else f"refused {number} {name} {row}"
         same(line, native.run([program, "check"], each, SECONDS).stdout.decode().strip(), f"text {each[:60]}")
+
+
+def names(library, _):
+    """The name of each number of the header, and of no other; with room for it and the 0 behind it or nothing written."""
+    same(set(NAMES), NUMBERS, "numbers in docs/NUMBERS.md")
+    same(arbiter.NAME_ROOM, 1 + max(map(len, NAMES.values())), "room for each name")
+    for number in [*range(1000), *(2**bits + low for bits in range(10, 32) for low in (0, 1, 71)), 2**32 - 1]:
+        same(library.name(number), NAMES.get(number), f"the name of {number}")
+    for number in (0, 1, 39, 54, 59, 71, 2**32 - 1):
+        text = NAMES.get(number, "").encode()
+        for length in range(arbiter.NAME_ROOM + 2):
+            room = ctypes.create_string_buffer(b"~" * 32, 32)
+            same(library.calls.arbiter_name(arbiter.U32(number), room, arbiter.SIZE(length)), len(text), f"length of the name of {number}")
+            front = text + b"\0" if text and len(text) < length else b""
+            same(room.raw, front + b"~" * (32 - len(front)), f"the name of {number} in {length} bytes")
 
 
 def greatest_tree(library, program):
@@ -267,47 +293,131 @@ def out_of_range(library, _):
         raise AssertionError(f"{row} was taken")
 
 
+def kit_clang():
+    """The clang of the Rattle kit."""
+    if not shutil.which("rt"):
+        raise FileNotFoundError("the command rt of the Rattle kit is not on the PATH")
+    return os.path.join(os.path.dirname(os.path.realpath(shutil.which("rt"))), "../toolchain/bin/clang")
+
+
 def from_c(_, __):
-    """The C programs with the header, linked to the archive by the kit's clang, which has no headers of its own."""
-    clang, runtime = arbiter.kit_files()
+    """The C programs with the header, linked to the static library by the kit's clang, which has no headers of its own."""
     with tempfile.TemporaryDirectory() as folder:
         with open(f"{folder}/stddef.h", "w", encoding="ascii") as file:
             file.write("typedef __SIZE_TYPE__ size_t;\n")
         with open(f"{folder}/stdint.h", "w", encoding="ascii") as file:
             for bits in (8, 32, 64):
                 file.write(f"typedef __UINT{bits}_TYPE__ uint{bits}_t;\n#define UINT{bits}_MAX __UINT{bits}_MAX__\n")
-        words = [clang, "-std=c11", "-Wall", "-Wextra", "-Wpedantic", "-Werror", "-fuse-ld=lld", f"-I{folder}"]
+        words = [kit_clang(), "-std=c11", "-Wall", "-Wextra", "-Wpedantic", "-Werror", "-fuse-ld=lld", f"-I{folder}"]
         for name, wrapped in [("library", []), ("library_memory", ["malloc", "realloc", "free"])]:
-            made = ["-o", f"{folder}/{name}", f"{native.TOP}/tests/{name}.c", arbiter.ARCHIVE, runtime, *[f"-Wl,--wrap={each}" for each in wrapped]]
+            made = ["-o", f"{folder}/{name}", f"{native.TOP}/tests/{name}.c", f"{native.library()}.a", *[f"-Wl,--wrap={each}" for each in wrapped]]
             subprocess.run([*words, *made], check=True, timeout=SECONDS)
             same(subprocess.run([f"{folder}/{name}"], check=False, timeout=SECONDS).returncode, 0, f"{name}.c, by the number of its test")
 
 
-CHECKS = [from_c, worked, refused, wrong_lengths, uneven_levels, keeps_on_refusal, wrong_claims, texts, random_trees, greatest_tree, out_of_range]
+RUST_PRINTS = "[20, 7, 13]\nlimited by rows [0], 0 slices outside them\nrefused 57 LastMarkAbove 1\n"
+
+
+def cargo(*words, cwd, **env):
+    """What cargo prints, without a network, what it makes going into the folder."""
+    given = {**os.environ, "ARBITER_LIB": os.path.dirname(native.library()), "CARGO_TARGET_DIR": f"{cwd}/target", **env}
+    ended = native.run(["cargo", *words], b"", SECONDS, cwd=cwd, env=given)
+    same(ended.returncode, 0, f"cargo {words[0]}: {ended.stderr.decode()[-400:]}")
+    return ended.stdout.decode()
+
+
+def from_rust(_, __):
+    """The Rust crate: its tests, those in its page too, and its example's answer."""
+    if not (shutil.which("cargo") and shutil.which("rustc")):
+        raise LeftOut("no cargo and rustc here")
+    with tempfile.TemporaryDirectory() as folder:
+        shutil.copytree(f"{native.TOP}/share/rust", f"{folder}/arbiter", ignore=shutil.ignore_patterns("target", "Cargo.lock"))
+        ran = re.findall(r"^test result: ok. (\d+) passed; 0 failed", cargo("test", "--offline", cwd=f"{folder}/arbiter"), re.M)
+        same([int(each) > 0 for each in ran], [True, True], "tests of the crate and of its page")
+        same(cargo("run", "--offline", "--quiet", "--example", "two_groups", cwd=f"{folder}/arbiter"), RUST_PRINTS, "the example")
+
+
+def installed_below(folder):
+    """What ./build --install puts below lib and include, from its own list."""
+    with open(f"{native.TOP}/build", encoding="utf-8") as file:
+        rows = re.findall(r"^  (\S+) ((?:lib|include)/\S+) \d+$", file.read(), re.M)
+    for source, place in rows:
+        source = source.strip('"').replace("$library", native.library())
+        os.makedirs(os.path.dirname(f"{folder}/{place}"), exist_ok=True)
+        shutil.copy(os.path.join(native.TOP, source), f"{folder}/{place}")
+    same(len(rows), 4, "files of the library")
+
+
+def embedded(language):
+    """The files, the command and the answer of docs/EMBEDDING.md for a language."""
+    files, command = {}, None
+    for _, kind, words, text, _ in documents.fences("EMBEDDING.md"):
+        if kind == "command":
+            command = text
+        elif kind == "answer" and language in {each for each, _ in files.values()}:
+            return {name: body for name, (_, body) in files.items()}, command, text
+        elif kind == "answer":
+            files, command = {}, None
+        elif kind:
+            files[words] = (kind, text)
+    raise ValueError(f"docs/EMBEDDING.md has no example in {language}")
+
+
+def example(language, *needed):
+    """An example of docs/EMBEDDING.md prints what stands below it."""
+    missing = [each for each in needed if not shutil.which(each)]
+    if missing:
+        raise LeftOut(f"no {' and no '.join(missing)} here")
+    files, command, answer = embedded(language)
+    with tempfile.TemporaryDirectory() as folder:
+        installed_below(f"{folder}/installed")
+        for name, text in files.items():
+            os.makedirs(os.path.dirname(f"{folder}/work/{name}"), exist_ok=True)
+            with open(f"{folder}/work/{name}", "w", encoding="utf-8") as file:
+                file.write(text)
+        below = f"{folder}/installed/lib"
+        env = {**os.environ, "DIR": f"{folder}/installed", "REPOSITORY": native.TOP, "PKG_CONFIG_PATH": f"{below}/pkgconfig", "LD_LIBRARY_PATH": below}
+        ended = native.run(["bash", "-e", "-c", command], b"", SECONDS, cwd=f"{folder}/work", env=env)
+    same((ended.returncode, ended.stderr.decode(), ended.stdout.decode()), (0, "", answer), f"the example in {language}")
+
+
+def example_in_c(_, __):
+    """The example in C, with the header that is installed, over the shared library and with the static one."""
+    example("c", "cc", "pkg-config")
+
+
+def example_in_python(_, __):
+    """The example in Python."""
+    example("python", "python3")
+
+
+def example_in_rust(_, __):
+    """The example in Rust."""
+    example("rust", "cargo", "rustc", "pkg-config")
+
+
+CHECKS = [from_c, from_rust, example_in_c, example_in_python, example_in_rust, worked, refused, wrong_lengths, uneven_levels,
+          keeps_on_refusal, wrong_claims, texts, names, random_trees, greatest_tree, out_of_range]
 
 
 def checked(check, library, program):
+    """Whether a check passed, or None where it is left out."""
     try:
         check(library, program)
+    except LeftOut as why:
+        print(f"left out: {check.__name__}: {why}")
+        return None
     except (AssertionError, OSError, ValueError, KeyError, IndexError, StopIteration, arbiter.Refused, subprocess.SubprocessError) as error:
-        return f"{check.__name__}: {error or type(error).__name__}"
-    return None
+        print(f"FAILED: {check.__name__}: {error or type(error).__name__}")
+        return False
+    return True
 
 
 def main():
-    program = native.program(sys.argv[1:])
-    with tempfile.TemporaryDirectory() as folder:
-        try:
-            library = arbiter.Library(arbiter.built(folder))
-        except (OSError, subprocess.SubprocessError) as error:
-            print(f"FAILED: the shared library is not made: {error}")
-            print("0 passed, 1 failed")
-            return 1
-        wrong = [each for each in (checked(check, library, program) for check in CHECKS) if each]
-    for each in wrong:
-        print(f"FAILED: {each}")
-    print(f"{len(CHECKS) - len(wrong)} passed, {len(wrong)} failed")
-    return 1 if wrong else 0
+    program, library = native.program(sys.argv[1:]), arbiter.Library(f"{native.library()}.so")
+    passed = [checked(check, library, program) for check in CHECKS]
+    print(f"{passed.count(True)} passed, {passed.count(False)} failed")
+    return 1 if False in passed else 0
 
 
 if __name__ == "__main__":

@@ -1,10 +1,10 @@
 """The planner and the checker of arbiter as a Python module, over the library that share/arbiter.h describes.
 
     import arbiter
-    library = arbiter.Library("libarbiter.so")     # arbiter.built() makes one from the proved archive
+    library = arbiter.Library("DIR/lib/libarbiter.so")      # ./build --install DIR puts it there
     host = arbiter.Host(processors=1, period_us=100000, slice_us=5000)
     rows = [arbiter.Row(), arbiter.Row(parent=0, demand=20), arbiter.Row(parent=0, weight=200, demand=20)]
-    library.plan(host, rows)                       # [20, 7, 13]
+    library.plan(host, rows)                                # [20, 7, 13]
 
 It needs the standard library alone. The code that plans and checks is proved; this file is not.
 """
@@ -13,25 +13,19 @@ from __future__ import annotations
 import ctypes
 import dataclasses
 import os
-import shutil
-import subprocess
 
 TOP = os.path.dirname(os.path.dirname(os.path.abspath(__file__)))
-ARCHIVE = f"{TOP}/crates/bw_exports/out/libbw_exports.a"
-SONAME = "libarbiter.so"
+BUILT = f"{TOP}/crates/bw_exports/out/libarbiter.so"
 NO_PARENT, NO_LIMIT = 2**32 - 1, 2**64 - 1
 U8, U32, U64, SIZE = ctypes.c_uint8, ctypes.c_uint32, ctypes.c_uint64, ctypes.c_size_t
-NAMES = {1: "BadProcessors", 2: "BadPeriod", 3: "BadSlice", 4: "TooMany", 5: "BadParent", 6: "BadWeight", 7: "TooDeep",
-         8: "InnerDemand", 9: "DemandTooLarge", 10: "RootLimited", 40: "BadLine", 41: "BadField", 42: "CutShort",
-         43: "Trailing", 50: "WrongLength", 51: "OverLimit", 52: "OverDemand", 53: "SumDiffers", 54: "FlagWithoutLimit",
-         55: "NotGreatest", 56: "LevelMissing", 57: "LastMarkAbove", 58: "NextMarkNotAbove", 71: "OutOfMemory"}
+NAME_ROOM = 17
 
 
 class Refused(Exception):
     """What the library answers in place of 0: `number`, `name`, and `row` where a group has the fault."""
 
-    def __init__(self, number, row=None):
-        self.number, self.name, self.row = number, NAMES.get(number, "unknown"), row
+    def __init__(self, number, name, row=None):
+        self.number, self.name, self.row = number, name, row
         super().__init__(f"{number} {self.name}" + ("" if row is None else f" {row}"))
 
 
@@ -62,26 +56,6 @@ class Certificate:
     levels: list
 
 
-def kit_files():
-    """The clang of the Rattle kit, and what its libraries in C need at run time."""
-    rt = shutil.which("rt")
-    if rt is None:
-        raise FileNotFoundError("the command rt of the Rattle kit is not on the PATH")
-    kit = os.path.dirname(os.path.dirname(os.path.realpath(rt)))
-    return f"{kit}/toolchain/bin/clang", f"{kit}/c/liblibc_c.a"
-
-
-def built(folder, archive=ARCHIVE):
-    """Links the shared library into a folder, by the kit's clang, from the archive that `rt lib` makes."""
-    clang, runtime = kit_files()
-    if not os.path.isfile(archive):
-        raise FileNotFoundError(f"{archive} is not there: `rt lib` in crates/bw_exports makes it")
-    made = f"{folder}/{SONAME}"
-    whole = ["-Wl,--whole-archive", archive, "-Wl,--no-whole-archive", runtime, f"-Wl,--exclude-libs,{os.path.basename(runtime)}"]
-    subprocess.run([clang, "-shared", "-fuse-ld=lld", f"-Wl,-soname,{SONAME}", "-o", made, *whole], check=True)
-    return made
-
-
 def in_range(number, bits, what):
     """A number that the column holds: ctypes itself would cut it."""
     if not 0 <= number < 2**bits:
@@ -106,13 +80,22 @@ def given(*columns):
 
 
 class Library:
-    """The calls of one shared library: at a path, else at $ARBITER_LIBRARY, else beside the repository's archive."""
+    """The calls of one shared library: at a path, else at $ARBITER_LIBRARY, else the one that this repository has built."""
 
     def __init__(self, path=None):
-        path = path or os.environ.get("ARBITER_LIBRARY") or f"{os.path.dirname(ARCHIVE)}/{SONAME}"
+        path = path or os.environ.get("ARBITER_LIBRARY") or BUILT
         self.calls = ctypes.CDLL(os.path.abspath(path))
-        for name in ("plan", "certify", "check", "check_text", "limiting"):
+        for name in ("plan", "certify", "check", "check_text", "limiting", "name"):
             getattr(self.calls, f"arbiter_{name}").restype = U32
+
+    def name(self, number):
+        """The name of a number that a call answered, None where it is no fault's."""
+        name = ctypes.create_string_buffer(NAME_ROOM)
+        count = self.calls.arbiter_name(U32(in_range(number, 32, "number")), name, SIZE(len(name)))
+        return name.value.decode() if count else None
+
+    def refused(self, number, row=None):
+        return Refused(number, self.name(number), row)
 
     def asked(self, host, rows):
         """The words with which each call begins."""
@@ -128,7 +111,7 @@ class Library:
         amounts = (U64 * len(rows))()
         number = self.calls.arbiter_plan(*self.asked(host, rows), *given(amounts))
         if number:
-            raise Refused(number)
+            raise self.refused(number)
         return list(amounts)
 
     def certify(self, host, rows):
@@ -137,7 +120,7 @@ class Library:
         amounts, flags, nums, dens, places = (U64 * count)(), (U8 * count)(), (U64 * count)(), (U64 * count)(), (U32 * count)()
         number = self.calls.arbiter_certify(*self.asked(host, rows), *given(amounts, flags, nums, dens, places))
         if number:
-            raise Refused(number)
+            raise self.refused(number)
         levels = [level if level[0] else None for level in zip(nums, dens, places)]
         return list(amounts), Certificate([bool(flag) for flag in flags], levels)
 
@@ -151,19 +134,19 @@ class Library:
         row = U32(NO_PARENT)
         number = self.calls.arbiter_check(*self.asked(host, rows), *claimed, ctypes.byref(row))
         if number:
-            raise Refused(number, None if row.value == NO_PARENT else row.value)
+            raise self.refused(number, None if row.value == NO_PARENT else row.value)
 
     def check_text(self, text):
         """Returns where a certified text, as bytes, holds together; else Refused, with the row of a fault."""
         row = U32(NO_PARENT)
         number = self.calls.arbiter_check_text(*given((U8 * len(text)).from_buffer_copy(text)), ctypes.byref(row))
         if number:
-            raise Refused(number, None if row.value == NO_PARENT else row.value)
+            raise self.refused(number, None if row.value == NO_PARENT else row.value)
 
     def limiting(self, host, rows):
         """The rows of the groups that hold the total down, and the slices that are wanted outside them."""
         groups, count, rest = (U32 * len(rows))(), U32(), U64()
         number = self.calls.arbiter_limiting(*self.asked(host, rows), *given(groups), ctypes.byref(count), ctypes.byref(rest))
         if number:
-            raise Refused(number)
+            raise self.refused(number)
         return list(groups[:count.value]), rest.value

@@ -1,6 +1,7 @@
 -- The files of definitions.
 pub mod Asked
 pub mod Numbers
+pub mod Names
 pub mod Checked
 pub mod Limited
 pub mod Certified

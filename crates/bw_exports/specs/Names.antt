@@ -1,0 +1,41 @@
+-- The names of the numbers that are answered.
+use Rattle.std.specs.Prelude.{◌≡◌, ◌⊎◌, ℕ, nat_lt, suc, List, ◌∷◌, ◌++◌, length, drop, if◌then◌else◌}
+use Rattle.bw_cert.specs.Faults.{cert_fault_number, cert_fault_name}
+use Rattle.bw_check.specs.Faults.{fault_number, fault_name}
+use Rattle.bw_exports.specs.declared.fault.Fault.{Fault}
+use Rattle.bw_exports.specs.declared.fault.Fault.TheVariants.{Asked, Claimed}
+
+-- the number of a fault
+abbrev pub number_of_fault : Fault → ℕ
+number_of_fault (Asked fault) = cert_fault_number fault
+number_of_fault (Claimed fault) = fault_number fault
+
+-- its name
+abbrev pub name_of_fault : Fault → List ℕ
+name_of_fault (Asked fault) = cert_fault_name fault
+name_of_fault (Claimed fault) = fault_name fault
+
+-- no fault has this number
+abbrev pub IsNoFault : ℕ → Type 0
+IsNoFault number = (fault : Fault) → number_of_fault fault ≡ number → ⊥
+
+-- the name at the front, a 0 behind it, and then what stood there; all as it was where there is no room for both
+unfoldable pub with_name : List ℕ → List ℕ → List ℕ
+with_name name before = if nat_lt (length name) (length before) then name ++ (0 ∷ drop (suc (length name)) before) else before
+
+-- what is answered of a fault's number: how long its name is, and the name where there is room for it
+pub record IsNamed (number : ℕ) (before after : List ℕ) (count : ℕ) : Type 0 where
+  pub fault : Fault
+  pub number_is : number_of_fault fault ≡ number
+  pub count_is : count ≡ length (name_of_fault fault)
+  pub after_is : after ≡ with_name (name_of_fault fault) before
+
+-- what is answered of any other: 0, and all is as it was
+pub record IsUnnamed (number : ℕ) (before after : List ℕ) (count : ℕ) : Type 0 where
+  pub none : IsNoFault number
+  pub count_is : count ≡ 0
+  pub after_is : after ≡ before
+
+-- what is answered of a number
+abbrev pub IsNameTold : ℕ → List ℕ → List ℕ → ℕ → Type 0
+IsNameTold number before after count = IsNamed number before after count ⊎ IsUnnamed number before after count

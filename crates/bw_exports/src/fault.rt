@@ -1,0 +1,62 @@
+//! The faults whose numbers are answered, and their names.
+ghost use Rattle.std.specs.Prelude.{◌≡◌, IfSome, IfNone};
+ghost use Rattle.bw_exports.specs.Names.{number_of_fault, name_of_fault, IsNoFault};
+
+use bw_cert::CertFault;
+use bw_check::CheckFault;
+use bw_model::{HostFault, InstanceFault};
+
+/// A fault of what is asked, or of what is claimed of it.
+#[derive(Clone, Copy, Debug, PartialEq, Eq)]
+pub(crate) enum Fault {
+    /// 1 to 10, 40 to 43 and 71.
+    Asked(CertFault),
+    /// 50 to 58.
+    Claimed(CheckFault),
+}
+
+impl Fault {
+    /// The name that is printed.
+    pub(crate) fn name(self) -> &'static str
+        ensures name { result.now ≡ name_of_fault self }
+    {
+        match self {
+            Fault::Asked(fault) => fault.name(),
+            Fault::Claimed(fault) => fault.name(),
+        }
+    }
+}
+
+/// The fault that has this number, if one has.
+pub(crate) fn fault_of(number: u32) -> Option<Fault>
+    ensures some { IfSome result (λ fault. number_of_fault fault ≡ number) }
+    ensures none { IfNone result (IsNoFault number) }
+{
+    match number {
+        1 => Some(Fault::Asked(CertFault::Host(HostFault::BadProcessors))),
+        2 => Some(Fault::Asked(CertFault::Host(HostFault::BadPeriod))),
+        3 => Some(Fault::Asked(CertFault::Host(HostFault::BadSlice))),
+        4 => Some(Fault::Asked(CertFault::Instance(InstanceFault::TooMany))),
+        5 => Some(Fault::Asked(CertFault::Instance(InstanceFault::BadParent))),
+        6 => Some(Fault::Asked(CertFault::Instance(InstanceFault::BadWeight))),
+        7 => Some(Fault::Asked(CertFault::Instance(InstanceFault::TooDeep))),
+        8 => Some(Fault::Asked(CertFault::Instance(InstanceFault::InnerDemand))),
+        9 => Some(Fault::Asked(CertFault::Instance(InstanceFault::DemandTooLarge))),
+        10 => Some(Fault::Asked(CertFault::Instance(InstanceFault::RootLimited))),
+        40 => Some(Fault::Asked(CertFault::BadLine)),
+        41 => Some(Fault::Asked(CertFault::BadField)),
+        42 => Some(Fault::Asked(CertFault::CutShort)),
+        43 => Some(Fault::Asked(CertFault::Trailing)),
+        50 => Some(Fault::Claimed(CheckFault::WrongLength)),
+        51 => Some(Fault::Claimed(CheckFault::OverLimit)),
+        52 => Some(Fault::Claimed(CheckFault::OverDemand)),
+        53 => Some(Fault::Claimed(CheckFault::SumDiffers)),
+        54 => Some(Fault::Claimed(CheckFault::FlagWithoutLimit)),
+        55 => Some(Fault::Claimed(CheckFault::NotGreatest)),
+        56 => Some(Fault::Claimed(CheckFault::LevelMissing)),
+        57 => Some(Fault::Claimed(CheckFault::LastMarkAbove)),
+        58 => Some(Fault::Claimed(CheckFault::NextMarkNotAbove)),
+        71 => Some(Fault::Asked(CertFault::OutOfMemory)),
+        _ => None,
+    }
+}

@@ -1,0 +1,320 @@
+//! The planner and the checker of arbiter, over the C library that `arbiter.h` describes.
+//!
+//! ```
+//! use arbiter::{plan, Host, Row};
+//! let rows = [Row::ROOT, Row { demand: 20, ..Row::under(0) }, Row { weight: 200, demand: 20, ..Row::under(0) }];
+//! assert_eq!(plan(Host::default(), &rows), Ok(vec![20, 7, 13]));
+//! ```
+//!
+//! The code that plans and checks is proved; these wrappers are not.
+#![warn(missing_docs)]
+
+mod raw;
+
+use raw::Columns;
+use std::fmt;
+
+/// 1 to 64 processors, a period of 1000 to 1000000 microseconds, and a slice of at least 1000 that divides it.
+#[derive(Clone, Copy, Debug, PartialEq, Eq)]
+pub struct Host {
+    /// The processors, 1 to 64.
+    pub processors: u64,
+    /// The period in microseconds.
+    pub period_us: u64,
+    /// A slice in microseconds.
+    pub slice_us: u64,
+}
+
+impl Default for Host {
+    /// One processor, 20 slices of 5000 microseconds in a period.
+    fn default() -> Self {
+        Host {
+            processors: 1,
+            period_us: 100_000,
+            slice_us: 5000,
+        }
+    }
+}
+
+/// A group; each but the root stands after its parent.
+#[derive(Clone, Copy, Debug, PartialEq, Eq)]
+pub struct Row {
+    /// The row of its parent, none at the root, which is row 0.
+    pub parent: Option<u32>,
+    /// Its weight among its siblings, 1 to 10000.
+    pub weight: u64,
+    /// The most slices of one period that it may have. `u64::MAX` is told as one less, which bounds as little.
+    pub limit: Option<u64>,
+    /// The slices of one period that it wants, 0 where it has children.
+    pub demand: u64,
+}
+
+impl Row {
+    /// The root, with weight 100, no limit and no demand.
+    pub const ROOT: Row = Row {
+        parent: None,
+        weight: 100,
+        limit: None,
+        demand: 0,
+    };
+
+    /// A child of a row, with weight 100, no limit and no demand.
+    pub const fn under(parent: u32) -> Row {
+        Row {
+            parent: Some(parent),
+            ..Row::ROOT
+        }
+    }
+}
+
+/// The greatest cost of a child's last slice: `num / den` at `place`.
+#[derive(Clone, Copy, Debug, PartialEq, Eq)]
+pub struct Level {
+    /// Above 0.
+    pub num: u64,
+    /// Above 0.
+    pub den: u64,
+    /// The child's place among its siblings.
+    pub place: u32,
+}
+
+/// What shows that amounts are the plan, one entry in each list for each row.
+#[derive(Clone, Debug, PartialEq, Eq)]
+pub struct Certificate {
+    /// Whether the group's own limit is below what it wants.
+    pub flags: Vec<bool>,
+    /// The level of each group that shares something out.
+    pub levels: Vec<Option<Level>>,
+}
+
+/// What a call answers in place of 0.
+#[derive(Clone, Copy, Debug, PartialEq, Eq)]
+pub struct Fault {
+    /// Its number, as `docs/NUMBERS.md` has it.
+    pub number: u32,
+    /// The row of the group that has it, where one has.
+    pub row: Option<u32>,
+}
+
+impl Fault {
+    /// Its name.
+    pub fn name(self) -> String {
+        name(self.number).unwrap_or_default()
+    }
+}
+
+impl fmt::Display for Fault {
+    fn fmt(&self, into: &mut fmt::Formatter<'_>) -> fmt::Result {
+        write!(into, "{} {}", self.number, self.name())?;
+        self.row.map_or(Ok(()), |row| write!(into, " {row}"))
+    }
+}
+
+impl std::error::Error for Fault {}
+
+fn answered(number: u32, row: Option<u32>) -> Result<(), Fault> {
+    match number {
+        0 => Ok(()),
+        _ => Err(Fault { number, row }),
+    }
+}
+
+/// The plan: the slices that each row gets in one period.
+///
+/// # Errors
+/// The host or the rows are refused (1 to 10), or memory is (71).
+pub fn plan(host: Host, rows: &[Row]) -> Result<Vec<u64>, Fault> {
+    let mut amounts = vec![0; rows.len()];
+    answered(Columns::of(rows).plan(host, &mut amounts), None)?;
+    Ok(amounts)
+}
+
+/// The plan, and its certificate.
+///
+/// # Errors
+/// As of [`plan`].
+pub fn certify(host: Host, rows: &[Row]) -> Result<(Vec<u64>, Certificate), Fault> {
+    let mut amounts = vec![0; rows.len()];
+    let mut claim = raw::Claim::zeros(rows.len());
+    answered(
+        Columns::of(rows).certify(host, &mut amounts, &mut claim),
+        None,
+    )?;
+    Ok((amounts, claim.certificate()))
+}
+
+/// Ok where the certificate shows that the amounts are the plan, whoever made it.
+///
+/// # Errors
+/// 50 to 58, with the row of the first group that has the fault; and as of [`plan`].
+pub fn check(
+    host: Host,
+    rows: &[Row],
+    amounts: &[u64],
+    certificate: &Certificate,
+) -> Result<(), Fault> {
+    let mut row = u32::MAX;
+    let number = Columns::of(rows).check(host, amounts, &raw::Claim::of(certificate), &mut row);
+    answered(number, Some(row).filter(|row| *row != u32::MAX))
+}
+
+/// Ok where the amounts of a certified text are the plan of its instance, as `arbiter check` finds it.
+///
+/// # Errors
+/// 51 to 58, with the row of the first group that has the fault; 1 to 10 and 40 to 43 where it is no certified text; 71.
+pub fn check_text(text: &[u8]) -> Result<(), Fault> {
+    let mut row = u32::MAX;
+    let number = raw::check_text(text, &mut row);
+    answered(number, Some(row).filter(|row| *row != u32::MAX))
+}
+
+/// The groups whose limits hold the total down, and what is wanted outside them: their limits and the rest add up to it.
+///
+/// # Errors
+/// As of [`plan`].
+pub fn limiting(host: Host, rows: &[Row]) -> Result<(Vec<u32>, u64), Fault> {
+    let (mut groups, mut count, mut rest) = (vec![0; rows.len()], 0, 0);
+    answered(
+        Columns::of(rows).limiting(host, &mut groups, &mut count, &mut rest),
+        None,
+    )?;
+    groups.truncate(count as usize);
+    Ok((groups, rest))
+}
+
+/// The name of a fault's number.
+pub fn name(number: u32) -> Option<String> {
+    let mut room = [0; raw::NAME_ROOM];
+    let count = raw::name(number, &mut room) as usize;
+    (count > 0).then(|| String::from_utf8_lossy(&room[..count]).into_owned())
+}
+
+#[cfg(test)]
+mod tests {
+    use super::*;
+
+    fn two() -> [Row; 3] {
+        [
+            Row::ROOT,
+            Row {
+                demand: 20,
+                ..Row::under(0)
+            },
+            Row {
+                weight: 200,
+                demand: 20,
+                ..Row::under(0)
+            },
+        ]
+    }
+
+    fn fault(number: u32, row: Option<u32>) -> Fault {
+        Fault { number, row }
+    }
+
+    #[test]
+    fn plans_and_certifies() {
+        let (amounts, certificate) = certify(Host::default(), &two()).unwrap();
+        assert_eq!(plan(Host::default(), &two()).as_ref(), Ok(&amounts));
+        assert_eq!(amounts, [20, 7, 13]);
+        assert_eq!(certificate.flags, [true, false, false]);
+        assert_eq!(
+            certificate.levels,
+            [
+                Some(Level {
+                    num: 13,
+                    den: 100,
+                    place: 0
+                }),
+                None,
+                None
+            ]
+        );
+        assert_eq!(
+            check(Host::default(), &two(), &amounts, &certificate),
+            Ok(())
+        );
+        assert_eq!(limiting(Host::default(), &two()), Ok((vec![0], 0)));
+    }
+
+    #[test]
+    fn keeps_limits() {
+        let pod = Row {
+            limit: Some(10),
+            ..Row::under(0)
+        };
+        let wants = |parent, weight, demand| Row {
+            weight,
+            demand,
+            ..Row::under(parent)
+        };
+        let rows = [
+            Row::ROOT,
+            pod,
+            wants(1, 100, 20),
+            wants(1, 300, 20),
+            wants(0, 100, 5),
+        ];
+        assert_eq!(plan(Host::default(), &rows), Ok(vec![15, 10, 3, 7, 5]));
+        assert_eq!(limiting(Host::default(), &rows), Ok((vec![1], 5)));
+        let two = Host {
+            processors: 2,
+            ..Host::default()
+        };
+        let wide = [Row::ROOT, wants(0, 1, 50)];
+        assert_eq!(plan(two, &wide), Ok(vec![40, 40]));
+    }
+
+    #[test]
+    fn finds_faults() {
+        let (_, certificate) = certify(Host::default(), &two()).unwrap();
+        let found = check(Host::default(), &two(), &[20, 8, 12], &certificate);
+        assert_eq!(found, Err(fault(57, Some(1))));
+        assert_eq!(found.unwrap_err().to_string(), "57 LastMarkAbove 1");
+        assert_eq!(
+            check(Host::default(), &two(), &[20], &certificate),
+            Err(fault(50, Some(0)))
+        );
+        assert_eq!(
+            check_text(b"bw 1 1 100000 5000 1\n- 100 max 0 0 0 -\n"),
+            Ok(())
+        );
+        assert_eq!(
+            check_text(b"bw 1 1 100000 5000 1\n- 100 max 0 1 0 -\n"),
+            Err(fault(52, Some(0)))
+        );
+        assert_eq!(check_text(b""), Err(fault(42, None)));
+    }
+
+    #[test]
+    fn refuses() {
+        assert_eq!(
+            plan(
+                Host {
+                    processors: 0,
+                    ..Host::default()
+                },
+                &two()
+            ),
+            Err(fault(1, None))
+        );
+        assert_eq!(plan(Host::default(), &[]), Err(fault(5, None)));
+        assert_eq!(
+            plan(Host::default(), &[Row::under(u32::MAX)]),
+            Err(fault(5, None))
+        );
+        assert_eq!(
+            plan(
+                Host::default(),
+                &[Row {
+                    limit: Some(u64::MAX),
+                    ..Row::ROOT
+                }]
+            ),
+            Err(fault(10, None))
+        );
+        assert_eq!(name(0), None);
+        assert_eq!(name(71).as_deref(), Some("OutOfMemory"));
+        assert_eq!(name(58).as_deref(), Some("NextMarkNotAbove"));
+    }
+}

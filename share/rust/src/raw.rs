@@ -1,0 +1,176 @@
+//! The calls of `arbiter.h`, on slices. Each call has what the header asks: lengths that are those of the slices, pointers that
+//! are not null (a slice has none), and no memory that is written and read at once (a `&mut` overlaps nothing).
+use crate::{Certificate, Host, Level, Row};
+
+const NO_PARENT: u32 = u32::MAX;
+const NO_LIMIT: u64 = u64::MAX;
+pub(crate) const NAME_ROOM: usize = 17;
+
+#[rustfmt::skip]
+extern "C" {
+    fn arbiter_plan(processors: u64, period_us: u64, slice_us: u64,
+                    parents: *const u32, parents_length: usize, weights: *const u64, weights_length: usize,
+                    limits: *const u64, limits_length: usize, demands: *const u64, demands_length: usize,
+                    amounts: *mut u64, amounts_length: usize) -> u32;
+    fn arbiter_certify(processors: u64, period_us: u64, slice_us: u64,
+                       parents: *const u32, parents_length: usize, weights: *const u64, weights_length: usize,
+                       limits: *const u64, limits_length: usize, demands: *const u64, demands_length: usize,
+                       amounts: *mut u64, amounts_length: usize, flags: *mut u8, flags_length: usize,
+                       nums: *mut u64, nums_length: usize, dens: *mut u64, dens_length: usize,
+                       places: *mut u32, places_length: usize) -> u32;
+    fn arbiter_check(processors: u64, period_us: u64, slice_us: u64,
+                     parents: *const u32, parents_length: usize, weights: *const u64, weights_length: usize,
+                     limits: *const u64, limits_length: usize, demands: *const u64, demands_length: usize,
+                     amounts: *const u64, amounts_length: usize, flags: *const u8, flags_length: usize,
+                     nums: *const u64, nums_length: usize, dens: *const u64, dens_length: usize,
+                     places: *const u32, places_length: usize, row: *mut u32) -> u32;
+    fn arbiter_check_text(text: *const u8, text_length: usize, row: *mut u32) -> u32;
+    fn arbiter_limiting(processors: u64, period_us: u64, slice_us: u64,
+                        parents: *const u32, parents_length: usize, weights: *const u64, weights_length: usize,
+                        limits: *const u64, limits_length: usize, demands: *const u64, demands_length: usize,
+                        groups: *mut u32, groups_length: usize, count: *mut u32, rest: *mut u64) -> u32;
+    fn arbiter_name(number: u32, name: *mut u8, name_length: usize) -> u32;
+}
+
+/// The rows, by column.
+pub(crate) struct Columns {
+    parents: Vec<u32>,
+    weights: Vec<u64>,
+    limits: Vec<u64>,
+    demands: Vec<u64>,
+}
+
+/// A certificate, by column.
+pub(crate) struct Claim {
+    flags: Vec<u8>,
+    nums: Vec<u64>,
+    dens: Vec<u64>,
+    places: Vec<u32>,
+}
+
+impl Columns {
+    pub(crate) fn of(rows: &[Row]) -> Columns {
+        // the greatest number stands for none; one less is no row's parent and bounds no amount either
+        Columns {
+            parents: rows
+                .iter()
+                .map(|row| {
+                    row.parent
+                        .map_or(NO_PARENT, |parent| parent.min(NO_PARENT - 1))
+                })
+                .collect(),
+            weights: rows.iter().map(|row| row.weight).collect(),
+            limits: rows
+                .iter()
+                .map(|row| row.limit.map_or(NO_LIMIT, |limit| limit.min(NO_LIMIT - 1)))
+                .collect(),
+            demands: rows.iter().map(|row| row.demand).collect(),
+        }
+    }
+
+    #[rustfmt::skip]
+    pub(crate) fn plan(&self, host: Host, amounts: &mut [u64]) -> u32 {
+        // SAFETY: as above
+        unsafe {
+            arbiter_plan(host.processors, host.period_us, host.slice_us,
+                         self.parents.as_ptr(), self.parents.len(), self.weights.as_ptr(), self.weights.len(),
+                         self.limits.as_ptr(), self.limits.len(), self.demands.as_ptr(), self.demands.len(),
+                         amounts.as_mut_ptr(), amounts.len())
+        }
+    }
+
+    #[rustfmt::skip]
+    pub(crate) fn certify(&self, host: Host, amounts: &mut [u64], claim: &mut Claim) -> u32 {
+        // SAFETY: as above
+        unsafe {
+            arbiter_certify(host.processors, host.period_us, host.slice_us,
+                            self.parents.as_ptr(), self.parents.len(), self.weights.as_ptr(), self.weights.len(),
+                            self.limits.as_ptr(), self.limits.len(), self.demands.as_ptr(), self.demands.len(),
+                            amounts.as_mut_ptr(), amounts.len(), claim.flags.as_mut_ptr(), claim.flags.len(),
+                            claim.nums.as_mut_ptr(), claim.nums.len(), claim.dens.as_mut_ptr(), claim.dens.len(),
+                            claim.places.as_mut_ptr(), claim.places.len())
+        }
+    }
+
+    #[rustfmt::skip]
+    pub(crate) fn check(&self, host: Host, amounts: &[u64], claim: &Claim, row: &mut u32) -> u32 {
+        // SAFETY: as above
+        unsafe {
+            arbiter_check(host.processors, host.period_us, host.slice_us,
+                          self.parents.as_ptr(), self.parents.len(), self.weights.as_ptr(), self.weights.len(),
+                          self.limits.as_ptr(), self.limits.len(), self.demands.as_ptr(), self.demands.len(),
+                          amounts.as_ptr(), amounts.len(), claim.flags.as_ptr(), claim.flags.len(),
+                          claim.nums.as_ptr(), claim.nums.len(), claim.dens.as_ptr(), claim.dens.len(),
+                          claim.places.as_ptr(), claim.places.len(), row)
+        }
+    }
+
+    #[rustfmt::skip]
+    pub(crate) fn limiting(&self, host: Host, groups: &mut [u32], count: &mut u32, rest: &mut u64) -> u32 {
+        // SAFETY: as above
+        unsafe {
+            arbiter_limiting(host.processors, host.period_us, host.slice_us,
+                             self.parents.as_ptr(), self.parents.len(), self.weights.as_ptr(), self.weights.len(),
+                             self.limits.as_ptr(), self.limits.len(), self.demands.as_ptr(), self.demands.len(),
+                             groups.as_mut_ptr(), groups.len(), count, rest)
+        }
+    }
+}
+
+impl Claim {
+    pub(crate) fn zeros(count: usize) -> Claim {
+        Claim {
+            flags: vec![0; count],
+            nums: vec![0; count],
+            dens: vec![0; count],
+            places: vec![0; count],
+        }
+    }
+
+    pub(crate) fn of(certificate: &Certificate) -> Claim {
+        let levels = &certificate.levels;
+        Claim {
+            flags: certificate
+                .flags
+                .iter()
+                .map(|flag| u8::from(*flag))
+                .collect(),
+            nums: levels
+                .iter()
+                .map(|level| level.map_or(0, |level| level.num))
+                .collect(),
+            dens: levels
+                .iter()
+                .map(|level| level.map_or(0, |level| level.den))
+                .collect(),
+            places: levels
+                .iter()
+                .map(|level| level.map_or(0, |level| level.place))
+                .collect(),
+        }
+    }
+
+    pub(crate) fn certificate(&self) -> Certificate {
+        let level = |g: usize| Level {
+            num: self.nums[g],
+            den: self.dens[g],
+            place: self.places[g],
+        };
+        Certificate {
+            flags: self.flags.iter().map(|flag| *flag != 0).collect(),
+            levels: (0..self.nums.len())
+                .map(|g| (self.nums[g] > 0 && self.dens[g] > 0).then(|| level(g)))
+                .collect(),
+        }
+    }
+}
+
+pub(crate) fn check_text(text: &[u8], row: &mut u32) -> u32 {
+    // SAFETY: as above
+    unsafe { arbiter_check_text(text.as_ptr(), text.len(), row) }
+}
+
+pub(crate) fn name(number: u32, room: &mut [u8]) -> u32 {
+    // SAFETY: as above
+    unsafe { arbiter_name(number, room.as_mut_ptr(), room.len()) }
+}
