@@ -276,6 +276,18 @@ def links_stand():
     return "; ".join(wrong) or None
 
 
+def headline_is_quoted():
+    """The README quotes the whole record of the headline and the clause that ensures it."""
+    with open(f"{TOP}/crates/bw_workers/specs/Headline.antt", encoding="utf-8") as file:
+        _, found, rest = file.read().partition("pub record Headline")
+    with open(f"{TOP}/crates/bw_workers/src/serving.rt", encoding="utf-8") as file:
+        clause = [line.strip() for line in file if line.strip().startswith("ensures headline")]
+    with open(f"{TOP}/README.md", encoding="utf-8") as file:
+        readme = file.read()
+    quoted = found and f"```\n{found}{rest.rstrip()}\n```\n" in readme and clause and f"    {clause[0]}\n" in readme
+    return None if quoted else "README.md does not quote the headline as it stands in bw_workers"
+
+
 def page_blocks(page, found):
     """Reads a page; each page has something to run."""
     there = blocks(page)
@@ -288,7 +300,7 @@ def main():
     program = native.program(words)
     found, failed = [], []
     checks = [lambda page=page: page_blocks(page, found) for page in PAGES]
-    checks += [numbers_agree, lambda: numbers_are_met(program), numbers_are_on_pages, links_stand]
+    checks += [numbers_agree, lambda: numbers_are_met(program), numbers_are_on_pages, links_stand, headline_is_quoted]
     for check in checks:
         try:
             failed.append(check())
