@@ -11,7 +11,8 @@ use Rattle.bw_hierarchy.specs.State.{HierarchyState, new_hierarchy, with_tree, r
 abbrev pub AreOfGivenIds : HierarchyState → Type 0
 AreOfGivenIds h = (id : ℕ) → h.tree.next ≤ id → stat_at h.books id ≡ None
 
--- Counters stand under ids that were given, from the root alone on and through every call; so the group that `mkdir` makes has none.
+-- Counters stand under ids that were given, from the root alone on, through `mkdir`, `rmdir`, periods and every other change of the tree
+-- that takes no id back; so the group that `mkdir` makes has none.
 pub record NewGroupsCountNothing : Type 0 where
   pub begins : (shape : Shape) → AreOfGivenIds (new_hierarchy shape)
   -- a call that changes the tree alone, and takes no id back
