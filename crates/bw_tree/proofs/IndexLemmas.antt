@@ -5,8 +5,8 @@ use Rattle.std.specs.List.{AllZip}
 use Rattle.std.specs.Map.{remove_entry}
 use Rattle.std.specs.Str.{bytes_eq}
 use Rattle.std.specs.Cmp.Lexicographic.{bytes_decides}
-use Rattle.std.specs.BTreeMap.{BTreeMap, get}
-use Rattle.std.specs.Ordering.{nat_cmp}
+use Rattle.std.specs.HashMap.{get}
+use Rattle.std.specs.BTreeMap.{BTreeMap}
 use Rattle.std.specs.declared.string.String.{String}
 use Rattle.std.specs.declared.alloc.Global.{Global}
 use Rattle.bw_tree.specs.declared.child_index.ChildIndex.{ChildIndex}
@@ -189,7 +189,7 @@ module _ (t : TreeState) (id : ℕ) (g : GroupFields) (ok : IsTree t) (inner : i
       found p n = children p n ∙ ap (λ o. cond (is_child_named g p n) None o) (is.children p n) ∙ onto p n (is_child_named g p n) refl
 
       listed_named : (p : ℕ) (n : List ℕ) → is_some (child_at new p n) ≡ true → is_listed new p ≡ true
-      listed_named p n h = some_named (get nat_cmp new.by_parent p) n h
+      listed_named p n h = some_named (get eqb new.by_parent p) n h
 
       by_listed : (p : ℕ) (b : Bool) → is_listed new p ≡ b → (b ≡ true → has_children (remove_entry (eqb id) t.groups) p ≡ true)
           → is_listed new p ≡ has_children (remove_entry (eqb id) t.groups) p

@@ -11,12 +11,10 @@ use Rattle.bw_model.specs.declared.row.Row.{Row}
 use Rattle.bw_model.specs.Quota.{in_slices, slices_of}
 use Rattle.bw_model.specs.declared.limits.TheConstants.{MAX_GROUPS, MIN_WEIGHT, MAX_WEIGHT, MAX_DEMAND, MAX_DEPTH, MAX_PATH}
 use Rattle.bw_model.specs.Groups.{no_row, IsInstance, depth_of, IsTree as IsTreeOfRows, parent_of as parent_row}
-use Rattle.bw_model.specs.Refusal.{is_earlier, are_earlier, depths_of, is_root_limited, refusal, demand_above, IsRefused}
+use Rattle.bw_model.specs.Refusal.{is_earlier, are_earlier, depths_of, is_root_limited, refusal, demand_above}
 use Rattle.bw_model.specs.Host.{Shape, IsHost}
 use Rattle.std.proofs.lemmas.List.FromFn.{get_or-map-range_with_len, length-map-range_with_len}
 use Rattle.bw_model.specs.declared.quota.Quota.TheVariants.{Max}
-use Rattle.bw_model.specs.declared.instance_fault.InstanceFault.{InstanceFault}
-use Rattle.bw_model.specs.declared.instance_fault.InstanceFault.TheVariants.{TooMany, BadParent, BadWeight, TooDeep, InnerDemand, DemandTooLarge, RootLimited, OutOfMemory}
 use Rattle.bw_tree.specs.Groups.{GroupFields, TreeState, group_at, has_group, has_children, demand_at, demand_of, above, parent_of, IsTree, IsSound, AllAfter, AreRising}
 use Rattle.bw_tree.specs.Snapshot.{place_of, bursting, row_of, rows_of, instance_of}
 use Rattle.bw_tree.specs.Tree.{root_group}

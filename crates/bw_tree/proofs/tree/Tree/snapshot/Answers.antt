@@ -1,9 +1,7 @@
 -- The goals of `Tree::snapshot` that are answered by hand.
 use Rattle.std.proofs.Common.{◌≡◌, sym, ap, subst, ◌∙◌}
-use Rattle.bw_model.specs.Refusal.{refusal}
 use Rattle.bw_tree.specs.Groups.{TreeState}
-use Rattle.bw_tree.specs.Tree.{root_group}
-use Rattle.bw_tree.specs.Snapshot.{rows_of, row_of, instance_of}
+use Rattle.bw_tree.specs.Snapshot.{rows_of, instance_of}
 use Rattle.bw_model.specs.Groups.{IsInstance}
 use Rattle.bw_tree.proofs.SnapshotLemmas.{snapshot_IsInstance}
 use Rattle.bw_tree.proofs.tree.Tree.snapshot.Goals as goal
