@@ -1,6 +1,5 @@
 //! A group that is made with its settings at once.
-ghost use Rattle.std.specs.Prelude.{◌≡◌, ◌<◌, ◌∷◌, ◌++◌, ◌==◌, [], length, OnOk, OnErr, IfOk, IfErr, IfSome, MatchOption, Ok, Err, Some, None};
-ghost use Rattle.std.specs.List.{slice_split};
+ghost use Rattle.std.specs.Prelude.{◌≡◌, OnOk, OnErr, IfOk, IfErr, Ok, Err, Some, None};
 ghost use Rattle.bw_tree.specs.Groups.{find_path};
 ghost use Rattle.bw_hierarchy.specs.Faults.{IsRefusal};
 ghost use Rattle.bw_hierarchy.specs.Builder.{prefixes, found_or_made, ensured, shares_step, cfs_step, built};
@@ -10,7 +9,7 @@ use crate::calls;
 use crate::cgroup::Cgroup;
 use crate::fault::Fault;
 use crate::hierarchy::Hierarchy;
-use bw_tree::{GroupId, Tree};
+use bw_tree::{GroupId, Tree, split_front};
 use std::alloc::Global;
 
 /// A group to be made at a path, with the settings that are given.
@@ -115,14 +114,6 @@ impl<'a> CpuResources<'a> {
     {
         self.builder
     }
-}
-
-// The first name of a path and what stands after it, where more names follow.
-fn split_front(path: &str) -> Option<(&str, &str)>
-    ensures parts { MatchOption result (slice_split (λ b. b == 47) path.now ≡ path.now ∷ []) (λ x. slice_split (λ b. b == 47) path.now ≡ x.0.now ∷ slice_split (λ b. b == 47) x.1.now) }
-    ensures shorter { IfSome result (λ x. length x.1.now < length path.now) }
-{
-    path.split_once('/')
 }
 
 // The group at a path, which is made where it is missing.

@@ -12,4 +12,4 @@ mod tree;
 pub use fault::TreeFault;
 pub use group::{Group, GroupId};
 pub use laws::{bursts_are_bounded, carries_need_a_burst, paths_are_exact};
-pub use tree::{Snapshot, Tree, is_drawn_within};
+pub use tree::{Snapshot, Tree, is_drawn_within, split_front};
