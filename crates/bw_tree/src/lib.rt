@@ -7,6 +7,7 @@ mod group;
 mod laws;
 pub mod limits;
 mod setting;
+mod siblings;
 mod tree;
 
 pub use fault::TreeFault;
