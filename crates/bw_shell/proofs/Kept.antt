@@ -1,5 +1,5 @@
 -- What a kept line means.
-use Rattle.std.proofs.Common.{◌≡◌, ℕ, List, Some, refl, inl, inr}
+use Rattle.std.proofs.Common.{◌≡◌, ℕ, List, Some, None, refl, inl, inr}
 use Rattle.std.specs.Str.{IsUtf8, is_utf8}
 use Rattle.std.proofs.lemmas.Str.{IsUtf8-from_is_utf8, is_utf8-from_IsUtf8}
 use Rattle.std.proofs.lemmas.Bool.{cases_Bool}
@@ -17,3 +17,7 @@ outcome_of_kept-bad s line h = elim (cases_Bool (is_utf8 line)) [
   | inl t ↦ absurd (h (IsUtf8-from_is_utf8 line t))
   | inr f ↦ rw f refl
 ]
+
+pub outcome_of_kept-long : (s : State) → outcome_of_kept s None ≡ refused s fault.LineTooLong
+unfolding outcome_of_kept
+outcome_of_kept-long s = refl

@@ -36,6 +36,12 @@ Consumes-kept (Some x) None c bs p q = absurd p
 Consumes-kept (Some x) (Some y) None bs p q = absurd q
 Consumes-kept (Some x) (Some y) (Some z) bs p q = p ∙ ap (λ l. bs ++ l) (sym q)
 
+-- known bytes that stay as they are grow by nothing
+pub Appends-none : (a b : Option (List ℕ)) → Keeps a b → Appends a b []
+Appends-none None b k = tt
+Appends-none (Some x) None k = absurd k
+Appends-none (Some x) (Some y) k = k ∙ sym (append-nil x)
+
 -- all of a text is a front of it
 pub AppendsFront-all : (a b : Option (List ℕ)) (text : List ℕ) → Appends a b text → AppendsFront a b text
 AppendsFront-all a b text p = (text, [], p, sym (append-nil text))

@@ -1,5 +1,8 @@
 -- The lines of a text, from a front without newlines.
-use Rattle.std.proofs.Common.{◌≡◌, ℕ, List, [], ◌∷◌, ◌++◌, ◌==◌, false, refl}
+use Rattle.std.proofs.Common.{◌≡◌, ◌<◌, ◌≤◌, ◌+◌, ℕ, zero, suc, List, [], ◌∷◌, ◌++◌, ◌==◌, false, length, take, drop, refl, ap, subst, arith, inl, inr}
+use Rattle.std.proofs.lemmas.Bool.{cases_Bool}
+use Rattle.std.proofs.lemmas.Bool.Decides.{eqb_tells}
+use Rattle.memchr.specs.Find.{Nowhere, NoneBefore, Passes, is_byte}
 use Rattle.bw_shell.specs.Lines.{lines_of, whole_lines_of, onto_first}
 
 -- no byte is a newline
@@ -39,3 +42,38 @@ pub whole_lines_of-newline : (cur xs : List ℕ) → NoNewline cur → whole_lin
 unfolding whole_lines_of
 whole_lines_of-newline [] xs n = refl
 whole_lines_of-newline (b ∷ bs) xs n = rw (n.0, whole_lines_of-newline bs xs n.1) refl
+
+-- ---- where the first newline stands
+
+clean_front : (n : ℕ) (xs : List ℕ) → ((k : ℕ) → k < n → Passes (is_byte 10) xs k → ⊥) → NoNewline (take n xs)
+clean_front zero xs h = tt
+clean_front (suc n) [] h = tt
+clean_front (suc n) (x ∷ xs) h = elim (cases_Bool (x == 10)) [
+  | inl t ↦ absurd (h 0 (omega arith) t)
+  | inr f ↦ (f, clean_front n xs (λ k lt. h (suc k) (omega (arith, lt))))
+]
+
+from_newline : (n : ℕ) (xs : List ℕ) → n < length xs → Passes (is_byte 10) xs n → drop n xs ≡ 10 ∷ drop 1 (drop n xs)
+from_newline n [] lt e = absurd (let bad : ⊥ = omega (arith, lt) in bad)
+from_newline zero (x ∷ xs) lt e = elim (eqb_tells x 10) [
+  | inl h ↦ ap (λ b. b ∷ xs) h.1
+  | inr h ↦ absurd (h.1 (let bad : x ≡ 10 = cc in bad))
+]
+from_newline (suc n) (x ∷ xs) lt e = from_newline n xs (omega (arith, lt)) e
+
+-- what stands in front of the first newline has none
+pub first_newline-front : (xs : List ℕ) (n : ℕ) → NoneBefore (Passes (is_byte 10) xs) 0 (length xs) n → NoNewline (take n xs)
+first_newline-front xs n h = clean_front n xs (λ k lt. h.before k (omega arith) lt)
+
+-- and behind it the newline and the rest do
+pub first_newline-rest : (xs : List ℕ) (n : ℕ) → NoneBefore (Passes (is_byte 10) xs) 0 (length xs) n → Passes (is_byte 10) xs n
+    → drop n xs ≡ 10 ∷ drop 1 (drop n xs)
+first_newline-rest xs n h e = from_newline n xs h.high e
+
+take_all : (xs : List ℕ) → take (length xs) xs ≡ xs
+take_all [] = refl
+take_all (x ∷ xs) = ap (λ l. x ∷ l) (take_all xs)
+
+-- a text in which none is found
+pub no_newline : (xs : List ℕ) → Nowhere (Passes (is_byte 10) xs) 0 (length xs) → NoNewline xs
+no_newline xs h = subst NoNewline (take_all xs) (clean_front (length xs) xs (λ k lt. h k (omega arith) lt))

@@ -1,5 +1,5 @@
 -- Reading byte by byte gives the transcript of the lines.
-use Rattle.std.proofs.Common.{◌≡◌, ◌<◌, ◌≤◌, ◌+◌, ℕ, List, [], ◌∷◌, ◌++◌, refl, sym, ◌∙◌, ap, subst, arith, append_assoc, append-nil, length-append, length, Some, None, inl, inr}
+use Rattle.std.proofs.Common.{◌≡◌, ◌<◌, ◌≤◌, ◌+◌, ◌-◌, ◌==◌, false, min, ℕ, zero, suc, List, take, [], ◌∷◌, ◌++◌, refl, sym, ◌∙◌, ap, subst, arith, append_assoc, append-nil, length-append, length, Some, None, inl, inr}
 use Rattle.std.proofs.lemmas.Bool.{cases_lt, lt-ltb, le-ltb}
 use Rattle.std.proofs.lemmas.Bool.Decides.{eqb_tells}
 use Rattle.bw_commands.specs.State.{State}
@@ -9,7 +9,7 @@ use Rattle.bw_commands.specs.Fault.{error_line}
 use Rattle.bw_commands.specs.declared.fault.ScriptFault.TheVariants.{OutOfMemory}
 use Rattle.bw_shell.specs.Transcript.{Answers, IsTranscript}
 use Rattle.bw_shell.specs.Lines.{lines_of, whole_lines_of}
-use Rattle.bw_shell.specs.Scan.{Scan, TakesByte, TakesBytes, Finishes, kept_with, begin}
+use Rattle.bw_shell.specs.Scan.{Scan, TakesByte, TakesBytes, TakesLine, Finishes, kept_with, kept_after, begin}
 use Rattle.bw_shell.proofs.LineLemmas.{NoNewline, last_line, NoNewline-push, lines_of-cut, whole_lines_of-cut, lines_of-newline, whole_lines_of-newline}
 
 -- ---- runs of bytes
@@ -29,8 +29,33 @@ pub TakesBytes-one : (a b : Scan) (x : ℕ) (t : List ℕ) → TakesByte a x t b
 unfolding TakesBytes
 TakesBytes-one a b x t p = (t, [], b, p, (refl, refl), sym (append-nil t))
 
+not_newline : (x : ℕ) → (x == 10) ≡ false → x ≡ 10 → ⊥
+not_newline x f e = elim (eqb_tells x 10) [
+  | inl h ↦ let bad = sym h.0 ∙ f in cc
+  | inr h ↦ h.1 e
+]
+
+-- bytes without a newline are kept
+pub TakesBytes-clean : (xs : List ℕ) (a : Scan) → NoNewline xs → TakesBytes a xs [] (record a { kept = kept_after a.kept xs })
+unfolding TakesBytes
+TakesBytes-clean [] a n = (refl, refl)
+TakesBytes-clean (x ∷ xs) a n = (
+  [],
+  [],
+  record a { kept = kept_with a.kept x },
+  record { newline = λ e. absurd (not_newline x n.0 e); other = λ ne. (refl, refl) },
+  TakesBytes-clean xs (record a { kept = kept_with a.kept x }) n.1,
+  refl,
+)
+
+-- and with a newline behind them they end the line in hand
+pub TakesBytes-line : (front text : List ℕ) (a b : Scan) → NoNewline front → TakesLine a front text b → TakesBytes a (front ++ 10 ∷ []) text b
+TakesBytes-line front text a b n h =
+    TakesBytes-append front (10 ∷ []) [] text a (record a { kept = kept_after a.kept front }) b (TakesBytes-clean front a n)
+    (TakesBytes-one (record a { kept = kept_after a.kept front }) b 10 text (record { newline = λ e. h; other = λ ne. absurd (ne refl) }))
+
 -- each line has an answer, since it may always be want of memory where anything is printed
-answered : (s : State) (o : Outcome) → (text : List ℕ) × IsOutcome s o text s
+pub answered : (s : State) (o : Outcome) → (text : List ℕ) × IsOutcome s o text s
 answered s Silent = ([], inl (refl, refl))
 answered s (Prints text after) = (error_line OutOfMemory, inr (refl, refl))
 answered s Total = (error_line OutOfMemory, inr (refl, refl))
@@ -71,10 +96,10 @@ Answers-one s t line text p = (text, [], t, p, (refl, refl), sym (append-nil tex
 
 -- ---- what is kept of a line
 
-kept_of-long : (line : List ℕ) → 65536 < length line → kept_of line ≡ None
+pub kept_of-long : (line : List ℕ) → 65536 < length line → kept_of line ≡ None
 kept_of-long line h = rw (lt-ltb 65536 (length line) h) refl
 
-kept_of-short : (line : List ℕ) → length line ≤ 65536 → kept_of line ≡ Some line
+pub kept_of-short : (line : List ℕ) → length line ≤ 65536 → kept_of line ≡ Some line
 kept_of-short line h = rw (le-ltb 65536 (length line) h) refl
 
 kept_with-kept_of : (cur : List ℕ) (x : ℕ) → kept_with (kept_of cur) x ≡ kept_of (cur ++ x ∷ [])
@@ -88,11 +113,55 @@ kept_with-kept_of cur x =
       ]
     ]
 
-kept_of-cons : (x : ℕ) (xs : List ℕ) → kept_of (x ∷ xs) ≡ Some [] → ⊥
+pub kept_of-cons : (x : ℕ) (xs : List ℕ) → kept_of (x ∷ xs) ≡ Some [] → ⊥
 kept_of-cons x xs e = elim (cases_lt 65536 (length (x ∷ xs))) [
   | inl h ↦ let bad = sym (kept_of-long (x ∷ xs) h) ∙ e in cc
   | inr h ↦ let bad = sym (kept_of-short (x ∷ xs) h) ∙ e in cc
 ]
+
+pub kept_after-kept_of : (line bytes : List ℕ) → kept_after (kept_of line) bytes ≡ kept_of (line ++ bytes)
+kept_after-kept_of line [] = ap kept_of (sym (append-nil line))
+kept_after-kept_of line (b ∷ bytes) =
+    ap (λ k. kept_after k bytes) (kept_with-kept_of line b)
+    ∙ kept_after-kept_of (line ++ b ∷ []) bytes
+    ∙ ap kept_of (append_assoc line (b ∷ []) bytes)
+
+take_all : (n : ℕ) (xs : List ℕ) → length xs ≤ n → take n xs ≡ xs
+take_all zero [] h = refl
+take_all zero (x ∷ xs) h = absurd (let bad : ⊥ = omega (arith, h) in bad)
+take_all (suc n) [] h = refl
+take_all (suc n) (x ∷ xs) h = ap (λ l. x ∷ l) (take_all n xs (omega (arith, h)))
+
+length_take : (n : ℕ) (xs : List ℕ) → n ≤ length xs → length (take n xs) ≡ n
+length_take zero xs h = refl
+length_take (suc n) [] h = absurd (let bad : ⊥ = omega (arith, h) in bad)
+length_take (suc n) (x ∷ xs) h = ap suc (length_take n xs (omega (arith, h)))
+
+-- one byte more than a line may have tells as much as all of a line that is too long
+pub kept_of-cut : (line bytes : List ℕ) (n : ℕ) → n ≡ min (length bytes) (65537 - length line) → length line ≤ 65537
+    → kept_of (line ++ take n bytes) ≡ kept_after (kept_of line) bytes
+kept_of-cut line bytes n e h = elim (cases_lt n (length bytes)) [
+  | inl lt ↦
+      let all : length (line ++ bytes) ≡ length line + length bytes = length-append line bytes in
+      let cut : length (line ++ take n bytes) ≡ length line + length (take n bytes) = length-append line (take n bytes) in
+      let some : length (take n bytes) ≡ n = length_take n bytes (omega (arith, lt)) in
+      kept_of-long (line ++ take n bytes) (omega (arith, cut, some, e, h, lt))
+      ∙ sym (kept_of-long (line ++ bytes) (omega (arith, all, e, h, lt)))
+      ∙ sym (kept_after-kept_of line bytes)
+  | inr ge ↦ ap (λ l. kept_of (line ++ l)) (take_all n bytes ge) ∙ sym (kept_after-kept_of line bytes)
+]
+
+pub nil_of_length : (xs : List ℕ) → length xs ≡ 0 → xs ≡ []
+nil_of_length [] e = refl
+nil_of_length (x ∷ xs) e = absurd (let bad : ⊥ = omega (arith, e) in bad)
+
+-- the answer to what is kept ends the line in hand
+pub TakesLine-kept : (s t : State) (whole line after front text : List ℕ) → kept_of whole ≡ kept_after (kept_of line) front → after ≡ [] → IsAnswer s whole text t
+    → TakesLine (record { state = s; kept = kept_of line }) front text (record { state = t; kept = kept_of after })
+TakesLine-kept s t whole line after front text same empty p = record {
+  answer = subst (λ k. IsOutcome s (outcome_of_kept s k) text t) same p;
+  empty = ap kept_of empty;
+}
 
 -- ---- bytes and lines
 

@@ -4,5 +4,7 @@ pub mod Lines
 pub mod Transcript
 pub mod Scan
 pub mod Stream
+pub mod Responder
 pub mod Session
+pub mod Writes
 pub mod CheckText

@@ -16,10 +16,19 @@ abbrev pub kept_with : Option (List ℕ) → ℕ → Option (List ℕ)
 kept_with None b = None
 kept_with (Some line) b = (if nat_lt (length line) line_bytes then Some (line ++ b ∷ []) else None)
 
+-- what is kept of a line after more bytes
+abbrev pub kept_after : Option (List ℕ) → List ℕ → Option (List ℕ)
+kept_after kept [] = kept
+kept_after kept (b ∷ bs) = kept_after (kept_with kept b) bs
+
 -- the line in hand is answered, and the next begins
 pub record AnswersKept (a : Scan) (text : List ℕ) (b : Scan) : Type 0 where
   pub answer : IsOutcome a.state (outcome_of_kept a.state a.kept) text b.state
   pub empty : b.kept ≡ Some []
+
+-- bytes that end the line in hand, without the newline behind them
+abbrev pub TakesLine : Scan → List ℕ → List ℕ → Scan → Type 0
+TakesLine a front text b = AnswersKept (record a { kept = kept_after a.kept front }) text b
 
 -- one byte
 pub record TakesByte (a : Scan) (byte : ℕ) (text : List ℕ) (b : Scan) : Type 0 where

@@ -1,5 +1,5 @@
 -- What contracts see of a watched reader or writer.
-use Rattle.std.specs.Prelude.{ℕ, Bool, false, ◌&&◌, ◌==◌, ◌≡◌, List, length, Result, Ok, Err, nat_lt}
+use Rattle.std.specs.Prelude.{ℕ, Bool, true, false, ◌&&◌, ◌==◌, ◌≡◌, List, length, Result, Ok, Err, nat_lt}
 use Rattle.bw_shell.specs.declared.watched.Watched.{Watched}
 
 -- the reader or writer inside
@@ -18,11 +18,16 @@ has_stalled w = w.stalled
 abbrev pub read_calls : {T : Type 0} → Watched T → ℕ
 read_calls w = w.reads
 
+-- whether no write has gone well since the last flush that did
+abbrev pub is_flushed : {T : Type 0} → Watched T → Bool
+is_flushed w = w.flushed
+
 -- no call was made, or none that is remembered
 pub record IsFresh {T : Type 0} (w : Watched T) : Type 0 where
   pub not_failed : has_failed w ≡ false
   pub not_stalled : has_stalled w ≡ false
   pub no_reads : read_calls w ≡ 0
+  pub flushed : is_flushed w ≡ true
 
 -- a write of some bytes that took none
 abbrev pub takes_none : {E : Type 0} → List ℕ → Result ℕ E → Bool

@@ -2,6 +2,7 @@
 //! is written to any writer.
 #![tactic(auto)]
 
+mod responder;
 pub mod script;
 mod send;
 mod session;

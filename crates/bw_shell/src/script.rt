@@ -1,12 +1,12 @@
 //! A whole script.
-ghost use Rattle.std.specs.Prelude.{◌≡◌, ◌≢◌, ◌||◌, ◌⊎◌, ◌<◌, ◌+◌, ◌-◌, ◌^◌, ℕ, List, min, length, true, false, OnOk, IfOk, IfErr, IsErrOf, vec_len};
+ghost use Rattle.std.specs.Prelude.{◌≡◌, ◌≢◌, ◌||◌, ◌⊎◌, ◌<◌, ◌≤◌, ◌+◌, ◌-◌, ◌^◌, ℕ, List, min, length, true, false, OnOk, IfOk, IfErr, IsErrOf, vec_len};
 ghost use Rattle.std.specs.Io.KnownBytes.{Appends, Consumes, IsAtEnd, Keeps};
 ghost use Rattle.bw_commands.specs.State.{start};
 ghost use Rattle.bw_shell.specs.Lines.{lines_of, whole_lines_of};
 ghost use Rattle.bw_shell.specs.Scan.{Scan, TakesBytes};
 ghost use Rattle.bw_shell.specs.Session.{scan_of};
 ghost use Rattle.bw_shell.specs.Stream.{AppendsFront, Transcribes, TranscribesFront};
-ghost use Rattle.bw_shell.specs.Watched.{inner_of, has_failed, has_stalled, read_calls, IsFresh, HasNoFault};
+ghost use Rattle.bw_shell.specs.Watched.{inner_of, has_failed, has_stalled, read_calls, is_flushed, IsFresh, HasNoFault};
 
 use crate::session::Session;
 use crate::watched::Watched;
@@ -41,7 +41,7 @@ pub(crate) fn piece_room(alloc: Global) -> Result<Vec<u8>, AllocError>
     vec![in alloc; 0u8; PIECE_BYTES]
 }
 
-// One read, and the bytes that it gave. `false` is the end of the script.
+// One read, and the bytes that it gave; no answer waits for it in the writer. `false` is the end of the script.
 fn read_some<H: Threads + Wait + Sync, G: Gate, R: Read, W: Write>(
     rt: &H,
     session: &mut Session<'_, G>,
@@ -52,6 +52,7 @@ fn read_some<H: Threads + Wait + Sync, G: Gate, R: Read, W: Write>(
     requires room { 0 < length piece.old }
     requires reader { HasNoFault reader.old }
     requires writer { HasNoFault writer.old }
+    requires flushed { is_flushed writer.old ≡ true }
     ensures reads { read_calls reader.new ≡ min (read_calls reader.old + 1) (2 ^ 64 - 1) }
     ensures ok { OnOk result ((input text : List ℕ)
         × TakesBytes (scan_of G.used session.old) input text (scan_of G.used session.new)
@@ -59,6 +60,7 @@ fn read_some<H: Threads + Wait + Sync, G: Gate, R: Read, W: Write>(
         × Appends (W.contents (inner_of writer.old)) (W.contents (inner_of writer.new)) text) }
     ensures reader_quiet { OnOk result (HasNoFault reader.new) }
     ensures writer_quiet { OnOk result (HasNoFault writer.new) }
+    ensures writer_flushed { OnOk result (is_flushed writer.new ≡ true) }
     ensures end { IfOk result (λ more. more ≡ false → IsAtEnd (R.remaining (inner_of reader.new))) }
     ensures read { IsErrOf result RunFault.Read → Keeps (R.remaining (inner_of reader.old)) (R.remaining (inner_of reader.new)) }
     ensures read_when { IsErrOf result RunFault.Read → has_failed reader.new ≡ true }
@@ -99,6 +101,11 @@ pub fn run_gated<H: AllocGlobal + Threads + Wait + Sync, G: Gate, R: Read, W: Wr
     ensures end { OnOk result (IsAtEnd (R.remaining (inner_of reader.new))) }
     ensures reader_quiet { OnOk result (HasNoFault reader.new) }
     ensures writer_quiet { OnOk result (HasNoFault writer.new) }
+
+    // There are so many read calls at most, and no answer waits in the writer at the end or at a read that fails.
+    ensures calls { read_calls reader.new ≤ READ_CALLS }
+    ensures flushed { OnOk result (is_flushed writer.new ≡ true) }
+    ensures read_flushed { IsErrOf result RunFault.Read → is_flushed writer.new ≡ true }
 
     // After a read fault it is the transcript of the whole lines read.
     ensures read { IsErrOf result RunFault.Read → Transcribes (start shape (G.used gate.now)) whole_lines_of
@@ -154,6 +161,11 @@ pub fn run<H: AllocGlobal + Threads + Wait + Sync, R: Read, W: Write>(
     ensures end { OnOk result (IsAtEnd (R.remaining (inner_of reader.new))) }
     ensures reader_quiet { OnOk result (HasNoFault reader.new) }
     ensures writer_quiet { OnOk result (HasNoFault writer.new) }
+
+    // There are so many read calls at most, and no answer waits in the writer at the end or at a read that fails.
+    ensures calls { read_calls reader.new ≤ READ_CALLS }
+    ensures flushed { OnOk result (is_flushed writer.new ≡ true) }
+    ensures read_flushed { IsErrOf result RunFault.Read → is_flushed writer.new ≡ true }
 
     // After a read fault it is the transcript of the whole lines read.
     ensures read { IsErrOf result RunFault.Read → Transcribes (start shape (λ leaf. true)) whole_lines_of

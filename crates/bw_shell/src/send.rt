@@ -1,8 +1,7 @@
 //! A text is written whole, or the writer is to blame.
-ghost use Rattle.std.specs.Prelude.{◌≡◌, ◌||◌, false, true, OnOk, OnErr, IfErr};
-ghost use Rattle.std.specs.Io.KnownBytes.{Appends};
-ghost use Rattle.bw_shell.specs.Stream.{AppendsFront};
-ghost use Rattle.bw_shell.specs.Watched.{inner_of, has_failed, has_stalled, HasNoFault};
+ghost use Rattle.std.specs.Prelude.{◌≡◌, [], true, OnOk};
+ghost use Rattle.bw_shell.specs.Watched.{is_flushed, HasNoFault};
+ghost use Rattle.bw_shell.specs.Writes.{Writes};
 
 use crate::script::RunFault;
 use crate::watched::Watched;
@@ -11,11 +10,7 @@ use std::io::Write;
 /// Writes all of the text.
 pub fn send<W: Write>(writer: &mut Watched<W>, text: &[u8]) -> Result<(), RunFault>
     requires { HasNoFault writer.old }
-    ensures ok { OnOk result (Appends (W.contents (inner_of writer.old)) (W.contents (inner_of writer.new)) text.now) }
-    ensures quiet { OnOk result (HasNoFault writer.new) }
-    ensures err { OnErr result (AppendsFront (W.contents (inner_of writer.old)) (W.contents (inner_of writer.new)) text.now) }
-    ensures blame { OnErr result ((has_failed writer.new || has_stalled writer.new) ≡ true) }
-    ensures fault { IfErr result (λ f. f ≡ RunFault.Write) }
+    ensures { Writes W.contents writer.old writer.new result (λ sent. sent ≡ text.now) (λ sent. sent ≡ text.now) }
 {
     let mut rest = text;
     while !rest.is_empty() {
@@ -28,21 +23,24 @@ pub fn send<W: Write>(writer: &mut Watched<W>, text: &[u8]) -> Result<(), RunFau
     Ok(())
 }
 
-/// Writes all of the text and flushes the writer.
-pub fn send_line<W: Write>(writer: &mut Watched<W>, text: &[u8]) -> Result<(), RunFault>
+/// Flushes the writer.
+pub fn flush<W: Write>(writer: &mut Watched<W>) -> Result<(), RunFault>
     requires { HasNoFault writer.old }
-    ensures ok { OnOk result (Appends (W.contents (inner_of writer.old)) (W.contents (inner_of writer.new)) text.now) }
-    ensures quiet { OnOk result (HasNoFault writer.new) }
-    ensures err { OnErr result (AppendsFront (W.contents (inner_of writer.old)) (W.contents (inner_of writer.new)) text.now) }
-    ensures blame { OnErr result ((has_failed writer.new || has_stalled writer.new) ≡ true) }
-    ensures fault { IfErr result (λ f. f ≡ RunFault.Write) }
+    ensures writes { Writes W.contents writer.old writer.new result (λ none. none ≡ []) (λ none. none ≡ []) }
+    ensures flushed { OnOk result (is_flushed writer.new ≡ true) }
 {
-    match send(writer, text) {
-        Err(fault) => return Err(fault),
-        Ok(()) => {}
-    }
     match writer.flush() {
         Ok(()) => Ok(()),
         Err(_) => Err(RunFault::Write),
     }
+}
+
+/// Writes all of the text and flushes the writer.
+pub fn send_line<W: Write>(writer: &mut Watched<W>, text: &[u8]) -> Result<(), RunFault>
+    requires { HasNoFault writer.old }
+    ensures writes { Writes W.contents writer.old writer.new result (λ sent. sent ≡ text.now) (λ sent. sent ≡ text.now) }
+    ensures flushed { OnOk result (is_flushed writer.new ≡ true) }
+{
+    send(writer, text)?;
+    flush(writer)
 }

@@ -3,7 +3,7 @@ ghost use Rattle.std.specs.Prelude.{◌≡◌, ◌≢◌, ◌⊎◌, ◌||◌, �
 ghost use Rattle.std.specs.Io.KnownBytes.{Appends, Consumes, IsAtEnd, Keeps};
 ghost use Rattle.bw_shell.specs.Stream.{AppendsFront};
 ghost use Rattle.bw_shell.specs.CheckText.{line_of, verdict_line, fault_line, is_accepted, IsFinding, HoldsPlan, Checks, ChecksFront, ReadsTooMuch};
-ghost use Rattle.bw_shell.specs.Watched.{inner_of, has_failed, has_stalled, read_calls, IsFresh, HasNoFault};
+ghost use Rattle.bw_shell.specs.Watched.{inner_of, has_failed, has_stalled, read_calls, is_flushed, IsFresh, HasNoFault};
 
 use crate::script::{READ_CALLS, RunFault, piece_room};
 use crate::send::send_line;
@@ -74,6 +74,7 @@ fn read_text<R: Read>(alloc: Global, reader: &mut Watched<R>) -> Result<Vec<u8>,
     ensures read_when { IsErrOf result RunFault.Read → (has_failed reader.new ≡ true) ⊎ (read_calls reader.new ≡ READ_CALLS)
         ⊎ ReadsTooMuch (R.remaining (inner_of reader.old)) (R.remaining (inner_of reader.new)) }
     ensures write { IfErr result (λ f. f ≢ RunFault.Write) }
+    ensures calls { read_calls reader.new ≤ READ_CALLS }
 {
     let Ok(mut piece) = piece_room(alloc) else {
         return Err(RunFault::Memory);
@@ -170,6 +171,7 @@ fn answer<W: Write>(
     ensures write_when { IsErrOf result RunFault.Write → (has_failed writer.new || has_stalled writer.new) ≡ true }
     ensures memory { IsErrOf result RunFault.Memory → writer.new ≡ writer.old }
     ensures read { IfErr result (λ f. f ≢ RunFault.Read) }
+    ensures flushed { OnOk result (is_flushed writer.new ≡ true) }
 {
     let Ok(line) = line_of(alloc, finding) else {
         return Err(RunFault::Memory);
@@ -197,6 +199,10 @@ pub fn check_text<R: Read, W: Write>(
     ensures end { OnOk result (IsAtEnd (R.remaining (inner_of reader.new))) }
     ensures reader_quiet { OnOk result (HasNoFault reader.new) }
     ensures writer_quiet { OnOk result (HasNoFault writer.new) }
+
+    // There are so many read calls at most, and the line does not wait in the writer.
+    ensures calls { read_calls reader.new ≤ READ_CALLS }
+    ensures flushed { OnOk result (is_flushed writer.new ≡ true) }
 
     // After a read fault nothing is written.
     ensures read { IsErrOf result RunFault.Read → writer.new ≡ writer.old }

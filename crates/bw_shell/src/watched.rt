@@ -1,22 +1,23 @@
 // A reader or a writer that remembers how its calls went.
-ghost use Rattle.std.specs.Prelude.{◌≡◌, ◌+◌, ◌-◌, ◌^◌, ◌||◌, ℕ, min, length, false, is_err};
+ghost use Rattle.std.specs.Prelude.{◌≡◌, ◌+◌, ◌-◌, ◌^◌, ◌||◌, ◌&&◌, ℕ, min, length, false, is_ok, is_err};
 ghost use Rattle.std.specs.Io.{ReadsAtMost, WritesAtMost};
 ghost use Rattle.std.specs.Io.KnownBytes.{Keeps, ReadConsumes, WriteAppends};
 
 use std::io::{Read, Result, Write};
 
-/// Passes each read, write and flush on to what it holds, and remembers whether one failed,
-/// whether a write of some bytes took none, and how many reads there were.
+/// Passes each read, write and flush on to what it holds, once, and remembers whether one failed, whether a write of
+/// some bytes took none, how many reads there were, and whether each write that went well was flushed.
 #[derive(Drop)]
 pub struct Watched<T> {
     inner: T,
     failed: bool,
     stalled: bool,
     reads: u64,
+    flushed: bool,
 }
 
 impl<T> Watched<T> {
-    ghost use Rattle.bw_shell.specs.Watched.{inner_of, has_failed, has_stalled, read_calls, IsFresh};
+    ghost use Rattle.bw_shell.specs.Watched.{inner_of, has_failed, has_stalled, read_calls, is_flushed, IsFresh};
 
     pub fn new(inner: T) -> Watched<T>
         ensures inner { inner_of result ≡ inner }
@@ -27,6 +28,7 @@ impl<T> Watched<T> {
             failed: false,
             stalled: false,
             reads: 0,
+            flushed: true,
         }
     }
 
@@ -50,13 +52,20 @@ impl<T> Watched<T> {
     {
         self.reads
     }
+
+    /// Whether no write has gone well since the last flush that did.
+    pub fn flushed(&self) -> bool
+        ensures { result ≡ is_flushed self.now }
+    {
+        self.flushed
+    }
 }
 
 impl<T: Read> Read for Watched<T> {
     ghost use Rattle.std.specs.Prelude.{◌≡◌, ◌+◌, ◌-◌, ◌^◌, ◌||◌, min, is_err};
     ghost use Rattle.std.specs.Io.{ReadsAtMost};
     ghost use Rattle.std.specs.Io.KnownBytes.{ReadConsumes};
-    ghost use Rattle.bw_shell.specs.Watched.{inner_of, has_failed, has_stalled, read_calls};
+    ghost use Rattle.bw_shell.specs.Watched.{inner_of, has_failed, has_stalled, read_calls, is_flushed};
 
     ghost remaining = { λ w. T.remaining (inner_of w) };
 
@@ -66,6 +75,7 @@ impl<T: Read> Read for Watched<T> {
         ensures failed { has_failed self.new ≡ (has_failed self.old || is_err result) }
         ensures stalled { has_stalled self.new ≡ has_stalled self.old }
         ensures reads { read_calls self.new ≡ min (read_calls self.old + 1) (2 ^ 64 - 1) }
+        ensures flushed { is_flushed self.new ≡ is_flushed self.old }
     {
         self.reads = self.reads.saturating_add(1);
         let result = self.inner.read(buf);
@@ -77,10 +87,10 @@ impl<T: Read> Read for Watched<T> {
 }
 
 impl<T: Write> Write for Watched<T> {
-    ghost use Rattle.std.specs.Prelude.{◌≡◌, ◌||◌, is_err};
+    ghost use Rattle.std.specs.Prelude.{◌≡◌, ◌||◌, ◌&&◌, is_ok, is_err};
     ghost use Rattle.std.specs.Io.{WritesAtMost};
     ghost use Rattle.std.specs.Io.KnownBytes.{Keeps, WriteAppends};
-    ghost use Rattle.bw_shell.specs.Watched.{inner_of, has_failed, has_stalled, read_calls, takes_none};
+    ghost use Rattle.bw_shell.specs.Watched.{inner_of, has_failed, has_stalled, read_calls, is_flushed, takes_none};
 
     ghost contents = { λ w. T.contents (inner_of w) };
 
@@ -90,11 +100,16 @@ impl<T: Write> Write for Watched<T> {
         ensures failed { has_failed self.new ≡ (has_failed self.old || is_err result) }
         ensures stalled { has_stalled self.new ≡ (has_stalled self.old || takes_none buf.now result) }
         ensures reads { read_calls self.new ≡ read_calls self.old }
+        ensures flushed { is_flushed self.new ≡ (is_flushed self.old && is_err result) }
     {
         let result = self.inner.write(buf);
         match &result {
-            Ok(0) if !buf.is_empty() => self.stalled = true,
-            Ok(_) => {}
+            Ok(n) => {
+                self.flushed = false;
+                if *n == 0 && !buf.is_empty() {
+                    self.stalled = true;
+                }
+            }
             Err(_) => self.failed = true,
         }
         result
@@ -105,10 +120,12 @@ impl<T: Write> Write for Watched<T> {
         ensures failed { has_failed self.new ≡ (has_failed self.old || is_err result) }
         ensures stalled { has_stalled self.new ≡ has_stalled self.old }
         ensures reads { read_calls self.new ≡ read_calls self.old }
+        ensures flushed { is_flushed self.new ≡ (is_flushed self.old || is_ok result) }
     {
         let result = self.inner.flush();
-        if result.is_err() {
-            self.failed = true;
+        match &result {
+            Ok(()) => self.flushed = true,
+            Err(_) => self.failed = true,
         }
         result
     }

@@ -12,6 +12,7 @@ loop-turn-init g c = record {
   taken = ([], [], subst (λ m. TakesBytes (begin (start c.args.shape (g.G.Gate.used c.args.gate.now))) [] [] m) (sym c.in-Ok.ensures) (TakesBytes-nil _), Consumes-nil _, Appends-nil _);
   reader_quiet = record { not_failed = c.requires.reader.not_failed; not_stalled = c.requires.reader.not_stalled };
   writer_quiet = record { not_failed = c.requires.writer.not_failed; not_stalled = c.requires.writer.not_stalled };
+  writer_flushed = c.requires.writer.flushed;
   calls = c.requires.reader.no_reads;
 }
 
@@ -20,18 +21,19 @@ loop-turn-preserved g c = record {
   taken = takes_more _ _ _ _ _ _ _ _ _ c.loop-turn.invariant.taken c.in-Ok-true.ensures.ok;
   reader_quiet = c.in-Ok-true.ensures.reader_quiet;
   writer_quiet = c.in-Ok-true.ensures.writer_quiet;
+  writer_flushed = c.in-Ok-true.ensures.writer_flushed;
   calls = omega (arith, c.in-Ok-true.ensures.reads);
 }
 
 pub returns-in-Ok-false-clause-ok : goal.returns-in-Ok-false-clause-ok
 returns-in-Ok-false-clause-ok g c =
     let taken = takes_more _ _ _ _ _ _ _ _ _ c.loop-turn.invariant.taken c.in-Ok-false.ensures.ok in
-    OnOk-map c.finish.result (λ f. all_of_takes (start c.args.shape (g.G.Gate.used c.args.gate.now)) _ _ _ _ _ _ taken f) c.finish.ensures.ok
+    OnOk-map c.finish.result (λ f. all_of_takes (start c.args.shape (g.G.Gate.used c.args.gate.now)) _ _ _ _ _ _ taken f) c.finish.ensures.writes.ok
 
 pub returns-in-Ok-false-clause-write : goal.returns-in-Ok-false-clause-write
 returns-in-Ok-false-clause-write g c =
     let taken = takes_more _ _ _ _ _ _ _ _ _ c.loop-turn.invariant.taken c.in-Ok-false.ensures.ok in
-    λ h. inr (front_of_all (start c.args.shape (g.G.Gate.used c.args.gate.now)) _ _ _ _ _ _ taken (rw h at c.finish.ensures.err), c.in-Ok-false.ensures.end c.in-Ok-false.field-0-test)
+    λ h. inr (front_of_all (start c.args.shape (g.G.Gate.used c.args.gate.now)) _ _ _ _ _ _ taken (rw h at c.finish.ensures.writes.err), c.in-Ok-false.ensures.end c.in-Ok-false.field-0-test)
 
 pub returns-in-Err-clause-read : goal.returns-in-Err-clause-read
 returns-in-Err-clause-read g c = λ h.

@@ -1,9 +1,9 @@
-use Rattle.std.proofs.Common.{◌≡◌, ℕ, List}
+use Rattle.std.proofs.Common.{◌≡◌, ℕ, List, true}
 use Rattle.std.specs.Io.KnownBytes.{Appends, Consumes}
 use Rattle.bw_commands.specs.State.{start}
 use Rattle.bw_shell.specs.Session.{scan_of}
 use Rattle.bw_shell.specs.Scan.{TakesBytes, begin}
-use Rattle.bw_shell.specs.Watched.{inner_of, read_calls, HasNoFault}
+use Rattle.bw_shell.specs.Watched.{inner_of, read_calls, is_flushed, HasNoFault}
 use Rattle.bw_shell.proofs.script.run_gated.Given as goal
 
 abbrev pub invariant-loop-turn : goal.invariant-loop-turn
@@ -13,5 +13,6 @@ invariant-loop-turn g l = record {
       × Appends (g.W.Write.contents (inner_of l.initial.writer)) (g.W.Write.contents (inner_of l.writer)) text;
   reader_quiet : HasNoFault l.reader;
   writer_quiet : HasNoFault l.writer;
+  writer_flushed : is_flushed l.writer ≡ true;
   calls : read_calls l.reader ≡ l.turn;
 }

@@ -1,7 +1,7 @@
-use Rattle.bw_shell.proofs.Known.{Appends-kept, AppendsFront-all}
+use Rattle.bw_shell.proofs.Writing.{Writes-last}
 use Rattle.bw_shell.proofs.session.Session.finish.Goals as goal
 
-pub returns-in-Err-flush-clause-err : goal.returns-in-Err-flush-clause-err
-returns-in-Err-flush-clause-err g c =
-    let last = c.in-Ok.ensures.ok in
-    (last.0, last.1, AppendsFront-all _ _ last.0 (Appends-kept _ _ _ last.0 last.2 c.in-Err-flush.ensures.bytes))
+pub returns-clause-writes : goal.returns-clause-writes
+returns-clause-writes g c =
+    let last = c.in_ok-answer_last.ensures.ok in
+    Writes-last g.W.Write.contents c.args.writer.now c.answer_last.new.writer c.flush.new.writer c.flush.result last.0 last.2 last.1 last.1 c.flush.ensures.writes

@@ -1,13 +1,16 @@
-use Rattle.std.proofs.Common.{ℕ, List, take}
+use Rattle.std.proofs.Common.{◌≡◌, ◌++◌, ℕ, List, length}
 use Rattle.std.specs.Io.KnownBytes.{Appends}
 use Rattle.bw_shell.specs.Session.{scan_of}
 use Rattle.bw_shell.specs.Scan.{TakesBytes}
 use Rattle.bw_shell.specs.Watched.{inner_of, HasNoFault}
 use Rattle.bw_shell.proofs.session.Session.take_bytes.Given as goal
 
-abbrev pub invariant-loop-byte : goal.invariant-loop-byte
-invariant-loop-byte g l = record {
-  taken : (text : List ℕ) × TakesBytes (scan_of g.G.Gate.used l.initial.self) (take l.byte-index l.piece) text (scan_of g.G.Gate.used l.self)
-      × Appends (g.W.Write.contents (inner_of l.initial.writer)) (g.W.Write.contents (inner_of l.writer)) text;
+abbrev pub invariant-loop-end : goal.invariant-loop-end
+invariant-loop-end g l = record {
+  taken : (input text : List ℕ) × TakesBytes (scan_of g.G.Gate.used l.initial.self) input text (scan_of g.G.Gate.used l.self)
+      × Appends (g.W.Write.contents (inner_of l.initial.writer)) (g.W.Write.contents (inner_of l.writer)) text × (l.piece ≡ input ++ l.rest);
   quiet : HasNoFault l.writer;
 }
+
+abbrev pub decreases-loop-end : goal.decreases-loop-end
+decreases-loop-end g l = length l.rest

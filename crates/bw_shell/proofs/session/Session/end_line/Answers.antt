@@ -1,0 +1,36 @@
+use Rattle.std.proofs.Common.{rules, ◌≡◌, ◌++◌, ◌∙◌, ℕ, List, [], Some, ap, sym, subst, refl, length}
+use Rattle.bw_commands.specs.Script.{kept_of, IsAnswer}
+use Rattle.bw_commands.specs.State.{State}
+use Rattle.bw_shell.specs.Responder.{responder_state}
+use Rattle.bw_shell.specs.Scan.{Scan, TakesLine, kept_after}
+use Rattle.bw_shell.specs.Session.{scan_of}
+use Rattle.bw_shell.proofs.Scanning.{TakesLine-kept, kept_after-kept_of, nil_of_length}
+use Rattle.bw_shell.proofs.Writing.{Writes-err, Writes-map}
+use Rattle.bw_shell.proofs.session.Session.end_line.Goals as goal
+
+pub returns-then-is_empty : goal.returns-then-is_empty
+returns-then-is_empty g c =
+    let s = responder_state g.G.Gate.used c.args.self.now.responder in
+    let t = responder_state g.G.Gate.used c.reply.new.self in
+    let line = c.args.self.now.line.items in
+    let zero : length line ≡ 0 = search rules in
+    let empty = nil_of_length line zero in
+    let same : kept_of c.args.front.now ≡ kept_after (kept_of line) c.args.front.now = rw empty (sym (kept_after-kept_of [] c.args.front.now)) in
+    Writes-map g.W.Write.contents c.args.writer.now c.reply.new.writer c.reply.result
+    (λ text p. TakesLine-kept s t c.args.front.now line line c.args.front.now text same empty p)
+    (λ text p. (record { state = p.0; kept = Some [] }, TakesLine-kept s p.0 c.args.front.now line [] c.args.front.now text same refl p.1))
+    c.reply.ensures
+
+pub returns-in-Err : goal.returns-in-Err
+returns-in-Err g c =
+    let s = responder_state g.G.Gate.used c.args.self.now.responder in
+    let line = c.args.self.now.line.items in
+    let whole = c.as_slice.result.now in
+    let state : responder_state g.G.Gate.used c.keep.new.self.responder ≡ s = ap (λ (m : Scan). m.state) c.keep.ensures in
+    let same : kept_of whole ≡ kept_after (kept_of line) c.args.front.now = ap kept_of c.as_slice.ensures.value ∙ ap (λ (m : Scan). m.kept) c.keep.ensures in
+    Writes-err g.W.Write.contents c.args.writer.now _ c.in-Err.fault
+    (λ text p. (
+      record { state = p.0; kept = Some [] },
+      TakesLine-kept s p.0 whole line [] c.args.front.now text same refl (subst (λ r. IsAnswer r whole text p.0) state p.1),
+    ))
+    c.in-Err.ensures
