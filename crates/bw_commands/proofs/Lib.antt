@@ -5,3 +5,5 @@ mod Words
 mod Decimals
 mod Totals
 mod Within
+mod PathLists
+mod OnlyMemory

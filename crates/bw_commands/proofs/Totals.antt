@@ -1,5 +1,5 @@
 -- The lines of the limiting groups.
-use Rattle.std.proofs.Common.{◌≡◌, ◌∙◌, ◌<◌, ◌+◌, ℕ, zero, suc, List, [], ◌∷◌, ◌++◌, Bool, length, sym, ap, arith, append_assoc, append-nil, get_or, cond, true, false}
+use Rattle.std.proofs.Common.{◌≡◌, ◌∙◌, ◌<◌, ◌+◌, ℕ, zero, suc, List, [], ◌∷◌, ◌++◌, Bool, length, refl, sym, ap, arith, append_assoc, append-nil, get_or, cond, true, false}
 use Rattle.std.specs.Prelude.{filter}
 use Rattle.std.specs.List.{range_with_len}
 use Rattle.bw_model.specs.Groups.{Groups}
@@ -15,14 +15,25 @@ ArePathsOf-push tree [] (p ∷ ps) g path all one = absurd all
 ArePathsOf-push tree (h ∷ gs) [] g path all one = absurd all
 ArePathsOf-push tree (h ∷ gs) (p ∷ ps) g path all one = (all.0, ArePathsOf-push tree gs ps g path all.1 one)
 
-pub group_lines-push : (line : ℕ → List ℕ → List ℕ) (tree : TreeState) (gs : List ℕ) (paths : List (List ℕ)) (g : ℕ) (path : List ℕ) → ArePathsOf tree gs paths
+pub ArePathsOf-length : (tree : TreeState) (gs : List ℕ) (paths : List (List ℕ)) → ArePathsOf tree gs paths → length gs ≡ length paths
+ArePathsOf-length tree [] [] all = refl
+ArePathsOf-length tree [] (p ∷ ps) all = absurd all
+ArePathsOf-length tree (h ∷ gs) [] all = absurd all
+ArePathsOf-length tree (h ∷ gs) (p ∷ ps) all = ap suc (ArePathsOf-length tree gs ps all.1)
+
+pub group_lines-push : (line : ℕ → List ℕ → List ℕ) (gs : List ℕ) (paths : List (List ℕ)) (g : ℕ) (path : List ℕ) → length gs ≡ length paths
     → group_lines line (gs ++ g ∷ []) (paths ++ path ∷ []) ≡ group_lines line gs paths ++ line g path
-group_lines-push line tree [] [] g path all = append-nil (line g path)
-group_lines-push line tree [] (p ∷ ps) g path all = absurd all
-group_lines-push line tree (h ∷ gs) [] g path all = absurd all
-group_lines-push line tree (h ∷ gs) (p ∷ ps) g path all =
-    ap (λ l. line h p ++ l) (group_lines-push line tree gs ps g path all.1)
+group_lines-push line [] [] g path same = append-nil (line g path)
+group_lines-push line [] (p ∷ ps) g path same = absurd (omega (arith, same))
+group_lines-push line (h ∷ gs) [] g path same = absurd (omega (arith, same))
+group_lines-push line (h ∷ gs) (p ∷ ps) g path same =
+    ap (λ l. line h p ++ l) (group_lines-push line gs ps g path (omega (arith, same)))
     ∙ sym (append_assoc (line h p) (group_lines line gs ps) (line g path))
+
+-- as many rows as were asked for
+pub rows-length : (a n : ℕ) → length (range_with_len a n) ≡ n
+rows-length a zero = refl
+rows-length a (suc n) = ap suc (rows-length (a + 1) n)
 
 -- the rows up to one and that one
 pub rows-more : (n : ℕ) → range_with_len 0 (n + 1) ≡ range_with_len 0 n ++ n ∷ []

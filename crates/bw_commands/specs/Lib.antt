@@ -5,10 +5,12 @@ pub mod Word
 pub mod Command
 pub mod Parsed
 pub mod GroupLines
+pub mod PathList
 pub mod Total
 pub mod Planned
 pub mod CertifiedPlan
 pub mod Period
 pub mod Reported
+pub mod LineText
 pub mod Script
 pub mod Commands

@@ -1,5 +1,7 @@
 //! The answers that speak of all groups, one file for each.
 mod cert;
+mod line;
+mod paths;
 mod period;
 mod plan;
 mod report;

@@ -7,6 +7,7 @@ mod fault;
 mod parse;
 mod perform;
 mod put;
+mod span;
 mod word;
 
 pub use fault::ScriptFault;

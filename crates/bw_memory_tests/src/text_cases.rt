@@ -7,7 +7,7 @@ use bw_cert::{CertFault, read_certified, write_certified};
 use bw_demand::{Gathered, gather};
 use bw_model::{Instance, Stat};
 use bw_shell::{RunFault, Watched, check_text};
-use bw_stat::{Books, report_line};
+use bw_stat::{Books, put_report_line};
 use std::alloc::{AllocError, Global};
 use std::process::Abort;
 use std::test::Fail;
@@ -69,13 +69,14 @@ fn book(rt: HostRuntime) -> Result<(), Fail> {
 #[test]
 fn report(rt: HostRuntime) -> Result<(), Fail> {
     let stat = counters_of_pod(1);
-    let line = match report_line(rt.alloc(), &stat, "pod") {
-        Err(_) => report_line(rt.alloc(), &stat, "pod")?,
-        Ok(line) => line,
-    };
+    let mut line = Vec::new(rt.alloc());
+    if put_report_line(&stat, b"pod", &mut line).is_err() {
+        line.clear();
+        put_report_line(&stat, b"pod", &mut line)?;
+    }
     assert_eq!(rt;
-        line.as_str(),
-        "               50000          1          1               150000 pod\n"
+        line.as_slice(),
+        b"               50000          1          1               150000 pod\n".as_slice()
     );
     Ok(())
 }

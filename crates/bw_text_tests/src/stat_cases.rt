@@ -5,7 +5,7 @@ ghost use Rattle.std.specs.List.{IsDistinct};
 
 use bw_demand::gather;
 use bw_model::{HostShape, Instance, InstanceFault, Row, Stat};
-use bw_stat::{Books, report_line};
+use bw_stat::{Books, put_report_line};
 use std::alloc::{AllocError, Global};
 use std::process::Abort;
 use std::test::Fail;
@@ -159,13 +159,14 @@ fn wide_line(rt: HostRuntime) -> Result<(), Fail> {
         nr_bursts: 7,
         burst_usec: 8,
     };
-    let line = match report_line(rt.alloc(), &stat, "a/b") {
-        Ok(line) => line,
-        Err(_) => report_line(rt.alloc(), &stat, "a/b")?,
-    };
+    let mut line = Vec::new(rt.alloc());
+    if put_report_line(&stat, b"a/b", &mut line).is_err() {
+        line.clear();
+        put_report_line(&stat, b"a/b", &mut line)?;
+    }
     assert_eq!(rt;
-        line.as_str(),
-        "18446744073709551615 18446744073709551615 12345678901 18446744073709551615 a/b\n"
+        line.as_slice(),
+        b"18446744073709551615 18446744073709551615 12345678901 18446744073709551615 a/b\n".as_slice()
     );
     Ok(())
 }

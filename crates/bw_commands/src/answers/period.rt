@@ -34,7 +34,7 @@ pub fn serve_period<G: Gate, H: Threads + Wait + Sync>(
     let gathered = gather_rows(alloc, &instance)?;
     let plan = plan_gathered(rt, alloc, &instance, &gathered)?;
     let served = serve(rt, alloc, &instance, &plan, gate)?;
-    put_number_line(alloc, b"served ", served.drawn[0], answer)?;
+    put_number_line(b"served ", served.drawn[0], answer)?;
     hierarchy.book(&instance, &ids, &base, &gathered, &served.drawn)?;
     Ok(())
 }

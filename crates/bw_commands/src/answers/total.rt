@@ -14,7 +14,7 @@ use bw_demand::{Gathered, gather, limiting};
 use bw_hierarchy::{Fault, Hierarchy};
 use bw_model::Instance;
 use bw_tree::{GroupId, Tree, TreeFault};
-use std::alloc::{AllocError, Global};
+use std::alloc::Global;
 
 /// Appends the answer to `total`: the greatest total, a line for each limiting group in order of
 /// creation, and the demands outside them, in slices of one period. It fails for want of memory alone.
@@ -27,16 +27,15 @@ pub fn put_total(alloc: Global, hierarchy: &Hierarchy, answer: &mut Vec<u8>) -> 
     let gathered = gather(alloc, &instance)?;
     let limits = limiting(alloc, &instance, &gathered)?;
     let total = total_of(&instance, &gathered);
-    put_number_line(alloc, b"total ", total, answer)?;
+    put_number_line(b"total ", total, answer)?;
     put_limits(
-        alloc,
         hierarchy.tree(),
         &instance,
         ids.as_slice(),
         limits.groups.as_slice(),
         answer,
     )?;
-    put_number_line(alloc, b"demand ", limits.rest, answer)?;
+    put_number_line(b"demand ", limits.rest, answer)?;
     Ok(())
 }
 
@@ -52,47 +51,55 @@ fn total_of(instance: &Instance, gathered: &Gathered) -> u64
 
 // Appends a line for each of these rows.
 fn put_limits(
-    alloc: Global,
     tree: &Tree,
     instance: &Instance,
     ids: &[GroupId],
     groups: &[u32],
     answer: &mut Vec<u8>,
-) -> Result<(), AllocError>
+) -> Result<(), Fault>
     requires ids { ids.now ≡ keys_of tree.now.groups }
     requires each { length ids.now ≡ length instance.now.rows }
     requires within { (k : ℕ) → k < length groups.now → slice_index groups.now k < length instance.now.rows }
     ensures ok { OnOk result ((paths : List (List ℕ)) × ArePathsOf tree.now groups.now paths
         × (answer.new.items ≡ answer.old.items ++ limit_lines instance.now groups.now paths)) }
+    ensures err { IfErr result (λ fault. fault ≡ Fault.Tree TreeFault.OutOfMemory) }
     ensures room { vec_capacity answer.old ≤ vec_capacity answer.new }
 {
     for g in groups {
-        put_limit(alloc, tree, instance, ids, *g, answer)?;
+        put_limit(tree, instance, ids, *g, answer)?;
     }
     Ok(())
 }
 
 // Appends the line of one row.
 fn put_limit(
-    alloc: Global,
     tree: &Tree,
     instance: &Instance,
     ids: &[GroupId],
     g: u32,
     answer: &mut Vec<u8>,
-) -> Result<(), AllocError>
+) -> Result<(), Fault>
     requires ids { ids.now ≡ keys_of tree.now.groups }
     requires each { length ids.now ≡ length instance.now.rows }
     requires within { g < length instance.now.rows }
     ensures ok { OnOk result ((path : List ℕ) × IsPathOf tree.now g path
         × (answer.new.items ≡ answer.old.items ++ limit_line instance.now g path)) }
+    ensures err { IfErr result (λ fault. fault ≡ Fault.Tree TreeFault.OutOfMemory) }
     ensures room { vec_capacity answer.old ≤ vec_capacity answer.new }
 {
-    let Ok(path) = tree.path_of(ids[g as usize]) else {
-        return Err(AllocError);
-    };
+    let path = path_of(tree, ids, g as usize)?;
     let limit = instance.limit(g).unwrap_or(0);
-    put_number(alloc, b"limit ", limit, answer)?;
-    put_path(path.as_str(), answer)?;
+    put_number(b"limit ", limit, answer)?;
+    put_path(path.as_bytes(), answer)?;
     Ok(())
+}
+
+// The path of the group of a row. It fails for want of memory alone.
+fn path_of(tree: &Tree, ids: &[GroupId], g: usize) -> Result<String, TreeFault>
+    requires ids { ids.now ≡ keys_of tree.now.groups }
+    requires within { g < length ids.now }
+    ensures path { IfOk result (λ path. IsPathOf tree.now g (string_bytes path)) }
+    ensures err { IfErr result (λ fault. fault ≡ TreeFault.OutOfMemory) }
+{
+    tree.path_of(ids[g])
 }

@@ -1,0 +1,16 @@
+-- What the line of a group tells, by the program's value.
+use Rattle.std.specs.Prelude.{ℕ, List, ◌<◌, length}
+use Rattle.bw_commands.specs.Planned.{amount_line}
+use Rattle.bw_commands.specs.Reported.{counter_line}
+use Rattle.bw_commands.specs.declared.answers.line.Line.{Line}
+use Rattle.bw_commands.specs.declared.answers.line.Line.TheVariants.{Amount, Counters}
+
+-- the line of a row, by its number and its path
+abbrev pub line_of : Line → ℕ → List ℕ → List ℕ
+line_of (Amount amounts) = amount_line amounts.now
+line_of (Counters books ids) = counter_line books.now ids.now
+
+-- there is something to tell of the row
+abbrev pub HasRow : Line → ℕ → Type 0
+HasRow (Amount amounts) g = g < length amounts.now
+HasRow (Counters books ids) g = g < length ids.now

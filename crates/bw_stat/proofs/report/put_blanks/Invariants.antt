@@ -1,0 +1,9 @@
+use Rattle.std.proofs.Common.{◌≡◌, ◌≤◌, ◌++◌, ℕ, replicate}
+use Rattle.std.specs.Vec.{vec_capacity}
+use Rattle.bw_stat.proofs.report.put_blanks.Given as goal
+
+abbrev pub invariant-loop-blank : goal.invariant-loop-blank
+invariant-loop-blank l = record {
+  put : l.text.items ≡ l.initial.text.items ++ replicate l._blank 32;
+  room : vec_capacity l.initial.text ≤ vec_capacity l.text;
+}
