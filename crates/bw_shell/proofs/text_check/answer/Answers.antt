@@ -6,15 +6,15 @@ use Rattle.bw_shell.specs.Watched.{inner_of}
 use Rattle.bw_shell.proofs.Known.{OnOk-map}
 use Rattle.bw_shell.proofs.text_check.answer.Goals as goal
 
-pub returns-in-Ok-clause-ok : goal.returns-in-Ok-clause-ok
-returns-in-Ok-clause-ok g c =
+pub returns-clause-ok : goal.returns-clause-ok
+returns-clause-ok g c =
     let line : c.as_bytes.result.now ≡ line_of c.args.finding = search rules in
     OnOk-map c.send_line.result
     (λ p. subst (λ l. Appends (g.W.Write.contents (inner_of c.args.writer.now)) (g.W.Write.contents (inner_of c.send_line.new.writer)) l) (p.1 ∙ line) p.2)
     c.send_line.ensures.writes.ok
 
-pub returns-in-Ok-clause-write : goal.returns-in-Ok-clause-write
-returns-in-Ok-clause-write g c = λ h.
+pub returns-clause-write : goal.returns-clause-write
+returns-clause-write g c = λ h.
     let line : c.as_bytes.result.now ≡ line_of c.args.finding = search rules in
     let p = rw h at c.send_line.ensures.writes.err in
     subst (λ l. AppendsFront (g.W.Write.contents (inner_of c.args.writer.now)) (g.W.Write.contents (inner_of c.send_line.new.writer)) l) (p.1 ∙ line) p.2
