@@ -17,7 +17,7 @@ CRATES = ["bw_memory_tests"]
 PASSED = (0, b"\ntest result: ok\n", b"")
 FIRST, SPREAD = 400, 100
 # A crate in whose tests fewer allocations are refused than this has fallen to nothing.
-LEAST_REFUSED = 200
+LEAST_REFUSED = 40
 
 
 def numbers_of(library, name):

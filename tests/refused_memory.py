@@ -10,7 +10,8 @@ import collections
 import sys
 import tempfile
 
-from cases import CERTIFIED, MEMORY, NO_MEMORY, NO_THREAD, Cases, in_place_of_a_line, refused_in_turn, refusing_library, ran, script, transcript
+from cases import (CERTIFIED, MEMORY, NO_MEMORY, NO_THREAD, Cases, in_place_of_a_line, refused_each, refused_in_turn, refused_run, refusing_library,
+                   ran, script, transcript)
 
 # What the program answers where memory is refused while the words of the command line are read: as before any first read.
 WORDS_REFUSED = MEMORY
@@ -59,6 +60,41 @@ period
 report
 """.splitlines(keepends=True)
 
+# Between two periods come enough groups that the tree and the counters grow more than once. Each group is made again by the
+# next line: that one answers `ok` where the first was refused. A group with ten slices of quota and five of burst draws 4
+# slices, then 15.
+NAMES = "bcdefghijklmnopqrstu"
+GROWING = f"""mkdir a
+mkdir a
+mkdir a/b
+mkdir a/b
+write a cpu.max 50000
+write a cpu.max.burst 25000
+demand a/b 4
+period
+{"".join(f"mkdir {name}{chr(10)}mkdir {name}{chr(10)}" for name in NAMES)}demand a/b 15
+read a cpu.max
+read a cpu.max
+read a cpu.weight
+total
+period
+read a cpu.stat
+total
+plan
+report
+report
+""".encode().splitlines(keepends=True)
+
+# Two groups with 2048 leaves each, so many that a plan cuts their depth into pieces for several threads: 32000 slices for each
+# group, of whose leaves the first 1280 get 16 and the others 15.
+WIDE_HOST = ["run", "--processors", "64", "--period", "1000000", "--slice", "1000"]
+WIDE_LEAVES = [f"g{leaf % 2}/c{leaf}" for leaf in range(4096)]
+WIDE_LINES = [f"mkdir {path}\n".encode() for path in ["g0", "g1", *WIDE_LEAVES]] + [f"demand {leaf} 20\n".encode() for leaf in WIDE_LEAVES]
+WIDE_PLAN = "".join(["64000 .\n32000 g0\n32000 g1\n", *(f"{16 if at < 2560 else 15} {leaf}\n" for at, leaf in enumerate(WIDE_LEAVES))]).encode()
+# Of the plan's allocations the first and the last this many are refused, and of the others as many, evenly spread. A sweep in
+# which fewer than the second number answer 71 has fallen to nothing.
+WIDE_REFUSED, LEAST_WIDE = 60, 20
+
 
 def swept(name, job, library, words, given, allowed, wanted):
     """Refuses each allocation of one run; answers what is wrong. `allowed` has each answer that may come, with its kind."""
@@ -90,6 +126,25 @@ def run_swept(name, library, words, lines):
     return swept(name, "run", library, words, given, allowed, [ENDED, "70 at period", *wanted])
 
 
+def plan_in_pieces_swept(library):
+    """The plan of the wide tree, some of its allocations refused: it answers 71, or the same."""
+    made = transcript(WIDE_HOST, WIDE_LINES)
+    given = b"".join(WIDE_LINES) + b"plan\n"
+    if transcript(WIDE_HOST, [given]) != made + WIDE_PLAN:
+        return "the plan is another one"
+    before, after = (refused_run(library, WIDE_HOST, lines, TELL_ALL=1)[1].count(b"m") for lines in (b"".join(WIDE_LINES), given))
+    numbers = list(range(before + 1, after + 1))
+    middle = numbers[WIDE_REFUSED:-WIDE_REFUSED]
+    numbers = [*numbers[:WIDE_REFUSED], *middle[::max(1, len(middle) // WIDE_REFUSED)], *numbers[-WIDE_REFUSED:]]
+    allowed = {(0, made + WIDE_PLAN, b""): "the same answer", (0, made + NO_MEMORY, b""): "71 at plan"}
+    answers = refused_each(library, WIDE_HOST, given, sorted(set(numbers)))
+    kinds = collections.Counter(allowed.get(answer, "wrong") for answer in answers.values())
+    print(f"  a plan in pieces: {len(answers)} of its {after - before} allocations refused: {dict(sorted(kinds.items()))}", flush=True)
+    if kinds["wrong"] or kinds["71 at plan"] < LEAST_WIDE:
+        return f"{dict(kinds)}"
+    return None
+
+
 def answer_swept(name, job, library, words, given, ended):
     """A run that writes one answer and ends with this status, each of its allocations refused."""
     answer = ran(words, given)
@@ -106,9 +161,11 @@ def main():
         for name, words, lines in [
             ("run, one processor", ["run"], script("counters.script")),
             ("run, four processors, every command", ["run", "--processors", "4"], EVERY_COMMAND),
+            ("run, four processors, a tree that grows", ["run", "--processors", "4"], GROWING),
             ("run, 64 processors", ["run", "--processors", "64"], script("counters.script")),
         ]:
             cases.case(name, run_swept, name, library, words, lines)
+        cases.case("a plan in pieces", plan_in_pieces_swept, library)
         pod = CERTIFIED["a pod and a job"]
         texts = [(f"check, {name}", text, 0) for name, text in CERTIFIED.items()]
         texts.append(("check, a text that is refused", pod.replace(b"300 max 20 7", b"300 max 20 8"), 3))

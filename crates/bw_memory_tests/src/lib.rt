@@ -1,16 +1,11 @@
-//! Calls that take memory, on values so small that each of their allocations can be made to fail in turn. A refused
-//! call says so and changes nothing, and succeeds where it is made again.
+//! Calls that take memory and that no script line and no certified text reaches, on values so small that each of their
+//! allocations can be made to fail in turn. A refused call says so and changes nothing, and succeeds where it is made again.
+//! What a line or a text reaches, tests/refused_memory.py of the repository refuses memory to, in the native program.
 #![tactic(auto)]
 
 #[cfg(test)]
+mod builder_cases;
+#[cfg(test)]
 mod core_cases;
 #[cfg(test)]
-mod hierarchy_cases;
-#[cfg(test)]
-mod instance_cases;
-#[cfg(test)]
-mod text_cases;
-#[cfg(test)]
-mod thread_cases;
-#[cfg(test)]
-mod tree_cases;
+mod split_cases;

@@ -3,26 +3,49 @@
 use bw_check::{CheckFault, Verdict, check};
 use bw_model::{Certificate, HostShape, Instance, InstanceFault, Mark, Row};
 use std::alloc::Global;
+use std::process::Abort;
 use std::test::Fail;
 
-fn row(parent: Option<u32>, weight: u64, limit: Option<u64>, demand: u64) -> Row {
+/// Two groups of weights 100 and 200, each with a demand of 20.
+static TWO: [Row; 3] = [
     Row {
-        parent,
-        weight,
-        limit,
-        demand,
-    }
-}
+        parent: None,
+        weight: 100,
+        limit: None,
+        demand: 0,
+    },
+    Row {
+        parent: Some(0),
+        weight: 100,
+        limit: None,
+        demand: 20,
+    },
+    Row {
+        parent: Some(0),
+        weight: 200,
+        limit: None,
+        demand: 20,
+    },
+];
 
+static AMOUNTS: [u64; 3] = [20, 7, 13];
+
+static TIGHT: [bool; 3] = [true, false, false];
+
+const WRONG: Verdict = Verdict::Refused {
+    fault: CheckFault::WrongLength,
+    group: 0,
+};
+
+/// What the check says of so many of the amounts, flags and levels. All of them are accepted.
 fn verdict_once(
     alloc: Global,
     shape: HostShape,
-    rows: &[Row],
     amounts: &[u64],
     tight: &[bool],
     levels: &[Option<Mark>],
 ) -> Result<Verdict, InstanceFault> {
-    let instance = Instance::new(alloc, rows.to_vec(alloc)?, shape)?;
+    let instance = Instance::new(alloc, TWO.to_vec(alloc)?, shape)?;
     let certificate = Certificate {
         tight: tight.to_vec(alloc)?,
         levels: levels.to_vec(alloc)?,
@@ -30,51 +53,32 @@ fn verdict_once(
     Ok(check(alloc, &instance, amounts, &certificate)?)
 }
 
-// What the check says of rows on a host of so many processors, each with 20 slices a period. Where one growth
-// is refused it is asked again.
-fn verdict(
+/// The same on one processor of 20 slices. Where memory is refused it is asked again.
+fn assert_verdict(
+    rt: &impl Abort,
     alloc: Global,
-    processors: u64,
-    rows: &[Row],
-    amounts: &[u64],
-    tight: &[bool],
-    levels: &[Option<Mark>],
-) -> Result<Verdict, Fail> {
-    let shape = HostShape::new(processors, 100_000, 5000)?;
-    match verdict_once(alloc, shape, rows, amounts, tight, levels) {
-        Ok(verdict) => Ok(verdict),
-        Err(_) => Ok(verdict_once(alloc, shape, rows, amounts, tight, levels)?),
-    }
+    counts: (usize, usize, usize),
+    wanted: Verdict,
+) -> Result<(), Fail> {
+    let shape = HostShape::new(1, 100_000, 5000)?;
+    let levels = [Mark::new(13, 100, 0), None, None];
+    let amounts = AMOUNTS.split_at(counts.0.min(3)).0;
+    let tight = TIGHT.split_at(counts.1.min(3)).0;
+    let levels = levels.split_at(counts.2.min(3)).0;
+    let verdict = match verdict_once(alloc, shape, amounts, tight, levels) {
+        Err(_) => verdict_once(alloc, shape, amounts, tight, levels)?,
+        Ok(verdict) => verdict,
+    };
+    assert!(rt; verdict == wanted);
+    Ok(())
 }
 
-fn refused(fault: CheckFault, group: u32) -> Verdict {
-    Verdict::Refused { fault, group }
-}
-
-// Two groups a and b of weights 100 and 200, each with a demand of 20.
-fn two() -> [Row; 3] {
-    [
-        row(None, 100, None, 0),
-        row(Some(0), 100, None, 20),
-        row(Some(0), 200, None, 20),
-    ]
-}
-
-// One amount, one flag and one level for each row.
+/// One amount, one flag and one level for each row.
 #[test]
 fn lengths(rt: HostRuntime) -> Result<(), Fail> {
-    let alloc = rt.alloc();
-    let levels = [Mark::new(13, 100, 0), None, None];
-    let wrong = refused(CheckFault::WrongLength, 0);
-    let root = [true, false, false];
-    assert_eq!(rt; verdict(alloc, 1, &two(), &[20, 7], &root, &levels)?, wrong);
-    assert_eq!(rt;
-        verdict(alloc, 1, &two(), &[20, 7, 13], &[true, false], &levels)?,
-        wrong
-    );
-    assert_eq!(rt;
-        verdict(alloc, 1, &two(), &[20, 7, 13], &root, &[None, None])?,
-        wrong
-    );
+    assert_verdict(&rt, rt.alloc(), (3, 3, 3), Verdict::Accepted)?;
+    for counts in [(2, 3, 3), (3, 2, 3), (3, 3, 2)] {
+        assert_verdict(&rt, rt.alloc(), counts, WRONG)?;
+    }
     Ok(())
 }

@@ -1,40 +1,55 @@
 //! Quotas, instances and marks, against worked values.
 use bw_model::limits::{MAX_PERIOD_US, MAX_QUOTA_US, MIN_PERIOD_US};
 use bw_model::{HostShape, Instance, InstanceFault, Mark, Quota, Row};
-use std::alloc::{AllocError, Global};
+use std::alloc::Global;
 use std::process::Abort;
 use std::test::Fail;
 
+// A static table costs its readers no proof; each entry of a local one is a step of it.
+static VALID: [(Quota, bool); 5] = [
+    (Quota::Max, true),
+    (Quota::Micros(999), false),
+    (Quota::Micros(1_000), true),
+    (Quota::Micros(1_000_000_000_000_000), true),
+    (Quota::Micros(1_000_000_000_000_001), false),
+];
+
 #[test]
-fn quotas(rt: HostRuntime) -> Result<(), Fail> {
-    let valid = [
-        (Quota::Max, true),
-        (Quota::Micros(999), false),
-        (Quota::Micros(1_000), true),
-        (Quota::Micros(1_000_000_000_000_000), true),
-        (Quota::Micros(1_000_000_000_000_001), false),
-    ];
-    for (quota, wanted) in valid {
-        assert_eq!(rt; quota.is_valid(), wanted);
+fn valid_quotas(rt: HostRuntime) {
+    for (quota, wanted) in &VALID {
+        assert!(rt; quota.is_valid() == *wanted);
     }
-    let host = HostShape::new(1, 100_000, 5_000)?;
-    let short = HostShape::new(2, 5_000, 5_000)?;
-    let cases: [(HostShape, u64, u64, u64); 10] = [
-        (host, 1_000, 100_000, 0),
-        (host, 14_999, 100_000, 2),
-        (host, 15_000, 100_000, 3),
-        (host, 1_000_000_000_000_000, 100_000, 200_000_000_000),
-        (host, 50_000, 200_000, 5),
-        (host, 25_000, 200_000, 2),
-        (host, 1_000, 1_000, 20),
-        (host, 1_000, 1_000_000, 0),
-        (host, 1_000_000_000_000_000, 1_000, 20_000_000_000_000),
-        (short, 50_000, 100_000, 0),
-    ];
-    for (shape, us, period_us, slices) in cases {
+}
+
+/// A quota, its period, and its slices of 5000 microseconds in a host's period of 100 ms.
+static SLICES: [(u64, u64, u64); 9] = [
+    (1_000, 100_000, 0),
+    (14_999, 100_000, 2),
+    (15_000, 100_000, 3),
+    (1_000_000_000_000_000, 100_000, 200_000_000_000),
+    (50_000, 200_000, 5),
+    (25_000, 200_000, 2),
+    (1_000, 1_000, 20),
+    (1_000, 1_000_000, 0),
+    (1_000_000_000_000_000, 1_000, 20_000_000_000_000),
+];
+
+/// The same in a host's period of 5 ms.
+static SLICES_OF_A_SHORT_PERIOD: [(u64, u64, u64); 1] = [(50_000, 100_000, 0)];
+
+fn assert_slices(rt: &impl Abort, shape: HostShape, cases: &[(u64, u64, u64)]) {
+    for (us, period_us, slices) in cases {
+        let (us, period_us) = (*us, *period_us);
         assert!(rt; us <= MAX_QUOTA_US && MIN_PERIOD_US <= period_us && period_us <= MAX_PERIOD_US);
-        assert_eq!(rt; shape.slices(us, period_us), slices);
+        assert!(rt; shape.slices(us, period_us) == *slices);
     }
+}
+
+#[test]
+fn quotas_in_slices(rt: HostRuntime) -> Result<(), Fail> {
+    assert_slices(&rt, HostShape::new(1, 100_000, 5_000)?, &SLICES);
+    let short = HostShape::new(2, 5_000, 5_000)?;
+    assert_slices(&rt, short, &SLICES_OF_A_SHORT_PERIOD);
     Ok(())
 }
 
@@ -48,20 +63,18 @@ fn idle(parent: Option<u32>) -> Row {
     }
 }
 
-fn listed(alloc: Global, rows: &[Row]) -> Result<Vec<Row>, AllocError> {
-    let mut list = Vec::new(alloc);
-    for row in rows {
-        list.push(*row)?;
-    }
-    Ok(list)
+fn made_once(alloc: Global, rows: &[Row]) -> Result<Instance, InstanceFault> {
+    let Ok(shape) = HostShape::new(1, 100_000, 5_000) else {
+        return Err(InstanceFault::OutOfMemory);
+    };
+    Instance::new(alloc, rows.to_vec(alloc)?, shape)
 }
 
 /// Makes an instance on one processor. A call that is refused memory is made again.
-fn made(alloc: Global, rows: &[Row]) -> Result<Instance, Fail> {
-    let shape = HostShape::new(1, 100_000, 5_000)?;
-    match Instance::new(alloc, listed(alloc, rows)?, shape) {
-        Err(InstanceFault::OutOfMemory) => Ok(Instance::new(alloc, listed(alloc, rows)?, shape)?),
-        other => Ok(other?),
+fn made(alloc: Global, rows: &[Row]) -> Result<Instance, InstanceFault> {
+    match made_once(alloc, rows) {
+        Err(InstanceFault::OutOfMemory) => made_once(alloc, rows),
+        other => other,
     }
 }
 
@@ -73,113 +86,102 @@ fn assert_refused(
     fault: InstanceFault,
     number: u8,
     name: &str,
-) -> Result<(), Fail> {
-    let shape = HostShape::new(1, 100_000, 5_000)?;
-    let answer = match Instance::new(alloc, listed(alloc, rows)?, shape) {
-        Err(InstanceFault::OutOfMemory) => Instance::new(alloc, listed(alloc, rows)?, shape),
-        other => other,
-    };
-    match answer {
-        Err(answered) => assert!(rt; answered == fault, "{name}"),
-        Ok(_) => assert!(rt; false, "{name}"),
-    }
-    assert_eq!(rt; fault.number(), number);
-    assert_eq!(rt; fault.name(), name);
-    Ok(())
+) {
+    assert!(rt; made(alloc, rows).is_err_and(|answered| answered == fault));
+    assert!(rt; fault.number() == number && fault.name() == name);
 }
 
 #[test]
-fn long_and_deep_rows(rt: HostRuntime) -> Result<(), Fail> {
-    let alloc = rt.alloc();
-    let mut flat = listed(alloc, &[idle(None)])?;
+fn long_rows(rt: HostRuntime) -> Result<(), Fail> {
+    let mut rows = [idle(None)].to_vec(rt.alloc())?;
     for _ in 1..16384u32 {
-        flat.push(idle(Some(0)))?;
+        rows.push(idle(Some(0)))?;
     }
-    let instance = made(alloc, flat.as_slice())?;
-    assert_eq!(rt; instance.rows().len(), 16384);
-    flat.push(Row {
+    let instance = made(rt.alloc(), rows.as_slice())?;
+    assert!(rt; instance.rows().len() == 16384);
+    rows.push(Row {
         weight: 0,
         ..idle(None)
     })?;
-    assert_refused(
-        &rt,
-        alloc,
-        flat.as_slice(),
-        InstanceFault::TooMany,
-        4,
-        "TooMany",
-    )?;
-    let mut chain = listed(alloc, &[idle(None)])?;
-    for above in 0..64u32 {
-        chain.push(idle(Some(above)))?;
-    }
-    let instance = made(alloc, chain.as_slice())?;
-    assert!(rt; instance.rows().len() == 65);
-    assert_eq!(rt; instance.path_up(64).len(), 65);
-    chain.push(idle(Some(64)))?;
-    assert_refused(
-        &rt,
-        alloc,
-        chain.as_slice(),
-        InstanceFault::TooDeep,
-        7,
-        "TooDeep",
-    )
+    let fault = InstanceFault::TooMany;
+    assert_refused(&rt, rt.alloc(), rows.as_slice(), fault, 4, "TooMany");
+    Ok(())
 }
 
 #[test]
+fn deep_rows(rt: HostRuntime) -> Result<(), Fail> {
+    let mut rows = [idle(None)].to_vec(rt.alloc())?;
+    for above in 0..64u32 {
+        rows.push(idle(Some(above)))?;
+    }
+    let instance = made(rt.alloc(), rows.as_slice())?;
+    assert!(rt; instance.rows().len() == 65);
+    assert!(rt; instance.path_up(64).len() == 65);
+    rows.push(idle(Some(64)))?;
+    let fault = InstanceFault::TooDeep;
+    assert_refused(&rt, rt.alloc(), rows.as_slice(), fault, 7, "TooDeep");
+    Ok(())
+}
+
+const BUSY: Row = Row {
+    parent: Some(1),
+    weight: 100,
+    limit: Some(10),
+    demand: 20,
+};
+
+static CHILDREN: [&[u32]; 5] = [&[1, 3], &[2, 4], &[], &[], &[]];
+
+static PATHS: [&[u32]; 5] = [&[0], &[1, 0], &[2, 1, 0], &[3, 0], &[4, 1, 0]];
+
+#[test]
 fn readers(rt: HostRuntime) -> Result<(), Fail> {
-    let alloc = rt.alloc();
-    let busy = Row {
-        demand: 20,
-        limit: Some(10),
-        ..idle(Some(1))
-    };
-    let instance = made(
-        alloc,
-        &[
-            idle(None),
-            idle(Some(0)),
-            busy,
-            idle(Some(0)),
-            idle(Some(1)),
-        ],
-    )?;
+    let rows = [
+        idle(None),
+        idle(Some(0)),
+        BUSY,
+        idle(Some(0)),
+        idle(Some(1)),
+    ];
+    let instance = made(rt.alloc(), &rows)?;
     assert!(rt; instance.rows().len() == 5);
-    assert!(rt; instance.row(2) == busy);
+    assert!(rt; instance.row(2) == BUSY);
     assert!(rt; instance.shape().capacity() == 20);
-    let children: [&[u32]; 5] = [&[1, 3], &[2, 4], &[], &[], &[]];
-    let paths: [&[u32]; 5] = [&[0], &[1, 0], &[2, 1, 0], &[3, 0], &[4, 1, 0]];
     for g in 0..5u32 {
-        assert_eq!(rt; instance.children(g), children[g as usize]);
-        assert_eq!(rt; instance.is_leaf(g), children[g as usize].is_empty());
-        assert_eq!(rt; instance.path_up(g).as_slice(), paths[g as usize]);
+        let children = CHILDREN[g as usize];
+        assert!(rt; instance.children(g) == children);
+        assert!(rt; instance.is_leaf(g) == children.is_empty());
+        assert!(rt; instance.path_up(g).as_slice() == PATHS[g as usize]);
     }
     Ok(())
+}
+
+/// Two marks each, of which the first is below the second: numerator, denominator and place.
+static RISING: [((u64, u64, u32), (u64, u64, u32)); 6] = [
+    ((5, 100, 0), (15, 300, 1)),
+    ((1, 2, 0), (2, 4, 0)),
+    ((1, 100, 0), (3, 300, 0)),
+    ((1, 3, 9), (1, 2, 0)),
+    ((u64::MAX, u64::MAX, 0), (u64::MAX, u64::MAX, 1)),
+    ((1, u64::MAX, 0), (u64::MAX, 1, 0)),
+];
+
+fn assert_rises(rt: &impl Abort, low: Mark, high: Mark) {
+    assert!(rt; low < high);
+    assert!(rt; high > low);
+    assert!(rt; low != high);
+    assert!(rt; low == low);
 }
 
 #[test]
 fn marks(rt: HostRuntime) {
     assert!(rt; Mark::new(0, 1, 0).is_none());
     assert!(rt; Mark::new(1, 0, 0).is_none());
-    let rising = [
-        ((5, 100, 0), (15, 300, 1)),
-        ((1, 2, 0), (2, 4, 0)),
-        ((1, 100, 0), (3, 300, 0)),
-        ((1, 3, 9), (1, 2, 0)),
-        ((u64::MAX, u64::MAX, 0), (u64::MAX, u64::MAX, 1)),
-        ((1, u64::MAX, 0), (u64::MAX, 1, 0)),
-    ];
-    for ((num, den, place), (other_num, other_den, other_place)) in rising {
-        let low = Mark::new(num, den, place);
-        let high = Mark::new(other_num, other_den, other_place);
+    for ((num, den, place), (other_num, other_den, other_place)) in &RISING {
+        let low = Mark::new(*num, *den, *place);
+        let high = Mark::new(*other_num, *other_den, *other_place);
         match (low, high) {
-            (Some(low), Some(high)) => {
-                assert!(rt; low < high);
-                assert!(rt; high > low);
-                assert!(rt; low != high);
-                assert!(rt; low == low);
-            }
+            (Some(low), Some(high)) => assert_rises(&rt, low, high),
             _ => assert!(rt; false),
         }
     }

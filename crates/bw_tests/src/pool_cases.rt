@@ -1,6 +1,8 @@
 //! The slice pool by single steps and by its core, against worked replies.
 //! Where one allocation is refused a case is run once more, so that each holds with any one of its allocations failing.
-use bw_model::{HostShape, Instance, Machine, Row};
+ghost use Rattle.std.specs.Prelude.{◌≤◌, length};
+
+use bw_model::{HostShape, Instance, InstanceFault, Machine, Row};
 use bw_pool::{
     Core, CoreEvent, PoolCall, PoolReply, Refusal, Short, SlicePool, drained_workers,
     every_schedule, holdings_add_up, never_past_the_plan, one_drawn_list,
@@ -11,32 +13,23 @@ use std::test::Fail;
 
 /// A host with periods of so many microseconds, and groups by their parents, with amounts in slices of 5000 microseconds.
 #[derive(Clone, Copy)]
-struct Setting<'a> {
+struct Setting {
     processors: u64,
     period_us: u64,
-    parents: &'a [Option<u32>],
-    amounts: &'a [u64],
+    parents: &'static [Option<u32>],
+    amounts: &'static [u64],
 }
 
 /// A call of a seat, and the reply that it is to have.
 type Wanted = (u32, PoolCall, PoolReply);
 
-fn draw(leaf: u32, ask: u64) -> PoolCall {
-    PoolCall::Draw { leaf, ask }
-}
-
-fn give_back(leaf: u32, n: u64) -> PoolCall {
-    PoolCall::GiveBack { leaf, n }
-}
-
-fn granted(got: u64, short: Option<Short>) -> PoolReply {
-    PoolReply::Granted { got, short }
-}
-
-/// A new pool, whose readers say that nothing is drawn and that the amounts are the ceilings.
-fn opened(rt: &impl Abort, alloc: Global, setting: &Setting) -> Result<SlicePool, AllocError> {
+fn instance_of(
+    alloc: Global,
+    shape: HostShape,
+    parents: &[Option<u32>],
+) -> Result<Instance, InstanceFault> {
     let mut rows = Vec::new(alloc);
-    for parent in setting.parents {
+    for parent in parents {
         rows.push(Row {
             parent: *parent,
             weight: 100,
@@ -44,22 +37,42 @@ fn opened(rt: &impl Abort, alloc: Global, setting: &Setting) -> Result<SlicePool
             demand: 0,
         })?;
     }
+    Instance::new(alloc, rows, shape)
+}
+
+/// Asserts that a pool's readers say that nothing is drawn and that the amounts are the ceilings.
+fn assert_new(rt: &impl Abort, pool: &SlicePool, amounts: &[u64], groups: u32, processors: u32)
+    requires each { groups ≤ length amounts.now }
+    requires rows { groups ≤ length pool.now.rows }
+    requires seats { processors ≤ pool.now.processors }
+{
+    for group in 0..groups {
+        assert!(rt; pool.drawn(group) == 0);
+        assert!(rt; pool.ceiling(group) == amounts[group as usize]);
+    }
+    for processor in 0..processors {
+        assert!(rt; pool.by_processor(processor) == 0);
+    }
+    assert!(rt; pool.held(99, 99) == 0);
+}
+
+fn opened(rt: &impl Abort, alloc: Global, setting: &Setting) -> Result<SlicePool, AllocError> {
     let Ok(shape) = HostShape::new(setting.processors, setting.period_us, 5000) else {
         panic!(rt; "no host")
     };
-    let Ok(instance) = Instance::new(alloc, rows, shape) else {
+    let Ok(instance) = instance_of(alloc, shape, setting.parents) else {
         return Err(AllocError);
     };
-    assert_eq!(rt; setting.amounts.len(), instance.rows().len());
+    assert!(rt; setting.amounts.len() == instance.rows().len());
     let pool = SlicePool::new(alloc, &instance, setting.amounts)?;
-    for group in 0..setting.amounts.len() as u32 {
-        assert_eq!(rt; pool.drawn(group), 0);
-        assert_eq!(rt; pool.ceiling(group), setting.amounts[group as usize]);
-    }
-    for processor in 0..shape.processors() as u32 {
-        assert_eq!(rt; pool.by_processor(processor), 0);
-    }
-    assert_eq!(rt; pool.held(99, 99), 0);
+    let processors = instance.shape().processors() as u32;
+    assert_new(
+        rt,
+        &pool,
+        setting.amounts,
+        instance.group_count(),
+        processors,
+    );
     Ok(pool)
 }
 
@@ -82,7 +95,7 @@ fn call_by_events(
         CoreEvent::Leave { seat },
     ];
     for event in events {
-        assert_eq!(rt; core.event(event)?, true);
+        assert!(rt; core.event(event)?);
     }
     Ok(())
 }
@@ -98,12 +111,12 @@ fn assert_replies(
     let mut pool = opened(rt, alloc, setting)?;
     let mut core = Core::new(alloc, opened(rt, alloc, setting)?, 2)?;
     for (seat, call, reply) in calls {
-        assert_eq!(rt; step(&mut pool, *seat, call), *reply);
+        assert!(rt; step(&mut pool, *seat, call) == *reply);
         call_by_events(rt, &mut core, *seat, *call)?;
     }
-    assert_eq!(rt; pool.all_drawn(), drawn);
-    assert_eq!(rt; core.pool().all_drawn(), drawn);
-    assert_eq!(rt; core.history().len(), calls.len());
+    assert!(rt; pool.all_drawn() == drawn);
+    assert!(rt; core.pool().all_drawn() == drawn);
+    assert!(rt; core.history().len() == calls.len());
     for (entry, (seat, call, reply)) in core.history().iter().zip(calls) {
         assert!(rt; entry.seat == *seat && entry.call == *call && entry.reply == *reply);
     }
@@ -124,151 +137,319 @@ fn assert_case(
     Ok(())
 }
 
-/// A leaf with 3 slices under the root.
-fn leaf_with_three(processors: u64) -> Setting<'static> {
-    Setting {
-        processors,
-        period_us: 100_000,
-        parents: &[None, Some(0)],
-        amounts: &[3, 3],
-    }
-}
+/// A leaf with 3 slices under the root, on one processor.
+static LEAF_WITH_THREE: Setting = Setting {
+    processors: 1,
+    period_us: 100_000,
+    parents: &[None, Some(0)],
+    amounts: &[3, 3],
+};
+
+/// The same on two.
+static SHARED_LEAF: Setting = Setting {
+    processors: 2,
+    period_us: 100_000,
+    parents: &[None, Some(0)],
+    amounts: &[3, 3],
+};
+
+// Static tables cost their readers no proof; each entry of a local one is a step of it.
+static FIRST_COMES_FIRST: [Wanted; 3] = [
+    (
+        0,
+        PoolCall::Draw { leaf: 1, ask: 2 },
+        PoolReply::Granted {
+            got: 2,
+            short: None,
+        },
+    ),
+    (
+        1,
+        PoolCall::Draw { leaf: 1, ask: 2 },
+        PoolReply::Granted {
+            got: 1,
+            short: Some(Short::Group(1)),
+        },
+    ),
+    (
+        0,
+        PoolCall::Look { group: 1 },
+        PoolReply::Drawn { n: 3, ceiling: 3 },
+    ),
+];
+
+static SECOND_COMES_FIRST: [Wanted; 2] = [
+    (
+        1,
+        PoolCall::Draw { leaf: 1, ask: 2 },
+        PoolReply::Granted {
+            got: 2,
+            short: None,
+        },
+    ),
+    (
+        0,
+        PoolCall::Draw { leaf: 1, ask: 2 },
+        PoolReply::Granted {
+            got: 1,
+            short: Some(Short::Group(1)),
+        },
+    ),
+];
 
 #[test]
 fn shared_leaf(rt: HostRuntime) -> Result<(), Fail> {
-    let setting = leaf_with_three(2);
-    let first = granted(2, None);
-    let second = granted(1, Some(Short::Group(1)));
-    let both = PoolReply::Drawn { n: 3, ceiling: 3 };
-    let calls = [
-        (0, draw(1, 2), first),
-        (1, draw(1, 2), second),
-        (0, PoolCall::Look { group: 1 }, both),
-    ];
-    assert_case(&rt, rt.alloc(), &setting, &calls, &[3, 3])?;
-    let calls = [(1, draw(1, 2), first), (0, draw(1, 2), second)];
-    assert_case(&rt, rt.alloc(), &setting, &calls, &[3, 3])?;
+    assert_case(&rt, rt.alloc(), &SHARED_LEAF, &FIRST_COMES_FIRST, &[3, 3])?;
+    assert_case(&rt, rt.alloc(), &SHARED_LEAF, &SECOND_COMES_FIRST, &[3, 3])?;
     Ok(())
 }
+
+static CHAIN: Setting = Setting {
+    processors: 1,
+    period_us: 100_000,
+    parents: &[None, Some(0), Some(1)],
+    amounts: &[3, 3, 3],
+};
+
+static LOWERED_BY_SEAT_0: [Wanted; 3] = [
+    (
+        0,
+        PoolCall::Lower { group: 1, to: 1 },
+        PoolReply::Lowered { ceiling: 1 },
+    ),
+    (
+        0,
+        PoolCall::Draw { leaf: 2, ask: 2 },
+        PoolReply::Granted {
+            got: 1,
+            short: Some(Short::Group(1)),
+        },
+    ),
+    (
+        0,
+        PoolCall::Lower { group: 1, to: 0 },
+        PoolReply::Lowered { ceiling: 1 },
+    ),
+];
+
+static LOWERED_BY_SEAT_1: [Wanted; 3] = [
+    (
+        1,
+        PoolCall::Lower { group: 1, to: 1 },
+        PoolReply::Lowered { ceiling: 1 },
+    ),
+    (
+        0,
+        PoolCall::Draw { leaf: 2, ask: 2 },
+        PoolReply::Granted {
+            got: 1,
+            short: Some(Short::Group(1)),
+        },
+    ),
+    (
+        1,
+        PoolCall::Lower { group: 1, to: 0 },
+        PoolReply::Lowered { ceiling: 1 },
+    ),
+];
 
 /// Either seat lowers a group, which takes no processor of its own.
 #[test]
 fn ceilings(rt: HostRuntime) -> Result<(), Fail> {
-    let chain = Setting {
-        processors: 1,
-        period_us: 100_000,
-        parents: &[None, Some(0), Some(1)],
-        amounts: &[3, 3, 3],
-    };
-    let lowered = PoolReply::Lowered { ceiling: 1 };
-    for seat in [0, 1] {
-        let calls = [
-            (seat, PoolCall::Lower { group: 1, to: 1 }, lowered),
-            (0, draw(2, 2), granted(1, Some(Short::Group(1)))),
-            (seat, PoolCall::Lower { group: 1, to: 0 }, lowered),
-        ];
-        assert_case(&rt, rt.alloc(), &chain, &calls, &[1, 1, 1])?;
-    }
+    assert_case(&rt, rt.alloc(), &CHAIN, &LOWERED_BY_SEAT_0, &[1, 1, 1])?;
+    assert_case(&rt, rt.alloc(), &CHAIN, &LOWERED_BY_SEAT_1, &[1, 1, 1])?;
     Ok(())
 }
+
+static HELD: [Wanted; 4] = [
+    (
+        0,
+        PoolCall::Draw { leaf: 1, ask: 2 },
+        PoolReply::Granted {
+            got: 2,
+            short: None,
+        },
+    ),
+    (
+        0,
+        PoolCall::GiveBack { leaf: 1, n: 3 },
+        PoolReply::NotHeld { held: 2 },
+    ),
+    (
+        0,
+        PoolCall::Look { group: 1 },
+        PoolReply::Drawn { n: 2, ceiling: 3 },
+    ),
+    (0, PoolCall::GiveBack { leaf: 1, n: 2 }, PoolReply::Returned),
+];
+
+/// Processors of one slice.
+static SHORT: Setting = Setting {
+    processors: 2,
+    period_us: 5000,
+    parents: &[None, Some(0)],
+    amounts: &[2, 2],
+};
+
+static ONE_OF_TWO: [Wanted; 1] = [(
+    0,
+    PoolCall::Draw { leaf: 1, ask: 2 },
+    PoolReply::Granted {
+        got: 1,
+        short: Some(Short::Processor),
+    },
+)];
 
 #[test]
 fn holdings(rt: HostRuntime) -> Result<(), Fail> {
-    let calls = [
-        (0, draw(1, 2), granted(2, None)),
-        (0, give_back(1, 3), PoolReply::NotHeld { held: 2 }),
-        (
-            0,
-            PoolCall::Look { group: 1 },
-            PoolReply::Drawn { n: 2, ceiling: 3 },
-        ),
-        (0, give_back(1, 2), PoolReply::Returned),
-    ];
-    assert_case(&rt, rt.alloc(), &leaf_with_three(1), &calls, &[0, 0])?;
-    let short = Setting {
-        processors: 2,
-        period_us: 5000,
-        parents: &[None, Some(0)],
-        amounts: &[2, 2],
-    };
-    let calls = [(0, draw(1, 2), granted(1, Some(Short::Processor)))];
-    assert_case(&rt, rt.alloc(), &short, &calls, &[1, 1])?;
+    assert_case(&rt, rt.alloc(), &LEAF_WITH_THREE, &HELD, &[0, 0])?;
+    assert_case(&rt, rt.alloc(), &SHORT, &ONE_OF_TWO, &[1, 1])?;
     Ok(())
 }
+
+static REFUSALS: [Wanted; 12] = [
+    (
+        0,
+        PoolCall::Draw { leaf: 0, ask: 1 },
+        PoolReply::Refused(Refusal::NotLeaf),
+    ),
+    (
+        0,
+        PoolCall::Draw { leaf: 99, ask: 1 },
+        PoolReply::Refused(Refusal::NoGroup),
+    ),
+    (
+        0,
+        PoolCall::Draw { leaf: 1, ask: 0 },
+        PoolReply::Refused(Refusal::ZeroAsk),
+    ),
+    (
+        1,
+        PoolCall::Draw { leaf: 1, ask: 1 },
+        PoolReply::Refused(Refusal::NoProcessor),
+    ),
+    (
+        1,
+        PoolCall::GiveBack { leaf: 1, n: 1 },
+        PoolReply::NotHeld { held: 0 },
+    ),
+    (
+        0,
+        PoolCall::GiveBack { leaf: 0, n: 0 },
+        PoolReply::Refused(Refusal::NotLeaf),
+    ),
+    (
+        0,
+        PoolCall::GiveBack { leaf: 1, n: 0 },
+        PoolReply::Refused(Refusal::ZeroAsk),
+    ),
+    (
+        1,
+        PoolCall::Draw { leaf: 99, ask: 0 },
+        PoolReply::Refused(Refusal::NoProcessor),
+    ),
+    (
+        0,
+        PoolCall::Draw { leaf: 99, ask: 0 },
+        PoolReply::Refused(Refusal::NoGroup),
+    ),
+    (
+        0,
+        PoolCall::Draw { leaf: 0, ask: 0 },
+        PoolReply::Refused(Refusal::NotLeaf),
+    ),
+    (
+        1,
+        PoolCall::Lower { group: 2, to: 0 },
+        PoolReply::Refused(Refusal::NoGroup),
+    ),
+    (
+        1,
+        PoolCall::Look { group: 2 },
+        PoolReply::Refused(Refusal::NoGroup),
+    ),
+];
 
 #[test]
 fn refusals(rt: HostRuntime) -> Result<(), Fail> {
-    let no_processor = PoolReply::Refused(Refusal::NoProcessor);
-    let no_group = PoolReply::Refused(Refusal::NoGroup);
-    let not_leaf = PoolReply::Refused(Refusal::NotLeaf);
-    let zero_ask = PoolReply::Refused(Refusal::ZeroAsk);
-    let calls = [
-        (0, draw(0, 1), not_leaf),
-        (0, draw(99, 1), no_group),
-        (0, draw(1, 0), zero_ask),
-        (1, draw(1, 1), no_processor),
-        (1, give_back(1, 1), PoolReply::NotHeld { held: 0 }),
-        (0, give_back(0, 0), not_leaf),
-        (0, give_back(1, 0), zero_ask),
-        (1, draw(99, 0), no_processor),
-        (0, draw(99, 0), no_group),
-        (0, draw(0, 0), not_leaf),
-        (1, PoolCall::Lower { group: 2, to: 0 }, no_group),
-        (1, PoolCall::Look { group: 2 }, no_group),
-    ];
-    assert_case(&rt, rt.alloc(), &leaf_with_three(1), &calls, &[0, 0])?;
+    assert_case(&rt, rt.alloc(), &LEAF_WITH_THREE, &REFUSALS, &[0, 0])?;
     Ok(())
 }
 
+const ASK_TWO: PoolCall = PoolCall::Draw { leaf: 1, ask: 2 };
+
+static EVENTS: [CoreEvent<PoolCall>; 17] = [
+    CoreEvent::Enter { seat: 0 },
+    CoreEvent::Take {
+        seat: 0,
+        call: ASK_TWO,
+    },
+    CoreEvent::Take {
+        seat: 1,
+        call: ASK_TWO,
+    },
+    CoreEvent::Take {
+        seat: 1,
+        call: ASK_TWO,
+    },
+    CoreEvent::Apply { seat: 1 },
+    CoreEvent::Enter { seat: 1 },
+    CoreEvent::Enter { seat: 0 },
+    CoreEvent::Enter { seat: 1 },
+    CoreEvent::Take {
+        seat: 2,
+        call: ASK_TWO,
+    },
+    CoreEvent::Enter { seat: 2 },
+    CoreEvent::Apply { seat: 2 },
+    CoreEvent::Leave { seat: 2 },
+    CoreEvent::Apply { seat: 0 },
+    CoreEvent::Leave { seat: 0 },
+    CoreEvent::Enter { seat: 1 },
+    CoreEvent::Apply { seat: 1 },
+    CoreEvent::Leave { seat: 1 },
+];
+
+/// Which of them are possible.
+static POSSIBLE: [bool; 17] = [
+    false, true, true, false, false, false, true, false, false, false, false, false, true, true,
+    true, true, true,
+];
+
 /// Two seats that ask 2 of a leaf with 3, event by event. What is impossible changes nothing.
 fn assert_schedule(rt: &impl Abort, alloc: Global) -> Result<(), AllocError> {
-    let setting = leaf_with_three(2);
-    let call = draw(1, 2);
-    let schedule = [
-        (CoreEvent::Enter { seat: 0 }, false),
-        (CoreEvent::Take { seat: 0, call }, true),
-        (CoreEvent::Take { seat: 1, call }, true),
-        (CoreEvent::Take { seat: 1, call }, false),
-        (CoreEvent::Apply { seat: 1 }, false),
-        (CoreEvent::Enter { seat: 1 }, false),
-        (CoreEvent::Enter { seat: 0 }, true),
-        (CoreEvent::Enter { seat: 1 }, false),
-        (CoreEvent::Take { seat: 2, call }, false),
-        (CoreEvent::Enter { seat: 2 }, false),
-        (CoreEvent::Apply { seat: 2 }, false),
-        (CoreEvent::Leave { seat: 2 }, false),
-        (CoreEvent::Apply { seat: 0 }, true),
-        (CoreEvent::Leave { seat: 0 }, true),
-        (CoreEvent::Enter { seat: 1 }, true),
-        (CoreEvent::Apply { seat: 1 }, true),
-        (CoreEvent::Leave { seat: 1 }, true),
-    ];
-    let mut core = Core::new(alloc, opened(rt, alloc, &setting)?, 2)?;
-    let mut events = Vec::new(alloc);
-    for (event, possible) in schedule {
-        let before = (core.next(), core.serving(), core.history().len());
-        assert_eq!(rt; core.event(event)?, possible);
-        let after = (core.next(), core.serving(), core.history().len());
-        assert!(rt; possible || before == after);
-        events.push(event)?;
+    let mut core = Core::new(alloc, opened(rt, alloc, &SHARED_LEAF)?, 2)?;
+    for (event, possible) in EVENTS.iter().zip(&POSSIBLE) {
+        let before = stand(&core);
+        assert!(rt; core.event(*event)? == *possible);
+        assert!(rt; *possible || before == stand(&core));
     }
     assert_played(rt, &core);
-    let played = Core::play(alloc, opened(rt, alloc, &setting)?, 2, events.as_slice())?;
+    Ok(())
+}
+
+/// The same by one call.
+fn assert_play(rt: &impl Abort, alloc: Global) -> Result<(), AllocError> {
+    let pool = opened(rt, alloc, &SHARED_LEAF)?;
+    let played = Core::play(alloc, pool, 2, &EVENTS)?;
     assert_played(rt, &played);
     Ok(())
+}
+
+/// Where in its play a core is.
+fn stand(core: &Core) -> (u64, u64, usize) {
+    (core.next(), core.serving(), core.history().len())
 }
 
 /// Asserts that both calls were made, first that of seat 0.
 fn assert_played(rt: &impl Abort, core: &Core) {
     assert!(rt; core.next() == 2 && core.serving() == 2);
-    let mut replies = core.history().iter().map(|entry| (entry.seat, entry.reply));
-    assert_eq!(rt; replies.next(), Some((0, granted(2, None))));
-    assert_eq!(rt;
-        replies.next(),
-        Some((1, granted(1, Some(Short::Group(1)))))
-    );
-    assert_eq!(rt; replies.next(), None);
-    assert!(rt; core.pool().held(0, 1) == 2 && core.pool().held(1, 1) == 1);
+    assert!(rt; core.history().len() == 2);
+    for (entry, (seat, call, reply)) in core.history().iter().zip(&FIRST_COMES_FIRST) {
+        assert!(rt; entry.seat == *seat && entry.call == *call && entry.reply == *reply);
+    }
+    assert!(rt; core.pool().held(0, 1) == 2);
+    assert!(rt; core.pool().held(1, 1) == 1);
 }
 
 #[test]
@@ -276,10 +457,18 @@ fn schedules(rt: HostRuntime) -> Result<(), Fail> {
     if assert_schedule(&rt, rt.alloc()).is_err() {
         assert_schedule(&rt, rt.alloc())?;
     }
+    if assert_play(&rt, rt.alloc()).is_err() {
+        assert_play(&rt, rt.alloc())?;
+    }
+    Ok(())
+}
+
+/// Laws are functions that do nothing: each is called once.
+#[test]
+fn laws() {
     drained_workers();
     one_drawn_list();
     never_past_the_plan();
     holdings_add_up();
     every_schedule::<SlicePool>();
-    Ok(())
 }

@@ -4,7 +4,23 @@ use std::alloc::{AllocError, Global};
 use std::process::Abort;
 use std::test::Fail;
 
-/// Asserts that both bodies give these parts. A call that is refused memory is made again: it left nothing behind.
+fn assert_split_once(
+    rt: &impl Abort,
+    alloc: Global,
+    amount: u64,
+    weights: &[u64],
+    most: &[u64],
+    wanted: &[u64],
+) -> Result<(), AllocError> {
+    assert!(rt; can_split(amount, weights, most));
+    let by_level = split(alloc, amount, weights, most)?;
+    assert!(rt; by_level.as_slice() == wanted);
+    let by_marks = split_by_marks(alloc, amount, weights, most)?;
+    assert!(rt; by_marks.as_slice() == wanted);
+    Ok(())
+}
+
+/// Asserts that both bodies give these parts. Where memory is refused they are asked again: that left nothing behind.
 fn assert_split(
     rt: &impl Abort,
     alloc: Global,
@@ -13,18 +29,9 @@ fn assert_split(
     most: &[u64],
     wanted: &[u64],
 ) -> Result<(), AllocError> {
-    let may = can_split(amount, weights, most);
-    assert!(rt; may);
-    let by_level = match split(alloc, amount, weights, most) {
-        Ok(parts) => parts,
-        Err(_) => split(alloc, amount, weights, most)?,
-    };
-    assert_eq!(rt; by_level.as_slice(), wanted);
-    let by_marks = match split_by_marks(alloc, amount, weights, most) {
-        Ok(parts) => parts,
-        Err(_) => split_by_marks(alloc, amount, weights, most)?,
-    };
-    assert_eq!(rt; by_marks.as_slice(), wanted);
+    if assert_split_once(rt, alloc, amount, weights, most, wanted).is_err() {
+        assert_split_once(rt, alloc, amount, weights, most, wanted)?;
+    }
     Ok(())
 }
 
@@ -39,34 +46,48 @@ fn refused(rt: HostRuntime) {
     assert!(rt; level_of(&[0, 0], &[1, 1]).is_none());
 }
 
+static WEIGHTS: [u64; 4095] = [100; 4095];
+
+static MOST: [u64; 4095] = [20; 4095];
+
+static SIXTEENS: [u64; 2575] = [16; 2575];
+
+static FIFTEENS: [u64; 1520] = [15; 1520];
+
+/// 64000 slices among 4095 children of one weight: the first 2575 get 16, the others 15.
+fn assert_sixteens(rt: &impl Abort, parts: &[u64]) {
+    assert!(rt; parts.len() == 4095);
+    let (first, last) = parts.split_at(2575);
+    assert!(rt; first == SIXTEENS.as_slice());
+    assert!(rt; last == FIFTEENS.as_slice());
+}
+
+fn assert_many(rt: &impl Abort, alloc: Global) -> Result<(), AllocError> {
+    assert!(rt; can_split(64000, &WEIGHTS, &MOST));
+    assert_sixteens(rt, &split(alloc, 64000, &WEIGHTS, &MOST)?);
+    assert_sixteens(rt, &split_by_marks(alloc, 64000, &WEIGHTS, &MOST)?);
+    let mut work = Work::new();
+    assert_sixteens(
+        rt,
+        &split_counted(alloc, 64000, &WEIGHTS, &MOST, &mut work)?,
+    );
+    Ok(())
+}
+
 #[test]
 fn many_children(rt: HostRuntime) -> Result<(), Fail> {
-    let weights = [100; 4095];
-    let most = [20; 4095];
-    let mut wanted = [15; 4095];
-    for i in 0..2575usize {
-        wanted[i] = 16;
+    if assert_many(&rt, rt.alloc()).is_err() {
+        assert_many(&rt, rt.alloc())?;
     }
-    assert_split(&rt, rt.alloc(), 64000, &weights, &most, &wanted)?;
-    let may = can_split(64000, &weights, &most);
-    assert!(rt; may);
-    let mut work = Work::new();
-    let parts = match split_counted(rt.alloc(), 64000, &weights, &most, &mut work) {
-        Ok(parts) => parts,
-        Err(_) => split_counted(rt.alloc(), 64000, &weights, &most, &mut work)?,
-    };
-    assert_eq!(rt; parts.as_slice(), wanted.as_slice());
     Ok(())
 }
 
 /// The cost of three parts: each squared, times the weights of the other two.
-fn cost_of(parts: [u64; 3], weights: [u64; 3]) -> u64 {
-    let mut cost: u64 = 0;
-    for i in 0..3usize {
-        let others = weights[(i + 1) % 3].wrapping_mul(weights[(i + 2) % 3]);
-        cost = cost.wrapping_add(parts[i].wrapping_mul(parts[i]).wrapping_mul(others));
-    }
-    cost
+fn cost_of([a, b, c]: [u64; 3], [x, y, z]: [u64; 3]) -> u64 {
+    let first = a.wrapping_mul(a).wrapping_mul(y).wrapping_mul(z);
+    let second = b.wrapping_mul(b).wrapping_mul(x).wrapping_mul(z);
+    let third = c.wrapping_mul(c).wrapping_mul(x).wrapping_mul(y);
+    first.wrapping_add(second).wrapping_add(third)
 }
 
 /// The best split among three children by trying all lists, each after those that are lexicographically below it.
