@@ -21,7 +21,8 @@ fault_below : (rest : List Text) → fault_of arbiter_app (codes "run" ∷ rest)
 unfolding clap_on_literals
 fault_below rest =
     ap₂ (λ (w : Walk) (k : Kinds). or_else k (or_else (entered_fault built_app w.stopped) (or_else (settle_fault built_app.top.rules false w.held)
-    (or_else (defaults_fault (settled built_app.top.rules w.held).rows built_app.top.rules) (check_fault built_app.top (finished built_app.top.rules w.held) (is_some (entered built_app w.stopped)))))))
+    (or_else (defaults_fault (settled built_app.top.rules w.held).rows built_app.top.rules)
+    (check_fault built_app.top (finished built_app.top.rules w.held) (is_some (entered built_app w.stopped)))))))
     (walk_run rest) (top_run rest)
 
 run_named : (rest : List Text) → fault_of arbiter_app (codes "run" ∷ rest) ≡ [] → (g : Uses) × (uses_after [] None rest ≡ Some g)
@@ -32,7 +33,8 @@ run_named rest e =
     (sounds run_shape run_reads run_refuses rest None nothing_held [] refl p.0 q.0).1 at_start
 
 -- the job found for words that clap takes is the one that they name
-pub run_sound : (rest : List Text) (k : Job) (found : Option (Text × List Row)) → fault_of arbiter_app (codes "run" ∷ rest) ≡ [] → found ≡ subcommand_of arbiter_app (codes "run" ∷ rest)
+pub run_sound : (rest : List Text) (k : Job) (found : Option (Text × List Row)) → fault_of arbiter_app (codes "run" ∷ rest) ≡ []
+    → found ≡ subcommand_of arbiter_app (codes "run" ∷ rest)
     → ((rows : List Row) (uses : Uses) → found ≡ Some (codes "run", rows) → HasNumbers rows uses → k ≡ run_job uses)
     → ((rows : List Row) → found ≡ Some (codes "check", rows) → k ≡ job.Check) → job_named (codes "run" ∷ rest) ≡ Some k
 run_sound rest k found e at run check =

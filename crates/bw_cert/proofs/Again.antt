@@ -1,5 +1,32 @@
 -- What is spelled is read.
-use Rattle.std.proofs.Common.{◌≡◌, ℕ, ◌<◌, ◌≤◌, ◌^◌, Bool, true, false, eqb, List, [], ◌∷◌, ◌++◌, length, get_or, Option, Some, None, Ok, refl, ap, ◌∙◌, append_assoc, inl, inr, arith}
+use Rattle.std.proofs.Common.{
+  ◌≡◌,
+  ℕ,
+  ◌<◌,
+  ◌≤◌,
+  ◌^◌,
+  Bool,
+  true,
+  false,
+  eqb,
+  List,
+  [],
+  ◌∷◌,
+  ◌++◌,
+  length,
+  get_or,
+  Option,
+  Some,
+  None,
+  Ok,
+  refl,
+  ap,
+  ◌∙◌,
+  append_assoc,
+  inl,
+  inr,
+  arith,
+}
 use Rattle.std.specs.Prelude.{codes, IfSome}
 use Rattle.std.specs.List.{slice_split, join_with_byte, AllByRecursion, All}
 use Rattle.std.specs.Str.{bytes_eq}
@@ -67,13 +94,15 @@ pub digits_plain : (n : ℕ) → n < 2 ^ 64 → IsPlain (decimal n)
 digits_plain n h = λ k d lt. let r = digit_range (get_or (decimal n) k d) (digits_of_decimal n h k d lt) in omega (arith, r.0)
 
 digits_free : (c n : ℕ) → n < 2 ^ 64 → c < 48 → IsFree c (decimal n)
-digits_free c n h small = λ k d lt. let r = digit_range (get_or (decimal n) k d) (digits_of_decimal n h k d lt) in differs (get_or (decimal n) k d) c (omega (arith, r.0))
+digits_free c n h small = λ k d lt. let r = digit_range (get_or (decimal n) k d) (digits_of_decimal n h k d lt) in
+    differs (get_or (decimal n) k d) c (omega (arith, r.0))
 
 above : (b c : ℕ) → b < c → eqb b c ≡ false
 above b c h = grind (arith, nat_tests)
 
 digits_below : (c n : ℕ) → n < 2 ^ 64 → 57 < c → IsFree c (decimal n)
-digits_below c n h great = λ k d lt. let r = digit_range (get_or (decimal n) k d) (digits_of_decimal n h k d lt) in above (get_or (decimal n) k d) c (omega (arith, r.1))
+digits_below c n h great = λ k d lt. let r = digit_range (get_or (decimal n) k d) (digits_of_decimal n h k d lt) in
+    above (get_or (decimal n) k d) c (omega (arith, r.1))
 
 -- a byte and a word behind it
 free_cons : (c b : ℕ) (word : List ℕ) → eqb b c ≡ false → IsFree c word → IsFree c (b ∷ word)
@@ -87,10 +116,21 @@ mark_again : (l : MarkValue) → IsSmallLevel l → mark_at (level_word (Some l)
 unfolding mark_at
 mark_again l h =
     let grouped : level_word (Some l) ≡ decimal l.num ++ 47 ∷ (decimal l.den ++ 64 ∷ decimal l.place) = simp append_assoc in
-    let tail : IsFree 47 (decimal l.den ++ 64 ∷ decimal l.place) = All-append (λ b. eqb b 47 ≡ false) (decimal l.den) (64 ∷ decimal l.place) (digits_free 47 l.den h.den (omega arith)) (free_cons 47 64 (decimal l.place) refl (digits_free 47 l.place (omega (arith, h.place)) (omega arith))) in
+    let tail : IsFree 47 (decimal l.den ++ 64 ∷ decimal l.place) =
+    All-append (λ b. eqb b 47 ≡ false) (decimal l.den) (64 ∷ decimal l.place) (digits_free 47 l.den h.den (omega arith))
+    (free_cons 47 64 (decimal l.place) refl (digits_free 47 l.place (omega (arith, h.place)) (omega arith))) in
     let outer = two_parts 47 (decimal l.num) (decimal l.den ++ 64 ∷ decimal l.place) refl (digits_free 47 l.num h.num (omega arith)) tail in
-    let inner = two_parts 64 (decimal l.den) (decimal l.place) refl (digits_below 64 l.den h.den (omega arith)) (digits_below 64 l.place (omega (arith, h.place)) (omega arith)) in
-    ap mark_at grouped ∙ rw (outer, inner, number_again l.num h.num, number_again l.den h.den, u32_again l.place h.place, lt-ltb 0 l.num h.some_num, lt-ltb 0 l.den h.some_den) refl
+    let inner = two_parts 64 (decimal l.den) (decimal l.place) refl (digits_below 64 l.den h.den (omega arith))
+    (digits_below 64 l.place (omega (arith, h.place)) (omega arith)) in
+    ap mark_at grouped ∙ rw (
+      outer,
+      inner,
+      number_again l.num h.num,
+      number_again l.den h.den,
+      u32_again l.place h.place,
+      lt-ltb 0 l.num h.some_num,
+      lt-ltb 0 l.den h.some_den,
+    ) refl
 
 no_level : (l : MarkValue) → level_word (Some l) ≡ codes "-" → 0 < length (decimal l.num) → ⊥
 no_level l e some = omega (arith, some, simp length-append at (ap length e))
@@ -104,22 +144,26 @@ level_again (Some l) h =
     ]
 
 -- words with spaces between them, cut at the spaces
-cut_again : (c : ℕ) (first : List ℕ) (others : List (List ℕ)) → eqb c c ≡ true → AllByRecursion (IsFree c) (first ∷ others) → slice_split (λ b. eqb b c) (join_with_byte c (first ∷ others)) ≡ first ∷ others
+cut_again : (c : ℕ) (first : List ℕ) (others : List (List ℕ)) → eqb c c ≡ true → AllByRecursion (IsFree c) (first ∷ others)
+    → slice_split (λ b. eqb b c) (join_with_byte c (first ∷ others)) ≡ first ∷ others
 cut_again c first [] here h = slice_split_none (λ b. eqb b c) first h.0
 cut_again c first (second ∷ others) here h =
-    slice_split_at (λ b. eqb b c) first c (join_with_byte c (second ∷ others)) h.0 here ∙ ap (λ (ps : List (List ℕ)). first ∷ ps) (cut_again c second others here h.1)
+    slice_split_at (λ b. eqb b c) first c (join_with_byte c (second ∷ others)) h.0 here
+    ∙ ap (λ (ps : List (List ℕ)). first ∷ ps) (cut_again c second others here h.1)
 
 -- no newline among the words
 join_free : (first : List ℕ) (others : List (List ℕ)) → AllByRecursion IsPlain (first ∷ others) → IsFree 10 (join_with_byte 32 (first ∷ others))
 join_free first [] h = plain_free 10 first (omega arith) h.0
 join_free first (second ∷ others) h =
-    All-append (λ b. eqb b 10 ≡ false) first (32 ∷ join_with_byte 32 (second ∷ others)) (plain_free 10 first (omega arith) h.0) (free_cons 10 32 (join_with_byte 32 (second ∷ others)) refl (join_free second others h.1))
+    All-append (λ b. eqb b 10 ≡ false) first (32 ∷ join_with_byte 32 (second ∷ others)) (plain_free 10 first (omega arith) h.0)
+    (free_cons 10 32 (join_with_byte 32 (second ∷ others)) refl (join_free second others h.1))
 
 spaces_free : (ws : List (List ℕ)) → AllByRecursion IsPlain ws → AllByRecursion (IsFree 32) ws
 spaces_free [] h = tt
 spaces_free (w ∷ ws) h = (plain_free 32 w (omega arith) h.0, spaces_free ws h.1)
 
-pub words_again : (first : List ℕ) (others : List (List ℕ)) → AllByRecursion IsPlain (first ∷ others) → words_of (join_with_byte 32 (first ∷ others)) ≡ first ∷ others
+pub words_again : (first : List ℕ) (others : List (List ℕ)) → AllByRecursion IsPlain (first ∷ others)
+    → words_of (join_with_byte 32 (first ∷ others)) ≡ first ∷ others
 words_again first others h = cut_again 32 first others refl (spaces_free (first ∷ others) h)
 
 pub line_again : (first : List ℕ) (others : List (List ℕ)) (rest : List ℕ) → AllByRecursion IsPlain (first ∷ others)

@@ -1,5 +1,30 @@
 -- The whole of a spelled text is read.
-use Rattle.std.proofs.Common.{◌≡◌, ℕ, ◌<◌, ◌≤◌, ◌^◌, Bool, true, false, List, [], ◌∷◌, ◌++◌, length, Option, Some, None, Result, Ok, refl, sym, ap, subst, ◌∙◌, arith}
+use Rattle.std.proofs.Common.{
+  ◌≡◌,
+  ℕ,
+  ◌<◌,
+  ◌≤◌,
+  ◌^◌,
+  Bool,
+  true,
+  false,
+  List,
+  [],
+  ◌∷◌,
+  ◌++◌,
+  length,
+  Option,
+  Some,
+  None,
+  Result,
+  Ok,
+  refl,
+  sym,
+  ap,
+  subst,
+  ◌∙◌,
+  arith,
+}
 use Rattle.std.specs.Prelude.{codes, IfSome}
 use Rattle.std.specs.List.{join_with_byte, AllByRecursion}
 use Rattle.std.specs.Fmt.{decimal}
@@ -12,7 +37,23 @@ use Rattle.bw_model.specs.declared.row.Row.{Row}
 use Rattle.bw_cert.specs.declared.fault.CertFault.{CertFault}
 use Rattle.bw_cert.specs.declared.groups.Certified.{Certified}
 use Rattle.bw_model.specs.Marks.{MarkValue}
-use Rattle.bw_cert.specs.Spelling.{groups_of, Value, lines_of, line, parent_word, limit_word, flag_word, level_word, head_words, group_words, groups_text, spelling, IsSmallRow, IsSmallLevel, IsValue}
+use Rattle.bw_cert.specs.Spelling.{
+  groups_of,
+  Value,
+  lines_of,
+  line,
+  parent_word,
+  limit_word,
+  flag_word,
+  level_word,
+  head_words,
+  group_words,
+  groups_text,
+  spelling,
+  IsSmallRow,
+  IsSmallLevel,
+  IsValue,
+}
 use Rattle.bw_cert.specs.Reading.{ReadsAs, line_at, head_of, group_of, groups_at, certified_of, certified_view}
 use Rattle.bw_cert.proofs.Lines.{line_there}
 use Rattle.bw_cert.proofs.Again.{IsPlain, digits_plain, number_again, parent_again, limit_again, flag_again, level_again, words_again, line_again}
@@ -40,15 +81,29 @@ plain_level (Some l) h =
     let c = All-append (λ b. 33 ≤ b) (decimal l.num ++ codes "/" ++ decimal l.den) (codes "@") b (plain_code 64 (omega arith)) in
     All-append (λ b. 33 ≤ b) (decimal l.num ++ codes "/" ++ decimal l.den ++ codes "@") (decimal l.place) c (digits_plain l.place (omega (arith, h.place)))
 
-plain_group : (r : Row) (a : ℕ) (f : Bool) (m : Option MarkValue) → IsSmallRow r → a < 2 ^ 64 → IfSome m IsSmallLevel → AllByRecursion IsPlain (group_words r a f m)
-plain_group r a f m row amount level =
-    (plain_parent r.parent row.parent, (digits_plain r.weight row.weight, (plain_limit r.limit row.limit, (digits_plain r.demand row.demand, (digits_plain a amount, (plain_flag f, (plain_level m level, tt)))))))
+plain_group : (r : Row) (a : ℕ) (f : Bool) (m : Option MarkValue) → IsSmallRow r → a < 2 ^ 64 → IfSome m IsSmallLevel
+    → AllByRecursion IsPlain (group_words r a f m)
+plain_group r a f m row amount level = (
+  plain_parent r.parent row.parent,
+  (
+    digits_plain r.weight row.weight,
+    (plain_limit r.limit row.limit, (digits_plain r.demand row.demand, (digits_plain a amount, (plain_flag f, (plain_level m level, tt))))),
+  ),
+)
 
 group_again : (r : Row) (a : ℕ) (f : Bool) (m : Option MarkValue) → IsSmallRow r → a < 2 ^ 64 → IfSome m IsSmallLevel
     → group_of (group_words r a f m) ≡ Ok (record { row = r; amount = a; flag = f; level = m })
 unfolding group_of
 group_again r a f m row amount level =
-    rw (parent_again r.parent row.parent, number_again r.weight row.weight, limit_again r.limit row.limit, number_again r.demand row.demand, number_again a amount, flag_again f, level_again m level) refl
+    rw (
+      parent_again r.parent row.parent,
+      number_again r.weight row.weight,
+      limit_again r.limit row.limit,
+      number_again r.demand row.demand,
+      number_again a amount,
+      flag_again f,
+      level_again m level,
+    ) refl
 
 one_line : (first : List ℕ) (others : List (List ℕ)) (rest : List ℕ) → AllByRecursion IsPlain (first ∷ others)
     → line_at (lines_of (line (first ∷ others) ++ rest)) ≡ Ok (join_with_byte 32 (first ∷ others), lines_of rest)
@@ -72,7 +127,8 @@ groups_again (r ∷ rs) (a ∷ as') (f ∷ fs) (l ∷ ls) e1 e2 e3 h1 h2 h3 =
     let rest = groups_text (record { rows = rs; amounts = as'; flags = fs; levels = ls }) in
     let others = decimal r.weight ∷ limit_word r.limit ∷ decimal r.demand ∷ decimal a ∷ flag_word f ∷ level_word l ∷ [] in
     rw (
-      one_line (parent_word r.parent) (decimal r.weight ∷ limit_word r.limit ∷ decimal r.demand ∷ decimal a ∷ flag_word f ∷ level_word l ∷ []) (groups_text (record { rows = rs; amounts = as'; flags = fs; levels = ls })) plain,
+      one_line (parent_word r.parent) (decimal r.weight ∷ limit_word r.limit ∷ decimal r.demand ∷ decimal a ∷ flag_word f ∷ level_word l ∷ [])
+          (groups_text (record { rows = rs; amounts = as'; flags = fs; levels = ls })) plain,
       words_again (parent_word r.parent) (decimal r.weight ∷ limit_word r.limit ∷ decimal r.demand ∷ decimal a ∷ flag_word f ∷ level_word l ∷ []) plain,
       group_again r a f l h1.0 h2.0 h3.0,
       groups_again rs as' fs ls (omega arith) (omega arith) (omega arith) h1.1 h2.1 h3.1,
@@ -83,14 +139,27 @@ plain_head h n host few = (
   All-from_recursion (λ b. 33 ≤ b) (codes "bw") (omega arith, (omega arith, tt)),
   (
     plain_code 49 (omega arith),
-    (digits_plain h.processors (omega (arith, host.few_processors)), (digits_plain h.period_us (omega (arith, host.short_period)), (digits_plain h.slice_us (omega (arith, host.short_slice, host.short_period)), (digits_plain n (omega arith), tt)))),
+    (
+      digits_plain h.processors (omega (arith, host.few_processors)),
+      (
+        digits_plain h.period_us (omega (arith, host.short_period)),
+        (digits_plain h.slice_us (omega (arith, host.short_slice, host.short_period)), (digits_plain n (omega arith), tt)),
+      ),
+    ),
   ),
 )
 
 head_again : (h : Shape) (n : ℕ) → IsHost h → n ≤ MAX_GROUPS → head_of (head_words h n) ≡ Ok (h, n)
 unfolding head_of
 head_again h n host few =
-    rw (number_again h.processors (omega (arith, host.few_processors)), number_again h.period_us (omega (arith, host.short_period)), number_again h.slice_us (omega (arith, host.short_slice, host.short_period)), number_again n (omega arith), IsHost-accepted h host, le-ltb MAX_GROUPS n few) refl
+    rw (
+      number_again h.processors (omega (arith, host.few_processors)),
+      number_again h.period_us (omega (arith, host.short_period)),
+      number_again h.slice_us (omega (arith, host.short_slice, host.short_period)),
+      number_again n (omega arith),
+      IsHost-accepted h host,
+      le-ltb MAX_GROUPS n few,
+    ) refl
 
 pub certified_again : (v : Value) → IsValue v → certified_of (lines_of (spelling v)) ≡ Ok v
 unfolding certified_of
@@ -100,16 +169,21 @@ certified_again v h =
     let plain = plain_head v.shape (length v.groups.rows) host few in
     let others = codes "1" ∷ decimal v.shape.processors ∷ decimal v.shape.period_us ∷ decimal v.shape.slice_us ∷ decimal (length v.groups.rows) ∷ [] in
     rw (
-      one_line (codes "bw") (codes "1" ∷ decimal v.shape.processors ∷ decimal v.shape.period_us ∷ decimal v.shape.slice_us ∷ decimal (length v.groups.rows) ∷ []) (groups_text v.groups) plain,
-      words_again (codes "bw") (codes "1" ∷ decimal v.shape.processors ∷ decimal v.shape.period_us ∷ decimal v.shape.slice_us ∷ decimal (length v.groups.rows) ∷ []) plain,
+      one_line (codes "bw") (codes "1" ∷ decimal v.shape.processors ∷ decimal v.shape.period_us ∷ decimal v.shape.slice_us ∷ decimal (length v.groups.rows)
+          ∷ []) (groups_text v.groups) plain,
+      words_again (codes "bw")
+          (codes "1" ∷ decimal v.shape.processors ∷ decimal v.shape.period_us ∷ decimal v.shape.slice_us ∷ decimal (length v.groups.rows) ∷ []) plain,
       head_again v.shape (length v.groups.rows) host few,
       groups_again v.groups.rows v.groups.amounts v.groups.flags v.groups.levels h.amounts h.flags h.levels
-          (recursion_from_All IsSmallRow v.groups.rows h.small_rows) (recursion_from_All (λ a. a < 2 ^ 64) v.groups.amounts h.small_amounts) (recursion_from_All (λ o. IfSome o IsSmallLevel) v.groups.levels h.small_levels),
+          (recursion_from_All IsSmallRow v.groups.rows h.small_rows) (recursion_from_All (λ a. a < 2 ^ 64) v.groups.amounts h.small_amounts)
+          (recursion_from_All (λ o. IfSome o IsSmallLevel) v.groups.levels h.small_levels),
       IsInstance-accepted (groups_of v) h.instance,
     ) refl
 
-pub is_only : (text : List ℕ) (r : Result Certified CertFault) → ReadsAs certified_view r (certified_of (lines_of text)) → (v : Value) → IsValue v → text ≡ spelling v → ReadsAs certified_view r (Ok v)
-is_only text r given v h e = subst (λ (x : Result Value CertFault). ReadsAs certified_view r x) (ap (λ (t : List ℕ). certified_of (lines_of t)) e ∙ certified_again v h) given
+pub is_only : (text : List ℕ) (r : Result Certified CertFault) → ReadsAs certified_view r (certified_of (lines_of text)) → (v : Value) → IsValue v
+    → text ≡ spelling v → ReadsAs certified_view r (Ok v)
+is_only text r given v h e =
+    subst (λ (x : Result Value CertFault). ReadsAs certified_view r x) (ap (λ (t : List ℕ). certified_of (lines_of t)) e ∙ certified_again v h) given
 
 abbrev read : Value → Result Value CertFault
 read v = Ok v

@@ -12,7 +12,7 @@ use Rattle.bw_model.specs.Split.{IsBestSplit, IsAtLevel}
 use Rattle.bw_model.specs.Plan.{child_weights, IsPlan}
 use Rattle.bw_model.specs.declared.limits.TheConstants.{MAX_CAPACITY}
 use Rattle.bw_model.specs.Demand.{AreMaxTotals, want_of, is_tight}
-use Rattle.bw_model.specs.Certificate.{Certified, IsCertified, is_flagged, level_at, place_of}
+use Rattle.bw_model.specs.Certificate.{Certified, IsCertified, is_flagged, level_at, sibling_place}
 use Rattle.bw_model.proofs.CallerLemmas.{child_at, get_or-map, listed_child, tight-bound_at, capped, most_le_want, most_le_limit, best-IsAtLevel}
 use Rattle.bw_model.proofs.CallerLemmas.{AreMaxTotals-capped}
 use Rattle.bw_model.specs.Split.{IsGreatestLast}
@@ -32,7 +32,8 @@ next_to : (x y w v k p m b : ℕ) (level : MarkValue) → x ≡ y → w ≡ v �
     (x < m → IsBelow level (next_mark x w k)) → y < b → IsBelow level (next_mark y v p)
 next_to x y w v k p m b level ex ew ek em h = rw (sym ex, sym ew, sym ek, sym em) h
 
-module _ (groups : Groups) (valid : IsInstance groups) (most : List ℕ) (mosts : AreMaxTotals groups most) (amounts : List ℕ) (is_plan : IsPlan groups amounts) where
+module _ (groups : Groups) (valid : IsInstance groups) (most : List ℕ) (mosts : AreMaxTotals groups most) (amounts : List ℕ)
+    (is_plan : IsPlan groups amounts) where
   rule : (g : ℕ) → g < length groups.rows → get_or most g 0 ≡ capped (limit_of groups g) (want_of groups most g)
   rule = AreMaxTotals-capped groups valid.tree most mosts
 
@@ -60,9 +61,11 @@ module _ (groups : Groups) (valid : IsInstance groups) (most : List ℕ) (mosts 
   -- what the greatest last mark says of the children
   levelled : (g : ℕ) (mark : Mark) → g < length groups.rows → is_leaf groups.rows g ≡ false →
       IsGreatestLast (child_weights groups.rows g) (map (slice_index amounts) (children_of groups.rows g)) (price_of mark) →
-      IsAtLevel (price_of mark) (child_weights groups.rows g) (map (slice_index most) (children_of groups.rows g)) (map (slice_index amounts) (children_of groups.rows g))
+      IsAtLevel (price_of mark) (child_weights groups.rows g) (map (slice_index most) (children_of groups.rows g))
+      (map (slice_index amounts) (children_of groups.rows g))
   levelled g mark below inner greatest =
-      best-IsAtLevel (get_or amounts g 0) (child_weights groups.rows g) (map (slice_index most) (children_of groups.rows g)) (map (slice_index amounts) (children_of groups.rows g))
+      best-IsAtLevel (get_or amounts g 0) (child_weights groups.rows g) (map (slice_index most) (children_of groups.rows g))
+      (map (slice_index amounts) (children_of groups.rows g))
       (price_of mark) (splits g below inner)
       (length-map (children_of groups.rows g) (weight_of groups.rows) ∙ sym (length-map (children_of groups.rows g) (slice_index amounts)))
       (λ k lt. let w = weights_in_range groups valid g k lt in omega (arith, w.0))
@@ -101,23 +104,27 @@ module _ (groups : Groups) (valid : IsInstance groups) (most : List ℕ) (mosts 
           let at_level = levelled g level below known.0 known.2 in
           let cs : List ℕ = children_of groups.rows g in
           let r : (k : ℕ) × (k < length cs) × (get_or cs k 0 ≡ c) = listed_child groups.rows g c here e in
-          let place : r.0 ≡ place_of groups.rows g c = sym (child_at groups.rows g r.0 r.1).place ∙ ap (place_of groups.rows g) r.2 in
-          let part : get_or (map (slice_index amounts) cs) r.0 0 ≡ get_or amounts c 0 = get_or-map (slice_index amounts) cs r.0 r.1 ∙ ap (slice_index amounts) r.2 in
-          let weight : get_or (map (weight_of groups.rows) cs) r.0 0 ≡ weight_of groups.rows c = get_or-map (weight_of groups.rows) cs r.0 r.1 ∙ ap (weight_of groups.rows) r.2 in
+          let place : r.0 ≡ sibling_place groups.rows g c = sym (child_at groups.rows g r.0 r.1).place ∙ ap (sibling_place groups.rows g) r.2 in
+          let part : get_or (map (slice_index amounts) cs) r.0 0 ≡ get_or amounts c 0 =
+          get_or-map (slice_index amounts) cs r.0 r.1 ∙ ap (slice_index amounts) r.2 in
+          let weight : get_or (map (weight_of groups.rows) cs) r.0 0 ≡ weight_of groups.rows c =
+          get_or-map (weight_of groups.rows) cs r.0 r.1 ∙ ap (weight_of groups.rows) r.2 in
           let long : length (map (slice_index amounts) cs) ≡ length cs = length-map cs (slice_index amounts) in
           last_to (get_or (map (slice_index amounts) cs) r.0 0) (get_or amounts c 0) (get_or (map (weight_of groups.rows) cs) r.0 0) (weight_of groups.rows c)
-          r.0 (place_of groups.rows g c) (price_of level) part weight place (at_level.last r.0 (omega (arith, r.1, long)));
+          r.0 (sibling_place groups.rows g c) (price_of level) part weight place (at_level.last r.0 (omega (arith, r.1, long)));
       next_above = λ g c level below here e some is.
           let known : IsLevelAt groups amounts g (Some level) = level_is g level below is in
           let at_level = levelled g level below known.0 known.2 in
           let cs : List ℕ = children_of groups.rows g in
           let r : (k : ℕ) × (k < length cs) × (get_or cs k 0 ≡ c) = listed_child groups.rows g c here e in
-          let place : r.0 ≡ place_of groups.rows g c = sym (child_at groups.rows g r.0 r.1).place ∙ ap (place_of groups.rows g) r.2 in
-          let part : get_or (map (slice_index amounts) cs) r.0 0 ≡ get_or amounts c 0 = get_or-map (slice_index amounts) cs r.0 r.1 ∙ ap (slice_index amounts) r.2 in
+          let place : r.0 ≡ sibling_place groups.rows g c = sym (child_at groups.rows g r.0 r.1).place ∙ ap (sibling_place groups.rows g) r.2 in
+          let part : get_or (map (slice_index amounts) cs) r.0 0 ≡ get_or amounts c 0 =
+          get_or-map (slice_index amounts) cs r.0 r.1 ∙ ap (slice_index amounts) r.2 in
           let bound : get_or (map (slice_index most) cs) r.0 0 ≡ get_or most c 0 = get_or-map (slice_index most) cs r.0 r.1 ∙ ap (slice_index most) r.2 in
-          let weight : get_or (map (weight_of groups.rows) cs) r.0 0 ≡ weight_of groups.rows c = get_or-map (weight_of groups.rows) cs r.0 r.1 ∙ ap (weight_of groups.rows) r.2 in
+          let weight : get_or (map (weight_of groups.rows) cs) r.0 0 ≡ weight_of groups.rows c =
+          get_or-map (weight_of groups.rows) cs r.0 r.1 ∙ ap (weight_of groups.rows) r.2 in
           let long : length (map (slice_index amounts) cs) ≡ length cs = length-map cs (slice_index amounts) in
           next_to (get_or (map (slice_index amounts) cs) r.0 0) (get_or amounts c 0) (get_or (map (weight_of groups.rows) cs) r.0 0) (weight_of groups.rows c)
-          r.0 (place_of groups.rows g c) (get_or (map (slice_index most) cs) r.0 0) (get_or most c 0) (price_of level) part weight place bound
+          r.0 (sibling_place groups.rows g c) (get_or (map (slice_index most) cs) r.0 0) (get_or most c 0) (price_of level) part weight place bound
           (at_level.next r.0 (omega (arith, r.1, long)));
     }

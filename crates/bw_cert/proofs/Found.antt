@@ -1,5 +1,35 @@
 -- A text that is read is the one spelling of its value.
-use Rattle.std.proofs.Common.{◌≡◌, ℕ, zero, suc, ◌<◌, ◌^◌, Bool, true, false, cond, ltb, eqb, List, [], ◌∷◌, ◌++◌, length, Option, Some, None, Result, Ok, Err, refl, sym, ap, subst, ◌∙◌, append_assoc}
+use Rattle.std.proofs.Common.{
+  ◌≡◌,
+  ℕ,
+  zero,
+  suc,
+  ◌<◌,
+  ◌^◌,
+  Bool,
+  true,
+  false,
+  cond,
+  ltb,
+  eqb,
+  List,
+  [],
+  ◌∷◌,
+  ◌++◌,
+  length,
+  Option,
+  Some,
+  None,
+  Result,
+  Ok,
+  Err,
+  refl,
+  sym,
+  ap,
+  subst,
+  ◌∙◌,
+  append_assoc,
+}
 use Rattle.std.specs.Prelude.{codes, IfSome, IfOk}
 use Rattle.std.specs.List.{join_with_byte, AllByRecursion}
 use Rattle.std.specs.Str.{bytes_eq}
@@ -18,15 +48,53 @@ use Rattle.bw_cert.specs.declared.fault.CertFault.{CertFault}
 use Rattle.bw_cert.specs.declared.fault.CertFault.TheVariants as faults
 use Rattle.bw_cert.specs.declared.groups.Certified.{Certified}
 use Rattle.bw_model.specs.Marks.{MarkValue}
-use Rattle.bw_cert.specs.Spelling.{groups_of, Columns, Value, lines_of, words_of, line, head_words, group_words, groups_text, spelling, IsSmallRow, IsSmallLevel, IsValue}
-use Rattle.bw_cert.specs.Reading.{◌>>=◌, ReadsAs, number_at, parent_at, limit_at, flag_at, level_in_word, line_at, word_is, host_unless, host_in, head_of, Group, group_of, with_group, no_groups, groups_at, value_unless, is_over, certified_of, certified_view}
+use Rattle.bw_cert.specs.Spelling.{
+  groups_of,
+  Columns,
+  Value,
+  lines_of,
+  words_of,
+  line,
+  head_words,
+  group_words,
+  groups_text,
+  spelling,
+  IsSmallRow,
+  IsSmallLevel,
+  IsValue,
+}
+use Rattle.bw_cert.specs.Reading.{
+  ◌>>=◌,
+  ReadsAs,
+  number_at,
+  parent_at,
+  limit_at,
+  flag_at,
+  level_in_word,
+  line_at,
+  word_is,
+  host_unless,
+  host_in,
+  head_of,
+  Group,
+  group_of,
+  with_group,
+  no_groups,
+  groups_at,
+  value_unless,
+  is_over,
+  certified_of,
+  certified_view,
+}
 use Rattle.bw_cert.proofs.WordsFound.{bind_ok, number_found, parent_found, limit_found, flag_found, level_found}
 
 -- seven words read one after the other
-seven_ok : {A B C D E F G R : Type 0} (a : Result A CertFault) (b : Result B CertFault) (c : Result C CertFault) (d : Result D CertFault) (e : Result E CertFault) (f : Result F CertFault) (g : Result G CertFault)
+seven_ok : {A B C D E F G R : Type 0} (a : Result A CertFault) (b : Result B CertFault) (c : Result C CertFault) (d : Result D CertFault)
+    (e : Result E CertFault) (f : Result F CertFault) (g : Result G CertFault)
     (k : A → B → C → D → E → F → G → Result R CertFault) (y : R)
     → (a >>= λ x0. b >>= λ x1. c >>= λ x2. d >>= λ x3. e >>= λ x4. f >>= λ x5. g >>= λ x6. k x0 x1 x2 x3 x4 x5 x6) ≡ Ok y
-    → (x0 : A) × (x1 : B) × (x2 : C) × (x3 : D) × (x4 : E) × (x5 : F) × (x6 : G) × (a ≡ Ok x0) × (b ≡ Ok x1) × (c ≡ Ok x2) × (d ≡ Ok x3) × (e ≡ Ok x4) × (f ≡ Ok x5) × (g ≡ Ok x6) × (k x0 x1 x2 x3 x4 x5 x6 ≡ Ok y)
+    → (x0 : A) × (x1 : B) × (x2 : C) × (x3 : D) × (x4 : E) × (x5 : F) × (x6 : G) × (a ≡ Ok x0) × (b ≡ Ok x1) × (c ≡ Ok x2) × (d ≡ Ok x3) × (e ≡ Ok x4)
+    × (f ≡ Ok x5) × (g ≡ Ok x6) × (k x0 x1 x2 x3 x4 x5 x6 ≡ Ok y)
 seven_ok (Ok a) (Ok b) (Ok c) (Ok d) (Ok e) (Ok f) (Ok g) k y h = (a, b, c, d, e, f, g, refl, refl, refl, refl, refl, refl, refl, h)
 seven_ok (Ok a) (Ok b) (Ok c) (Ok d) (Ok e) (Ok f) (Err x) k y h = absurd cc
 seven_ok (Ok a) (Ok b) (Ok c) (Ok d) (Ok e) (Err x) g k y h = absurd cc
@@ -66,7 +134,8 @@ group_found (a ∷ b ∷ c ∷ d ∷ []) g h = absurd cc
 group_found (a ∷ b ∷ c ∷ d ∷ e ∷ []) g h = absurd cc
 group_found (a ∷ b ∷ c ∷ d ∷ e ∷ f ∷ []) g h = absurd cc
 group_found (parent ∷ weight ∷ limit ∷ demand ∷ amount ∷ flag ∷ level ∷ []) g h =
-    let p = seven_ok (parent_at parent) (number_at weight) (limit_at limit) (number_at demand) (number_at amount) (flag_at flag) (level_in_word level) made g h in
+    let p = seven_ok (parent_at parent) (number_at weight) (limit_at limit) (number_at demand) (number_at amount) (flag_at flag)
+    (level_in_word level) made g h in
     let r0 = parent_found parent p.0 p.7 in
     let r1 = number_found weight p.1 p.8 in
     let r2 = limit_found limit p.2 p.9 in
@@ -83,15 +152,22 @@ group_found (parent ∷ weight ∷ limit ∷ demand ∷ amount ∷ flag ∷ leve
     })
 group_found (a ∷ b ∷ c ∷ d ∷ e ∷ f ∷ i ∷ j ∷ ws) g h = absurd cc
 
-line_parts : (b : Bool) (l l' : List ℕ) (after after' : List (List ℕ)) → cond {A = Result (List ℕ × List (List ℕ)) CertFault} b (Err faults.CutShort) (done (l, after)) ≡ Ok (l', after') → (b ≡ false) × (l ≡ l') × (after ≡ after')
+line_parts : (b : Bool) (l l' : List ℕ) (after after' : List (List ℕ))
+    → cond {A = Result (List ℕ × List (List ℕ)) CertFault} b (Err faults.CutShort) (done (l, after)) ≡ Ok (l', after')
+    → (b ≡ false) × (l ≡ l') × (after ≡ after')
 line_parts true l l' after after' e = absurd cc
-line_parts false l l' after after' e = (refl, ap (λ (p : List ℕ × List (List ℕ)). p.0) (ok_is (l, after) (l', after') e), ap (λ (p : List ℕ × List (List ℕ)). p.1) (ok_is (l, after) (l', after') e))
+line_parts false l l' after after' e = (
+  refl,
+  ap (λ (p : List ℕ × List (List ℕ)). p.0) (ok_is (l, after) (l', after') e),
+  ap (λ (p : List ℕ × List (List ℕ)). p.1) (ok_is (l, after) (l', after') e),
+)
 
 joined_more : (l : List ℕ) (after : List (List ℕ)) → eqb (length after) 0 ≡ false → join_with_byte 10 (l ∷ after) ≡ l ++ 10 ∷ join_with_byte 10 after
 joined_more l [] h = absurd cc
 joined_more l (x ∷ after) h = refl
 
-line_found : (parts : List (List ℕ)) (l : List ℕ) (after : List (List ℕ)) → line_at parts ≡ Ok (l, after) → join_with_byte 10 parts ≡ l ++ 10 ∷ join_with_byte 10 after
+line_found : (parts : List (List ℕ)) (l : List ℕ) (after : List (List ℕ)) → line_at parts ≡ Ok (l, after)
+    → join_with_byte 10 parts ≡ l ++ 10 ∷ join_with_byte 10 after
 line_found [] l after e = absurd cc
 line_found (x ∷ xs) l after e =
     let p = line_parts (eqb (length xs) 0) x l xs after e in
@@ -115,7 +191,8 @@ pub record AreGroups (parts : List (List ℕ)) (n : ℕ) (c : Columns) (rest : L
 regrouped : (a b c : List ℕ) → a ++ 10 ∷ (b ++ c) ≡ ((a ++ 10 ∷ []) ++ b) ++ c
 regrouped a b c = simp append_assoc
 
-one_more : (l : List ℕ) (ws : List (List ℕ)) (whole rest others after : List ℕ) → l ≡ join_with_byte 32 ws → whole ≡ l ++ 10 ∷ rest → rest ≡ others ++ after → whole ≡ (line ws ++ others) ++ after
+one_more : (l : List ℕ) (ws : List (List ℕ)) (whole rest others after : List ℕ) → l ≡ join_with_byte 32 ws → whole ≡ l ++ 10 ∷ rest
+    → rest ≡ others ++ after → whole ≡ (line ws ++ others) ++ after
 one_more l ws whole rest others after e f g =
     f ∙ ap (λ (t : List ℕ). l ++ 10 ∷ t) g ∙ ap (λ (t : List ℕ). t ++ 10 ∷ (others ++ after)) e ∙ regrouped (join_with_byte 32 ws) others after
 
@@ -133,7 +210,8 @@ groups_found (suc n) parts x e =
     let l = line_text a.0.0 (group_words b.0.row b.0.amount b.0.flag b.0.level) g.words in
     subst (λ (y : Columns × List (List ℕ)). AreGroups parts (suc n) y.0 y.1) (ok_is (with_group b.0 c.0.0, c.0.1) x c.2)
     (record {
-      text = one_more a.0.0 (group_words b.0.row b.0.amount b.0.flag b.0.level) (join_with_byte 10 parts) (join_with_byte 10 a.0.1) (groups_text c.0.0) (join_with_byte 10 c.0.1) l (line_found parts a.0.0 a.0.1 a.1) others.text;
+      text = one_more a.0.0 (group_words b.0.row b.0.amount b.0.flag b.0.level) (join_with_byte 10 parts) (join_with_byte 10 a.0.1) (groups_text c.0.0)
+          (join_with_byte 10 c.0.1) l (line_found parts a.0.0 a.0.1 a.1) others.text;
       rows = ap suc others.rows;
       amounts = ap suc others.amounts;
       flags = ap suc others.flags;
@@ -166,10 +244,12 @@ same_six : (a b c d e f a' b' c' d' e' f' : List ℕ) → a ≡ a' → b ≡ b' 
     → a ∷ b ∷ c ∷ d ∷ e ∷ f ∷ [] ≡ a' ∷ b' ∷ c' ∷ d' ∷ e' ∷ f' ∷ []
 same_six a b c d e f a' b' c' d' e' f' h0 h1 h2 h3 h4 h5 = cc
 
-six_ok : {A B C D E F R : Type 0} (a : Result A CertFault) (b : Result B CertFault) (c : Result C CertFault) (d : Result D CertFault) (e : Result E CertFault) (f : Result F CertFault)
+six_ok : {A B C D E F R : Type 0} (a : Result A CertFault) (b : Result B CertFault) (c : Result C CertFault) (d : Result D CertFault)
+    (e : Result E CertFault) (f : Result F CertFault)
     (k : A → B → C → D → E → F → Result R CertFault) (y : R)
     → (a >>= λ x0. b >>= λ x1. c >>= λ x2. d >>= λ x3. e >>= λ x4. f >>= λ x5. k x0 x1 x2 x3 x4 x5) ≡ Ok y
-    → (x0 : A) × (x1 : B) × (x2 : C) × (x3 : D) × (x4 : E) × (x5 : F) × (a ≡ Ok x0) × (b ≡ Ok x1) × (c ≡ Ok x2) × (d ≡ Ok x3) × (e ≡ Ok x4) × (f ≡ Ok x5) × (k x0 x1 x2 x3 x4 x5 ≡ Ok y)
+    → (x0 : A) × (x1 : B) × (x2 : C) × (x3 : D) × (x4 : E) × (x5 : F) × (a ≡ Ok x0) × (b ≡ Ok x1) × (c ≡ Ok x2) × (d ≡ Ok x3) × (e ≡ Ok x4) × (f ≡ Ok x5)
+    × (k x0 x1 x2 x3 x4 x5 ≡ Ok y)
 six_ok (Ok a) (Ok b) (Ok c) (Ok d) (Ok e) (Ok f) k y h = (a, b, c, d, e, f, refl, refl, refl, refl, refl, refl, h)
 six_ok (Ok a) (Ok b) (Ok c) (Ok d) (Ok e) (Err x) k y h = absurd cc
 six_ok (Ok a) (Ok b) (Ok c) (Ok d) (Err x) f k y h = absurd cc
@@ -193,8 +273,10 @@ head_found (a ∷ b ∷ c ∷ []) x h = absurd cc
 head_found (a ∷ b ∷ c ∷ d ∷ []) x h = absurd cc
 head_found (a ∷ b ∷ c ∷ d ∷ e ∷ []) x h = absurd cc
 head_found (name ∷ version ∷ processors ∷ period ∷ slice ∷ groups ∷ []) x h =
-    let p = six_ok (word_is name (codes "bw")) (word_is version (codes "1")) (number_at processors) (number_at period) (number_at slice) (number_at groups) ends x h in
-    let q = bind_ok (host_in p.2 p.3 p.4) (λ h. cond {A = Result (Shape × ℕ) CertFault} (ltb MAX_GROUPS p.5) (Err (faults.Instance TooMany)) (Ok (h, p.5))) x p.12 in
+    let p = six_ok (word_is name (codes "bw")) (word_is version (codes "1")) (number_at processors) (number_at period) (number_at slice)
+    (number_at groups) ends x h in
+    let q = bind_ok (host_in p.2 p.3 p.4)
+    (λ h. cond {A = Result (Shape × ℕ) CertFault} (ltb MAX_GROUPS p.5) (Err (faults.Instance TooMany)) (Ok (h, p.5))) x p.12 in
     let r = host_parts (host_of p.2 p.3 p.4) q.0 (host_refusal (host_of p.2 p.3 p.4)) q.1 in
     let e : (host_of p.2 p.3 p.4, p.5) ≡ x = ap (λ (h : Shape). (h, p.5)) r.1 ∙ count_parts (ltb MAX_GROUPS p.5) (faults.Instance TooMany) (q.0, p.5) x q.2 in
     subst (λ (y : Shape × ℕ). IsHead (name ∷ version ∷ processors ∷ period ∷ slice ∷ groups ∷ []) y) e (record {
@@ -225,8 +307,11 @@ value_parts v w (Some f) e = absurd cc
 pub certified_found : (text : List ℕ) (v : Value) → certified_of (lines_of text) ≡ Ok v → IsValue v × (text ≡ spelling v)
 unfolding certified_of
 certified_found text v e =
-    let a = bind_ok (line_at (lines_of text)) (λ l. head_of (words_of l.0) >>= λ head. groups_at head.1 l.1 >>= λ gs. cond (is_over gs.1) (whole (record { shape = head.0; groups = gs.0 })) (Err faults.Trailing)) v e in
-    let b = bind_ok (head_of (words_of a.0.0)) (λ head. groups_at head.1 a.0.1 >>= λ gs. cond (is_over gs.1) (whole (record { shape = head.0; groups = gs.0 })) (Err faults.Trailing)) v a.2 in
+    let a = bind_ok (line_at (lines_of text))
+    (λ l. head_of (words_of l.0) >>= λ head. groups_at head.1 l.1 >>= λ gs. cond (is_over gs.1) (whole (record { shape = head.0; groups = gs.0 }))
+    (Err faults.Trailing)) v e in
+    let b = bind_ok (head_of (words_of a.0.0))
+    (λ head. groups_at head.1 a.0.1 >>= λ gs. cond (is_over gs.1) (whole (record { shape = head.0; groups = gs.0 })) (Err faults.Trailing)) v a.2 in
     let c = bind_ok (groups_at b.0.1 a.0.1) (λ gs. cond (is_over gs.1) (whole (record { shape = b.0.0; groups = gs.0 })) (Err faults.Trailing)) v b.2 in
     let v' : Value = record { shape = b.0.0; groups = c.0.0 } in
     let d = end_parts (is_over c.0.1) (whole v') v c.2 in
@@ -239,7 +324,8 @@ certified_found text v e =
     let l = line_text a.0.0 (head_words b.0.0 (length c.0.0.rows)) words in
     let joined : text ≡ join_with_byte 10 (lines_of text) = sym (join_with_byte-slice_split 10 text) in
     let shown : text ≡ (line (head_words b.0.0 (length c.0.0.rows)) ++ groups_text c.0.0) ++ [] =
-    joined ∙ one_more a.0.0 (head_words b.0.0 (length c.0.0.rows)) (join_with_byte 10 (lines_of text)) (join_with_byte 10 a.0.1) (groups_text c.0.0) [] l (line_found (lines_of text) a.0.0 a.0.1 a.1) groups in
+    joined ∙ one_more a.0.0 (head_words b.0.0 (length c.0.0.rows)) (join_with_byte 10 (lines_of text)) (join_with_byte 10 a.0.1) (groups_text c.0.0) [] l
+    (line_found (lines_of text) a.0.0 a.0.1 a.1) groups in
     subst (λ (x : Value). IsValue x × (text ≡ spelling x)) w.1 (
       record {
         instance = accepted-IsInstance (groups_of v') head.host w.0;
@@ -253,6 +339,7 @@ certified_found text v e =
       shown ∙ append-nil (line (head_words b.0.0 (length c.0.0.rows)) ++ groups_text c.0.0),
     )
 
-pub is_found : (text : List ℕ) (r : Result Certified CertFault) → ReadsAs certified_view r (certified_of (lines_of text)) → IfOk r (λ c. IsValue (certified_view c) × (text ≡ spelling (certified_view c)))
+pub is_found : (text : List ℕ) (r : Result Certified CertFault) → ReadsAs certified_view r (certified_of (lines_of text))
+    → IfOk r (λ c. IsValue (certified_view c) × (text ≡ spelling (certified_view c)))
 is_found text (Ok c) given = certified_found text (certified_view c) given
 is_found text (Err e) given = tt

@@ -68,10 +68,12 @@ pub not_over : (text : List ℕ) → 0 < length text → is_over (lines_of text)
 not_over [] h = absurd (omega arith)
 not_over (x ∷ xs) h = over_cons (eqb x 10) x (lines_of xs) (some_parts 10 xs)
 
-pub three_parts : (text first second others rest : List ℕ) → words_of text ≡ first ∷ words_of others → words_of others ≡ second ∷ words_of rest → length (words_of text) ≡ 2 → ⊥
+pub three_parts : (text first second others rest : List ℕ) → words_of text ≡ first ∷ words_of others → words_of others ≡ second ∷ words_of rest
+    → length (words_of text) ≡ 2 → ⊥
 three_parts text first second others rest e f h = omega (arith, ap length e, ap length f, some_parts 32 rest, h)
 
-pub trailing : (parts after rest : List (List ℕ)) (line : List ℕ) (h : Shape) (count : ℕ) (groups : Columns) → line_at parts ≡ Ok (line, after) → head_of (words_of line) ≡ Ok (h, count)
+pub trailing : (parts after rest : List (List ℕ)) (line : List ℕ) (h : Shape) (count : ℕ) (groups : Columns) → line_at parts ≡ Ok (line, after)
+    → head_of (words_of line) ≡ Ok (h, count)
     → groups_at count after ≡ Ok (groups, rest) → is_over rest ≡ false → certified_of parts ≡ Err faults.Trailing
 unfolding certified_of
 trailing parts after rest line h count groups a b d over = rw (a, b, d, over) refl
@@ -81,7 +83,9 @@ over [] h = refl
 over (x ∷ xs) h = absurd (omega arith)
 
 -- nothing trails, and no row is refused
-pub whole : (parts after rest : List (List ℕ)) (line : List ℕ) (h : Shape) (count : ℕ) (groups : Columns) → line_at parts ≡ Ok (line, after) → head_of (words_of line) ≡ Ok (h, count)
-    → groups_at count after ≡ Ok (groups, rest) → is_over rest ≡ true → refusal groups.rows ≡ None → certified_of parts ≡ Ok (record { shape = h; groups = groups })
+pub whole : (parts after rest : List (List ℕ)) (line : List ℕ) (h : Shape) (count : ℕ) (groups : Columns) → line_at parts ≡ Ok (line, after)
+    → head_of (words_of line) ≡ Ok (h, count)
+    → groups_at count after ≡ Ok (groups, rest) → is_over rest ≡ true → refusal groups.rows ≡ None
+    → certified_of parts ≡ Ok (record { shape = h; groups = groups })
 unfolding certified_of
 whole parts after rest line h count groups a b d end fine = rw (a, b, d, end, fine) refl

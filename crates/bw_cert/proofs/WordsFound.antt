@@ -1,5 +1,35 @@
 -- A word that is read is the one spelling of its value.
-use Rattle.std.proofs.Common.{◌≡◌, ℕ, ◌<◌, ◌^◌, Bool, true, false, ◌&&◌, cond, ltb, eqb, List, [], ◌∷◌, ◌++◌, Option, Some, None, Result, Ok, Err, refl, sym, ap, ◌∙◌, append_assoc, ◌⊎◌, inl, inr}
+use Rattle.std.proofs.Common.{
+  ◌≡◌,
+  ℕ,
+  ◌<◌,
+  ◌^◌,
+  Bool,
+  true,
+  false,
+  ◌&&◌,
+  cond,
+  ltb,
+  eqb,
+  List,
+  [],
+  ◌∷◌,
+  ◌++◌,
+  Option,
+  Some,
+  None,
+  Result,
+  Ok,
+  Err,
+  refl,
+  sym,
+  ap,
+  ◌∙◌,
+  append_assoc,
+  ◌⊎◌,
+  inl,
+  inr,
+}
 use Rattle.std.specs.Prelude.{codes, IfSome}
 use Rattle.std.specs.List.{slice_split, join_with_byte}
 use Rattle.std.specs.Str.{bytes_eq}
@@ -37,7 +67,8 @@ u32_found word n e =
     let p = small_parts (ltb a.0 (2 ^ 32)) a.0 n a.2 in
     rw (← p.1) ((number_found word a.0 a.1).0, ltb-true a.0 (2 ^ 32) p.0)
 
-none_or : (b : Bool) (r : Result ℕ CertFault) (o : Option ℕ) → cond b (Ok None) (r >>= λ n. Ok (Some n)) ≡ Ok o → ((b ≡ true) × (o ≡ None)) ⊎ ((n : ℕ) × (r ≡ Ok n) × (o ≡ Some n))
+none_or : (b : Bool) (r : Result ℕ CertFault) (o : Option ℕ) → cond b (Ok None) (r >>= λ n. Ok (Some n)) ≡ Ok o
+    → ((b ≡ true) × (o ≡ None)) ⊎ ((n : ℕ) × (r ≡ Ok n) × (o ≡ Some n))
 none_or true r o e = inl (refl, cc)
 none_or false (Ok n) o e = inr (n, refl, cc)
 none_or false (Err f) o e = absurd cc
@@ -56,7 +87,8 @@ limit_found word o e =
       | inr p ↦ rw p.2 (number_found word p.0 p.1)
     ]
 
-flag_parts : (a b : Bool) (flag : Bool) → cond a (Ok false) (cond b (Ok true) (Err faults.BadField)) ≡ Ok flag → ((a ≡ true) × (flag ≡ false)) ⊎ ((b ≡ true) × (flag ≡ true))
+flag_parts : (a b : Bool) (flag : Bool) → cond a (Ok false) (cond b (Ok true) (Err faults.BadField)) ≡ Ok flag
+    → ((a ≡ true) × (flag ≡ false)) ⊎ ((b ≡ true) × (flag ≡ true))
 flag_parts true b flag e = inl (refl, cc)
 flag_parts false true flag e = inr (refl, cc)
 flag_parts false false flag e = absurd cc
@@ -78,7 +110,8 @@ in_two_found (a ∷ b ∷ c ∷ parts) p e = absurd cc
 rejoined : (byte : ℕ) (word front back : List ℕ) → slice_split (λ b. eqb b byte) word ≡ front ∷ back ∷ [] → word ≡ front ++ byte ∷ back
 rejoined byte word front back e = sym (join_with_byte-slice_split byte word) ∙ ap (join_with_byte byte) e
 
-level_parts : (b c : Bool) (l : MarkValue) (o : Option MarkValue) → cond (b && c) (Ok (Some l)) (Err faults.BadField) ≡ Ok o → (b ≡ true) × (c ≡ true) × (o ≡ Some l)
+level_parts : (b c : Bool) (l : MarkValue) (o : Option MarkValue) → cond (b && c) (Ok (Some l)) (Err faults.BadField) ≡ Ok o
+    → (b ≡ true) × (c ≡ true) × (o ≡ Some l)
 level_parts true true l o e = (refl, refl, cc)
 level_parts true false l o e = absurd cc
 level_parts false c l o e = absurd cc
@@ -86,8 +119,11 @@ level_parts false c l o e = absurd cc
 mark_found : (word : List ℕ) (o : Option MarkValue) → mark_at word ≡ Ok o → (word ≡ level_word o) × IfSome o IsSmallLevel
 unfolding mark_at
 mark_found word o e =
-    let a = bind_ok (in_two (slice_split (λ b. eqb b 47) word)) (λ outer. in_two (slice_split (λ b. eqb b 64) outer.1) >>= λ inner. number_at outer.0 >>= λ num. number_at inner.0 >>= λ den. u32_at inner.1 >>= λ place. level_in num den place) o e in
-    let b = bind_ok (in_two (slice_split (λ b. eqb b 64) a.0.1)) (λ inner. number_at a.0.0 >>= λ num. number_at inner.0 >>= λ den. u32_at inner.1 >>= λ place. level_in num den place) o a.2 in
+    let a = bind_ok (in_two (slice_split (λ b. eqb b 47) word))
+    (λ outer. in_two (slice_split
+    (λ b. eqb b 64) outer.1) >>= λ inner. number_at outer.0 >>= λ num. number_at inner.0 >>= λ den. u32_at inner.1 >>= λ place. level_in num den place) o e in
+    let b = bind_ok (in_two (slice_split (λ b. eqb b 64) a.0.1))
+    (λ inner. number_at a.0.0 >>= λ num. number_at inner.0 >>= λ den. u32_at inner.1 >>= λ place. level_in num den place) o a.2 in
     let n = bind_ok (number_at a.0.0) (λ num. number_at b.0.0 >>= λ den. u32_at b.0.1 >>= λ place. level_in num den place) o b.2 in
     let d = bind_ok (number_at b.0.0) (λ den. u32_at b.0.1 >>= λ place. level_in n.0 den place) o n.2 in
     let p = bind_ok (u32_at b.0.1) (λ place. level_in n.0 d.0 place) o d.2 in
@@ -97,8 +133,10 @@ mark_found word o e =
     let num = number_found a.0.0 n.0 n.1 in
     let den = number_found b.0.0 d.0 d.1 in
     let place = u32_found b.0.1 p.0 p.1 in
-    let text : word ≡ decimal n.0 ++ 47 ∷ (decimal d.0 ++ 64 ∷ decimal p.0) = outer ∙ ap (λ (t : List ℕ). a.0.0 ++ 47 ∷ t) inner ∙ rw (← num.0, ← den.0, ← place.0) refl in
-    let grouped : decimal n.0 ++ 47 ∷ (decimal d.0 ++ 64 ∷ decimal p.0) ≡ decimal n.0 ++ codes "/" ++ decimal d.0 ++ codes "@" ++ decimal p.0 = simp append_assoc in
+    let text : word ≡ decimal n.0 ++ 47 ∷ (decimal d.0 ++ 64 ∷ decimal p.0) =
+    outer ∙ ap (λ (t : List ℕ). a.0.0 ++ 47 ∷ t) inner ∙ rw (← num.0, ← den.0, ← place.0) refl in
+    let grouped : decimal n.0 ++ 47 ∷ (decimal d.0 ++ 64 ∷ decimal p.0) ≡ decimal n.0 ++ codes "/" ++ decimal d.0 ++ codes "@" ++ decimal p.0 =
+    simp append_assoc in
     rw l.2 (text ∙ grouped, record { num = num.1; some_num = ltb-true 0 n.0 l.0; den = den.1; some_den = ltb-true 0 d.0 l.1; place = place.1 })
 
 none_mark : (b : Bool) (r : Result (Option MarkValue) CertFault) (o : Option MarkValue) → cond b (Ok None) r ≡ Ok o → ((b ≡ true) × (o ≡ None)) ⊎ (r ≡ Ok o)

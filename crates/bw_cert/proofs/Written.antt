@@ -1,5 +1,32 @@
 -- Lines as they are put together.
-use Rattle.std.proofs.Common.{◌≡◌, ℕ, ◌+◌, ◌<◌, ◌≤◌, ◌^◌, inl, inr, Bool, List, [], ◌∷◌, ◌++◌, length, get_or, map, drop, Option, None, refl, sym, ap, subst, ◌∙◌, append_assoc, arith}
+use Rattle.std.proofs.Common.{
+  ◌≡◌,
+  ℕ,
+  ◌+◌,
+  ◌<◌,
+  ◌≤◌,
+  ◌^◌,
+  inl,
+  inr,
+  Bool,
+  List,
+  [],
+  ◌∷◌,
+  ◌++◌,
+  length,
+  get_or,
+  map,
+  drop,
+  Option,
+  None,
+  refl,
+  sym,
+  ap,
+  subst,
+  ◌∙◌,
+  append_assoc,
+  arith,
+}
 use Rattle.std.specs.Prelude.{codes, IfSome}
 use Rattle.std.specs.List.{flat_map, All}
 use Rattle.std.specs.Option.{option_map}
@@ -10,7 +37,9 @@ use Rattle.bw_model.specs.declared.mark.Mark.{Mark}
 use Rattle.bw_model.specs.Marks.{price_of}
 use Rattle.bw_cert.specs.Spelling.{line, group_words, groups_words, IsSmallRow, IsSmallLevel}
 
-pub head_text : (old p us s n : List ℕ) → ((((((((old ++ codes "bw 1 ") ++ p) ++ codes " ") ++ us) ++ codes " ") ++ s) ++ codes " ") ++ n) ++ codes "\n" ≡ old ++ line (codes "bw" ∷ codes "1" ∷ p ∷ us ∷ s ∷ n ∷ [])
+pub head_text : (old p us s n : List ℕ)
+    → ((((((((old ++ codes "bw 1 ") ++ p) ++ codes " ") ++ us) ++ codes " ") ++ s) ++ codes " ") ++ n) ++ codes "\n"
+    ≡ old ++ line (codes "bw" ∷ codes "1" ∷ p ∷ us ∷ s ∷ n ∷ [])
 head_text old p us s n = simp append_assoc
 
 pub group_text : (old p w l d a f m : List ℕ)
@@ -25,7 +54,8 @@ rest_text rows amounts flags levels i = flat_map line (groups_words (drop i rows
 at_front : {A : Type 0} (xs : List A) (i : ℕ) (x d : A) → i < length xs → x ≡ get_or xs i d → drop i xs ≡ x ∷ drop (i + 1) xs
 at_front {A} xs i x d lt e = drop_more xs i d lt ∙ ap (λ (y : A). y ∷ drop (i + 1) xs) (sym e)
 
-pub rest_step : (rows : List Row) (amounts : List ℕ) (flags : List Bool) (levels : List (Option Mark)) (i : ℕ) (r d1 : Row) (a d2 : ℕ) (f d3 : Bool) (m d4 : Option Mark)
+pub rest_step : (rows : List Row) (amounts : List ℕ) (flags : List Bool) (levels : List (Option Mark)) (i : ℕ) (r d1 : Row) (a d2 : ℕ) (f d3 : Bool)
+    (m d4 : Option Mark)
     → i < length rows → i < length amounts → i < length flags → i < length levels
     → r ≡ get_or rows i d1 → a ≡ get_or amounts i d2 → f ≡ get_or flags i d3 → m ≡ get_or levels i d4
     → rest_text rows amounts flags levels i ≡ line (group_words r a f (option_map price_of m)) ++ rest_text rows amounts flags levels (i + 1)
@@ -39,7 +69,8 @@ written_more old new text rest after whole e f g = rw e (append_assoc old text a
 pub written_all : (old rest whole : List ℕ) → rest ≡ [] → old ++ rest ≡ whole → old ≡ whole
 written_all old rest whole e f = sym (append-nil old) ∙ ap (λ (t : List ℕ). old ++ t) (sym e) ∙ f
 
-pub rest_none : (rows : List Row) (amounts : List ℕ) (flags : List Bool) (levels : List (Option Mark)) (i : ℕ) → length rows ≤ i → rest_text rows amounts flags levels i ≡ []
+pub rest_none : (rows : List Row) (amounts : List ℕ) (flags : List Bool) (levels : List (Option Mark)) (i : ℕ) → length rows ≤ i
+    → rest_text rows amounts flags levels i ≡ []
 rest_none rows amounts flags levels i le = rw (drop_all i rows le) refl
 
 -- what holds of the first elements of a list
@@ -70,7 +101,8 @@ IsSmallMark mark = IfSome (option_map price_of mark) IsSmallLevel
 pub all_levels : (levels : List (Option Mark)) → All IsSmallMark levels → All (λ o. IfSome o IsSmallLevel) (map (option_map price_of) levels)
 all_levels levels small k d lt =
     let within : k < length levels = omega (arith, lt, length-map levels (option_map price_of)) in
-    let here : get_or (map (option_map price_of) levels) k d ≡ option_map price_of (get_or levels k None) = get_or-map (option_map price_of) levels k None d within in
+    let here : get_or (map (option_map price_of) levels) k d ≡ option_map price_of (get_or levels k None) =
+    get_or-map (option_map price_of) levels k None d within in
     subst (λ o. IfSome o IsSmallLevel) (sym here) (small k None within)
 
 -- the numbers of the first groups are small

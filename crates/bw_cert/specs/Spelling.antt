@@ -59,7 +59,8 @@ head_words h count = codes "bw" ∷ codes "1" ∷ decimal h.processors ∷ decim
 
 -- the words of a group's line
 abbrev pub group_words : Row → ℕ → Bool → Option MarkValue → List (List ℕ)
-group_words r amount flag level = parent_word r.parent ∷ decimal r.weight ∷ limit_word r.limit ∷ decimal r.demand ∷ decimal amount ∷ flag_word flag ∷ level_word level ∷ []
+group_words r amount flag level =
+    parent_word r.parent ∷ decimal r.weight ∷ limit_word r.limit ∷ decimal r.demand ∷ decimal amount ∷ flag_word flag ∷ level_word level ∷ []
 
 -- the words of each group's line
 abbrev pub groups_words : List Row → List ℕ → List Bool → List (Option MarkValue) → List (List (List ℕ))

@@ -60,7 +60,8 @@ pub(crate) fn flag(word: &[u8]) -> Result<bool, CertFault>
 
 // The two parts round the one such byte.
 fn split_in_two(word: &[u8], byte: u8) -> Option<(&[u8], &[u8])>
-    ensures { MatchOption result (in_two (slice_split (λ b. b == byte) word.now) ≡ Err CertFault.BadField) (λ p. slice_split (λ b. b == byte) word.now ≡ p.0.now ∷ p.1.now ∷ []) }
+    ensures { MatchOption result (in_two (slice_split (λ b. b == byte) word.now) ≡ Err CertFault.BadField)
+        (λ p. slice_split (λ b. b == byte) word.now ≡ p.0.now ∷ p.1.now ∷ []) }
 {
     let (front, back) = split_once(word, byte)?;
     match split_once(back, byte) {

@@ -3,7 +3,20 @@ ghost use Rattle.std.specs.Prelude.{◌≡◌, ◌++◌, ◌<◌, ◌^◌, lengt
 ghost use Rattle.std.specs.Fmt.{decimal};
 ghost use Rattle.std.specs.Option.{option_map};
 ghost use Rattle.bw_model.specs.Marks.{price_of};
-ghost use Rattle.bw_cert.specs.Spelling.{parent_word, limit_word, flag_word, level_word, line, head_words, group_words, certified_value, spelling, IsSmallRow, IsSmallLevel, IsValue};
+ghost use Rattle.bw_cert.specs.Spelling.{
+  parent_word,
+  limit_word,
+  flag_word,
+  level_word,
+  line,
+  head_words,
+  group_words,
+  certified_value,
+  spelling,
+  IsSmallRow,
+  IsSmallLevel,
+  IsValue,
+};
 
 use bw_model::{Certificate, HostShape, Instance, Mark, Row};
 use bw_text::push_number;
@@ -69,7 +82,9 @@ fn push_head(out: &mut String, shape: HostShape, count: u64) -> Result<(), Alloc
 
 // What a line says of its row, each word with the space after it.
 fn push_row(out: &mut String, row: Row) -> Result<(), AllocError>
-    ensures { OnOk result (string_bytes out.new ≡ string_bytes out.old ++ (parent_word row.parent ++ codes " " ++ decimal row.weight ++ codes " " ++ limit_word row.limit ++ codes " " ++ decimal row.demand ++ codes " ")) }
+    ensures { OnOk result (string_bytes out.new
+        ≡ string_bytes out.old ++ (parent_word row.parent ++ codes " " ++ decimal row.weight ++ codes " " ++ limit_word row.limit ++ codes " "
+        ++ decimal row.demand ++ codes " ")) }
 {
     push_parent(out, row.parent)?;
     out.push_str(" ")?;

@@ -2,8 +2,18 @@
 use Rattle.std.proofs.Common.{◌≡◌, ℕ, zero, suc, ◌+◌, ◌-◌, ◌<◌, ◌≤◌, List, [], ◌∷◌, Some, None, length, get_or, refl, subst, ap, sym, ◌∙◌, arith, inl, inr}
 use Rattle.std.proofs.lemmas.Bool.{cases_eq}
 use Rattle.bw_check.specs.declared.fault.CheckFault.{CheckFault}
-use Rattle.bw_check.specs.declared.fault.CheckFault.TheVariants.{WrongLength, OverLimit, OverDemand, SumDiffers, FlagWithoutLimit, NotGreatest, LevelMissing, LastMarkAbove, NextMarkNotAbove}
-use Rattle.bw_model.specs.Groups.{Groups, IsTree, IsInstance}
+use Rattle.bw_check.specs.declared.fault.CheckFault.TheVariants.{
+  WrongLength,
+  OverLimit,
+  OverDemand,
+  SumDiffers,
+  FlagWithoutLimit,
+  NotGreatest,
+  LevelMissing,
+  LastMarkAbove,
+  NextMarkNotAbove,
+}
+use Rattle.bw_model.specs.Groups.{Groups, AreTreeRows, IsInstance}
 use Rattle.bw_model.specs.Certificate.{Certified, AreBounds, IsCertified}
 use Rattle.bw_check.specs.Faults.{fault_number}
 use Rattle.bw_check.specs.Verdict.{AreOnePerRow, IsFree, IsRefused}
@@ -67,7 +77,7 @@ number_at (suc (suc (suc (suc (suc (suc zero)))))) h = refl
 number_at (suc (suc (suc (suc (suc (suc (suc zero))))))) h = refl
 number_at (suc (suc (suc (suc (suc (suc (suc (suc i)))))))) h = absurd (omega arith)
 
-module _ (groups : Groups) (amounts : List ℕ) (certificate : Certified) (tree : IsTree groups.rows) where
+module _ (groups : Groups) (amounts : List ℕ) (certificate : Certified) (tree : AreTreeRows groups.rows) where
   -- a wrong length comes before all else
   pub wrong_length : (AreOnePerRow groups amounts certificate → ⊥) → IsRefused groups amounts certificate WrongLength 0
   wrong_length wrong = let b = bounds_exist groups certificate tree in record {
@@ -92,7 +102,8 @@ module _ (groups : Groups) (amounts : List ℕ) (certificate : Certified) (tree 
       first = record {
         within = found.0;
         found = found.1;
-        no_lower = λ f g lt within. so_far f g (let number : fault_number (get_or of_rows i WrongLength) ≡ 51 + i = number_at i at in omega (arith, lt, number)) within;
+        no_lower = λ f g lt within. so_far f g
+            (let number : fault_number (get_or of_rows i WrongLength) ≡ 51 + i = number_at i at in omega (arith, lt, number)) within;
         no_earlier = found.2;
       };
     }

@@ -1,5 +1,33 @@
 -- Sums over the children seen so far, gathered in a table.
-use Rattle.std.proofs.Common.{◌≡◌, ℕ, zero, suc, ◌+◌, ◌*◌, ◌<◌, ◌≤◌, List, Bool, true, false, cond, Some, None, length, get_or, set, replicate, add-one, refl, ap, sym, ◌∙◌, arith, inl, inr}
+use Rattle.std.proofs.Common.{
+  ◌≡◌,
+  ℕ,
+  zero,
+  suc,
+  ◌+◌,
+  ◌*◌,
+  ◌<◌,
+  ◌≤◌,
+  List,
+  Bool,
+  true,
+  false,
+  cond,
+  Some,
+  None,
+  length,
+  get_or,
+  set,
+  replicate,
+  add-one,
+  refl,
+  ap,
+  sym,
+  ◌∙◌,
+  arith,
+  inl,
+  inr,
+}
 use Rattle.std.specs.Prelude.{sum_by}
 use Rattle.std.proofs.lemmas.Bool.{cases_eq}
 use Rattle.std.proofs.lemmas.List.{get_or-set_same, get_or-set_other, length-replicate, get_or-replicate}
@@ -8,7 +36,7 @@ use Rattle.bw_model.specs.declared.row.Row.{Row}
 use Rattle.bw_model.specs.Groups.{parent_of, is_child, children_of}
 use Rattle.bw_model.proofs.CallerLemmas.{is_child_from_parent, is_child_no, sum_by-children, sum_below, sum_by-range}
 use Rattle.std.proofs.lemmas.Option.{same_Some}
-use Rattle.bw_model.specs.Certificate.{place_of}
+use Rattle.bw_model.specs.Certificate.{sibling_place}
 use Rattle.bw_check.specs.Counts.{sum_of_first, AreGathered, ArePlaces}
 
 -- a sum with one changed term
@@ -94,8 +122,8 @@ pub first-all : (rows : List Row) (f : ℕ → ℕ) (g : ℕ) → sum_of_first r
 first-all rows f g = first-below rows f (length rows) g ∙ sym (sum_by-children rows f g)
 
 -- a place is a count of earlier siblings
-place-first : (rows : List Row) (g c : ℕ) → place_of rows g c ≡ sum_of_first rows (λ _. 1) c g
-unfolding place_of
+place-first : (rows : List Row) (g c : ℕ) → sibling_place rows g c ≡ sum_of_first rows (λ _. 1) c g
+unfolding sibling_place
 place-first rows g c = refl
 
 module _ (rows : List Row) (n : ℕ) (places : List ℕ) (so_far : ArePlaces rows n places) where

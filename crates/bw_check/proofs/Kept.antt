@@ -3,7 +3,7 @@ use Rattle.std.proofs.Common.{◌≡◌, ℕ, ◌<◌, List, true, false, cond, 
 use Rattle.std.proofs.lemmas.Bool.{cases_Bool, ne_eqb}
 use Rattle.bw_model.specs.declared.mark.Mark.{Mark}
 use Rattle.bw_model.specs.Groups.{Groups, parent_of}
-use Rattle.bw_model.specs.Certificate.{Certified, level_at, place_of}
+use Rattle.bw_model.specs.Certificate.{Certified, level_at, sibling_place}
 use Rattle.bw_check.specs.Counts.{ArePlaces}
 use Rattle.bw_check.specs.Levels.{level_above}
 
@@ -48,16 +48,16 @@ module _ (groups : Groups) (amounts : List ℕ) (certificate : Certified) (c : �
     -- what holds of the level above and the place in the table holds of each such group, and the other way round
     pub each_above : claim level (get_or places c 0) →
         (g : ℕ) (other : Mark) → parent_of groups.rows c ≡ Some g → 0 < get_or amounts g 0 → level_at certificate g ≡ Some other →
-        claim other (place_of groups.rows g c)
+        claim other (sibling_place groups.rows g c)
     each_above holds g other up shares level_is =
         let same : Some level ≡ Some other = sym is ∙ above_from g other (record { parent = up; shares = shares; level_is = level_is }) in
         let level_same : level ≡ other = cc in
-        subst (λ (mark : Mark). claim mark (place_of groups.rows g c)) level_same
+        subst (λ (mark : Mark). claim mark (sibling_place groups.rows g c)) level_same
         (subst (λ (place : ℕ). claim level place) (placed.each c g below up) holds)
 
     pub from_above :
         ((g : ℕ) (other : Mark) → parent_of groups.rows c ≡ Some g → 0 < get_or amounts g 0 → level_at certificate g ≡ Some other →
-        claim other (place_of groups.rows g c)) → claim level (get_or places c 0)
+        claim other (sibling_place groups.rows g c)) → claim level (get_or places c 0)
     from_above holds =
         let a = some_level level is in
         subst (λ (place : ℕ). claim level place) (sym (placed.each c a.0 below a.1.parent))

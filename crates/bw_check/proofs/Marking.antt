@@ -69,7 +69,8 @@ module _ (groups : Groups) (amounts : List ℕ) (valid : IsInstance groups) (eac
       let parent = valid.tree.parent_before (suc g) (omega arith) within in
       let p = parent.0 in
       let inner : is_leaf groups.rows p ≡ false = elim (cases_Bool (is_leaf groups.rows p)) [
-        | inl leaf ↦ absurd (let clash : true ≡ false = sym (is_child_from_parent groups.rows p (suc g) parent.1) ∙ leaf_no_child groups.rows p (suc g) leaf within in cc)
+        | inl leaf ↦ absurd (let clash : true ≡ false =
+            sym (is_child_from_parent groups.rows p (suc g) parent.1) ∙ leaf_no_child groups.rows p (suc g) leaf within in cc)
         | inr inner ↦ inner
       ] in
       omega (arith, child_le_sum groups.rows amounts p (suc g) parent.1, summed p (omega (arith, parent.2)) inner, earlier p parent.2)

@@ -1,14 +1,24 @@
 -- Amounts without a fault at any group are certified, and refused ones are not.
 use Rattle.std.proofs.Common.{◌≡◌, ℕ, ◌<◌, List, length, get_or, ◌∙◌, arith}
 use Rattle.bw_check.specs.declared.fault.CheckFault.{CheckFault}
-use Rattle.bw_check.specs.declared.fault.CheckFault.TheVariants.{WrongLength, OverLimit, OverDemand, SumDiffers, FlagWithoutLimit, NotGreatest, LevelMissing, LastMarkAbove, NextMarkNotAbove}
-use Rattle.bw_model.specs.Groups.{Groups, IsTree}
+use Rattle.bw_check.specs.declared.fault.CheckFault.TheVariants.{
+  WrongLength,
+  OverLimit,
+  OverDemand,
+  SumDiffers,
+  FlagWithoutLimit,
+  NotGreatest,
+  LevelMissing,
+  LastMarkAbove,
+  NextMarkNotAbove,
+}
+use Rattle.bw_model.specs.Groups.{Groups, AreTreeRows}
 use Rattle.bw_model.specs.Certificate.{Certified, AreBounds, IsCertified, IsAccepted}
 use Rattle.bw_model.proofs.CallerLemmas.{parent_lt, bounds-unique}
 use Rattle.bw_check.specs.Verdict.{IsFree, IsRefused}
 
 -- Amounts with no fault at any group are certified, and the other way round.
-pub free-IsCertified : (groups : Groups) (amounts : List ℕ) (certificate : Certified) (bounds : List ℕ) → IsTree groups.rows →
+pub free-IsCertified : (groups : Groups) (amounts : List ℕ) (certificate : Certified) (bounds : List ℕ) → AreTreeRows groups.rows →
     AreBounds groups certificate bounds →
     ((fault : CheckFault) (g : ℕ) → g < length groups.rows → IsFree groups amounts certificate bounds fault g) →
     IsCertified groups amounts certificate bounds
@@ -30,7 +40,7 @@ free-IsCertified groups amounts certificate bounds tree are free =
     }
 
 pub certified-IsFree : (groups : Groups) (amounts : List ℕ) (certificate : Certified) (bounds : List ℕ) →
-    IsCertified groups amounts certificate bounds → IsTree groups.rows → (fault : CheckFault) (g : ℕ) → g < length groups.rows →
+    IsCertified groups amounts certificate bounds → AreTreeRows groups.rows → (fault : CheckFault) (g : ℕ) → g < length groups.rows →
     IsFree groups amounts certificate bounds fault g
 certified-IsFree groups amounts certificate bounds c tree WrongLength g below = (c.amounts_each, c.flags_each, c.levels_each)
 certified-IsFree groups amounts certificate bounds c tree OverLimit g below = λ limit e. c.within_limit g limit below e
@@ -60,7 +70,7 @@ free-under groups amounts certificate bounds others root same NextMarkNotAbove g
     h p level up shares is (let e : get_or bounds g 0 ≡ get_or others g 0 = same g below in omega (arith, e, room))
 
 -- What is refused is not certified under any bounds.
-pub refused-not-accepted : (groups : Groups) (amounts : List ℕ) (certificate : Certified) (fault : CheckFault) (group : ℕ) → IsTree groups.rows →
+pub refused-not-accepted : (groups : Groups) (amounts : List ℕ) (certificate : Certified) (fault : CheckFault) (group : ℕ) → AreTreeRows groups.rows →
     IsRefused groups amounts certificate fault group → IsAccepted groups amounts certificate → ⊥
 refused-not-accepted groups amounts certificate fault group tree refused accepted =
     refused.first.found

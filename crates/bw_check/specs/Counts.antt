@@ -3,7 +3,7 @@ use Rattle.std.specs.Prelude.{◌≡◌, ℕ, ◌<◌, List, Some, None, length,
 use Rattle.std.specs.List.{range_with_len}
 use Rattle.bw_model.specs.declared.row.Row.{Row}
 use Rattle.bw_model.specs.Groups.{Groups, parent_of, is_child, is_leaf, demand_of, limit_of}
-use Rattle.bw_model.specs.Certificate.{Certified, is_flagged, place_of}
+use Rattle.bw_model.specs.Certificate.{Certified, is_flagged, sibling_place}
 
 -- what those of the first n groups that are children of g add up to
 abbrev pub sum_of_first : List Row → (ℕ → ℕ) → ℕ → ℕ → ℕ
@@ -17,7 +17,7 @@ pub record AreGathered (rows : List Row) (f : ℕ → ℕ) (n : ℕ) (table : Li
 -- a table with the places of the first n groups among their siblings
 pub record ArePlaces (rows : List Row) (n : ℕ) (places : List ℕ) : Type 0 where
   pub one_each : length places ≡ length rows
-  pub each : (c g : ℕ) → c < n → parent_of rows c ≡ Some g → slice_index places c ≡ place_of rows g c
+  pub each : (c g : ℕ) → c < n → parent_of rows c ≡ Some g → slice_index places c ≡ sibling_place rows g c
 
 -- the bound of a group whose children's bounds have this sum
 abbrev pub bound_over : Groups → Certified → ℕ → ℕ → ℕ

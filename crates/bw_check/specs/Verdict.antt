@@ -3,12 +3,22 @@ use Rattle.std.specs.Prelude.{◌≡◌, ℕ, ◌<◌, ◌≤◌, List, false, S
 use Rattle.std.specs.Option.{IsSome}
 use Rattle.bw_model.specs.declared.mark.Mark.{Mark}
 use Rattle.bw_check.specs.declared.fault.CheckFault.{CheckFault}
-use Rattle.bw_check.specs.declared.fault.CheckFault.TheVariants.{WrongLength, OverLimit, OverDemand, SumDiffers, FlagWithoutLimit, NotGreatest, LevelMissing, LastMarkAbove, NextMarkNotAbove}
+use Rattle.bw_check.specs.declared.fault.CheckFault.TheVariants.{
+  WrongLength,
+  OverLimit,
+  OverDemand,
+  SumDiffers,
+  FlagWithoutLimit,
+  NotGreatest,
+  LevelMissing,
+  LastMarkAbove,
+  NextMarkNotAbove,
+}
 use Rattle.bw_check.specs.declared.verdict.Verdict.{Verdict}
 use Rattle.bw_check.specs.declared.verdict.Verdict.TheVariants.{Accepted, Refused}
 use Rattle.bw_model.specs.Groups.{Groups, sum_of_children, parent_of, is_leaf, weight_of, demand_of, limit_of}
 use Rattle.bw_model.specs.Marks.{price_of, last_mark, next_mark, IsBelow, IsAtMost}
-use Rattle.bw_model.specs.Certificate.{Certified, AreBounds, IsAccepted, is_flagged, level_at, place_of}
+use Rattle.bw_model.specs.Certificate.{Certified, AreBounds, IsAccepted, is_flagged, level_at, sibling_place}
 use Rattle.bw_check.specs.Faults.{fault_number}
 
 -- one amount, flag and level for each row
@@ -43,14 +53,14 @@ abbrev pub IsLastMarkKept : Groups → List ℕ → Certified → ℕ → Type 0
 IsLastMarkKept groups amounts certificate c =
     (g : ℕ) (level : Mark) → parent_of groups.rows c ≡ Some g → 0 < slice_index amounts g → level_at certificate g ≡ Some level →
     0 < slice_index amounts c →
-    IsAtMost (last_mark (slice_index amounts c) (weight_of groups.rows c) (place_of groups.rows g c)) (price_of level)
+    IsAtMost (last_mark (slice_index amounts c) (weight_of groups.rows c) (sibling_place groups.rows g c)) (price_of level)
 
 -- the next mark of a child below its bound is above that level
 abbrev pub IsNextMarkKept : Groups → List ℕ → Certified → List ℕ → ℕ → Type 0
 IsNextMarkKept groups amounts certificate bounds c =
     (g : ℕ) (level : Mark) → parent_of groups.rows c ≡ Some g → 0 < slice_index amounts g → level_at certificate g ≡ Some level →
     slice_index amounts c < slice_index bounds c →
-    IsBelow (price_of level) (next_mark (slice_index amounts c) (weight_of groups.rows c) (place_of groups.rows g c))
+    IsBelow (price_of level) (next_mark (slice_index amounts c) (weight_of groups.rows c) (sibling_place groups.rows g c))
 
 -- that a group doesn't have the fault
 abbrev pub IsFree : Groups → List ℕ → Certified → List ℕ → CheckFault → ℕ → Type 0

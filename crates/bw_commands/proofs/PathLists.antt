@@ -1,5 +1,38 @@
 -- Paths that stand one after another in one text.
-use Rattle.std.proofs.Common.{◌≡◌, ◌≤◌, ◌<◌, ◌+◌, ◌-◌, subst, ℕ, Bool, true, false, cond, eqb, Bor, Option, Some, None, is_some, zero, suc, List, [], ◌∷◌, ◌++◌, length, get_or, take, drop, refl, sym, ap, ◌∙◌, arith}
+use Rattle.std.proofs.Common.{
+  ◌≡◌,
+  ◌≤◌,
+  ◌<◌,
+  ◌+◌,
+  ◌-◌,
+  subst,
+  ℕ,
+  Bool,
+  true,
+  false,
+  cond,
+  eqb,
+  Bor,
+  Option,
+  Some,
+  None,
+  is_some,
+  zero,
+  suc,
+  List,
+  [],
+  ◌∷◌,
+  ◌++◌,
+  length,
+  get_or,
+  take,
+  drop,
+  refl,
+  sym,
+  ap,
+  ◌∙◌,
+  arith,
+}
 use Rattle.std.specs.List.{slice_range, range_with_len}
 use Rattle.std.specs.Prelude.{IfSome}
 use Rattle.std.specs.Map.{keys_of}
@@ -56,7 +89,8 @@ cut-last text more span from to =
     whole (x ∷ xs) (suc n) same = ap (λ ys. x ∷ ys) (whole xs n (omega (arith, same)))
 
 -- what stands at the spans of a text, and one span more
-pub cuts-push : (text more : List ℕ) (spans : List Span) (span : Span) → AreWithin (length text) spans → span.start ≡ length text → span.end ≡ length (text ++ more)
+pub cuts-push : (text more : List ℕ) (spans : List Span) (span : Span) → AreWithin (length text) spans → span.start ≡ length text
+    → span.end ≡ length (text ++ more)
     → cuts (text ++ more) (spans ++ span ∷ []) ≡ cuts text spans ++ more ∷ []
 cuts-push text more [] span all from to = ap (λ path. path ∷ []) (cut-last text more span from to)
 cuts-push text more (s ∷ spans) span all from to =
@@ -64,16 +98,21 @@ cuts-push text more (s ∷ spans) span all from to =
     ∙ ap (λ paths. cut text s ∷ paths) (cuts-push text more spans span all.2 from to)
 
 -- paths of rows from one on, by what holds of each
-paths_from : (tree : TreeState) (paths : List (List ℕ)) (a n : ℕ) → length paths ≡ n → ((k : ℕ) → k < n → IsPathOf tree (a + k) (get_or paths k [])) → ArePathsOf tree (range_with_len a n) paths
+paths_from : (tree : TreeState) (paths : List (List ℕ)) (a n : ℕ) → length paths ≡ n → ((k : ℕ) → k < n → IsPathOf tree (a + k) (get_or paths k []))
+    → ArePathsOf tree (range_with_len a n) paths
 paths_from tree [] a zero long each = tt
 paths_from tree [] a (suc n) long each = absurd (omega (arith, long))
 paths_from tree (p ∷ ps) a zero long each = absurd (omega (arith, long))
-paths_from tree (p ∷ ps) a (suc n) long each =
-    (let same : a + 0 ≡ a = omega arith in subst (λ k. IsPathOf tree k p) same (each 0 (omega arith)),
-     paths_from tree ps (a + 1) n (omega (arith, long)) (λ k lt. let same : a + suc k ≡ a + 1 + k = omega arith in subst (λ j. IsPathOf tree j (get_or ps k [])) same (each (suc k) (omega (arith, lt)))))
+paths_from tree (p ∷ ps) a (suc n) long each = (
+  let same : a + 0 ≡ a = omega arith in subst (λ k. IsPathOf tree k p) same (each 0 (omega arith)),
+  paths_from tree ps (a + 1) n (omega (arith, long))
+      (λ k lt. let same : a + suc k ≡ a + 1 + k = omega arith in subst (λ j. IsPathOf tree j (get_or ps k [])) same (each (suc k) (omega (arith, lt)))),
+)
 
-pub paths_of_rows : (tree : TreeState) (paths : List (List ℕ)) (n : ℕ) → length paths ≡ n → ((k : ℕ) → k < n → IsPathOf tree k (get_or paths k [])) → ArePathsOf tree (range_with_len 0 n) paths
-paths_of_rows tree paths n long each = paths_from tree paths 0 n long (λ k lt. let same : k ≡ 0 + k = omega arith in subst (λ j. IsPathOf tree j (get_or paths k [])) same (each k lt))
+pub paths_of_rows : (tree : TreeState) (paths : List (List ℕ)) (n : ℕ) → length paths ≡ n → ((k : ℕ) → k < n → IsPathOf tree k (get_or paths k []))
+    → ArePathsOf tree (range_with_len 0 n) paths
+paths_of_rows tree paths n long each =
+    paths_from tree paths 0 n long (λ k lt. let same : k ≡ 0 + k = omega arith in subst (λ j. IsPathOf tree j (get_or paths k [])) same (each k lt))
 
 -- what holds of each element, and of one more
 pub each_push : {X : Type 0} (holds : ℕ → X → Type 0) (xs : List X) (x d : X) → ((k : ℕ) → k < length xs → holds k (get_or xs k d)) → holds (length xs) x
@@ -88,7 +127,8 @@ pub copied_some : {X : Type 0} (r : Option (Bor X)) (o : Option X) → option_co
 copied_some (Some x) o same there = refl
 copied_some None o same there = let none : is_some o ≡ false = ap is_some (sym same) in absurd (let clash : false ≡ true = sym none ∙ there in cc)
 
-module _ (t : TreeState) (ok : IsTree t) (s : Shape) (paths : List (List ℕ)) (g : ℕ) (f : GroupFields) (within : g < length t.groups) (at : group_at t.groups (get_or (keys_of t.groups) g 0) ≡ Some f) where
+module _ (t : TreeState) (ok : IsTree t) (s : Shape) (paths : List (List ℕ)) (g : ℕ) (f : GroupFields) (within : g < length t.groups)
+    (at : group_at t.groups (get_or (keys_of t.groups) g 0) ≡ Some f) where
   -- the path of a row, where the paths of all rows before it stand
   pub step_path : (parent : Option ℕ) → parent_of (rows_of t.groups s) g ≡ parent → IfSome parent (λ p. p < g)
       → ((k : ℕ) → k < g → path_at t.groups (get_or (keys_of t.groups) k 0) ≡ Some (get_or paths k []))
@@ -98,4 +138,5 @@ module _ (t : TreeState) (ok : IsTree t) (s : Shape) (paths : List (List ℕ)) (
     where
       by : (b : Bool) → eqb p 0 ≡ b → path_at t.groups (get_or (keys_of t.groups) g 0) ≡ Some (cond b f.name (get_or paths p [] ++ 47 ∷ f.name))
       by true top = first_path t ok s g p f within at up (eqb-true p 0 top)
-      by false low = below_path t ok s g p f (get_or paths p []) within at up (λ top. let clash : true ≡ false = sym (eq-eqb p 0 top) ∙ low in absurd (cc)) (each p before)
+      by false low = below_path t ok s g p f (get_or paths p []) within at up (λ top. let clash : true ≡ false = sym (eq-eqb p 0 top) ∙ low in absurd (cc))
+          (each p before)

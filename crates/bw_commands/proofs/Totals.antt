@@ -1,5 +1,29 @@
 -- The lines of the limiting groups.
-use Rattle.std.proofs.Common.{◌≡◌, ◌∙◌, ◌<◌, ◌+◌, ℕ, zero, suc, List, [], ◌∷◌, ◌++◌, Bool, length, refl, sym, ap, arith, append_assoc, append-nil, get_or, cond, true, false}
+use Rattle.std.proofs.Common.{
+  ◌≡◌,
+  ◌∙◌,
+  ◌<◌,
+  ◌+◌,
+  ℕ,
+  zero,
+  suc,
+  List,
+  [],
+  ◌∷◌,
+  ◌++◌,
+  Bool,
+  length,
+  refl,
+  sym,
+  ap,
+  arith,
+  append_assoc,
+  append-nil,
+  get_or,
+  cond,
+  true,
+  false,
+}
 use Rattle.std.specs.Prelude.{filter}
 use Rattle.std.specs.List.{range_with_len}
 use Rattle.bw_model.specs.Groups.{Groups}
@@ -9,7 +33,8 @@ use Rattle.bw_tree.specs.Groups.{TreeState}
 use Rattle.bw_commands.specs.GroupLines.{IsPathOf, ArePathsOf, group_lines}
 
 -- one row more
-pub ArePathsOf-push : (tree : TreeState) (gs : List ℕ) (paths : List (List ℕ)) (g : ℕ) (path : List ℕ) → ArePathsOf tree gs paths → IsPathOf tree g path → ArePathsOf tree (gs ++ g ∷ []) (paths ++ path ∷ [])
+pub ArePathsOf-push : (tree : TreeState) (gs : List ℕ) (paths : List (List ℕ)) (g : ℕ) (path : List ℕ) → ArePathsOf tree gs paths → IsPathOf tree g path
+    → ArePathsOf tree (gs ++ g ∷ []) (paths ++ path ∷ [])
 ArePathsOf-push tree [] [] g path all one = (one, tt)
 ArePathsOf-push tree [] (p ∷ ps) g path all one = absurd all
 ArePathsOf-push tree (h ∷ gs) [] g path all one = absurd all
@@ -40,7 +65,8 @@ pub rows-more : (n : ℕ) → range_with_len 0 (n + 1) ≡ range_with_len 0 n ++
 rows-more n = range_more 0 n ∙ (let same : 0 + n ≡ n = omega arith in ap (λ (k : ℕ). range_with_len 0 n ++ k ∷ []) same)
 
 -- what is kept of a range is within it
-kept-lt : (p : ℕ → Bool) (a n : ℕ) (b : Bool) → ((k : ℕ) → k < length (filter p (range_with_len (a + 1) n)) → get_or (filter p (range_with_len (a + 1) n)) k 0 < a + 1 + n)
+kept-lt : (p : ℕ → Bool) (a n : ℕ) (b : Bool)
+    → ((k : ℕ) → k < length (filter p (range_with_len (a + 1) n)) → get_or (filter p (range_with_len (a + 1) n)) k 0 < a + 1 + n)
     → (k : ℕ) → k < length (cond b (a ∷ filter p (range_with_len (a + 1) n)) (filter p (range_with_len (a + 1) n)))
     → get_or (cond b (a ∷ filter p (range_with_len (a + 1) n)) (filter p (range_with_len (a + 1) n))) k 0 < a + suc n
 kept-lt p a n true more zero lt = omega arith
@@ -51,6 +77,7 @@ filter-lt : (p : ℕ → Bool) (a n k : ℕ) → k < length (filter p (range_wit
 filter-lt p a zero k lt = absurd (omega (arith, lt))
 filter-lt p a (suc n) k lt = kept-lt p a n (p a) (filter-lt p (a + 1) n) k lt
 
-pub limiting_groups-lt : (groups : Groups) (most : List ℕ) (k : ℕ) → k < length (limiting_groups groups most) → get_or (limiting_groups groups most) k 0 < length groups.rows
+pub limiting_groups-lt : (groups : Groups) (most : List ℕ) (k : ℕ) → k < length (limiting_groups groups most)
+    → get_or (limiting_groups groups most) k 0 < length groups.rows
 unfolding limiting_groups
 limiting_groups-lt groups most k lt = let h = filter-lt _ 0 (length groups.rows) k lt in omega (arith, h)

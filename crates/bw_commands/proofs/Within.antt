@@ -1,5 +1,29 @@
 -- What drained workers draw of a plan is within the limits.
-use Rattle.std.proofs.Common.{◌≡◌, ℕ, zero, suc, ◌<◌, ◌≤◌, Bool, true, false, cond, List, length, get_or, Option, Some, None, refl, sym, ap, subst, ◌∙◌, arith, zero-add}
+use Rattle.std.proofs.Common.{
+  ◌≡◌,
+  ℕ,
+  zero,
+  suc,
+  ◌<◌,
+  ◌≤◌,
+  Bool,
+  true,
+  false,
+  cond,
+  List,
+  length,
+  get_or,
+  Option,
+  Some,
+  None,
+  refl,
+  sym,
+  ap,
+  subst,
+  ◌∙◌,
+  arith,
+  zero-add,
+}
 use Rattle.std.specs.Prelude.{IfSome}
 use Rattle.std.proofs.lemmas.List.FromFn.{get_or-map-range_with_len}
 use Rattle.bw_model.specs.declared.row.Row.{Row}
@@ -11,7 +35,8 @@ use Rattle.bw_pool.specs.Drained.{IsDrawnOut}
 use Rattle.bw_pool.proofs.CallerLemmas.{plan_is_planned}
 use Rattle.bw_tree.specs.Snapshot.{IsDrawnWithin}
 
-module _ (groups : Groups) (amounts : List ℕ) (known : IsInstance groups) (plan : IsPlan groups amounts) (uses : ℕ → Bool) (drawn : List ℕ) (out : IsDrawnOut uses groups.rows amounts drawn) where
+module _ (groups : Groups) (amounts : List ℕ) (known : IsInstance groups) (plan : IsPlan groups amounts) (uses : ℕ → Bool) (drawn : List ℕ)
+    (out : IsDrawnOut uses groups.rows amounts drawn) where
   abbrev rows : List Row
   rows = groups.rows
 
@@ -22,7 +47,8 @@ module _ (groups : Groups) (amounts : List ℕ) (known : IsInstance groups) (pla
   at_most : (g : ℕ) → g < length rows → get_or drawn g 0 ≤ get_or amounts g 0
   at_most = from_the_last (length rows) (λ g. get_or drawn g 0 ≤ get_or amounts g 0) (λ g lt later. by_kind g lt later (is_leaf rows g) refl (uses g) refl)
     where
-      child_at_most : (g c : ℕ) → (g < c → get_or drawn c 0 ≤ get_or amounts c 0) → (b : Bool) → is_child rows g c ≡ b → cond b (get_or drawn c 0) 0 ≤ cond b (get_or amounts c 0) 0
+      child_at_most : (g c : ℕ) → (g < c → get_or drawn c 0 ≤ get_or amounts c 0) → (b : Bool) → is_child rows g c ≡ b
+          → cond b (get_or drawn c 0) 0 ≤ cond b (get_or amounts c 0) 0
       child_at_most g c later true is = later (parent_lt rows known.tree c g (parent_from_is_child rows g c is))
       child_at_most g c later false is = omega arith
 
@@ -33,7 +59,14 @@ module _ (groups : Groups) (amounts : List ℕ) (known : IsInstance groups) (pla
       by_kind g lt later false leaf used is =
           let sums = sum_below-le (length rows) (λ c. cond (is_child rows g c) (get_or drawn c 0) 0) (λ c. cond (is_child rows g c) (get_or amounts c 0) 0)
           (λ c below. child_at_most g c (λ after. later c after below) (is_child rows g c) refl) in
-          omega (arith, sums, sum_of_children-below rows drawn g, sum_of_children-below rows amounts g, out.inner g lt leaf, (plan_is_planned groups amounts known plan).inner g lt leaf)
+          omega (
+            arith,
+            sums,
+            sum_of_children-below rows drawn g,
+            sum_of_children-below rows amounts g,
+            out.inner g lt leaf,
+            (plan_is_planned groups amounts known plan).inner g lt leaf,
+          )
 
   pub drawn_within : IsDrawnWithin rows drawn
   drawn_within zero lt = subst (λ o. IfSome o (λ limit. get_or drawn 0 0 ≤ limit)) (sym known.root_unlimited) tt

@@ -2,7 +2,7 @@
 use Rattle.std.specs.Prelude.{ℕ, ◌≡◌, ◌⊎◌, List, [], ◌∷◌, ◌++◌, nat_lt, if◌then◌else◌, codes, length, Result, Ok, Err, Option, Some, None}
 use Rattle.std.specs.Option.{option_map_or}
 use Rattle.std.specs.Str.{is_utf8}
-use Rattle.bw_text.specs.Number.{number_of}
+use Rattle.bw_text.specs.Number.{number_spelled}
 use Rattle.bw_hierarchy.specs.State.{with_tree, rmdir_of, demand_set_of}
 use Rattle.bw_hierarchy.specs.Calls.{mkdir_of}
 use Rattle.bw_hierarchy.specs.Files.{read_of, write_of}
@@ -67,7 +67,8 @@ read_outcome s path file = call_outcome s (λ text. text) (λ text. s) (read_of 
 
 -- `write P FILE TEXT`
 unfoldable pub write_outcome : State → List ℕ → List ℕ → List ℕ → Outcome
-write_outcome s path file text = call_outcome s (λ tree. ok_line) (λ tree. with_hierarchy s (with_tree s.hierarchy tree)) (write_of s.hierarchy.tree path file text)
+write_outcome s path file text =
+    call_outcome s (λ tree. ok_line) (λ tree. with_hierarchy s (with_tree s.hierarchy tree)) (write_of s.hierarchy.tree path file text)
 
 -- ---- lines
 
@@ -76,7 +77,7 @@ abbrev pub outcome_of_command : State → Command → Outcome
 outcome_of_command s command.Nothing = Silent
 outcome_of_command s (command.Mkdir path) = mkdir_outcome s path
 outcome_of_command s (command.Rmdir path) = rmdir_outcome s path
-outcome_of_command s (command.Demand path number) = demand_outcome s path (number_of number)
+outcome_of_command s (command.Demand path number) = demand_outcome s path (number_spelled number)
 outcome_of_command s (command.Read path file) = read_outcome s path file
 outcome_of_command s (command.Write path file text) = write_outcome s path file text
 outcome_of_command s command.Total = Total

@@ -1,8 +1,23 @@
 //! The commands of a script, on a host and its tree of groups.
 ghost use Rattle.std.specs.Prelude.{◌≡◌, ◌≤◌, [], IfOk};
 ghost use Rattle.std.specs.Vec.{vec_capacity};
-ghost use Rattle.bw_text.specs.Number.{number_of};
-ghost use Rattle.bw_commands.specs.Script.{outcome_of_command, outcome_of_text, mkdir_outcome, rmdir_outcome, demand_outcome, read_outcome, write_outcome, ok_line, Performs, Total, Plan, Cert, Period, Report};
+ghost use Rattle.bw_text.specs.Number.{number_spelled};
+ghost use Rattle.bw_commands.specs.Script.{
+  outcome_of_command,
+  outcome_of_text,
+  mkdir_outcome,
+  rmdir_outcome,
+  demand_outcome,
+  read_outcome,
+  write_outcome,
+  ok_line,
+  Performs,
+  Total,
+  Plan,
+  Cert,
+  Period,
+  Report,
+};
 ghost use Rattle.bw_commands.specs.State.{start};
 ghost use Rattle.bw_commands.specs.Commands.{state_of};
 ghost use Rattle.bw_commands.specs.Parsed.{meaning_of};
@@ -56,7 +71,8 @@ impl<'a, G: Gate> Commands<'a, G> {
     // `demand P N`, whose answer is `ok`.
     #[tactic(auto, unfolding(crate::specs::Script::demand_outcome))]
     fn demand(&mut self, path: &str, number: &str) -> Result<(), ScriptFault>
-        ensures { Performs (state_of G.used self.old) (demand_outcome (state_of G.used self.old) path.now (number_of number.now)) result ok_line (state_of G.used self.new) }
+        ensures { Performs (state_of G.used self.old) (demand_outcome (state_of G.used self.old) path.now (number_spelled number.now)) result ok_line
+            (state_of G.used self.new) }
     {
         let demand = match read_number(number.as_bytes()) {
             Ok(demand) => demand,
@@ -71,7 +87,8 @@ impl<'a, G: Gate> Commands<'a, G> {
     #[tactic(auto, unfolding(crate::specs::Script::read_outcome))]
     fn read(&self, path: &str, file: &str, answer: &mut Vec<u8>) -> Result<(), ScriptFault>
         requires { answer.old.items ≡ [] }
-        ensures outcome { Performs (state_of G.used self.now) (read_outcome (state_of G.used self.now) path.now file.now) result answer.new.items (state_of G.used self.now) }
+        ensures outcome { Performs (state_of G.used self.now) (read_outcome (state_of G.used self.now) path.now file.now) result answer.new.items
+            (state_of G.used self.now) }
         ensures room { vec_capacity answer.old ≤ vec_capacity answer.new }
     {
         let text = self.hierarchy.read_file(path, file)?;
@@ -82,7 +99,8 @@ impl<'a, G: Gate> Commands<'a, G> {
     // `write P FILE TEXT`, whose answer is `ok`.
     #[tactic(auto, unfolding(crate::specs::Script::write_outcome))]
     fn write(&mut self, path: &str, file: &str, text: &str) -> Result<(), ScriptFault>
-        ensures { Performs (state_of G.used self.old) (write_outcome (state_of G.used self.old) path.now file.now text.now) result ok_line (state_of G.used self.new) }
+        ensures { Performs (state_of G.used self.old) (write_outcome (state_of G.used self.old) path.now file.now text.now) result ok_line
+            (state_of G.used self.new) }
     {
         Ok(self.hierarchy.write_file(path, file, text.as_bytes())?)
     }

@@ -1,9 +1,37 @@
 -- Which groups lie at or below a limiting one.
-use Rattle.std.proofs.Common.{◌≡◌, ℕ, ◌+◌, ◌<◌, List, [], ◌∷◌, Bool, true, false, cond, ◌||◌, ◌&&◌, not, None, Some, length, drop, eqb, refl, ap, sym, ◌∙◌, arith, inl, inr, zero-add}
+use Rattle.std.proofs.Common.{
+  ◌≡◌,
+  ℕ,
+  ◌+◌,
+  ◌<◌,
+  List,
+  [],
+  ◌∷◌,
+  Bool,
+  true,
+  false,
+  cond,
+  ◌||◌,
+  ◌&&◌,
+  not,
+  None,
+  Some,
+  length,
+  drop,
+  eqb,
+  refl,
+  ap,
+  sym,
+  ◌∙◌,
+  arith,
+  inl,
+  inr,
+  zero-add,
+}
 use Rattle.std.specs.Prelude.{filter}
 use Rattle.std.specs.List.{list_any, range_with_len}
 use Rattle.std.proofs.lemmas.Bool.{cases_Bool, both_ways, eqb-true, eq-eqb, and_parts, and_from, false_from_ne_true}
-use Rattle.bw_model.specs.Groups.{Groups, IsTree, parent_of, is_leaf, is_under, path_up, demand_of}
+use Rattle.bw_model.specs.Groups.{Groups, AreTreeRows, parent_of, is_leaf, is_under, path_up, demand_of}
 use Rattle.bw_model.specs.Demand.{is_tight, has_tight_above, limiting_groups, demand_outside}
 use Rattle.bw_model.proofs.CallerLemmas.{any-filter, strong, parent_lt, path_up-top, path_up-step, is_under-top, is_under-step, list_any-range, some_in_range}
 use Rattle.bw_model.proofs.CallerLemmas.{sum_below, sum_below-ap, sum_by-filter_range}
@@ -48,7 +76,7 @@ and_free true false e = refl
 and_free false true e = cc
 and_free false false e = refl
 
-module _ (groups : Groups) (tree : IsTree groups.rows) (most : List ℕ) where
+module _ (groups : Groups) (tree : AreTreeRows groups.rows) (most : List ℕ) where
   -- nothing is above a group without a parent
   pub above-top : (g : ℕ) → parent_of groups.rows g ≡ None → has_tight_above groups most g ≡ false
   unfolding has_tight_above
@@ -59,9 +87,11 @@ module _ (groups : Groups) (tree : IsTree groups.rows) (most : List ℕ) where
   unfolding has_tight_above
   above-child g c e = rw (path_up-step groups.rows tree c g e) (top_of_path g)
     where
-      top_of_path : (l : ℕ) → list_any (is_tight groups most) (path_up groups.rows l) ≡ (is_tight groups most l || list_any (is_tight groups most) (drop 1 (path_up groups.rows l)))
+      top_of_path : (l : ℕ) → list_any (is_tight groups most) (path_up groups.rows l)
+          ≡ (is_tight groups most l || list_any (is_tight groups most) (drop 1 (path_up groups.rows l)))
       top_of_path l = (elim (parent_of groups.rows l) as (λ o. parent_of groups.rows l ≡ o →
-          list_any (is_tight groups most) (path_up groups.rows l) ≡ (is_tight groups most l || list_any (is_tight groups most) (drop 1 (path_up groups.rows l)))) [
+          list_any (is_tight groups most) (path_up groups.rows l)
+          ≡ (is_tight groups most l || list_any (is_tight groups most) (drop 1 (path_up groups.rows l)))) [
             | None ↦ λ none. rw (path_up-top groups.rows tree l none) refl
             | Some p ↦ λ some. rw (path_up-step groups.rows tree l p some) refl
           ]) refl
@@ -84,7 +114,8 @@ module _ (groups : Groups) (tree : IsTree groups.rows) (most : List ℕ) where
   covered-step : (l p : ℕ) → l < length groups.rows → parent_of groups.rows l ≡ Some p → covered l ≡ (limits_at l || covered p)
   unfolding covered
   covered-step l p below e =
-      any-ap (λ g. is_under groups.rows g l) (λ g. eqb l g || is_under groups.rows g p) (limiting_groups groups most) (λ g. is_under-step groups.rows tree g l p e)
+      any-ap (λ g. is_under groups.rows g l) (λ g. eqb l g || is_under groups.rows g p) (limiting_groups groups most)
+      (λ g. is_under-step groups.rows tree g l p e)
       ∙ any-or (eqb l) (λ g. is_under groups.rows g p) (limiting_groups groups most)
       ∙ ap (λ (b : Bool). b || list_any (λ g. is_under groups.rows g p) (limiting_groups groups most)) (self l below)
 
@@ -102,7 +133,8 @@ module _ (groups : Groups) (tree : IsTree groups.rows) (most : List ℕ) where
 
   -- the demands outside are those of the leaves with no tight group on their path
   pub demand_outside-is : demand_outside groups.rows (limiting_groups groups most)
-      ≡ sum_below (length groups.rows) (λ l. cond (is_leaf groups.rows l && not (is_tight groups most l || has_tight_above groups most l)) (demand_of groups.rows l) 0)
+      ≡ sum_below (length groups.rows)
+      (λ l. cond (is_leaf groups.rows l && not (is_tight groups most l || has_tight_above groups most l)) (demand_of groups.rows l) 0)
   unfolding demand_outside
   demand_outside-is =
       sum_by-filter_range (λ l. is_leaf groups.rows l && not (list_any (λ g. is_under groups.rows g l) (limiting_groups groups most)))

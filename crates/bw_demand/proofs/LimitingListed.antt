@@ -1,5 +1,37 @@
 -- The list of the limiting groups, as far as the rows have been walked.
-use Rattle.std.proofs.Common.{◌≡◌, ℕ, zero, suc, ◌+◌, ◌*◌, ◌<◌, ◌≤◌, List, [], ◌∷◌, ◌++◌, Bool, false, cond, ◌&&◌, ◌||◌, not, None, Some, length, get_or, set, replicate, refl, ap, sym, ◌∙◌, arith, inl, inr}
+use Rattle.std.proofs.Common.{
+  ◌≡◌,
+  ℕ,
+  zero,
+  suc,
+  ◌+◌,
+  ◌*◌,
+  ◌<◌,
+  ◌≤◌,
+  List,
+  [],
+  ◌∷◌,
+  ◌++◌,
+  Bool,
+  false,
+  cond,
+  ◌&&◌,
+  ◌||◌,
+  not,
+  None,
+  Some,
+  length,
+  get_or,
+  set,
+  replicate,
+  refl,
+  ap,
+  sym,
+  ◌∙◌,
+  arith,
+  inl,
+  inr,
+}
 use Rattle.std.specs.Prelude.{sum_by, filter, unwrap_or}
 use Rattle.std.specs.List.{range_with_len}
 use Rattle.std.specs.Option.{option_map_or}
@@ -35,7 +67,8 @@ pub record IsListing (groups : Groups) (d : Demands) (g : ℕ) (covered : List B
   pub one_each : length covered ≡ length groups.rows
   pub paths : (c : ℕ) → c < g → get_or covered c false ≡ (is_tight groups d.most c || has_tight_above groups d.most c)
   pub listed : list ≡ filter (λ h. is_tight groups d.most h && not (has_tight_above groups d.most h)) (range_with_len 0 g)
-  pub added : rest ≡ sum_below g (λ l. cond (is_leaf groups.rows l && not (is_tight groups d.most l || has_tight_above groups d.most l)) (demand_of groups.rows l) 0)
+  pub added : rest ≡ sum_below g
+      (λ l. cond (is_leaf groups.rows l && not (is_tight groups d.most l || has_tight_above groups d.most l)) (demand_of groups.rows l) 0)
 
 module _ (groups : Groups) (valid : IsInstance groups) (d : Demands) (known : IsGathered groups d) where
   -- what a row adds
@@ -54,7 +87,8 @@ module _ (groups : Groups) (valid : IsInstance groups) (d : Demands) (known : Is
         | inr e ↦ rw e (omega arith)
       ]
 
-  pub nothing_listed : (n : ℕ) → n ≡ length groups.rows → (covered : List Bool) → covered ≡ replicate n false → (list : List ℕ) → list ≡ [] → IsListing groups d 0 covered list 0
+  pub nothing_listed : (n : ℕ) → n ≡ length groups.rows → (covered : List Bool) → covered ≡ replicate n false → (list : List ℕ) → list ≡ []
+      → IsListing groups d 0 covered list 0
   nothing_listed n e covered ec list el = record {
     one_each = ap length ec ∙ length-replicate n false ∙ e;
     paths = λ c lt. absurd (omega arith);
@@ -73,7 +107,8 @@ module _ (groups : Groups) (valid : IsInstance groups) (d : Demands) (known : Is
             ∙ sym (above-child groups valid.tree d.most p g some)
       ]) refl
 
-  pub listed_more : (g next : ℕ) (covered : List Bool) (list : List ℕ) (rest : ℕ) → next ≡ suc g → g < length groups.rows → IsListing groups d g covered list rest →
+  pub listed_more : (g next : ℕ) (covered : List Bool) (list : List ℕ) (rest : ℕ) → next ≡ suc g → g < length groups.rows
+      → IsListing groups d g covered list rest →
       (here : Bool) (list' : List ℕ) (rest' : ℕ) →
       here ≡ (is_tight groups d.most g || has_tight_above groups d.most g) →
       list' ≡ list ++ cond (is_tight groups d.most g && not (has_tight_above groups d.most g)) (g ∷ []) [] →
@@ -100,9 +135,11 @@ module _ (groups : Groups) (valid : IsInstance groups) (d : Demands) (known : Is
           ++ cond (is_tight groups d.most k && not (has_tight_above groups d.most k)) (k ∷ []) []) e
 
   -- the sum so far is small
-  pub rest_small : (g : ℕ) (covered : List Bool) (list : List ℕ) (rest : ℕ) → g < length groups.rows → IsListing groups d g covered list rest → rest ≤ MAX_DEMAND * MAX_GROUPS
+  pub rest_small : (g : ℕ) (covered : List Bool) (list : List ℕ) (rest : ℕ) → g < length groups.rows → IsListing groups d g covered list rest
+      → rest ≤ MAX_DEMAND * MAX_GROUPS
   rest_small g covered list rest below so_far =
-      let s : sum_below g (λ l. cond (is_leaf groups.rows l && not (is_tight groups d.most l || has_tight_above groups d.most l)) (demand_of groups.rows l) 0) ≤ MAX_DEMAND * g =
+      let s : sum_below g (λ l. cond (is_leaf groups.rows l && not (is_tight groups d.most l || has_tight_above groups d.most l))
+      (demand_of groups.rows l) 0) ≤ MAX_DEMAND * g =
       sum_below-bound g _ (λ l lt. unfold outside in outside_le l (omega arith)) in
       let f = valid.few in
       omega (arith, s, f, so_far.added)
@@ -114,8 +151,10 @@ module _ (groups : Groups) (valid : IsInstance groups) (d : Demands) (known : Is
   all_listed g covered list rest e so_far =
       let whole : list ≡ filter (λ h. is_tight groups d.most h && not (has_tight_above groups d.most h)) (range_with_len 0 (length groups.rows)) =
       so_far.listed ∙ ap (λ (n : ℕ). filter (λ h. is_tight groups d.most h && not (has_tight_above groups d.most h)) (range_with_len 0 n)) e in
-      let rests : rest ≡ demand_outside groups.rows (filter (λ h. is_tight groups d.most h && not (has_tight_above groups d.most h)) (range_with_len 0 (length groups.rows))) =
-      so_far.added ∙ ap (λ (n : ℕ). sum_below n (λ l. cond (is_leaf groups.rows l && not (is_tight groups d.most l || has_tight_above groups d.most l)) (demand_of groups.rows l) 0)) e
+      let rests : rest ≡ demand_outside groups.rows
+      (filter (λ h. is_tight groups d.most h && not (has_tight_above groups d.most h)) (range_with_len 0 (length groups.rows))) =
+      so_far.added ∙ ap (λ (n : ℕ). sum_below n
+      (λ l. cond (is_leaf groups.rows l && not (is_tight groups d.most l || has_tight_above groups d.most l)) (demand_of groups.rows l) 0)) e
       ∙ sym (demand_outside-is groups valid.tree d.most) in
       (whole, rw whole rests, rw (whole, rests) (limited-IsGreatestTotal groups valid.tree d.most (AreMaxTotals-capped groups valid.tree d.most known.mosts)))
 

@@ -1,5 +1,37 @@
 -- Which groups a walk from the deepest level up has seen.
-use Rattle.std.proofs.Common.{◌≡◌, ℕ, zero, suc, ◌+◌, ◌<◌, ◌≤◌, ◌==◌, ◌||◌, Bool, true, false, not, true≢false, eqb, ltb, List, [], ◌∷◌, take, length, get_or, Some, Vec, refl, sym, ap, ◌∙◌, arith, inl, inr}
+use Rattle.std.proofs.Common.{
+  ◌≡◌,
+  ℕ,
+  zero,
+  suc,
+  ◌+◌,
+  ◌<◌,
+  ◌≤◌,
+  ◌==◌,
+  ◌||◌,
+  Bool,
+  true,
+  false,
+  not,
+  true≢false,
+  eqb,
+  ltb,
+  List,
+  [],
+  ◌∷◌,
+  take,
+  length,
+  get_or,
+  Some,
+  Vec,
+  refl,
+  sym,
+  ap,
+  ◌∙◌,
+  arith,
+  inl,
+  inr,
+}
 use Rattle.std.specs.List.{list_any}
 use Rattle.std.specs.declared.alloc.Global.{Global}
 use Rattle.std.proofs.Math.Bool.{or-false, or_assoc}
@@ -7,7 +39,7 @@ use Rattle.std.proofs.lemmas.Bool.{cases_lt, cases_eq, eq-eqb, ne_eqb, eqb-true,
 use Rattle.std.proofs.lemmas.List.{take_all}
 use Rattle.std.proofs.lemmas.List.Folds.{list_any_more, list_any_at}
 use Rattle.bw_model.specs.declared.row.Row.{Row}
-use Rattle.bw_model.specs.Groups.{IsTree, parent_of, depth_of}
+use Rattle.bw_model.specs.Groups.{AreTreeRows, parent_of, depth_of}
 use Rattle.bw_model.proofs.CallerLemmas.{parent_lt, depth_of-step}
 use Rattle.bw_demand.specs.Levels.{level_of, AreLevels}
 use Rattle.bw_demand.proofs.ByDepth.{level_row, level_rises, level_has}
@@ -77,7 +109,7 @@ fresh rows d k g lt is =
     let up : get_or (level_of rows d) r.0 0 < get_or (level_of rows d) k 0 = level_rises rows d r.0 k r.1 lt in
     omega (arith, up, r.3, is)))
 
-pub parent_unseen : (rows : List Row) → IsTree rows → (d k g p : ℕ) → k < length (level_of rows d) → g ≡ get_or (level_of rows d) k 0 →
+pub parent_unseen : (rows : List Row) → AreTreeRows rows → (d k g p : ℕ) → k < length (level_of rows d) → g ≡ get_or (level_of rows d) k 0 →
     parent_of rows g ≡ Some p → seen_at rows d k p ≡ false
 parent_unseen rows tree d k g p lt is e =
     let at : depth_of rows g ≡ d = ap (depth_of rows) is ∙ (level_row rows d k lt).depth in
@@ -113,7 +145,7 @@ next_row g c = elim (cases_lt c g) [
 pub fresh_row : (g : ℕ) → rows_from (g + 1) g ≡ false
 fresh_row g = no_rows (g + 1) g (omega arith)
 
-pub parent_row_unseen : (rows : List Row) → IsTree rows → (g p : ℕ) → parent_of rows g ≡ Some p → rows_from (g + 1) p ≡ false
+pub parent_row_unseen : (rows : List Row) → AreTreeRows rows → (g p : ℕ) → parent_of rows g ≡ Some p → rows_from (g + 1) p ≡ false
 parent_row_unseen rows tree g p e =
     let up : p < g = parent_lt rows tree g p e in
     no_rows (g + 1) p (omega (arith, up))

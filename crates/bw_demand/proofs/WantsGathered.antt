@@ -1,5 +1,39 @@
 -- Wants and the most of each group, as far as they are gathered.
-use Rattle.std.proofs.Common.{◌≡◌, ℕ, zero, suc, ◌+◌, ◌*◌, ◌<◌, ◌≤◌, List, [], ◌∷◌, Bool, true, false, ◌||◌, eqb, true≢false, cond, Option, None, Some, length, get_or, set, replicate, ltb, refl, ap, sym, ◌∙◌, arith, inl, inr}
+use Rattle.std.proofs.Common.{
+  ◌≡◌,
+  ℕ,
+  zero,
+  suc,
+  ◌+◌,
+  ◌*◌,
+  ◌<◌,
+  ◌≤◌,
+  List,
+  [],
+  ◌∷◌,
+  Bool,
+  true,
+  false,
+  ◌||◌,
+  eqb,
+  true≢false,
+  cond,
+  Option,
+  None,
+  Some,
+  length,
+  get_or,
+  set,
+  replicate,
+  ltb,
+  refl,
+  ap,
+  sym,
+  ◌∙◌,
+  arith,
+  inl,
+  inr,
+}
 use Rattle.std.specs.Prelude.{sum_by, slice_index, map, min}
 use Rattle.std.specs.Option.{option_map_or}
 use Rattle.std.proofs.Math.Bool.{or-false}
@@ -8,7 +42,7 @@ use Rattle.std.proofs.lemmas.List.{get_or-set_same, get_or-set_other, length-rep
 use Rattle.std.proofs.Math.ListN.{length-set}
 use Rattle.bw_model.specs.declared.row.Row.{Row}
 use Rattle.bw_model.specs.declared.limits.TheConstants.{MAX_DEMAND, MAX_GROUPS}
-use Rattle.bw_model.specs.Groups.{Groups, IsTree, IsInstance, parent_of, is_child, children_of, is_leaf, limit_of, demand_of}
+use Rattle.bw_model.specs.Groups.{Groups, AreTreeRows, IsInstance, parent_of, is_child, children_of, is_leaf, limit_of, demand_of}
 use Rattle.bw_model.specs.Demand.{want_of}
 use Rattle.bw_demand.specs.Demands.{IsGathered}
 use Rattle.bw_model.proofs.CallerLemmas.{sum_below-term, zeros, capped_le_want, parent_lt, sum_by-children, is_child_no, is_child_from_parent, no_children}
@@ -102,7 +136,8 @@ nothing_gathered groups valid seen nothing n en want most tight ew em et = recor
   sums = λ r below.
       let all : sum_by (slice_index most) (children_of groups.rows r) ≡ 0 =
       sum_by-children groups.rows (slice_index most) r
-      ∙ sum_below-zero (length groups.rows) (λ c. cond (is_child groups.rows r c) (get_or most c 0) 0) (λ c _. zero_if (is_child groups.rows r c) (get_or most c 0) (none c)) in
+      ∙ sum_below-zero (length groups.rows) (λ c. cond (is_child groups.rows r c) (get_or most c 0) 0)
+      (λ c _. zero_if (is_child groups.rows r c) (get_or most c 0) (none c)) in
       omega (arith, all, at r);
   cut = λ c below e. absurd (true≢false (sym e ∙ nothing c below));
   flags = λ c below e. absurd (true≢false (sym e ∙ nothing c below));
@@ -123,7 +158,7 @@ nothing_gathered groups valid seen nothing n en want most tight ew em et = recor
     at r = ap (λ (xs : List ℕ). get_or xs r 0) ew ∙ demand_at groups.rows r
 
 -- one group more, which has not been seen, nor has the group above it
-module _ (groups : Groups) (tree : IsTree groups.rows) (seen next : ℕ → Bool) (g : ℕ) (below : g < length groups.rows)
+module _ (groups : Groups) (tree : AreTreeRows groups.rows) (seen next : ℕ → Bool) (g : ℕ) (below : g < length groups.rows)
     (fresh : seen g ≡ false) (marks : (c : ℕ) → c < length groups.rows → next c ≡ (seen c || eqb g c))
     (above : (p : ℕ) → parent_of groups.rows g ≡ Some p → seen p ≡ false)
     (want most : List ℕ) (tight : List Bool)
@@ -179,7 +214,8 @@ module _ (groups : Groups) (tree : IsTree groups.rows) (seen next : ℕ → Bool
   left_next =
       let change : sum_below (length groups.rows) (left next want) + left seen want g ≡ sum_below (length groups.rows) (left seen want) + left next want g =
       sum_below-changed (length groups.rows) g (left seen want) (left next want) below
-      (λ k lt other. ap (λ (b : Bool). cond b 0 (get_or want k 0)) (marks k lt ∙ ap (λ (b : Bool). seen k || b) (ne_eqb g k (λ e. other (sym e))) ∙ or-false (seen k))) in
+      (λ k lt other. ap (λ (b : Bool). cond b 0 (get_or want k 0))
+      (marks k lt ∙ ap (λ (b : Bool). seen k || b) (ne_eqb g k (λ e. other (sym e))) ∙ or-false (seen k))) in
       let gone : left next want g ≡ 0 = ap (λ (b : Bool). cond b 0 (get_or want g 0)) now_seen in
       omega (arith, change, own_left, gone)
 
@@ -197,12 +233,15 @@ module _ (groups : Groups) (tree : IsTree groups.rows) (seen next : ℕ → Bool
         get_or-set_other most g c given 0 was.1 ∙ so_far.unseen c lt was.0;
     sums = λ r lt. omega (arith, added r lt, so_far.sums r lt, children_sum r);
     cut = λ c lt e. elim (cases_eq c g) [
-      | inl same ↦ rw same (get_or-set_same most g given 0 (omega (arith, so_far.mosts_each, below)) ∙ is_given ∙ ap (capped (limit_of groups g)) (sym own_kept))
-      | inr other ↦ get_or-set_other most g c given 0 other ∙ so_far.cut c lt (was_seen c lt e other) ∙ ap (capped (limit_of groups c)) (sym (kept c lt (was_seen c lt e other)))
+      | inl same ↦ rw same (get_or-set_same most g given 0 (omega (arith, so_far.mosts_each, below)) ∙ is_given
+          ∙ ap (capped (limit_of groups g)) (sym own_kept))
+      | inr other ↦ get_or-set_other most g c given 0 other ∙ so_far.cut c lt (was_seen c lt e other)
+          ∙ ap (capped (limit_of groups c)) (sym (kept c lt (was_seen c lt e other)))
     ];
     flags = λ c lt e. elim (cases_eq c g) [
       | inl same ↦ rw same (get_or-set_same tight g flag false (omega (arith, so_far.flags_each, below)) ∙ is_flag ∙ flag_ap g (sym own_kept))
-      | inr other ↦ get_or-set_other tight g c flag false other ∙ so_far.flags c lt (was_seen c lt e other) ∙ flag_ap c (sym (kept c lt (was_seen c lt e other)))
+      | inr other ↦ get_or-set_other tight g c flag false other ∙ so_far.flags c lt (was_seen c lt e other)
+          ∙ flag_ap c (sym (kept c lt (was_seen c lt e other)))
     ];
     small = small;
   }
@@ -238,7 +277,8 @@ module _ (groups : Groups) (tree : IsTree groups.rows) (seen next : ℕ → Bool
       ])
       is_flag
       (let still : next p ≡ false = marks p (omega (arith, up, below)) ∙ rw (above p e) (ne_eqb g p (λ same. omega (arith, same, up))) in
-      let change : sum_below (length groups.rows) (left next (set want p v)) + left next want p ≡ sum_below (length groups.rows) (left next want) + left next (set want p v) p =
+      let change : sum_below (length groups.rows) (left next (set want p v)) + left next want p
+      ≡ sum_below (length groups.rows) (left next want) + left next (set want p v) p =
       sum_below-changed (length groups.rows) p (left next want) (left next (set want p v)) (omega (arith, up, below))
       (λ k _ other. ap (λ (x : ℕ). cond (next k) 0 x) (get_or-set_other want p k v 0 other)) in
       let old : left next want p ≡ get_or want p 0 = ap (λ (b : Bool). cond b 0 (get_or want p 0)) still in

@@ -1,11 +1,45 @@
 -- The number that refuses what is asked, case by case.
-use Rattle.std.proofs.Common.{◌&&◌, not, filter, subst, count_by, ◌≡◌, ◌≤◌, arith, ℕ, Bool, true, false, cond, Option, None, Some, List, length, refl, ap, sym, ◌∙◌, inl, inr}
+use Rattle.std.proofs.Common.{
+  ◌&&◌,
+  not,
+  filter,
+  subst,
+  count_by,
+  ◌≡◌,
+  ◌≤◌,
+  arith,
+  ℕ,
+  Bool,
+  true,
+  false,
+  cond,
+  Option,
+  None,
+  Some,
+  List,
+  length,
+  refl,
+  ap,
+  sym,
+  ◌∙◌,
+  inl,
+  inr,
+}
 use Rattle.std.specs.Option.{option_map_or}
 use Rattle.std.proofs.lemmas.Bool.{ne_eqb, eq-eqb}
 use Rattle.std.proofs.lemmas.List.FromFn.{length-map-range_with_len, length-range_with_len}
 use Rattle.bw_model.specs.declared.host.HostFault.{HostFault}
 use Rattle.bw_model.specs.declared.instance_fault.InstanceFault.{InstanceFault}
-use Rattle.bw_model.specs.declared.instance_fault.InstanceFault.TheVariants.{TooMany, BadParent, BadWeight, TooDeep, InnerDemand, DemandTooLarge, RootLimited, OutOfMemory}
+use Rattle.bw_model.specs.declared.instance_fault.InstanceFault.TheVariants.{
+  TooMany,
+  BadParent,
+  BadWeight,
+  TooDeep,
+  InnerDemand,
+  DemandTooLarge,
+  RootLimited,
+  OutOfMemory,
+}
 use Rattle.bw_model.specs.Host.{Shape, IsHost, host_refusal}
 use Rattle.bw_model.specs.Refusal.{refusal, IsRefused}
 use Rattle.bw_model.specs.Faults.{host_fault_number, instance_fault_number}
@@ -40,7 +74,8 @@ asked_rows : (shape : Shape) (table : Table) (r : Option InstanceFault) → are_
     asked_number shape table ≡ option_map_or instance_fault_number r 0
 asked_rows shape table r e host h =
     asked_even shape table e
-    ∙ ap (λ (o : Option HostFault). option_map_or host_fault_number o (option_map_or instance_fault_number (refusal (rows_in table)) 0)) (IsHost-accepted shape host)
+    ∙ ap (λ (o : Option HostFault). option_map_or host_fault_number o (option_map_or instance_fault_number (refusal (rows_in table)) 0))
+    (IsHost-accepted shape host)
     ∙ ap (λ (o : Option InstanceFault). option_map_or instance_fault_number o 0) h
 
 pub rows_refused : (shape : Shape) (table : Table) (fault : InstanceFault) → are_even table ≡ true → IsHost shape → IsRefused (refusal (rows_in table)) fault →

@@ -1,5 +1,30 @@
 -- The columns of a certificate spell it.
-use Rattle.std.proofs.Common.{◌≡◌, ℕ, ◌<◌, ◌==◌, not, List, [], ◌∷◌, Bool, true, false, Option, Some, None, length, map, get_or, refl, ap, sym, suc, true≢false, ◌∙◌, arith}
+use Rattle.std.proofs.Common.{
+  ◌≡◌,
+  ℕ,
+  ◌<◌,
+  ◌==◌,
+  not,
+  List,
+  [],
+  ◌∷◌,
+  Bool,
+  true,
+  false,
+  Option,
+  Some,
+  None,
+  length,
+  map,
+  get_or,
+  refl,
+  ap,
+  sym,
+  suc,
+  true≢false,
+  ◌∙◌,
+  arith,
+}
 use Rattle.std.proofs.lemmas.List.{get_or-map}
 use Rattle.bw_model.specs.declared.mark.Mark.{Mark}
 use Rattle.bw_model.specs.Certificate.{Certified}
@@ -37,7 +62,8 @@ columns_spell certificate = record {
   };
 }
 
-pub spelled_by : (certificate : Certified) (flags nums dens places : List ℕ) → flags ≡ map flag_number certificate.tight → nums ≡ map num_of certificate.levels →
+pub spelled_by : (certificate : Certified) (flags nums dens places : List ℕ) → flags ≡ map flag_number certificate.tight
+    → nums ≡ map num_of certificate.levels →
     dens ≡ map den_of certificate.levels → places ≡ map place_of_level certificate.levels →
     IsSpelled (record { flags = flags; nums = nums; dens = dens; places = places }) certificate
 spelled_by certificate flags nums dens places f n d p = rw f (rw n (rw d (rw p (columns_spell certificate))))

@@ -56,8 +56,12 @@ pub extern "C" fn arbiter_plan(
     demands: &[u64],
     amounts: &mut [u64],
 ) -> u32
-    ensures number { Answers (asked_number_with (length amounts.old) (record { processors = processors; period_us = period_us; slice_us = slice_us }) (record { parents = parents.now; weights = weights.now; limits = limits.now; demands = demands.now })) result }
-    ensures plan { result ≡ 0 → IsPlan (groups_in (record { processors = processors; period_us = period_us; slice_us = slice_us }) (record { parents = parents.now; weights = weights.now; limits = limits.now; demands = demands.now })) amounts.new }
+    ensures number { Answers
+        (asked_number_with (length amounts.old) (record { processors = processors; period_us = period_us; slice_us = slice_us })
+        (record { parents = parents.now; weights = weights.now; limits = limits.now; demands = demands.now })) result }
+    ensures plan { result ≡ 0
+        → IsPlan (groups_in (record { processors = processors; period_us = period_us; slice_us = slice_us })
+        (record { parents = parents.now; weights = weights.now; limits = limits.now; demands = demands.now })) amounts.new }
     ensures kept { 0 < result → amounts.new ≡ amounts.old }
 {
     if amounts.len() != parents.len() {

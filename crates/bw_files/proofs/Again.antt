@@ -55,10 +55,17 @@ two_max_words quota period v high =
 
 pub max_written : (quota : Quota) (period : ℕ) → IsValid quota → MIN_PERIOD_US ≤ period → period ≤ MAX_PERIOD_US
     → IsMaxText (max_text quota period) (record { quota = quota; period = Some period })
-max_written quota period v low high =
-    (quota_word quota, decimal period ∷ [], two_max_words quota period v high, quota_spelled quota v, (decimal period, refl, spelled period (omega arith), low, high))
+max_written quota period v low high = (
+  quota_word quota,
+  decimal period ∷ [],
+  two_max_words quota period v high,
+  quota_spelled quota v,
+  (decimal period, refl, spelled period (omega arith), low, high),
+)
 
 pub max_again : (quota : Quota) (period : ℕ) → IsValid quota → MIN_PERIOD_US ≤ period → period ≤ MAX_PERIOD_US
     → max_of (words (max_text quota period)) ≡ Ok (record { quota = quota; period = Some period })
 max_again quota period v low high =
-    rw (two_max_words quota period v high) (words_only (quota_word quota) (decimal period ∷ []) quota (Some period) (quota_spelled quota v) (decimal period, refl, spelled period (omega arith), low, high))
+    rw (two_max_words quota period v high)
+    (words_only (quota_word quota) (decimal period ∷ []) quota (Some period) (quota_spelled quota v)
+    (decimal period, refl, spelled period (omega arith), low, high))

@@ -1,5 +1,32 @@
 -- What is read is a value of the text, and each value of the text is read.
-use Rattle.std.proofs.Common.{◌≡◌, ℕ, ◌≤◌, Bool, true, false, ◌||◌, cond, ltb, List, [], ◌∷◌, Option, Some, None, Result, Ok, Err, refl, sym, ap, ◌∙◌, ◌⊎◌, inl, inr, arith}
+use Rattle.std.proofs.Common.{
+  ◌≡◌,
+  ℕ,
+  ◌≤◌,
+  Bool,
+  true,
+  false,
+  ◌||◌,
+  cond,
+  ltb,
+  List,
+  [],
+  ◌∷◌,
+  Option,
+  Some,
+  None,
+  Result,
+  Ok,
+  Err,
+  refl,
+  sym,
+  ap,
+  ◌∙◌,
+  ◌⊎◌,
+  inl,
+  inr,
+  arith,
+}
 use Rattle.std.specs.Prelude.{codes, IfOk, IfSome}
 use Rattle.bw_model.specs.Quota.{IsValid}
 use Rattle.std.specs.Str.{bytes_eq}
@@ -7,7 +34,7 @@ use Rattle.std.proofs.lemmas.Bool.{le-ltb, cases_Bool}
 use Rattle.std.proofs.lemmas.Bool.Decides.{nat_tests}
 use Rattle.std.proofs.lemmas.Slice.Eq.{bytes_eq-Decides}
 use Rattle.bw_text.specs.Words.{words}
-use Rattle.bw_text.specs.Number.{number_of}
+use Rattle.bw_text.specs.Number.{number_spelled}
 use Rattle.bw_model.specs.declared.limits.TheConstants.{MIN_QUOTA_US, MAX_QUOTA_US, MIN_PERIOD_US, MAX_PERIOD_US}
 use Rattle.bw_model.specs.declared.quota.Quota.{Quota}
 use Rattle.bw_model.specs.declared.quota.Quota.TheVariants.{Max, Micros}
@@ -26,7 +53,7 @@ or_bad_found None n e = absurd cc
 or_bad_found (Some m) n e = cc
 
 number_found : (word : List ℕ) (n : ℕ) → number_at word ≡ Ok n → IsNumber word n
-number_found word n e = or_bad_found (number_of word) n e
+number_found word n e = or_bad_found (number_spelled word) n e
 
 number_only : (word : List ℕ) (n : ℕ) → IsNumber word n → number_at word ≡ Ok n
 number_only word n e = rw e refl
@@ -63,7 +90,7 @@ quota_found word asked quota e f =
           rw r.2 (number_found word p.0 p.1, not_below p.0 MIN_QUOTA_US r.0, not_below MAX_QUOTA_US p.0 r.1)
     ]
 
-no_number : (n : ℕ) → number_of (codes "max") ≡ Some n → ⊥
+no_number : (n : ℕ) → number_spelled (codes "max") ≡ Some n → ⊥
 no_number n e = cc
 
 -- no number is spelled `max`
@@ -108,12 +135,14 @@ max_words_found (first ∷ []) m e =
     let b = bind_ok (quota_in a.0) (λ quota. Ok (record { quota = quota; period = None })) m a.2 in
     rw (← made_is (record { quota = b.0; period = None }) m b.2) (first, [], refl, quota_found first a.0 b.0 a.1 b.1, refl)
 max_words_found (first ∷ second ∷ []) m e =
-    let a = bind_ok (quota_at first) (λ asked. number_at second >>= λ n. quota_in asked >>= λ quota. period_in n >>= λ period. Ok (record { quota = quota; period = Some period })) m e in
+    let a = bind_ok (quota_at first)
+    (λ asked. number_at second >>= λ n. quota_in asked >>= λ quota. period_in n >>= λ period. Ok (record { quota = quota; period = Some period })) m e in
     let b = bind_ok (number_at second) (λ n. quota_in a.0 >>= λ quota. period_in n >>= λ period. Ok (record { quota = quota; period = Some period })) m a.2 in
     let d = bind_ok (quota_in a.0) (λ quota. period_in b.0 >>= λ period. Ok (record { quota = quota; period = Some period })) m b.2 in
     let p = bind_ok (period_in b.0) (λ period. Ok (record { quota = d.0; period = Some period })) m d.2 in
     let r = period_found b.0 p.0 p.1 in
-    rw (← made_is (record { quota = d.0; period = Some p.0 }) m p.2, ← r.0) (first, second ∷ [], refl, quota_found first a.0 d.0 a.1 d.1, (second, refl, number_found second b.0 b.1, r.1, r.2))
+    rw (← made_is (record { quota = d.0; period = Some p.0 }) m p.2, ← r.0)
+    (first, second ∷ [], refl, quota_found first a.0 d.0 a.1 d.1, (second, refl, number_found second b.0 b.1, r.1, r.2))
 max_words_found (first ∷ second ∷ third ∷ others) m e = absurd cc
 
 pub words_only : (first : List ℕ) (others : List (List ℕ)) (quota : Quota) (period : Option ℕ) → IsQuotaWord first quota → ArePeriodWords others period

@@ -1,12 +1,20 @@
 -- What is read of the words of a text, and the first refusal.
 use Rattle.std.specs.Prelude.{ℕ, ◌^◌, ◌-◌, min, ◌||◌, nat_lt, List, [], ◌∷◌, Option, Some, None, Result, Ok, Err, codes, if◌then◌else◌}
 use Rattle.std.specs.Str.{bytes_eq}
-use Rattle.bw_text.specs.Number.{number_of}
+use Rattle.bw_text.specs.Number.{number_spelled}
 use Rattle.bw_model.specs.declared.limits.TheConstants.{MIN_WEIGHT, MAX_WEIGHT, MIN_QUOTA_US, MAX_QUOTA_US, MAX_BURST_US, MIN_PERIOD_US, MAX_PERIOD_US}
 use Rattle.bw_model.specs.declared.quota.Quota.{Quota}
 use Rattle.bw_model.specs.declared.quota.Quota.TheVariants.{Max, Micros}
 use Rattle.bw_files.specs.declared.fault.FileFault.{FileFault}
-use Rattle.bw_files.specs.declared.fault.FileFault.TheVariants.{BadNumber, WeightOutOfRange, QuotaTooSmall, QuotaTooLarge, PeriodOutOfRange, TooManyWords, Empty}
+use Rattle.bw_files.specs.declared.fault.FileFault.TheVariants.{
+  BadNumber,
+  WeightOutOfRange,
+  QuotaTooSmall,
+  QuotaTooLarge,
+  PeriodOutOfRange,
+  TooManyWords,
+  Empty,
+}
 use Rattle.bw_files.specs.declared.reading.MaxWrite.{MaxWrite}
 
 -- the first refusal of two steps
@@ -22,7 +30,7 @@ or_bad (Some n) = Ok n
 
 -- the number that a word spells
 abbrev pub number_at : List ℕ → Result ℕ FileFault
-number_at word = or_bad (number_of word)
+number_at word = or_bad (number_spelled word)
 
 -- `max` asks for no limit
 abbrev pub quota_at : List ℕ → Result (Option ℕ) FileFault

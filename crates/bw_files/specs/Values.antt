@@ -1,7 +1,7 @@
 -- Which values the texts of a group's files stand for.
 use Rattle.std.specs.Prelude.{◌≡◌, ℕ, ◌≤◌, List, [], ◌∷◌, Option, Some, None, codes}
 use Rattle.bw_text.specs.Words.{words}
-use Rattle.bw_text.specs.Number.{number_of}
+use Rattle.bw_text.specs.Number.{number_spelled}
 use Rattle.bw_model.specs.declared.limits.TheConstants.{MIN_WEIGHT, MAX_WEIGHT, MIN_QUOTA_US, MAX_QUOTA_US, MAX_BURST_US, MIN_PERIOD_US, MAX_PERIOD_US}
 use Rattle.bw_model.specs.declared.quota.Quota.{Quota}
 use Rattle.bw_model.specs.declared.quota.Quota.TheVariants.{Max, Micros}
@@ -9,7 +9,7 @@ use Rattle.bw_files.specs.declared.reading.MaxWrite.{MaxWrite}
 
 -- a word spells a number
 abbrev pub IsNumber : List ℕ → ℕ → Type 0
-IsNumber word n = number_of word ≡ Some n
+IsNumber word n = number_spelled word ≡ Some n
 
 -- a text of `cpu.weight`: one number, a weight
 abbrev pub IsWeightText : List ℕ → ℕ → Type 0

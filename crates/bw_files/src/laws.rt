@@ -14,6 +14,8 @@ pub fn written_is_read()
     ensures weight_again { (n : ℕ) → MIN_WEIGHT ≤ n → n ≤ MAX_WEIGHT → weight_of (words (weight_text n)) ≡ Ok n }
     ensures burst { (n : ℕ) → n ≤ MAX_BURST_US → IsBurstText (burst_text n) n }
     ensures burst_again { (n : ℕ) → n ≤ MAX_BURST_US → burst_of (words (burst_text n)) ≡ Ok n }
-    ensures max { (quota : Quota) (period : ℕ) → IsValid quota → MIN_PERIOD_US ≤ period → period ≤ MAX_PERIOD_US → IsMaxText (max_text quota period) (record { quota = quota; period = Some period }) }
-    ensures max_again { (quota : Quota) (period : ℕ) → IsValid quota → MIN_PERIOD_US ≤ period → period ≤ MAX_PERIOD_US → max_of (words (max_text quota period)) ≡ Ok (record { quota = quota; period = Some period }) }
+    ensures max { (quota : Quota) (period : ℕ) → IsValid quota → MIN_PERIOD_US ≤ period → period ≤ MAX_PERIOD_US
+        → IsMaxText (max_text quota period) (record { quota = quota; period = Some period }) }
+    ensures max_again { (quota : Quota) (period : ℕ) → IsValid quota → MIN_PERIOD_US ≤ period → period ≤ MAX_PERIOD_US
+        → max_of (words (max_text quota period)) ≡ Ok (record { quota = quota; period = Some period }) }
 {}

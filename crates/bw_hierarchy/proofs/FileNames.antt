@@ -19,7 +19,8 @@ named_by name x file o e later = by (bytes_eq name (file_name x)) refl e
 
 pub name_is : (name : List ℕ) (file : GroupFile) → file_named name ≡ Some file → name ≡ file_name file
 name_is name file e =
-    named_by name Weight file _ e (λ e. named_by name Max file _ e (λ e. named_by name MaxBurst file _ e (λ e. named_by name Stat file None e (λ e. absurd cc))))
+    named_by name Weight file _ e
+    (λ e. named_by name Max file _ e (λ e. named_by name MaxBurst file _ e (λ e. named_by name Stat file None e (λ e. absurd cc))))
 
 pub named_again : (file : GroupFile) → file_named (file_name file) ≡ Some file
 named_again Weight = refl

@@ -1,5 +1,34 @@
 -- What a write leaves of the texts of all files.
-use Rattle.std.proofs.Common.{◌≡◌, ◌≢◌, ◌⊎◌, inl, inr, ℕ, Bool, true, false, ◌&&◌, not, cond, eqb, List, [], ◌∷◌, Option, Some, None, is_some, Result, Ok, Err, refl, sym, ap, subst, ◌∙◌}
+use Rattle.std.proofs.Common.{
+  ◌≡◌,
+  ◌≢◌,
+  ◌⊎◌,
+  inl,
+  inr,
+  ℕ,
+  Bool,
+  true,
+  false,
+  ◌&&◌,
+  not,
+  cond,
+  eqb,
+  List,
+  [],
+  ◌∷◌,
+  Option,
+  Some,
+  None,
+  is_some,
+  Result,
+  Ok,
+  Err,
+  refl,
+  sym,
+  ap,
+  subst,
+  ◌∙◌,
+}
 use Rattle.std.specs.List.{slice_split}
 use Rattle.std.specs.Prelude.{codes, unwrap_or}
 use Rattle.std.specs.Str.{bytes_eq}
@@ -83,7 +112,8 @@ sets_IsSetting Max text f s = subst (λ k. IsSetting Max k) (sym s.2) (max_IsSet
 sets_IsSetting MaxBurst text f s = subst (λ k. IsSetting MaxBurst k) (sym s.2) (burst_IsSetting s.0)
 sets_IsSetting Stat text f s = absurd s
 
-module _ (f : GroupFields → GroupFields) (rest : (g : GroupFields) → unwritten (f g) ≡ unwritten g) (gs : List (ℕ × GroupFields)) (id : ℕ) (g : GroupFields) (at : group_at gs id ≡ Some g) where
+module _ (f : GroupFields → GroupFields) (rest : (g : GroupFields) → unwritten (f g) ≡ unwritten g) (gs : List (ℕ × GroupFields)) (id : ℕ)
+    (g : GroupFields) (at : group_at gs id ≡ Some g) where
   abbrev after : List (ℕ × GroupFields)
   after = set_value (eqb id) gs (f g)
 
@@ -245,7 +275,8 @@ module _ (h : HierarchyState) (u : TreeState) (path text : List ℕ) (file : Gro
       by : (o : Option ℕ) → find_path gs path' ≡ o → text_at (changed_at f gs id) name o ≡ text_at gs name o
       by None e = refl
       by (Some k) e =
-          ap (text_of h.books k name) (group-other f setting.rest gs id write.g write.there k (ne_eqb k id (λ same. apart (e ∙ ap (λ j. Some j) same ∙ sym write.leads))))
+          ap (text_of h.books k name)
+          (group-other f setting.rest gs id write.g write.there k (ne_eqb k id (λ same. apart (e ∙ ap (λ j. Some j) same ∙ sym write.leads))))
 
   -- each group's counters
   read-counters : (path' : List ℕ) → read_of (with_tree h u) path' (file_name Stat) ≡ read_of h path' (file_name Stat)
@@ -268,7 +299,8 @@ module _ (h : HierarchyState) (u : TreeState) (path text : List ℕ) (file : Gro
   read-other name apart = read-here name ∙ by (file_named name) apart ∙ sym (read-before name)
     where
       onto : (b : Bool) (k : GroupFile) → k ≢ file
-          → and_then (cond b (Err NoSuchFile) (Ok k)) (λ j. Ok (shown h.books id (f write.g) j)) ≡ and_then (cond b (Err NoSuchFile) (Ok k)) (λ j. Ok (shown h.books id write.g j))
+          → and_then (cond b (Err NoSuchFile) (Ok k)) (λ j. Ok (shown h.books id (f write.g) j))
+          ≡ and_then (cond b (Err NoSuchFile) (Ok k)) (λ j. Ok (shown h.books id write.g j))
       onto true k other = refl
       onto false k other = ap (λ (t : List ℕ). Ok t) (setting.others h.books id write.g k other)
 

@@ -61,7 +61,8 @@ impl<'a> CgroupBuilder<'a> {
     /// Where one of these single calls is refused, the first refusal is answered and nothing is changed. The tree is copied
     /// before the first of them, so want of memory may stand in place of any other refusal.
     pub fn build(self, hierarchy: &mut Hierarchy) -> Result<Cgroup, Fault>
-        ensures made { IfOk result (λ g. built hierarchy.old.tree self.entry.path.now self.entry.shares self.entry.quota self.entry.period ≡ Ok (g.id, hierarchy.new.tree)) }
+        ensures made { IfOk result
+            (λ g. built hierarchy.old.tree self.entry.path.now self.entry.shares self.entry.quota self.entry.period ≡ Ok (g.id, hierarchy.new.tree)) }
         ensures rest { hierarchy.new ≡ with_tree hierarchy.old hierarchy.new.tree }
         ensures refused { IfErr result (IsRefusal (built hierarchy.old.tree self.entry.path.now self.entry.shares self.entry.quota self.entry.period)) }
         ensures err { OnErr result (hierarchy.new ≡ hierarchy.old) }

@@ -1,5 +1,32 @@
 -- Counters stand under ids that were given.
-use Rattle.std.proofs.Common.{◌≡◌, ◌≢◌, ◌⊎◌, inl, inr, ℕ, ◌+◌, ◌<◌, ◌≤◌, Bool, true, false, cond, List, [], ◌∷◌, Option, None, Some, refl, sym, ap, subst, ◌∙◌, arith, eqb}
+use Rattle.std.proofs.Common.{
+  ◌≡◌,
+  ◌≢◌,
+  ◌⊎◌,
+  inl,
+  inr,
+  ℕ,
+  ◌+◌,
+  ◌<◌,
+  ◌≤◌,
+  Bool,
+  true,
+  false,
+  cond,
+  List,
+  [],
+  ◌∷◌,
+  Option,
+  None,
+  Some,
+  refl,
+  sym,
+  ap,
+  subst,
+  ◌∙◌,
+  arith,
+  eqb,
+}
 use Rattle.std.proofs.lemmas.Bool.Decides.{eqb_tells}
 use Rattle.std.specs.Prelude.{⊤}
 use Rattle.std.specs.Prelude.{Result, Ok, Err}
@@ -39,7 +66,8 @@ AllBelow n [] = ⊤
 AllBelow n (e ∷ es) = (e.0 < n) × AllBelow n es
 
 -- a booked period counts for its own ids alone
-booked_others : (es : List (ℕ × Share)) (books : List (ℕ × Stat)) (n q : ℕ) → AllBelow n es → n ≤ q → stat_at books q ≡ None → stat_at (booked books es) q ≡ None
+booked_others : (es : List (ℕ × Share)) (books : List (ℕ × Stat)) (n q : ℕ) → AllBelow n es → n ≤ q → stat_at books q ≡ None
+    → stat_at (booked books es) q ≡ None
 booked_others [] books n q below le h = h
 booked_others (e ∷ es) books n q below le h =
     let apart : eqb q e.0 ≡ false = ne_eqb q e.0 (λ same. absurd (let lt = below.0 in omega (arith, lt, le, same))) in
@@ -52,7 +80,8 @@ abbrev IdsBelow : ℕ → List ℕ → Type 0
 IdsBelow n [] = ⊤
 IdsBelow n (id ∷ ids) = (id < n) × IdsBelow n ids
 
-shares_below : (s : ℕ) (rows : List Row) (ids : List ℕ) (qs : List (Option ℕ)) (ws ds : List ℕ) (n : ℕ) → IdsBelow n ids → AllBelow n (shares_of s rows ids qs ws ds)
+shares_below : (s : ℕ) (rows : List Row) (ids : List ℕ) (qs : List (Option ℕ)) (ws ds : List ℕ) (n : ℕ) → IdsBelow n ids
+    → AllBelow n (shares_of s rows ids qs ws ds)
 shares_below s [] ids qs ws ds n below = tt
 shares_below s (row ∷ rows) [] qs ws ds n below = tt
 shares_below s (row ∷ rows) (id ∷ ids) [] ws ds n below = tt
@@ -65,7 +94,8 @@ keys_below [] n before = tt
 keys_below (e ∷ es) n before = (before.0, keys_below es n before.1)
 
 -- the group that is made has the next id, and the next one is one more
-made : (r : Option TreeFault) (t u : TreeState) (parent : ℕ) (name : List ℕ) (id : ℕ) → unless {A = ℕ × TreeState} r (t.next, with_group t parent name) ≡ Ok (id, u)
+made : (r : Option TreeFault) (t u : TreeState) (parent : ℕ) (name : List ℕ) (id : ℕ)
+    → unless {A = ℕ × TreeState} r (t.next, with_group t parent name) ≡ Ok (id, u)
     → (t.next ≡ id) × (t.next + 1 ≡ u.next)
 made (Some fault) t u parent name id e = cc
 made None t u parent name id e =
@@ -75,7 +105,8 @@ made None t u parent name id e =
     (ap (λ (p : ℕ × TreeState). p.0) same, ap (λ (p : ℕ × TreeState). p.1.next) same)
 
 made_below : (r : Result ℕ Fault) (t u : TreeState) (name : List ℕ) (id : ℕ)
-    → and_then {A = ℕ} {B = ℕ × TreeState} r (λ parent. unless {A = ℕ × TreeState} (mkdir_refusal t parent name) (t.next, with_group t parent name)) ≡ Ok (id, u) → (t.next ≡ id) × (t.next + 1 ≡ u.next)
+    → and_then {A = ℕ} {B = ℕ × TreeState} r (λ parent. unless {A = ℕ × TreeState} (mkdir_refusal t parent name) (t.next, with_group t parent name))
+    ≡ Ok (id, u) → (t.next ≡ id) × (t.next + 1 ≡ u.next)
 made_below (Err fault) t u name id e = cc
 made_below (Ok parent) t u name id e = made (mkdir_refusal t parent name) t u parent name id e
 

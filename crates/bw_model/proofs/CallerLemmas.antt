@@ -19,7 +19,7 @@ pub use Rattle.bw_model.proofs.Order.{cross_lt_right, IsBelow-trans, IsBelow-irr
 pub use Rattle.bw_model.proofs.Pairwise.{IsPairwise, pairwise-IsBestSplit}
 pub use Rattle.bw_model.proofs.Histories.{replay-snoc, legal-snoc, own_from-snoc, own_from-other, own_entries, own_places}
 pub use Rattle.bw_model.proofs.Paths.{parent_at, depth_le, way_from, way_up, path_up-way_up, reach, depth_of-top, depth_of-step, way_from-step, reach_parent}
-pub use Rattle.bw_model.proofs.Instances.{earlier-IsTree, IsHost-accepted, refused_none-IsInstance, accepted-IsInstance, IsInstance-accepted, capacity_le}
+pub use Rattle.bw_model.proofs.Instances.{earlier-AreTreeRows, IsHost-accepted, refused_none-IsInstance, accepted-IsInstance, IsInstance-accepted, capacity_le}
 pub use Rattle.bw_model.proofs.Listing.{is_leaf-length}
 pub use Rattle.bw_model.proofs.ChildSums.{sum_of_children-below, sum_of_children-set, sum_of_children-left, child_le_sum, sum_of_children-zero}
 pub use Rattle.bw_model.proofs.Mosts.{IsMost-unique, mosts, mosts-capped, AreMaxTotals-capped}

@@ -3,7 +3,7 @@ use Rattle.std.proofs.Common.{◌≡◌, ℕ, zero, suc, ◌+◌, ◌<◌, ◌�
 use Rattle.std.specs.Prelude.{sum_by, slice_index, map}
 use Rattle.std.specs.List.{range_with_len}
 use Rattle.std.proofs.lemmas.List.FromFn.{get_or-map-range_with_len}
-use Rattle.bw_model.specs.Groups.{Groups, IsTree, children_of, is_leaf, limit_of, demand_of}
+use Rattle.bw_model.specs.Groups.{Groups, AreTreeRows, children_of, is_leaf, limit_of, demand_of}
 use Rattle.bw_model.specs.Allocation.{IsMost}
 use Rattle.bw_model.specs.Demand.{AreMaxTotals, want_of}
 use Rattle.bw_model.proofs.Under.{parent_lt}
@@ -16,7 +16,7 @@ IsMost-unique groups g one two is_one is_two =
     let down : two ≤ one = rw is_two.reached.2 at (is_one.none_more is_two.reached.0 is_two.reached.1) in
     omega (arith, up, down)
 
-module _ (groups : Groups) (tree : IsTree groups.rows) where
+module _ (groups : Groups) (tree : AreTreeRows groups.rows) where
   -- the most of a group by so many rows below it
   most_within : ℕ → ℕ → ℕ
   most_within zero g = 0
@@ -40,7 +40,8 @@ module _ (groups : Groups) (tree : IsTree groups.rows) where
   unfolding mosts
   mosts_at g below = get_or-map-range_with_len (most_within (length groups.rows)) 0 (length groups.rows) g g 0 below (omega arith)
 
-  want_of-ap : (some others : List ℕ) (g : ℕ) → ((c : ℕ) → c < length groups.rows → get_or some c 0 ≡ get_or others c 0) → want_of groups some g ≡ want_of groups others g
+  want_of-ap : (some others : List ℕ) (g : ℕ) → ((c : ℕ) → c < length groups.rows → get_or some c 0 ≡ get_or others c 0)
+      → want_of groups some g ≡ want_of groups others g
   want_of-ap some others g same =
       ap (λ (s : ℕ). cond (is_leaf groups.rows g) (demand_of groups.rows g) s)
       (children-ap groups.rows (slice_index some) (slice_index others) g (λ c here e. same c here))

@@ -8,7 +8,7 @@ use Rattle.std.proofs.lemmas.List.Sums.{sum-map}
 use Rattle.std.proofs.lemmas.List.FromFn.{length-map-range_with_len, get_or-map-range_with_len}
 use Rattle.bw_model.specs.declared.row.Row.{Row}
 use Rattle.bw_model.specs.Groups.{Groups, IsInstance, is_child, children_of, is_leaf, limit_of, weight_of}
-use Rattle.bw_model.specs.Certificate.{place_of}
+use Rattle.bw_model.specs.Certificate.{sibling_place}
 use Rattle.bw_model.specs.Split.{IsBestSplit}
 use Rattle.bw_model.specs.Plan.{child_weights, IsPlan}
 use Rattle.bw_model.specs.Demand.{want_of}
@@ -16,11 +16,25 @@ use Rattle.bw_model.proofs.CallerLemmas.{is_child_from_parent, child_at, capped,
 use Rattle.bw_plan.proofs.Existence.{best_split}
 use Rattle.bw_plan.specs.Laws.{HasOnePlan}
 use Rattle.bw_plan.specs.Shared.{IsShared, IsPlanning}
-use Rattle.bw_plan.proofs.Shares.{begun, enough, shared_more, leaf_more, all_planned, same_done, rows_before, next_fresh, next_marks, before_closed, parent_done, map_is, weights_in_range}
+use Rattle.bw_plan.proofs.Shares.{
+  begun,
+  enough,
+  shared_more,
+  leaf_more,
+  all_planned,
+  same_done,
+  rows_before,
+  next_fresh,
+  next_marks,
+  before_closed,
+  parent_done,
+  map_is,
+  weights_in_range,
+}
 
 -- amounts with the parts at the children of a group
 written : List Row → ℕ → List ℕ → List ℕ → ℕ → ℕ
-written rows g before parts i = cond (is_child rows g i) (get_or parts (place_of rows g i) 0) (get_or before i 0)
+written rows g before parts i = cond (is_child rows g i) (get_or parts (sibling_place rows g i) 0) (get_or before i 0)
 
 after : List Row → ℕ → List ℕ → List ℕ → List ℕ
 after rows g before parts = map (written rows g before parts) (range_with_len 0 (length rows))
@@ -94,7 +108,8 @@ module _ (groups : Groups) (valid : IsInstance groups) (most : List ℕ)
   pub plan-IsPlanning : (amounts : List ℕ) → IsPlan groups amounts → IsPlanning groups most (λ _. true) amounts
   plan-IsPlanning amounts is_plan =
       let other : (amounts : List ℕ) × IsPlanning groups most (rows_before (length groups.rows)) amounts = planned_to (length groups.rows) (omega arith) in
-      let other_plan : IsPlan groups other.0 = all_planned groups valid most rule (rows_before (length groups.rows)) other.0 (λ h below _. all_before h below) other.1 in
+      let other_plan : IsPlan groups other.0 =
+      all_planned groups valid most rule (rows_before (length groups.rows)) other.0 (λ h below _. all_before h below) other.1 in
       let same : other.0 ≡ amounts = IsPlan-unique groups other.0 amounts valid.tree other_plan is_plan in
       subst (λ (xs : List ℕ). IsPlanning groups most (λ _. true) xs) same
       (same_done groups valid most rule (rows_before (length groups.rows)) (λ _. true) other.0 (λ h below. sym (all_before h below)) other.1)

@@ -1,5 +1,30 @@
 -- Which groups a walk from the root down has done, level by level.
-use Rattle.std.proofs.Common.{◌≡◌, ℕ, ◌+◌, ◌<◌, ◌≤◌, ◌==◌, ◌||◌, Bool, true, false, eqb, List, take, length, get_or, Some, Vec, refl, sym, ap, ◌∙◌, arith, inl, inr}
+use Rattle.std.proofs.Common.{
+  ◌≡◌,
+  ℕ,
+  ◌+◌,
+  ◌<◌,
+  ◌≤◌,
+  ◌==◌,
+  ◌||◌,
+  Bool,
+  true,
+  false,
+  eqb,
+  List,
+  take,
+  length,
+  get_or,
+  Some,
+  Vec,
+  refl,
+  sym,
+  ap,
+  ◌∙◌,
+  arith,
+  inl,
+  inr,
+}
 use Rattle.std.specs.List.{list_any}
 use Rattle.std.specs.declared.alloc.Global.{Global}
 use Rattle.std.proofs.Math.Bool.{or-false, or_assoc}
@@ -7,7 +32,7 @@ use Rattle.std.proofs.lemmas.Bool.{cases_lt, cases_eq, eq-eqb, ltb-true, lt-ltb,
 use Rattle.std.proofs.lemmas.List.{take_all}
 use Rattle.std.proofs.lemmas.List.Folds.{list_any_more, list_any_at}
 use Rattle.bw_model.specs.declared.row.Row.{Row}
-use Rattle.bw_model.specs.Groups.{IsTree, parent_of, is_leaf, depth_of}
+use Rattle.bw_model.specs.Groups.{AreTreeRows, parent_of, is_leaf, depth_of}
 use Rattle.bw_model.proofs.CallerLemmas.{inner_has_child, depth_of-step}
 use Rattle.bw_demand.specs.Levels.{level_of, AreLevels}
 use Rattle.bw_demand.proofs.CallerLemmas.{level_row, level_rises, level_has, among}
@@ -21,7 +46,7 @@ pub none_above : (rows : List Row) (h : ℕ) → is_above rows 0 h ≡ false
 none_above rows h = le-ltb (depth_of rows h) 0 (omega arith)
 
 -- the groups of the deepest level have no children
-pub inner_above : (rows : List Row) → IsTree rows → (levels : List (Vec ℕ Global)) (d : ℕ) → AreLevels rows levels → length levels ≤ d + 1 →
+pub inner_above : (rows : List Row) → AreTreeRows rows → (levels : List (Vec ℕ Global)) (d : ℕ) → AreLevels rows levels → length levels ≤ d + 1 →
     (h : ℕ) → is_leaf rows h ≡ false → is_above rows d h ≡ true
 inner_above rows tree levels d known le h inner =
     let child : (c : ℕ) × (c < length rows) × (parent_of rows c ≡ Some h) = inner_has_child rows h inner in
@@ -75,24 +100,24 @@ not_deeper rows d k h e = elim (or_cases (is_above rows d h) (list_any (λ x. x 
 less_deep : (rows : List Row) (d k p : ℕ) → depth_of rows p < d → done_at rows d k p ≡ true
 less_deep rows d k p lt = or_left (is_above rows d p) (list_any (λ x. x == p) (take k (level_of rows d))) (lt-ltb (depth_of rows p) d lt)
 
-pub closed : (rows : List Row) → IsTree rows → (d k h p : ℕ) → done_at rows d k h ≡ true → parent_of rows h ≡ Some p → done_at rows d k p ≡ true
+pub closed : (rows : List Row) → AreTreeRows rows → (d k h p : ℕ) → done_at rows d k h ≡ true → parent_of rows h ≡ Some p → done_at rows d k p ≡ true
 closed rows tree d k h p e up =
     let le : depth_of rows h ≤ d = not_deeper rows d k h e in
     let step : depth_of rows h ≡ depth_of rows p + 1 = depth_of-step rows tree h p up in
     less_deep rows d k p (omega (arith, le, step))
 
-pub parent_done : (rows : List Row) → IsTree rows → (d k g p : ℕ) → depth_of rows g ≡ d → parent_of rows g ≡ Some p → done_at rows d k p ≡ true
+pub parent_done : (rows : List Row) → AreTreeRows rows → (d k g p : ℕ) → depth_of rows g ≡ d → parent_of rows g ≡ Some p → done_at rows d k p ≡ true
 parent_done rows tree d k g p at up =
     let step : depth_of rows g ≡ depth_of rows p + 1 = depth_of-step rows tree g p up in
     less_deep rows d k p (omega (arith, at, step))
 
-pub parent_above : (rows : List Row) → IsTree rows → (d g p : ℕ) → depth_of rows g ≡ d → parent_of rows g ≡ Some p → is_above rows d p ≡ true
+pub parent_above : (rows : List Row) → AreTreeRows rows → (d g p : ℕ) → depth_of rows g ≡ d → parent_of rows g ≡ Some p → is_above rows d p ≡ true
 parent_above rows tree d g p at up =
     let step : depth_of rows g ≡ depth_of rows p + 1 = depth_of-step rows tree g p up in
     lt-ltb (depth_of rows p) d (omega (arith, at, step))
 
 -- the rows of a level are no children of one another
-pub no_child : (rows : List Row) → IsTree rows → (d g h : ℕ) → depth_of rows g ≡ d → depth_of rows h ≡ d → parent_of rows h ≡ Some g → ⊥
+pub no_child : (rows : List Row) → AreTreeRows rows → (d g h : ℕ) → depth_of rows g ≡ d → depth_of rows h ≡ d → parent_of rows h ≡ Some g → ⊥
 no_child rows tree d g h one two up =
     let step : depth_of rows h ≡ depth_of rows g + 1 = depth_of-step rows tree h g up in
     omega (arith, one, two, step)

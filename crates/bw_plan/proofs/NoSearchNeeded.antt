@@ -52,7 +52,8 @@ pub shared-none : (groups : Groups) (most : List ℕ) (g : ℕ) (amounts : List 
 shared-none groups most g amounts one_each nothing unshared = record {
   one_each = one_each;
   split = rw nothing
-      (none-IsBestSplit (child_weights groups.rows g) (map (slice_index most) (children_of groups.rows g)) (map (slice_index amounts) (children_of groups.rows g))
+      (none-IsBestSplit (child_weights groups.rows g) (map (slice_index most) (children_of groups.rows g))
+      (map (slice_index amounts) (children_of groups.rows g))
       (length-map (children_of groups.rows g) (slice_index amounts) ∙ sym (length-map (children_of groups.rows g) (slice_index most)))
       (λ k below.
       let inside : k < length (children_of groups.rows g) = omega (arith, below, length-map (children_of groups.rows g) (slice_index amounts)) in
@@ -89,7 +90,8 @@ given-IsShared groups most g parts before after inner one_each enough unshared a
             ap (sum_by (slice_index most)) list ∙ sum_of_one (slice_index most) (get_or (children_of groups.rows g) 0 0) in
             record {
               one_each = given.one_each ∙ one_each;
-              split = best_of (child_weights groups.rows g) most after (get_or (children_of groups.rows g) 0 0) (get_or before g 0) (children_of groups.rows g) list
+              split = best_of (child_weights groups.rows g) most after (get_or (children_of groups.rows g) 0 0) (get_or before g 0)
+                  (children_of groups.rows g) list
                   (given.only has (get_or (children_of groups.rows g) 0 0) list) (omega (arith, enough, whole));
               others = λ i _ no'. given.others i no';
             }

@@ -1,5 +1,36 @@
 -- What a walk from the root down has shared out, group by group, is the plan at its end.
-use Rattle.std.proofs.Common.{rules, ◌≡◌, ℕ, zero, suc, ◌<◌, ◌≤◌, List, [], ◌∷◌, Bool, true, false, true≢false, ◌||◌, eqb, ltb, Some, None, length, get_or, set, replicate, refl, ap, sym, ◌∙◌, arith, inl, inr}
+use Rattle.std.proofs.Common.{
+  rules,
+  ◌≡◌,
+  ℕ,
+  zero,
+  suc,
+  ◌<◌,
+  ◌≤◌,
+  List,
+  [],
+  ◌∷◌,
+  Bool,
+  true,
+  false,
+  true≢false,
+  ◌||◌,
+  eqb,
+  ltb,
+  Some,
+  None,
+  length,
+  get_or,
+  set,
+  replicate,
+  refl,
+  ap,
+  sym,
+  ◌∙◌,
+  arith,
+  inl,
+  inr,
+}
 use Rattle.std.specs.Prelude.{All, sum, slice_index, map, filter}
 use Rattle.std.specs.List.{range_with_len}
 use Rattle.std.proofs.lemmas.Bool.{cases_Bool, cases_eq, cases_lt, eq-eqb, ne_eqb, eqb-true, ltb-true, lt-ltb, le-ltb, or_cases, or_parts}
@@ -8,7 +39,7 @@ use Rattle.std.proofs.lemmas.List.Sums.{get_or-le-sum_by, sum-map}
 use Rattle.std.proofs.lemmas.List.FromFn.{length-range_with_len}
 use Rattle.std.proofs.Math.ListN.{length-set}
 use Rattle.bw_model.specs.declared.row.Row.{Row}
-use Rattle.bw_model.specs.Groups.{Groups, IsTree, IsInstance, parent_of, is_child, children_of, is_leaf, limit_of, weight_of, sum_of_children}
+use Rattle.bw_model.specs.Groups.{Groups, AreTreeRows, IsInstance, parent_of, is_child, children_of, is_leaf, limit_of, weight_of, sum_of_children}
 use Rattle.bw_model.specs.declared.limits.TheConstants.{MIN_WEIGHT, MAX_WEIGHT, MAX_CAPACITY, MAX_GROUPS}
 use Rattle.bw_model.specs.Host.{capacity_of}
 use Rattle.bw_model.specs.Plan.{child_weights, IsPlan}
@@ -33,7 +64,8 @@ map_is f (x ∷ xs) (y ∷ ys) e h =
     let rest : map f xs ≡ ys = map_is f xs ys (omega arith) (λ k below. h (suc k) (omega arith)) in cc
 
 -- two children at different places differ
-pub children_apart : (rows : List Row) (g j k : ℕ) → j < k → k < length (children_of rows g) → get_or (children_of rows g) j 0 ≡ get_or (children_of rows g) k 0 → ⊥
+pub children_apart : (rows : List Row) (g j k : ℕ) → j < k → k < length (children_of rows g)
+    → get_or (children_of rows g) j 0 ≡ get_or (children_of rows g) k 0 → ⊥
 children_apart rows g j k lt below e =
     let one = (child_at rows g j (omega arith)).place in
     let two = (child_at rows g k below).place in
@@ -72,7 +104,8 @@ module _ (groups : Groups) (valid : IsInstance groups) (most : List ℕ)
 
   -- the root has its most
   pub begun : (done : ℕ → Bool) → ((h : ℕ) → h < length groups.rows → done h ≡ false) →
-      (n v : ℕ) (amounts : List ℕ) → n ≡ length groups.rows → v ≡ get_or most 0 0 → amounts ≡ set (replicate {A = ℕ} n 0) 0 v → IsPlanning groups most done amounts
+      (n v : ℕ) (amounts : List ℕ) → n ≡ length groups.rows → v ≡ get_or most 0 0 → amounts ≡ set (replicate {A = ℕ} n 0) 0 v
+      → IsPlanning groups most done amounts
   begun done none n v amounts en ev ea =
       let root : 0 < length groups.rows = valid.tree.has_root in
       let long : length (replicate {A = ℕ} n 0) ≡ n = length-replicate {A = ℕ} n 0 in
@@ -115,7 +148,8 @@ module _ (groups : Groups) (valid : IsInstance groups) (most : List ℕ)
         let here : (k : ℕ) × (k < length cs) × (get_or cs k 0 ≡ h) = listed_child groups.rows known.0 h below known.1 in
         let up : known.0 < length groups.rows = omega (arith, known.2, below) in
         let parts : length (map (slice_index amounts) cs) ≡ length cs = length-map cs (slice_index amounts) in
-        let w = (so_far.splits known.0 up (above known.0 known.1) (parent_not_leaf groups.rows known.0 h below known.1)).split.within here.0 (omega (arith, here.1, parts)) in
+        let w = (so_far.splits known.0 up (above known.0 known.1) (parent_not_leaf groups.rows known.0 h below known.1)).split.within here.0
+        (omega (arith, here.1, parts)) in
         let v = rw (get_or-map (slice_index amounts) cs here.0 here.1, get_or-map (slice_index most) cs here.0 here.1) at w in
         rw here.2 at v
   ]
@@ -178,7 +212,8 @@ module _ (groups : Groups) (valid : IsInstance groups) (most : List ℕ)
 
         kept_children : (h : ℕ) → (h ≡ g → ⊥) → map (slice_index after) (children_of groups.rows h) ≡ map (slice_index before) (children_of groups.rows h)
         kept_children h other = same_map (slice_index after) (slice_index before) (children_of groups.rows h) (λ k inside.
-            shared.others (get_or (children_of groups.rows h) k 0) (child_at groups.rows h k inside).within (is_child_no groups.rows g (get_or (children_of groups.rows h) k 0)
+            shared.others (get_or (children_of groups.rows h) k 0) (child_at groups.rows h k inside).within
+            (is_child_no groups.rows g (get_or (children_of groups.rows h) k 0)
             (λ e. other (same_Some h g (sym (child_at groups.rows h k inside).parent ∙ e)))))
 
         child_small : (h : ℕ) → h < length groups.rows → parent_of groups.rows h ≡ Some g → get_or after h 0 ≤ MAX_CAPACITY
@@ -219,12 +254,13 @@ module _ (groups : Groups) (valid : IsInstance groups) (most : List ℕ)
       ]
 
   -- all is shared out
-  pub all_planned : (done : ℕ → Bool) (amounts : List ℕ) → ((h : ℕ) → h < length groups.rows → is_leaf groups.rows h ≡ false → done h ≡ true) → IsPlanning groups most done amounts → IsPlan groups amounts
+  pub all_planned : (done : ℕ → Bool) (amounts : List ℕ) → ((h : ℕ) → h < length groups.rows → is_leaf groups.rows h ≡ false → done h ≡ true)
+      → IsPlanning groups most done amounts → IsPlan groups amounts
   all_planned done amounts all so_far =
       planned-IsPlan groups valid.tree most rule amounts so_far.one_each so_far.top (λ h here inner. so_far.splits h here (all h here inner) inner)
 
 -- the rows are done in order
-module _ (groups : Groups) (tree : IsTree groups.rows) (g : ℕ) where
+module _ (groups : Groups) (tree : AreTreeRows groups.rows) (g : ℕ) where
   pub next_fresh : rows_before g g ≡ false
   next_fresh = le-ltb g g (omega arith)
 
@@ -260,7 +296,7 @@ filter_le p (x ∷ xs) = elim (cases_Bool (p x)) [
 ]
 
 -- the root is no child, so there are fewer children than groups
-pub few_children : (rows : List Row) (g : ℕ) → IsTree rows → length (children_of rows g) < length rows
+pub few_children : (rows : List Row) (g : ℕ) → AreTreeRows rows → length (children_of rows g) < length rows
 unfolding children_of
 few_children rows g tree = by (length rows) refl
   where

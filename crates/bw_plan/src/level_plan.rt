@@ -47,7 +47,8 @@ fn parts_of_level(
         .with_min_len(piece)
         .map(
             |g: &u32| -> Result<Vec<u64>, AllocError>
-                requires { (length most.now ≡ length instance.now.rows) × (length amounts.now ≡ length instance.now.rows) × CanShare instance.now most.now amounts.now g.now }
+                requires { (length most.now ≡ length instance.now.rows) × (length amounts.now ≡ length instance.now.rows)
+                    × CanShare instance.now most.now amounts.now g.now }
                 ensures { IfOk result (λ v. AreParts instance.entry.now most.entry.now amounts.entry.now g.now v.items) }
             { parts_of(alloc, instance, most, amounts, *g) },
         )

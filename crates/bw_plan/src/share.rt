@@ -14,7 +14,8 @@ fn write_parts(amounts: &mut Vec<u64>, places: &[u32], parts: &[u64])
     requires apart { (j k : ℕ) → j < k → k < length places.now → slice_index places.now j ≢ slice_index places.now k }
     ensures len { length amounts.new.items ≡ length amounts.old.items }
     ensures written { EachIndex places.now (λ k. slice_index amounts.new.items (slice_index places.now k) ≡ slice_index parts.now k) }
-    ensures others { (i : ℕ) → ((k : ℕ) → k < length places.now → slice_index places.now k ≢ i) → slice_index amounts.new.items i ≡ slice_index amounts.old.items i }
+    ensures others { (i : ℕ) → ((k : ℕ) → k < length places.now → slice_index places.now k ≢ i)
+        → slice_index amounts.new.items i ≡ slice_index amounts.old.items i }
 {
     for k in 0..places.len() {
         amounts[places[k] as usize] = parts[k];
@@ -67,7 +68,8 @@ pub fn parts_of(
 pub fn give(instance: &Instance, g: u32, parts: &[u64], amounts: &mut Vec<u64>)
     requires row { g < length instance.now.rows }
     requires amount_each { length amounts.old.items ≡ length instance.now.rows }
-    requires part_each { 0 < slice_index amounts.old.items g → 1 < length (children_of instance.now.rows g) → length parts.now ≡ length (children_of instance.now.rows g) }
+    requires part_each { 0 < slice_index amounts.old.items g → 1 < length (children_of instance.now.rows g)
+        → length parts.now ≡ length (children_of instance.now.rows g) }
     ensures { IsGiven instance.now.rows g parts.now amounts.old.items amounts.new.items }
 {
     let amount = amounts[g as usize];
@@ -94,7 +96,8 @@ fn share_among(
     requires amount_each { length amounts.old.items ≡ length instance.now.rows }
     requires can_share { CanShare instance.now most.now amounts.old.items g }
     requires inner { is_leaf instance.now.rows g ≡ false }
-    ensures { OnOk result ((parts : List ℕ) × AreParts instance.now most.now amounts.old.items g parts × IsGiven instance.now.rows g parts amounts.old.items amounts.new.items) }
+    ensures { OnOk result ((parts : List ℕ) × AreParts instance.now most.now amounts.old.items g parts
+        × IsGiven instance.now.rows g parts amounts.old.items amounts.new.items) }
 {
     let parts = split_among(alloc, instance, most, amounts.as_slice(), g)?;
     give(instance, g, parts.as_slice(), amounts);
@@ -113,7 +116,8 @@ pub fn share_out(
     requires most_each { length most.now ≡ length instance.now.rows }
     requires amount_each { length amounts.old.items ≡ length instance.now.rows }
     requires can_share { CanShare instance.now most.now amounts.old.items g }
-    ensures { OnOk result ((parts : List ℕ) × AreParts instance.now most.now amounts.old.items g parts × IsGiven instance.now.rows g parts amounts.old.items amounts.new.items) }
+    ensures { OnOk result ((parts : List ℕ) × AreParts instance.now most.now amounts.old.items g parts
+        × IsGiven instance.now.rows g parts amounts.old.items amounts.new.items) }
 {
     if amounts[g as usize] == 0 || instance.children(g).len() < 2 {
         give(instance, g, &[], amounts);

@@ -2,7 +2,7 @@
 use Rattle.std.proofs.Common.{◌≡◌, ℕ, suc, ◌<◌, List, [], ◌∷◌, length, Bool, true, false, cond, get_or, refl, sym, ap, ◌∙◌, arith, zero-add}
 use Rattle.std.proofs.lemmas.List.FromFn.{get_or-map-range_with_len, length-map-range_with_len}
 use Rattle.bw_model.specs.declared.row.Row.{Row}
-use Rattle.bw_model.specs.Groups.{Groups, IsInstance, IsTree, is_leaf, is_child, sum_of_children}
+use Rattle.bw_model.specs.Groups.{Groups, IsInstance, AreTreeRows, is_leaf, is_child, sum_of_children}
 use Rattle.bw_model.specs.Host.{slices_per_processor, capacity_of}
 use Rattle.bw_model.specs.Allocation.{total}
 use Rattle.bw_model.specs.Plan.{IsPlan}
@@ -20,7 +20,7 @@ same_lists (x ∷ xs) (y ∷ ys) long same =
     let rest = same_lists xs ys (omega arith) (λ g lt. same (suc g) (omega arith)) in
     ap (λ z. z ∷ xs) first ∙ ap (λ zs. y ∷ zs) rest
 
-module _ (rows : List Row) (tree : IsTree rows) (xs ys : List ℕ) where
+module _ (rows : List Row) (tree : AreTreeRows rows) (xs ys : List ℕ) where
   -- sums over children agree where all later rows do
   sums_agree : (g : ℕ) → ((c : ℕ) → g < c → c < length rows → get_or xs c 0 ≡ get_or ys c 0) → sum_of_children rows xs g ≡ sum_of_children rows ys g
   sums_agree g later =
@@ -33,7 +33,7 @@ module _ (rows : List Row) (tree : IsTree rows) (xs ys : List ℕ) where
       child_agrees c lt true is = later c (parent_lt rows tree c g (parent_from_is_child rows g c is)) lt
       child_agrees c lt false is = refl
 
-pub one_drawn_list : (uses : ℕ → Bool) (rows : List Row) (amounts one other : List ℕ) → IsTree rows → IsDrawnOut uses rows amounts one →
+pub one_drawn_list : (uses : ℕ → Bool) (rows : List Row) (amounts one other : List ℕ) → AreTreeRows rows → IsDrawnOut uses rows amounts one →
     IsDrawnOut uses rows amounts other → one ≡ other
 one_drawn_list uses rows amounts one other tree p q =
     same_lists one other (p.one_each ∙ sym q.one_each) (λ g lt. agree g (omega (arith, p.one_each)))

@@ -6,7 +6,21 @@ use Rattle.bw_pool.specs.declared.calls.PoolCall.{PoolCall}
 use Rattle.bw_pool.specs.declared.calls.PoolCall.TheVariants.{Draw, GiveBack, Lower, Look}
 use Rattle.bw_pool.specs.declared.calls.Refusal.{Refusal}
 use Rattle.bw_pool.specs.Drained.{PoolEntry}
-use Rattle.bw_pool.specs.Pool.{PoolState, IsSound, refusal, served, unless_refused, after, held_by, gave_back, lowered_ceiling, leaf_refusal, NeverPastThePlan, StaysSound, CutsNothing}
+use Rattle.bw_pool.specs.Pool.{
+  PoolState,
+  IsSound,
+  refusal,
+  state_after,
+  unless_refused,
+  after,
+  held_by,
+  gave_back,
+  lowered_ceiling,
+  leaf_refusal,
+  NeverPastThePlan,
+  StaysSound,
+  CutsNothing,
+}
 use Rattle.bw_pool.proofs.Sound.{sound_drew, sound_gave_back, sound_lowered, draw_passed, group_passed, set_below, held_le_processor, held_le_path}
 use Rattle.bw_pool.proofs.Backs.{back_passed}
 
@@ -24,7 +38,7 @@ back_found s seat leaf n ok pass true e =
     record { sound = sound_gave_back s seat leaf n ok here.0 here.1 here.2 here.3; lower = λ g. omega arith }
 back_found s seat leaf n ok pass false e = same s ok
 
-served_below : (s : PoolState) (seat : ℕ) (call : PoolCall) → IsSound s → refusal s seat call ≡ None → IsBelow s (served s seat call)
+served_below : (s : PoolState) (seat : ℕ) (call : PoolCall) → IsSound s → refusal s seat call ≡ None → IsBelow s (state_after s seat call)
 served_below s seat (Draw leaf ask) ok pass = let here = draw_passed s seat leaf ask pass in
     record { sound = sound_drew s seat leaf ask ok here.0 here.1 here.2; lower = λ g. omega arith }
 served_below s seat (GiveBack leaf n) ok pass = back_found s seat leaf n ok pass (leb n (held_by s seat leaf)) refl
@@ -38,7 +52,7 @@ served_below s seat (Lower g to) ok pass =
 served_below s seat (Look g) ok pass = same s ok
 
 after_found : (s : PoolState) (seat : ℕ) (call : PoolCall) → IsSound s → (o : Option Refusal) → refusal s seat call ≡ o →
-    IsBelow s (unless_refused o (served s seat call) s)
+    IsBelow s (unless_refused o (state_after s seat call) s)
 after_found s seat call ok None e = served_below s seat call ok e
 after_found s seat call ok (Some r) e = same s ok
 

@@ -1,12 +1,46 @@
 -- What a worker's draw of one slice does to the run.
-use Rattle.std.proofs.Common.{◌≡◌, ℕ, suc, ◌+◌, ◌-◌, ◌*◌, ◌<◌, ◌≤◌, ◌⊎◌, ◌||◌, inl, inr, min, List, length, Bool, true, false, cond, None, Some, get_or, set, refl, sym, ap, ◌∙◌, subst, arith, eqb, length-set, get_or-set_same, get_or-set_other}
+use Rattle.std.proofs.Common.{
+  ◌≡◌,
+  ℕ,
+  suc,
+  ◌+◌,
+  ◌-◌,
+  ◌*◌,
+  ◌<◌,
+  ◌≤◌,
+  ◌⊎◌,
+  ◌||◌,
+  inl,
+  inr,
+  min,
+  List,
+  length,
+  Bool,
+  true,
+  false,
+  cond,
+  None,
+  Some,
+  get_or,
+  set,
+  refl,
+  sym,
+  ap,
+  ◌∙◌,
+  subst,
+  arith,
+  eqb,
+  length-set,
+  get_or-set_same,
+  get_or-set_other,
+}
 use Rattle.std.proofs.lemmas.Bool.{lt-ltb}
 use Rattle.std.proofs.lemmas.Bool.Decides.{eqb_tells}
 use Rattle.std.proofs.Math.Nat.{mul-le-mul_right}
 use Rattle.bw_model.specs.declared.row.Row.{Row}
 use Rattle.bw_model.specs.Groups.{parent_of, is_leaf, path_up, sum_of_children}
 use Rattle.bw_pool.specs.declared.calls.PoolCall.TheVariants.{Draw}
-use Rattle.bw_pool.specs.Pool.{least, raised, got_of, refusal, served, unless_refused, after}
+use Rattle.bw_pool.specs.Pool.{least, raised, got_of, refusal, state_after, unless_refused, after}
 use Rattle.bw_pool.specs.Drained.{Worker, among, drawn_one, IsPlanned}
 use Rattle.bw_model.proofs.CallerLemmas.{reach_parent, path_up-way_up}
 use Rattle.bw_pool.proofs.Trees.{raised_balanced, length-raised, raised_root, raised_leaf, raised_own, least_rising, raised_within, is_some_at, by_path}
@@ -23,7 +57,7 @@ module _ (uses : ℕ → Bool) (P S : ℕ) (ps : List Row) (amounts drawn by hel
       ≡ pool P S ps amounts (raised (path_up ps l) n drawn) (set by p (get_or by p 0 + n))
       (set held (p * length ps + l) (get_or held (p * length ps + l) 0 + n))
   draw_state n is =
-      ap (λ r. unless_refused r (served (pool P S ps amounts drawn by held) p (Draw l 1)) (pool P S ps amounts drawn by held)) draw_not_refused
+      ap (λ r. unless_refused r (state_after (pool P S ps amounts drawn by held) p (Draw l 1)) (pool P S ps amounts drawn by held)) draw_not_refused
       ∙ ap (λ m. pool P S ps amounts (raised (path_up ps l) m drawn) (set by p (get_or by p 0 + m))
       (set held (p * length ps + l) (get_or held (p * length ps + l) 0 + m))) is
 

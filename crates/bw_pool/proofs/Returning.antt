@@ -1,12 +1,46 @@
 -- What giving a slice back does to the run.
-use Rattle.std.proofs.Common.{◌≡◌, ◌≢◌, ℕ, suc, ◌+◌, ◌-◌, ◌*◌, ◌<◌, ◌≤◌, ◌||◌, inl, inr, List, length, Bool, true, false, cond, None, Some, get_or, set, refl, sym, ap, ◌∙◌, subst, arith, eqb, leb, length-set, get_or-set_same, get_or-set_other}
+use Rattle.std.proofs.Common.{
+  ◌≡◌,
+  ◌≢◌,
+  ℕ,
+  suc,
+  ◌+◌,
+  ◌-◌,
+  ◌*◌,
+  ◌<◌,
+  ◌≤◌,
+  ◌||◌,
+  inl,
+  inr,
+  List,
+  length,
+  Bool,
+  true,
+  false,
+  cond,
+  None,
+  Some,
+  get_or,
+  set,
+  refl,
+  sym,
+  ap,
+  ◌∙◌,
+  subst,
+  arith,
+  eqb,
+  leb,
+  length-set,
+  get_or-set_same,
+  get_or-set_other,
+}
 use Rattle.std.proofs.lemmas.Bool.{lt-ltb, le-leb}
 use Rattle.std.proofs.lemmas.Bool.Decides.{eqb_tells}
 use Rattle.std.proofs.lemmas.List.Sums.{get_or-le-sum_by}
 use Rattle.bw_model.specs.declared.row.Row.{Row}
 use Rattle.bw_model.specs.Groups.{is_leaf, path_up, sum_of_children}
 use Rattle.bw_pool.specs.declared.calls.PoolCall.TheVariants.{GiveBack}
-use Rattle.bw_pool.specs.Pool.{held_by, lowered, gave_back, refusal, served, unless_refused, after}
+use Rattle.bw_pool.specs.Pool.{held_by, lowered, gave_back, refusal, state_after, unless_refused, after}
 use Rattle.bw_pool.specs.Drained.{Worker, among, returned_one, IsPlanned}
 use Rattle.bw_model.proofs.CallerLemmas.{reach_parent, child_le_sum, parent_not_leaf}
 use Rattle.bw_pool.proofs.Trees.{lowered_balanced, Rising, length-lowered, lowered_root, lowered_leaf, lowered_own, is_some_at, by_path, parent_below}
@@ -30,7 +64,7 @@ module _ (uses : ℕ → Bool) (P S : ℕ) (ps : List Row) (amounts drawn by hel
       (set held (p * length ps + l) (get_or held (p * length ps + l) 0 - 1))
   back_state has =
       let s = pool P S ps amounts drawn by held in
-      ap (λ r. unless_refused r (served s p (GiveBack l 1)) s) back_not_refused
+      ap (λ r. unless_refused r (state_after s p (GiveBack l 1)) s) back_not_refused
       ∙ ap (λ (b : Bool). cond b (gave_back s p l 1) s) (has_held has)
 
   -- a leaf that is used keeps what is drawn of it

@@ -1,10 +1,49 @@
 -- Laws of trees: sums over children, and what a change along a path does to them.
-use Rattle.std.proofs.Common.{◌≡◌, ◌≢◌, ℕ, zero, suc, ◌+◌, ◌-◌, ◌<◌, ◌≤◌, ◌==◌, inl, inr, min, List, [], ◌∷◌, length, Bool, true, false, cond, Option, None, Some, get_or, set, refl, sym, ap, ◌∙◌, subst, arith, eqb, ne_eqb, eq-eqb, length-set, get_or-set_same, get_or-set_other}
+use Rattle.std.proofs.Common.{
+  ◌≡◌,
+  ◌≢◌,
+  ℕ,
+  zero,
+  suc,
+  ◌+◌,
+  ◌-◌,
+  ◌<◌,
+  ◌≤◌,
+  ◌==◌,
+  inl,
+  inr,
+  min,
+  List,
+  [],
+  ◌∷◌,
+  length,
+  Bool,
+  true,
+  false,
+  cond,
+  Option,
+  None,
+  Some,
+  get_or,
+  set,
+  refl,
+  sym,
+  ap,
+  ◌∙◌,
+  subst,
+  arith,
+  eqb,
+  ne_eqb,
+  eq-eqb,
+  length-set,
+  get_or-set_same,
+  get_or-set_other,
+}
 use Rattle.std.proofs.lemmas.Bool.Decides.{eqb_tells}
 use Rattle.std.specs.List.{AllByRecursion}
 use Rattle.std.specs.Option.{option_map_or}
 use Rattle.bw_model.specs.declared.row.Row.{Row}
-use Rattle.bw_model.specs.Groups.{IsTree, parent_of, is_leaf, path_up, sum_of_children}
+use Rattle.bw_model.specs.Groups.{AreTreeRows, parent_of, is_leaf, path_up, sum_of_children}
 use Rattle.bw_model.proofs.CallerLemmas.{sum_of_children-set, reach, reach_parent, way_up, path_up-way_up, parent_not_leaf}
 use Rattle.bw_pool.specs.Pool.{least, raised, lowered}
 
@@ -44,7 +83,7 @@ pub by_path : (P : List ℕ → Type 0) (rows : List Row) (g : ℕ) → P (way_u
 by_path P rows g p = subst P (sym (path_up-way_up rows g)) p
 
 -- n more at a row and at each ancestor keeps the sums
-pub raised_balanced : (ps : List Row) (n : ℕ) (t : IsTree ps) (k : ℕ) (at : Option ℕ) (xs : List ℕ) → reach at ≤ k → reach at ≤ length ps →
+pub raised_balanced : (ps : List Row) (n : ℕ) (t : AreTreeRows ps) (k : ℕ) (at : Option ℕ) (xs : List ℕ) → reach at ≤ k → reach at ≤ length ps →
     length xs ≡ length ps
     → ((h : ℕ) → h < length ps → is_leaf ps h ≡ false → sum_of_children ps xs h ≡ get_or xs h 0 + cond (is_some_at h at) n 0)
     → (h : ℕ) → h < length ps → is_leaf ps h ≡ false → sum_of_children ps (raised (way_up k ps at) n xs) h ≡ get_or (raised (way_up k ps at) n xs) h 0
@@ -81,7 +120,7 @@ unbalance_step h ps xs g n lt le e =
     ]
 
 -- a parent is a row
-pub parent_below : (ps : List Row) (t : IsTree ps) (g p : ℕ) → g < length ps → parent_of ps g ≡ Some p → p < length ps
+pub parent_below : (ps : List Row) (t : AreTreeRows ps) (g p : ℕ) → g < length ps → parent_of ps g ≡ Some p → p < length ps
 parent_below ps t g p lt is = let r = reach_parent ps t g in let e : reach (parent_of ps g) ≡ suc p = ap reach is in omega arith
 
 -- values that are no more at a row than at its parent
@@ -89,7 +128,7 @@ abbrev pub Rising : List Row → (ℕ → ℕ) → Type 0
 Rising ps f = (g p : ℕ) → g < length ps → parent_of ps g ≡ Some p → f g ≤ f p
 
 -- n less at a row and at each ancestor keeps the sums, where each has n
-pub lowered_balanced : (ps : List Row) (n : ℕ) (t : IsTree ps) (xs : List ℕ) → Rising ps (λ g. get_or xs g 0)
+pub lowered_balanced : (ps : List Row) (n : ℕ) (t : AreTreeRows ps) (xs : List ℕ) → Rising ps (λ g. get_or xs g 0)
     → (k : ℕ) (at : Option ℕ) (zs : List ℕ) → reach at ≤ k → reach at ≤ length ps → length zs ≡ length ps
     → ((g : ℕ) → g < reach at → get_or zs g 0 ≡ get_or xs g 0) → ((g : ℕ) → at ≡ Some g → n ≤ get_or xs g 0)
     → ((h : ℕ) → h < length ps → is_leaf ps h ≡ false → sum_of_children ps zs h + cond (is_some_at h at) n 0 ≡ get_or zs h 0)
@@ -112,7 +151,7 @@ way_up_none zero ps = refl
 way_up_none (suc k) ps = refl
 
 -- the root gains n too
-pub raised_root : (ps : List Row) (n : ℕ) (t : IsTree ps) (k g : ℕ) (zs : List ℕ) → suc g ≤ k → g < length ps → length zs ≡ length ps
+pub raised_root : (ps : List Row) (n : ℕ) (t : AreTreeRows ps) (k g : ℕ) (zs : List ℕ) → suc g ≤ k → g < length ps → length zs ≡ length ps
     → get_or (raised (way_up k ps (Some g)) n zs) 0 0 ≡ get_or zs 0 0 + n
 raised_root ps n t zero g zs fuel lt len = absurd (omega arith)
 raised_root ps n t (suc k) zero zs fuel lt len = rw (t.root_on_top, way_up_none k ps) (get_or-set_same zs 0 (get_or zs 0 0 + n) 0 (omega arith))
@@ -123,7 +162,7 @@ raised_root ps n t (suc k) (suc g) zs fuel lt len =
     rw q.1 (raised_root ps n t k q.0 (set zs (suc g) v) (omega (arith, q.2)) (omega (arith, q.2)) (length-set zs (suc g) v ∙ len)
     ∙ ap (λ x. x + n) (get_or-set_other zs (suc g) 0 v 0 ne))
 
-pub lowered_root : (ps : List Row) (n : ℕ) (t : IsTree ps) (k g : ℕ) (zs : List ℕ) → suc g ≤ k → g < length ps → length zs ≡ length ps
+pub lowered_root : (ps : List Row) (n : ℕ) (t : AreTreeRows ps) (k g : ℕ) (zs : List ℕ) → suc g ≤ k → g < length ps → length zs ≡ length ps
     → get_or (lowered (way_up k ps (Some g)) n zs) 0 0 ≡ get_or zs 0 0 - n
 lowered_root ps n t zero g zs fuel lt len = absurd (omega arith)
 lowered_root ps n t (suc k) zero zs fuel lt len = rw (t.root_on_top, way_up_none k ps) (get_or-set_same zs 0 (get_or zs 0 0 - n) 0 (omega arith))
@@ -138,7 +177,7 @@ parent_not : (ps : List Row) (g l : ℕ) → g < length ps → is_leaf ps l ≡ 
 parent_not ps g l lt leaf e = let f = parent_not_leaf ps l g lt e in absurd (cc (f, leaf))
 
 -- a leaf that doesn't start the way keeps its value
-pub raised_leaf : (ps : List Row) (n : ℕ) (t : IsTree ps) (l : ℕ) → is_leaf ps l ≡ true → (k : ℕ) (at : Option ℕ) (zs : List ℕ) → reach at ≤ length ps →
+pub raised_leaf : (ps : List Row) (n : ℕ) (t : AreTreeRows ps) (l : ℕ) → is_leaf ps l ≡ true → (k : ℕ) (at : Option ℕ) (zs : List ℕ) → reach at ≤ length ps →
     at ≢ Some l
     → get_or (raised (way_up k ps at) n zs) l 0 ≡ get_or zs l 0
 raised_leaf ps n t l leaf zero at zs ok ne = refl
@@ -149,7 +188,7 @@ raised_leaf ps n t l leaf (suc k) (Some g) zs ok ne =
     let other : l ≢ g = λ e. ne (ap Some (sym e)) in
     raised_leaf ps n t l leaf k (parent_of ps g) (set zs g v) (omega arith) (parent_not ps g l (omega arith) leaf) ∙ get_or-set_other zs g l v 0 other
 
-pub lowered_leaf : (ps : List Row) (n : ℕ) (t : IsTree ps) (l : ℕ) → is_leaf ps l ≡ true → (k : ℕ) (at : Option ℕ) (zs : List ℕ) → reach at ≤ length ps →
+pub lowered_leaf : (ps : List Row) (n : ℕ) (t : AreTreeRows ps) (l : ℕ) → is_leaf ps l ≡ true → (k : ℕ) (at : Option ℕ) (zs : List ℕ) → reach at ≤ length ps →
     at ≢ Some l
     → get_or (lowered (way_up k ps at) n zs) l 0 ≡ get_or zs l 0
 lowered_leaf ps n t l leaf zero at zs ok ne = refl
@@ -161,7 +200,7 @@ lowered_leaf ps n t l leaf (suc k) (Some g) zs ok ne =
     lowered_leaf ps n t l leaf k (parent_of ps g) (set zs g v) (omega arith) (parent_not ps g l (omega arith) leaf) ∙ get_or-set_other zs g l v 0 other
 
 -- the leaf that starts it gains n, or loses it
-pub raised_own : (ps : List Row) (n : ℕ) (t : IsTree ps) (l : ℕ) (zs : List ℕ) → is_leaf ps l ≡ true → l < length ps → length zs ≡ length ps
+pub raised_own : (ps : List Row) (n : ℕ) (t : AreTreeRows ps) (l : ℕ) (zs : List ℕ) → is_leaf ps l ≡ true → l < length ps → length zs ≡ length ps
     → get_or (raised (path_up ps l) n zs) l 0 ≡ get_or zs l 0 + n
 raised_own ps n t l zs leaf lt len =
     let up = reach_parent ps t l in
@@ -169,7 +208,7 @@ raised_own ps n t l zs leaf lt len =
     (raised_leaf ps n t l leaf l (parent_of ps l) (set zs l (get_or zs l 0 + n)) (omega arith) (parent_not ps l l lt leaf)
     ∙ get_or-set_same zs l (get_or zs l 0 + n) 0 (omega arith))
 
-pub lowered_own : (ps : List Row) (n : ℕ) (t : IsTree ps) (l : ℕ) (zs : List ℕ) → is_leaf ps l ≡ true → l < length ps → length zs ≡ length ps
+pub lowered_own : (ps : List Row) (n : ℕ) (t : AreTreeRows ps) (l : ℕ) (zs : List ℕ) → is_leaf ps l ≡ true → l < length ps → length zs ≡ length ps
     → get_or (lowered (path_up ps l) n zs) l 0 ≡ get_or zs l 0 - n
 lowered_own ps n t l zs leaf lt len =
     let up = reach_parent ps t l in
@@ -187,7 +226,7 @@ least_all f [] b n le = tt
 least_all f (g ∷ gs) b n le = let m = least_le f gs (min b (f g)) in (omega arith, least_all f gs (min b (f g)) n le)
 
 -- where f rises on the way up, its first value decides
-pub least_rising : (ps : List Row) (t : IsTree ps) (f : ℕ → ℕ) → Rising ps f → (k : ℕ) (at : Option ℕ) (b : ℕ) → reach at ≤ length ps
+pub least_rising : (ps : List Row) (t : AreTreeRows ps) (f : ℕ → ℕ) → Rising ps f → (k : ℕ) (at : Option ℕ) (b : ℕ) → reach at ≤ length ps
     → ((g : ℕ) → at ≡ Some g → b ≤ f g) → least f (way_up k ps at) b ≡ b
 least_rising ps t f rises zero at b ok le = refl
 least_rising ps t f rises (suc k) None b ok le = refl
@@ -199,7 +238,7 @@ least_rising ps t f rises (suc k) (Some g) b ok le =
     ∙ least_rising ps t f rises k (parent_of ps g) b (omega arith) (λ p is. omega (arith, rises g p (omega arith) is))
 
 -- a rise by no more than is left on the way stays within
-pub raised_within : (ps : List Row) (n : ℕ) (t : IsTree ps) (xs ys : List ℕ) (k : ℕ) (at : Option ℕ) (b : ℕ) (zs : List ℕ)
+pub raised_within : (ps : List Row) (n : ℕ) (t : AreTreeRows ps) (xs ys : List ℕ) (k : ℕ) (at : Option ℕ) (b : ℕ) (zs : List ℕ)
     → reach at ≤ length ps → length zs ≡ length ps → n ≤ least (λ g. get_or ys g 0 - get_or xs g 0) (way_up k ps at) b
     → ((g : ℕ) → g < reach at → get_or zs g 0 ≡ get_or xs g 0) → ((h : ℕ) → get_or zs h 0 ≤ get_or ys h 0)
     → (h : ℕ) → get_or (raised (way_up k ps at) n zs) h 0 ≤ get_or ys h 0

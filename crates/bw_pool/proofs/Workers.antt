@@ -1,8 +1,36 @@
 -- Drained workers leave the plan's amounts, in every schedule.
-use Rattle.std.proofs.Common.{◌≡◌, ℕ, zero, suc, ◌+◌, ◌-◌, ◌*◌, ◌<◌, ◌≤◌, ◌⊎◌, inl, inr, List, length, sum, replicate, Bool, true, false, None, Some, get_or, refl, sym, ap, ◌∙◌, arith}
+use Rattle.std.proofs.Common.{
+  ◌≡◌,
+  ℕ,
+  zero,
+  suc,
+  ◌+◌,
+  ◌-◌,
+  ◌*◌,
+  ◌<◌,
+  ◌≤◌,
+  ◌⊎◌,
+  inl,
+  inr,
+  List,
+  length,
+  sum,
+  replicate,
+  Bool,
+  true,
+  false,
+  None,
+  Some,
+  get_or,
+  refl,
+  sym,
+  ap,
+  ◌∙◌,
+  arith,
+}
 use Rattle.std.proofs.lemmas.Bool.{cases_lt}
 use Rattle.bw_model.specs.declared.row.Row.{Row}
-use Rattle.bw_model.specs.Groups.{IsTree, is_leaf, sum_of_children}
+use Rattle.bw_model.specs.Groups.{AreTreeRows, is_leaf, sum_of_children}
 use Rattle.bw_pool.specs.Pool.{PoolState}
 use Rattle.bw_pool.specs.Drained.{Worker, fresh, among, IsAtEnd, IsPlanned, IsDrawnOut}
 use Rattle.bw_model.proofs.CallerLemmas.{sum_of_children-left, parent_not_leaf, zeros, sum_zeros}
@@ -41,7 +69,8 @@ pub record IsRun (uses : ℕ → Bool) (P S : ℕ) (ps : List Row) (amounts draw
   pub workers : (p : ℕ) → p < P → IsWorkerOf uses S ps amounts drawn by held p (k p)
 
 -- what is left rises on the way up
-pub left_rises : (ps : List Row) (t : IsTree ps) (xs ys : List ℕ) → length xs ≡ length ps → length ys ≡ length ps → ((g : ℕ) → get_or xs g 0 ≤ get_or ys g 0)
+pub left_rises : (ps : List Row) (t : AreTreeRows ps) (xs ys : List ℕ) → length xs ≡ length ps → length ys ≡ length ps
+    → ((g : ℕ) → get_or xs g 0 ≤ get_or ys g 0)
     → ((g : ℕ) → g < length ps → is_leaf ps g ≡ false → sum_of_children ps xs g ≡ get_or xs g 0)
     → ((g : ℕ) → g < length ps → is_leaf ps g ≡ false → sum_of_children ps ys g ≡ get_or ys g 0)
     → Rising ps (λ g. get_or ys g 0 - get_or xs g 0)
@@ -50,7 +79,7 @@ left_rises ps t xs ys lx ly le bx by g p lt is =
     let inner = parent_not_leaf ps p g lt is in
     omega (arith, sum_of_children-left ps xs ys p g le is, bx p below inner, by p below inner)
 
-rises_to_root : (ps : List Row) (t : IsTree ps) (f : ℕ → ℕ) → Rising ps f → (k g : ℕ) → g ≤ k → g < length ps → f g ≤ f 0
+rises_to_root : (ps : List Row) (t : AreTreeRows ps) (f : ℕ → ℕ) → Rising ps f → (k g : ℕ) → g ≤ k → g < length ps → f g ≤ f 0
 rises_to_root ps t f rises k zero fuel lt = omega arith
 rises_to_root ps t f rises zero (suc g) fuel lt = absurd (omega arith)
 rises_to_root ps t f rises (suc k) (suc g) fuel lt =

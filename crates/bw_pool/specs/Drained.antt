@@ -6,7 +6,7 @@ use Rattle.std.specs.List.{list_any}
 use Rattle.bw_model.specs.declared.history.Entry.{Entry}
 use Rattle.bw_model.specs.History.{replay, IsLegal, own}
 use Rattle.bw_model.specs.declared.row.Row.{Row}
-use Rattle.bw_model.specs.Groups.{Groups, IsInstance, IsTree, is_leaf, sum_of_children}
+use Rattle.bw_model.specs.Groups.{Groups, IsInstance, AreTreeRows, is_leaf, sum_of_children}
 use Rattle.bw_model.specs.Host.{slices_per_processor}
 use Rattle.bw_model.specs.Plan.{IsPlan}
 use Rattle.bw_pool.specs.declared.calls.PoolCall.{PoolCall}
@@ -96,7 +96,7 @@ Drains uses rows per_processor w (e ∷ es) =
 
 -- amounts as a plan has them: each inner amount is the sum of its children's, and the root's is at most what all processors have
 pub record IsPlanned (processors per_processor : ℕ) (rows : List Row) (amounts : List ℕ) : Type 0 where
-  pub tree : IsTree rows
+  pub tree : AreTreeRows rows
   pub one_each : length amounts ≡ length rows
   pub inner : (g : ℕ) → g < length rows → is_leaf rows g ≡ false → sum_of_children rows amounts g ≡ slice_index amounts g
   pub root : slice_index amounts 0 ≤ processors * per_processor

@@ -7,7 +7,7 @@ use Rattle.bw_model.specs.declared.history.Entry.{Entry}
 use Rattle.bw_model.specs.History.{replay}
 use Rattle.bw_model.specs.declared.row.Row.{Row}
 use Rattle.bw_model.specs.declared.limits.TheConstants.{MAX_GROUPS, MAX_PROCESSORS, MAX_PER_PROCESSOR}
-use Rattle.bw_model.specs.Groups.{IsTree, path_up, is_leaf, sum_of_children}
+use Rattle.bw_model.specs.Groups.{AreTreeRows, path_up, is_leaf, sum_of_children}
 use Rattle.bw_pool.specs.declared.calls.PoolCall.{PoolCall}
 use Rattle.bw_pool.specs.declared.calls.PoolCall.TheVariants.{Draw, GiveBack, Lower, Look}
 use Rattle.bw_pool.specs.declared.calls.PoolReply.{PoolReply}
@@ -120,11 +120,11 @@ abbrev pub lowered_ceiling : PoolState → ℕ → ℕ → ℕ
 lowered_ceiling s g to = min (slice_index s.ceiling g) (max to (slice_index s.drawn g))
 
 -- the state after a call that isn't refused
-abbrev pub served : PoolState → ℕ → PoolCall → PoolState
-served s seat (Draw leaf ask) = drew s seat leaf (got_of s seat leaf ask)
-served s seat (GiveBack leaf n) = if nat_le n (held_by s seat leaf) then gave_back s seat leaf n else s
-served s seat (Lower g to) = record s { ceiling = slice_set s.ceiling g (lowered_ceiling s g to) }
-served s seat (Look g) = s
+abbrev pub state_after : PoolState → ℕ → PoolCall → PoolState
+state_after s seat (Draw leaf ask) = drew s seat leaf (got_of s seat leaf ask)
+state_after s seat (GiveBack leaf n) = if nat_le n (held_by s seat leaf) then gave_back s seat leaf n else s
+state_after s seat (Lower g to) = record s { ceiling = slice_set s.ceiling g (lowered_ceiling s g to) }
+state_after s seat (Look g) = s
 
 -- the reply to a call that isn't refused
 abbrev pub reply_to : PoolState → ℕ → PoolCall → PoolReply
@@ -145,7 +145,7 @@ or_refused (Some r) reply = Refused r
 
 -- one step: the pool after a call of a seat
 abbrev pub after : PoolState → ℕ → PoolCall → PoolState
-after s seat call = unless_refused (refusal s seat call) (served s seat call) s
+after s seat call = unless_refused (refusal s seat call) (state_after s seat call) s
 
 -- the reply to a call of a seat
 abbrev pub answer : PoolState → ℕ → PoolCall → PoolReply
@@ -162,7 +162,7 @@ held_of_leaf s leaf = sum_by (λ seat. slice_index s.held (held_place s seat lea
 -- what holds of every pool: its tree, one place for each row, processor and holding, the bounds of what is drawn, and that the
 -- holdings add up to it, by processor, by leaf and by group
 pub record IsSound (s : PoolState) : Type 0 where
-  pub tree : IsTree s.rows
+  pub tree : AreTreeRows s.rows
   pub few_rows : length s.rows ≤ MAX_GROUPS
   pub few_processors : s.processors ≤ MAX_PROCESSORS
   pub few_slices : s.per_processor ≤ MAX_PER_PROCESSOR

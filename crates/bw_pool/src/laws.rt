@@ -1,7 +1,7 @@
 //! Laws of the pool over every history, and of the core over every schedule: each is the contract of a function that does nothing.
 ghost use Rattle.std.specs.Prelude.{◌≡◌, ℕ, List, Bool};
 ghost use Rattle.bw_model.specs.declared.row.Row.{Row};
-ghost use Rattle.bw_model.specs.Groups.{IsTree};
+ghost use Rattle.bw_model.specs.Groups.{AreTreeRows};
 ghost use Rattle.bw_pool.specs.declared.seats.CoreEvent.{CoreEvent};
 ghost use Rattle.bw_pool.specs.Pool.{NeverPastThePlan, StaysSound, CutsNothing};
 ghost use Rattle.bw_pool.specs.Drained.{IsDrawnOut, DrainedWorkersDrawTheAmounts, DrainedWorkersDrawThePlan};
@@ -20,7 +20,7 @@ pub fn drained_workers()
 /// There is one list of drawn amounts, so what drained workers leave does not depend on the schedule.
 pub fn one_drawn_list()
     ensures { (uses : ℕ → Bool) (rows : List Row) (amounts one other : List ℕ) →
-        IsTree rows → IsDrawnOut uses rows amounts one → IsDrawnOut uses rows amounts other → one ≡ other }
+        AreTreeRows rows → IsDrawnOut uses rows amounts one → IsDrawnOut uses rows amounts other → one ≡ other }
 {}
 
 /// No group has drawn more than its ceiling, and no ceiling is above the one that it opened with.

@@ -1,10 +1,10 @@
 //! The pool as a machine.
 ghost use Rattle.std.specs.Prelude.{◌≡◌, ℕ, ◌-◌, ◌+◌, ◌<◌, ◌≤◌, ◌^◌, length, slice_index, slice_index_or, false, IfOk, None};
 ghost use Rattle.std.specs.List.{AllByRecursion};
-ghost use Rattle.bw_model.specs.Groups.{IsTree, path_up, is_leaf};
+ghost use Rattle.bw_model.specs.Groups.{AreTreeRows, path_up, is_leaf};
 ghost use Rattle.bw_model.specs.Host.{slices_per_processor};
 ghost use Rattle.bw_pool.specs.Pool.{PoolState, IsSound, gave_back, least, raised, lowered, first_with, new_pool};
-ghost use Rattle.bw_pool.specs.Pool.{refusal, leaf_refusal, group_refusal, served, reply_to, held_by, after, answer};
+ghost use Rattle.bw_pool.specs.Pool.{refusal, leaf_refusal, group_refusal, state_after, reply_to, held_by, after, answer};
 
 use crate::calls::{PoolCall, PoolReply, Refusal, Short};
 use bw_model::{Instance, Machine, Row};
@@ -39,7 +39,7 @@ impl Model for SlicePool {
 
 /// The least of the bound and of what is left at the leaf and at each ancestor.
 fn least_left(rows: &[Row], drawn: &[u64], ceiling: &[u64], leaf: u32, bound: u64) -> u64
-    requires tree { IsTree rows.now }
+    requires tree { AreTreeRows rows.now }
     requires row { leaf < length rows.now }
     requires drawn { length drawn.now ≡ length rows.now }
     requires ceiling { length ceiling.now ≡ length rows.now }
@@ -59,7 +59,7 @@ fn least_left(rows: &[Row], drawn: &[u64], ceiling: &[u64], leaf: u32, bound: u6
 
 /// Adds n at the leaf and at each ancestor, where each has as much left.
 fn raise(rows: &[Row], ceiling: &[u64], drawn: &mut [u64], leaf: u32, n: u64)
-    requires tree { IsTree rows.now }
+    requires tree { AreTreeRows rows.now }
     requires row { leaf < length rows.now }
     requires one_each { length drawn.old ≡ length rows.now }
     requires ceiling { length ceiling.now ≡ length rows.now }
@@ -77,7 +77,7 @@ fn raise(rows: &[Row], ceiling: &[u64], drawn: &mut [u64], leaf: u32, n: u64)
 
 /// Takes n away at the leaf and at each ancestor, where each has as much.
 fn lower(rows: &[Row], drawn: &mut [u64], leaf: u32, n: u64)
-    requires tree { IsTree rows.now }
+    requires tree { AreTreeRows rows.now }
     requires row { leaf < length rows.now }
     requires one_each { length drawn.old ≡ length rows.now }
     requires enough { AllByRecursion (λ g. n ≤ slice_index drawn.old g) (path_up rows.now leaf) }
@@ -93,7 +93,7 @@ fn lower(rows: &[Row], drawn: &mut [u64], leaf: u32, n: u64)
 
 /// The group nearest the leaf that has exactly so much left, else the processor.
 fn nearest_with(rows: &[Row], drawn: &[u64], ceiling: &[u64], leaf: u32, got: u64) -> Short
-    requires tree { IsTree rows.now }
+    requires tree { AreTreeRows rows.now }
     requires row { leaf < length rows.now }
     requires drawn { length drawn.now ≡ length rows.now }
     requires ceiling { length ceiling.now ≡ length rows.now }
@@ -240,7 +240,7 @@ impl SlicePool {
     /// Draws as much as is asked and left, at the leaf, its ancestors, the processor and the seat's holding.
     fn draw(&mut self, seat: u32, leaf: u32, ask: u64) -> PoolReply
         requires { refusal self.old seat (PoolCall.Draw leaf ask) ≡ None }
-        ensures state { self.new ≡ served self.old seat (PoolCall.Draw leaf ask) }
+        ensures state { self.new ≡ state_after self.old seat (PoolCall.Draw leaf ask) }
         ensures reply { result ≡ reply_to self.old seat (PoolCall.Draw leaf ask) }
     {
         let processor = seat as usize;
@@ -274,7 +274,7 @@ impl SlicePool {
     /// Takes n back, where the seat holds as much of the leaf.
     fn give_back(&mut self, seat: u32, leaf: u32, n: u64) -> PoolReply
         requires { refusal self.old seat (PoolCall.GiveBack leaf n) ≡ None }
-        ensures state { self.new ≡ served self.old seat (PoolCall.GiveBack leaf n) }
+        ensures state { self.new ≡ state_after self.old seat (PoolCall.GiveBack leaf n) }
         ensures reply { result ≡ reply_to self.old seat (PoolCall.GiveBack leaf n) }
     {
         let held = self.held(seat, leaf);
@@ -288,7 +288,7 @@ impl SlicePool {
     /// Lowers the ceiling of a group, not below what is drawn.
     fn lower_ceiling(&mut self, group: u32, to: u64) -> PoolReply
         requires { group_refusal self.old group ≡ None }
-        ensures state { (seat : ℕ) → self.new ≡ served self.old seat (PoolCall.Lower group to) }
+        ensures state { (seat : ℕ) → self.new ≡ state_after self.old seat (PoolCall.Lower group to) }
         ensures reply { (seat : ℕ) → result ≡ reply_to self.old seat (PoolCall.Lower group to) }
     {
         let row = group as usize;

@@ -1,5 +1,29 @@
 -- What follows when known bytes are appended or consumed twice.
-use Rattle.std.proofs.Common.{◌≡◌, ℕ, List, [], ◌++◌, refl, sym, ◌∙◌, ap, subst, append_assoc, append-nil, Option, Some, None, Result, Ok, Err, OnOk, OnErr, IsErrOf, take, drop}
+use Rattle.std.proofs.Common.{
+  ◌≡◌,
+  ℕ,
+  List,
+  [],
+  ◌++◌,
+  refl,
+  sym,
+  ◌∙◌,
+  ap,
+  subst,
+  append_assoc,
+  append-nil,
+  Option,
+  Some,
+  None,
+  Result,
+  Ok,
+  Err,
+  OnOk,
+  OnErr,
+  IsErrOf,
+  take,
+  drop,
+}
 use Rattle.std.proofs.lemmas.List.{take-append-drop}
 use Rattle.std.specs.Io.KnownBytes.{Appends, Consumes, Keeps}
 use Rattle.bw_shell.specs.Stream.{AppendsFront}
@@ -66,8 +90,11 @@ OnOk-map (Err e) f p = p
 -- a front was sent, and then some of the rest
 pub sends_more : (a b c : Option (List ℕ)) (text front rest : List ℕ) (n : ℕ) → Appends a b front → Appends b c (take n rest) → text ≡ front ++ rest
     → (x : List ℕ) × Appends a c x × (text ≡ x ++ drop n rest)
-sends_more a b c text front rest n p q e =
-    (front ++ take n rest, Appends-trans a b c front (take n rest) p q, e ∙ ap (λ l. front ++ l) (sym (take-append-drop n rest)) ∙ sym (append_assoc front (take n rest) (drop n rest)))
+sends_more a b c text front rest n p q e = (
+  front ++ take n rest,
+  Appends-trans a b c front (take n rest) p q,
+  e ∙ ap (λ l. front ++ l) (sym (take-append-drop n rest)) ∙ sym (append_assoc front (take n rest) (drop n rest)),
+)
 
 -- a read that gave nothing
 pub Consumes-none : (a b c : Option (List ℕ)) (bs : List ℕ) → Consumes a b bs → Consumes b c [] → Consumes a c bs

@@ -14,7 +14,8 @@ quiet_write w v bytes n q f s ne = record {
   not_failed = f ∙ or-false (has_failed w) q.not_failed;
   not_stalled = elim (eqb_tells n 0) [
     | inl h ↦ absurd (ne h.1)
-    | inr h ↦ s ∙ ap (λ b. b || (nat_lt 0 (length bytes) && (n == 0))) q.not_stalled ∙ ap (λ b. nat_lt 0 (length bytes) && b) h.0 ∙ and_no (nat_lt 0 (length bytes))
+    | inr h ↦ s ∙ ap (λ b. b || (nat_lt 0 (length bytes) && (n == 0))) q.not_stalled ∙ ap (λ b. nat_lt 0 (length bytes) && b) h.0
+        ∙ and_no (nat_lt 0 (length bytes))
   ];
 }
 

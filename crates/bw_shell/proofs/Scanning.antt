@@ -1,5 +1,36 @@
 -- Reading byte by byte gives the transcript of the lines.
-use Rattle.std.proofs.Common.{◌≡◌, ◌<◌, ◌≤◌, ◌+◌, ◌-◌, ◌==◌, false, min, ℕ, zero, suc, List, take, [], ◌∷◌, ◌++◌, refl, sym, ◌∙◌, ap, subst, arith, append_assoc, append-nil, length-append, length, Some, None, inl, inr}
+use Rattle.std.proofs.Common.{
+  ◌≡◌,
+  ◌<◌,
+  ◌≤◌,
+  ◌+◌,
+  ◌-◌,
+  ◌==◌,
+  false,
+  min,
+  ℕ,
+  zero,
+  suc,
+  List,
+  take,
+  [],
+  ◌∷◌,
+  ◌++◌,
+  refl,
+  sym,
+  ◌∙◌,
+  ap,
+  subst,
+  arith,
+  append_assoc,
+  append-nil,
+  length-append,
+  length,
+  Some,
+  None,
+  inl,
+  inr,
+}
 use Rattle.std.proofs.lemmas.Bool.{cases_lt, lt-ltb, le-ltb}
 use Rattle.std.proofs.lemmas.Bool.Decides.{eqb_tells}
 use Rattle.bw_commands.specs.State.{State}
@@ -69,7 +100,11 @@ TakesByte-total : (a : Scan) (x : ℕ) → (t : List ℕ) × (b : Scan) × Takes
 TakesByte-total a x =
     let o = answered a.state (outcome_of_kept a.state a.kept) in
     elim (eqb_tells x 10) [
-      | inl h ↦ (o.0, record { state = a.state; kept = Some [] }, record { newline = λ e. record { answer = o.1; empty = refl }; other = λ ne. absurd (ne h.1) })
+      | inl h ↦ (
+        o.0,
+        record { state = a.state; kept = Some [] },
+        record { newline = λ e. record { answer = o.1; empty = refl }; other = λ ne. absurd (ne h.1) },
+      )
       | inr h ↦ ([], record a { kept = kept_with a.kept x }, record { newline = λ e. absurd (h.1 e); other = λ ne. (refl, refl) })
     ]
 
@@ -156,7 +191,8 @@ nil_of_length [] e = refl
 nil_of_length (x ∷ xs) e = absurd (let bad : ⊥ = omega (arith, e) in bad)
 
 -- the answer to what is kept ends the line in hand
-pub TakesLine-kept : (s t : State) (whole line after front text : List ℕ) → kept_of whole ≡ kept_after (kept_of line) front → after ≡ [] → IsAnswer s whole text t
+pub TakesLine-kept : (s t : State) (whole line after front text : List ℕ) → kept_of whole ≡ kept_after (kept_of line) front → after ≡ []
+    → IsAnswer s whole text t
     → TakesLine (record { state = s; kept = kept_of line }) front text (record { state = t; kept = kept_of after })
 TakesLine-kept s t whole line after front text same empty p = record {
   answer = subst (λ k. IsOutcome s (outcome_of_kept s k) text t) same p;
@@ -211,7 +247,8 @@ scanned (x ∷ xs) s cur text b clean p = elim (eqb_tells x 10) [
       record {
         cut = next.cut;
         kept = next.kept;
-        whole = subst (λ l. Answers s (whole_lines_of l) text b.state) moved (subst (λ l. Answers s (whole_lines_of ((cur ++ x ∷ []) ++ xs)) l b.state) (sym same) next.whole);
+        whole = subst (λ l. Answers s (whole_lines_of l) text b.state) moved
+            (subst (λ l. Answers s (whole_lines_of ((cur ++ x ∷ []) ++ xs)) l b.state) (sym same) next.whole);
         all = subst (λ l. lines_of l ≡ whole_lines_of l ++ last_line next.cut) moved next.all;
       }
 ]
@@ -232,7 +269,8 @@ last_answer (x ∷ xs) b text k f =
     (ends.0, Answers-one b.state ends.0 (x ∷ xs) text (subst (λ o. IsOutcome b.state (outcome_of_kept b.state o) text ends.0) k ends.1))
 
 -- at the end it is the transcript of all lines
-pub all_transcript : (s : State) (xs text last : List ℕ) (b : Scan) → TakesBytes (begin s) xs text b → Finishes b last → IsTranscript s (lines_of xs) (text ++ last)
+pub all_transcript : (s : State) (xs text last : List ℕ) (b : Scan) → TakesBytes (begin s) xs text b → Finishes b last
+    → IsTranscript s (lines_of xs) (text ++ last)
 all_transcript s xs text last b p f =
     let whole = from_begin s xs text b p in
     let end = last_answer whole.cut b last whole.kept f in (

@@ -13,9 +13,17 @@ pub Writes-after : {W T : Type 0} (contents : W → Option (List ℕ)) (a b c : 
     → Appends (contents (inner_of a)) (contents (inner_of b)) first → ((t : List ℕ) → P t → P' (first ++ t)) → ((t : List ℕ) → Q t → Q' (first ++ t))
     → Writes contents b c r P Q → Writes contents a c r P' Q'
 Writes-after contents a b c r first written f g w = record {
-  ok = OnOk-map r (λ p. (first ++ p.0, f p.0 p.1, Appends-trans (contents (inner_of a)) (contents (inner_of b)) (contents (inner_of c)) first p.0 written p.2)) w.ok;
+  ok = OnOk-map r (λ p. (
+    first ++ p.0,
+    f p.0 p.1,
+    Appends-trans (contents (inner_of a)) (contents (inner_of b)) (contents (inner_of c)) first p.0 written p.2,
+  )) w.ok;
   quiet = w.quiet;
-  err = OnErr-map r (λ p. (first ++ p.0, g p.0 p.1, AppendsFront-after (contents (inner_of a)) (contents (inner_of b)) (contents (inner_of c)) first p.0 written p.2)) w.err;
+  err = OnErr-map r (λ p. (
+    first ++ p.0,
+    g p.0 p.1,
+    AppendsFront-after (contents (inner_of a)) (contents (inner_of b)) (contents (inner_of c)) first p.0 written p.2,
+  )) w.err;
   blame = w.blame;
   fault = w.fault;
 }
@@ -54,8 +62,12 @@ Writes-none contents a b f text q w = record {
   ok = tt;
   quiet = tt;
   err =
-      let p = w.err in (text, q, AppendsFront-more (contents (inner_of a)) (contents (inner_of b)) [] text
-        (subst (λ l. AppendsFront (contents (inner_of a)) (contents (inner_of b)) l) p.1 p.2));
+      let p = w.err in (
+        text,
+        q,
+        AppendsFront-more (contents (inner_of a)) (contents (inner_of b)) [] text
+            (subst (λ l. AppendsFront (contents (inner_of a)) (contents (inner_of b)) l) p.1 p.2),
+      );
   blame = w.blame;
   fault = w.fault;
 }

@@ -6,6 +6,7 @@ ghost use Rattle.bw_commands.specs.Script.{outcome_of, outcome_of_text, refused}
 ghost use Rattle.bw_commands.specs.State.{State};
 ghost use Rattle.bw_shell.specs.Watched.{is_flushed, HasNoFault};
 ghost use Rattle.bw_shell.specs.Writes.{Writes};
+ghost use Rattle.bw_commands.specs.declared.put.TheConstants.{REFUSAL_BYTES};
 
 use crate::script::RunFault;
 use crate::send::{flush, send};
@@ -18,8 +19,6 @@ use std::alloc::{AllocError, Global};
 use std::io::Write;
 use std::sync::Wait;
 use std::thread::Threads;
-
-ghost use Rattle.bw_commands.specs.declared.put.TheConstants.{REFUSAL_BYTES};
 
 // The text of a line, or why it has none.
 fn text_of(line: &[u8]) -> Result<&str, ScriptFault>
@@ -73,11 +72,7 @@ impl<'a, G: Gate> Responder<'a, G> {
     ghost use Rattle.bw_shell.specs.Writes.{Writes};
 
     /// Takes all the room that refusals need.
-    pub fn new(
-        alloc: Global,
-        shape: HostShape,
-        gate: &'a G,
-    ) -> Result<Responder<'a, G>, AllocError>
+    pub fn new(alloc: Global, shape: HostShape, gate: &'a G) -> Result<Responder<'a, G>, AllocError>
         ensures { IfOk result (λ r. responder_state G.used r ≡ start shape (G.used gate.now)) }
     {
         Ok(Responder {

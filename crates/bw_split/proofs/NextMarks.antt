@@ -1,5 +1,31 @@
 -- The heap that has the next mark of each child with room, and the slices given by it.
-use Rattle.std.proofs.Common.{◌≡◌, ℕ, suc, ◌+◌, ◌*◌, ◌<◌, ◌≤◌, List, [], ◌∷◌, false, cond, eqb, length, get_or, set, replicate, refl, sym, ap, subst, ◌∙◌, arith, inl, inr}
+use Rattle.std.proofs.Common.{
+  ◌≡◌,
+  ℕ,
+  suc,
+  ◌+◌,
+  ◌*◌,
+  ◌<◌,
+  ◌≤◌,
+  List,
+  [],
+  ◌∷◌,
+  false,
+  cond,
+  eqb,
+  length,
+  get_or,
+  set,
+  replicate,
+  refl,
+  sym,
+  ap,
+  subst,
+  ◌∙◌,
+  arith,
+  inl,
+  inr,
+}
 use Rattle.std.specs.Prelude.{sum_by}
 use Rattle.std.specs.List.{All}
 use Rattle.std.specs.List.Sorted.{IsPermutation}
@@ -149,7 +175,8 @@ module _ {X : Type 0} (mark_of : X → Mark) where
       now_right : All (IsNextOf weights most (set parts (mark_of x).place v)) rest
       now_right = λ j d j_in.
           let y : X = get_or rest j d in
-          let next : IsNextOf weights most parts y = All-tail (IsNextOf weights most parts) x rest (All-permutation (IsNextOf weights most parts) old (x ∷ rest) popped lined.right) j d j_in in
+          let next : IsNextOf weights most parts y =
+          All-tail (IsNextOf weights most parts) x rest (All-permutation (IsNextOf weights most parts) old (x ∷ rest) popped lined.right) j d j_in in
           let other : (mark_of y).place ≡ (mark_of x).place → ⊥ = absent (mark_of x).place rest gone j d j_in in
           let same : get_or (set parts (mark_of x).place v) (mark_of y).place 0 ≡ get_or parts (mark_of y).place 0 =
           get_or-set_other parts (mark_of x).place (mark_of y).place v 0 other in
@@ -205,7 +232,12 @@ module _ {X : Type 0} (mark_of : X → Mark) where
                 (All-cons (λ y. (mark_of y).place < n) z rest (omega (arith, place, top.within, whole)) now_early);
             once = λ k below free. elim (cases_eq k (mark_of x).place) [
               | inl e ↦ rw e (omega (arith, sum_by_pushed (at_place (mark_of x).place) z rest ys pushed, at_same (mark_of x).place z place, gone))
-              | inr other ↦ omega (arith, sum_by_pushed (at_place k) z rest ys pushed, at_other k z (λ same. other (sym same ∙ place)), now_once k below other free)
+              | inr other ↦ omega (
+                arith,
+                sum_by_pushed (at_place k) z rest ys pushed,
+                at_other k z (λ same. other (sym same ∙ place)),
+                now_once k below other free,
+              )
             ];
           }
 

@@ -106,15 +106,21 @@ module _ (level start rest : ℕ) (weights most parts : List ℕ)
         let i_below : i < length weights = omega (arith, given.lengths, i_in) in
         let wj = in_range j j_below in
         let wi = in_range i i_below in
-        let lj : IsTaken level (get_or weights j 0) (get_or most j 0) (each_takes level weights most j) = taken-is level (get_or weights j 0) (get_or most j 0) in
-        let hj : IsTaken (level + 1) (get_or weights j 0) (get_or most j 0) (each_takes (level + 1) weights most j) = taken-is (level + 1) (get_or weights j 0) (get_or most j 0) in
-        let li : IsTaken level (get_or weights i 0) (get_or most i 0) (each_takes level weights most i) = taken-is level (get_or weights i 0) (get_or most i 0) in
-        let hi : IsTaken (level + 1) (get_or weights i 0) (get_or most i 0) (each_takes (level + 1) weights most i) = taken-is (level + 1) (get_or weights i 0) (get_or most i 0) in
+        let lj : IsTaken level (get_or weights j 0) (get_or most j 0) (each_takes level weights most j) =
+        taken-is level (get_or weights j 0) (get_or most j 0) in
+        let hj : IsTaken (level + 1) (get_or weights j 0) (get_or most j 0) (each_takes (level + 1) weights most j) =
+        taken-is (level + 1) (get_or weights j 0) (get_or most j 0) in
+        let li : IsTaken level (get_or weights i 0) (get_or most i 0) (each_takes level weights most i) =
+        taken-is level (get_or weights i 0) (get_or most i 0) in
+        let hi : IsTaken (level + 1) (get_or weights i 0) (get_or most i 0) (each_takes (level + 1) weights most i) =
+        taken-is (level + 1) (get_or weights i 0) (get_or most i 0) in
         -- the next mark of j is above the level
         let j_above : level * get_or weights j 0 < (2 * get_or parts j 0 + 1) * STEPS =
         elim (given.one_of j j_below) [
-          | inl is ↦ (let h : level * get_or weights j 0 < (2 * STEPS) * each_takes level weights most j + STEPS = lj.high (omega (arith, is, room)) in omega (arith, h, is))
-          | inr is ↦ (let h : (level + 1) * get_or weights j 0 < (2 * STEPS) * each_takes (level + 1) weights most j + STEPS = hj.high (omega (arith, is, room)) in omega (arith, h, is))
+          | inl is ↦ (let h : level * get_or weights j 0 < (2 * STEPS) * each_takes level weights most j + STEPS = lj.high (omega (arith, is, room)) in
+              omega (arith, h, is))
+          | inr is ↦ (let h : (level + 1) * get_or weights j 0 < (2 * STEPS) * each_takes (level + 1) weights most j + STEPS =
+              hj.high (omega (arith, is, room)) in omega (arith, h, is))
         ] in
         elim (cases_lt (each_takes level weights most i) (get_or parts i 0)) [
           | inr not_more ↦
@@ -129,13 +135,15 @@ module _ (level start rest : ℕ) (weights most parts : List ℕ)
               elim (cases_lt (get_or parts j 0) (each_takes (level + 1) weights most j)) [
                 | inr full ↦
                     let j_over : (level + 1) * get_or weights j 0 < (2 * get_or parts j 0 + 1) * STEPS =
-                    (let h : (level + 1) * get_or weights j 0 < (2 * STEPS) * each_takes (level + 1) weights most j + STEPS = hj.high (omega (arith, full, room)) in omega (arith, h, full)) in
+                    (let h : (level + 1) * get_or weights j 0 < (2 * STEPS) * each_takes (level + 1) weights most j + STEPS =
+                    hj.high (omega (arith, full, room)) in omega (arith, h, full)) in
                     inl (cross_lt_right (2 * get_or parts i 0 - 1) (get_or weights i 0) (level + 1) STEPS (2 * get_or parts j 0 + 1) (get_or weights j 0)
                     wi.0 i_low j_over)
                 | inl short ↦
                     -- both marks are between the two levels
                     let i_over : level * get_or weights i 0 < STEPS * (2 * get_or parts i 0 - 1) =
-                    (let h : level * get_or weights i 0 < (2 * STEPS) * each_takes level weights most i + STEPS = li.high (omega (arith, more, i_is, hi.within)) in omega (arith, h, more)) in
+                    (let h : level * get_or weights i 0 < (2 * STEPS) * each_takes level weights most i + STEPS =
+                    li.high (omega (arith, more, i_is, hi.within)) in omega (arith, h, more)) in
                     let j_under : STEPS * (2 * get_or parts j 0 + 1) ≤ (level + 1) * get_or weights j 0 = omega (arith, hj.low, short) in
                     inr (
                       same_cost level (2 * get_or parts i 0 - 1) (get_or weights i 0) (2 * get_or parts j 0 + 1) (get_or weights j 0)
@@ -170,8 +178,10 @@ module _ (level start rest : ℕ) (weights most parts : List ℕ)
         lengths = omega (arith, given.lengths, one_each);
         whole = omega (arith, given.sums, none, whole, by_all-is level weights most);
         within = λ k below. elim (given.one_of k (omega (arith, given.lengths, below))) [
-          | inl is ↦ (let t : IsTaken level (get_or weights k 0) (get_or most k 0) (each_takes level weights most k) = taken-is level (get_or weights k 0) (get_or most k 0) in omega (arith, t.within, is))
-          | inr is ↦ (let t : IsTaken (level + 1) (get_or weights k 0) (get_or most k 0) (each_takes (level + 1) weights most k) = taken-is (level + 1) (get_or weights k 0) (get_or most k 0) in omega (arith, t.within, is))
+          | inl is ↦ (let t : IsTaken level (get_or weights k 0) (get_or most k 0) (each_takes level weights most k) =
+              taken-is level (get_or weights k 0) (get_or most k 0) in omega (arith, t.within, is))
+          | inr is ↦ (let t : IsTaken (level + 1) (get_or weights k 0) (get_or most k 0) (each_takes (level + 1) weights most k) =
+              taken-is (level + 1) (get_or weights k 0) (get_or most k 0) in omega (arith, t.within, is))
         ];
       })
       given-IsPairwise

@@ -36,7 +36,8 @@ taken-step t weight most h = omega arith
 
 pub taken-bound : (t weight most : ℕ) → t ≤ GREATEST_LEVEL → weight ≤ MAX_WEIGHT → taken t weight most ≤ MOST_TAKEN
 unfolding taken
-taken-bound t weight most h w = let a : t * weight ≤ GREATEST_LEVEL * MAX_WEIGHT = omega (arith, mul-le-mul_right weight h, mul-le-mul_left GREATEST_LEVEL w) in omega (arith, a)
+taken-bound t weight most h w = let a : t * weight ≤ GREATEST_LEVEL * MAX_WEIGHT =
+    omega (arith, mul-le-mul_right weight h, mul-le-mul_left GREATEST_LEVEL w) in omega (arith, a)
 
 taken-zero : (weight most : ℕ) → taken 0 weight most ≡ 0
 unfolding taken

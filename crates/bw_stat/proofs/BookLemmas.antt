@@ -1,5 +1,33 @@
 -- What books hold after each call.
-use Rattle.std.proofs.Common.{◌≡◌, ◌≢◌, ◌⊎◌, inl, inr, ℕ, suc, ◌<◌, Bool, true, false, cond, List, [], ◌∷◌, length, drop, get_or, Option, Some, None, refl, sym, ap, ap₂, ◌∙◌, eqb}
+use Rattle.std.proofs.Common.{
+  ◌≡◌,
+  ◌≢◌,
+  ◌⊎◌,
+  inl,
+  inr,
+  ℕ,
+  suc,
+  ◌<◌,
+  Bool,
+  true,
+  false,
+  cond,
+  List,
+  [],
+  ◌∷◌,
+  length,
+  drop,
+  get_or,
+  Option,
+  Some,
+  None,
+  refl,
+  sym,
+  ap,
+  ap₂,
+  ◌∙◌,
+  eqb,
+}
 use Rattle.std.proofs.Math.Seq.{drop-cons}
 use Rattle.std.proofs.lemmas.Bool.{eq-eqb, ne_eqb}
 use Rattle.std.proofs.lemmas.Bool.Decides.{eqb_tells}
@@ -16,14 +44,18 @@ use Rattle.bw_stat.specs.Counters.{HasOneEach, share_in}
 pub shares_more : (s i : ℕ) (rows : List Row) (ids : List ℕ) (qs : List (Option ℕ)) (ws ds : List ℕ) (row : Row)
     → i < length rows → i < length ids → i < length qs → i < length ws → i < length ds → row ≡ get_or rows i row
     → shares_of s (drop i rows) (drop i ids) (drop i qs) (drop i ws) (drop i ds)
-    ≡ (get_or ids i 0, share_of s row (get_or qs i None) (get_or ws i 0) (get_or ds i 0)) ∷ shares_of s (drop (suc i) rows) (drop (suc i) ids) (drop (suc i) qs) (drop (suc i) ws) (drop (suc i) ds)
+    ≡ (get_or ids i 0, share_of s row (get_or qs i None) (get_or ws i 0) (get_or ds i 0))
+    ∷ shares_of s (drop (suc i) rows) (drop (suc i) ids) (drop (suc i) qs) (drop (suc i) ws) (drop (suc i) ds)
 shares_more s i rows ids qs ws ds row hr hi hq hw hd is =
     ap (λ xs. shares_of s xs (drop i ids) (drop i qs) (drop i ws) (drop i ds)) (drop-cons rows i row hr)
     ∙ ap (λ xs. shares_of s (get_or rows i row ∷ drop (suc i) rows) xs (drop i qs) (drop i ws) (drop i ds)) (drop-cons ids i 0 hi)
     ∙ ap (λ xs. shares_of s (get_or rows i row ∷ drop (suc i) rows) (get_or ids i 0 ∷ drop (suc i) ids) xs (drop i ws) (drop i ds)) (drop-cons qs i None hq)
-    ∙ ap (λ xs. shares_of s (get_or rows i row ∷ drop (suc i) rows) (get_or ids i 0 ∷ drop (suc i) ids) (get_or qs i None ∷ drop (suc i) qs) xs (drop i ds)) (drop-cons ws i 0 hw)
-    ∙ ap (λ xs. shares_of s (get_or rows i row ∷ drop (suc i) rows) (get_or ids i 0 ∷ drop (suc i) ids) (get_or qs i None ∷ drop (suc i) qs) (get_or ws i 0 ∷ drop (suc i) ws) xs) (drop-cons ds i 0 hd)
-    ∙ ap (λ r. (get_or ids i 0, share_of s r (get_or qs i None) (get_or ws i 0) (get_or ds i 0)) ∷ shares_of s (drop (suc i) rows) (drop (suc i) ids) (drop (suc i) qs) (drop (suc i) ws) (drop (suc i) ds)) (sym is)
+    ∙ ap (λ xs. shares_of s (get_or rows i row ∷ drop (suc i) rows) (get_or ids i 0 ∷ drop (suc i) ids) (get_or qs i None ∷ drop (suc i) qs) xs
+    (drop i ds)) (drop-cons ws i 0 hw)
+    ∙ ap (λ xs. shares_of s (get_or rows i row ∷ drop (suc i) rows) (get_or ids i 0 ∷ drop (suc i) ids) (get_or qs i None ∷ drop (suc i) qs)
+    (get_or ws i 0 ∷ drop (suc i) ws) xs) (drop-cons ds i 0 hd)
+    ∙ ap (λ r. (get_or ids i 0, share_of s r (get_or qs i None) (get_or ws i 0) (get_or ds i 0))
+    ∷ shares_of s (drop (suc i) rows) (drop (suc i) ids) (drop (suc i) qs) (drop (suc i) ws) (drop (suc i) ds)) (sym is)
 
 -- no id stands twice
 abbrev pub AreApart : List (ℕ × Stat) → Type 0
@@ -46,7 +78,8 @@ pub insert_AreApart : (es : List (ℕ × Stat)) (k : ℕ) (v : Stat) → AreApar
 insert_AreApart [] k v apart = (refl, tt)
 insert_AreApart (e ∷ es) k v apart = by (eqb_tells k e.0) (insert_AreApart es k v apart.1)
   where
-    by : ((eqb k e.0 ≡ true) × (k ≡ e.0)) ⊎ ((eqb k e.0 ≡ false) × (k ≢ e.0)) → AreApart (insert_entry eqb es k v) → AreApart (cond (eqb k e.0) ((e.0, v) ∷ es) (e ∷ insert_entry eqb es k v))
+    by : ((eqb k e.0 ≡ true) × (k ≡ e.0)) ⊎ ((eqb k e.0 ≡ false) × (k ≢ e.0)) → AreApart (insert_entry eqb es k v)
+        → AreApart (cond (eqb k e.0) ((e.0, v) ∷ es) (e ∷ insert_entry eqb es k v))
     by (inl a) ih = rw a.0 (apart.0, apart.1)
     by (inr a) ih = rw a.0 (stat_insert es k v e.0 ∙ ap (λ b. cond b (Some v) (stat_at es e.0)) (ne_eqb e.0 k (λ e. a.1 (sym e))) ∙ apart.0, ih)
 
@@ -83,9 +116,11 @@ abbrev pub then_share : Option Stat → Option Share → Option Stat
 then_share o None = o
 then_share o (Some share) = Some (added (or_zeros o) share)
 
-pub booked_at : (shares : List (ℕ × Share)) (books : List (ℕ × Stat)) (q : ℕ) → HasOneEach shares → stat_at (booked books shares) q ≡ then_share (stat_at books q) (share_in shares q)
+pub booked_at : (shares : List (ℕ × Share)) (books : List (ℕ × Stat)) (q : ℕ) → HasOneEach shares
+    → stat_at (booked books shares) q ≡ then_share (stat_at books q) (share_in shares q)
 booked_at [] books q one = refl
-booked_at (e ∷ es) books q one = by (eqb_tells q e.0) (booked_at es (with_share books e.0 e.1) q one.1) (stat_insert books e.0 (added (or_zeros (stat_at books e.0)) e.1) q)
+booked_at (e ∷ es) books q one =
+    by (eqb_tells q e.0) (booked_at es (with_share books e.0 e.1) q one.1) (stat_insert books e.0 (added (or_zeros (stat_at books e.0)) e.1) q)
   where
     by : ((eqb q e.0 ≡ true) × (q ≡ e.0)) ⊎ ((eqb q e.0 ≡ false) × (q ≢ e.0))
         → stat_at (booked (with_share books e.0 e.1) es) q ≡ then_share (stat_at (with_share books e.0 e.1) q) (share_in es q)
@@ -102,9 +137,11 @@ booked_at (e ∷ es) books q one = by (eqb_tells q e.0) (booked_at es (with_shar
 
 pub booked_AreApart : (shares : List (ℕ × Share)) (books : List (ℕ × Stat)) → AreApart books → AreApart (booked books shares)
 booked_AreApart [] books apart = apart
-booked_AreApart (e ∷ es) books apart = booked_AreApart es (with_share books e.0 e.1) (insert_AreApart books e.0 (added (or_zeros (stat_at books e.0)) e.1) apart)
+booked_AreApart (e ∷ es) books apart =
+    booked_AreApart es (with_share books e.0 e.1) (insert_AreApart books e.0 (added (or_zeros (stat_at books e.0)) e.1) apart)
 
-absent_share : (s : ℕ) (rows : List Row) (ids : List ℕ) (qs : List (Option ℕ)) (ws ds : List ℕ) (id : ℕ) → AllByRecursion (λ y. eqb id y ≡ false) ids → share_in (shares_of s rows ids qs ws ds) id ≡ None
+absent_share : (s : ℕ) (rows : List Row) (ids : List ℕ) (qs : List (Option ℕ)) (ws ds : List ℕ) (id : ℕ) → AllByRecursion (λ y. eqb id y ≡ false) ids
+    → share_in (shares_of s rows ids qs ws ds) id ≡ None
 absent_share s [] ids qs ws ds id apart = refl
 absent_share s (r ∷ rs) [] qs ws ds id apart = refl
 absent_share s (r ∷ rs) (i ∷ is) [] ws ds id apart = refl
@@ -114,10 +151,12 @@ absent_share s (r ∷ rs) (i ∷ is) (q ∷ qs) (w ∷ ws) (d ∷ ds) id apart =
     ap (λ b. cond b (Some (share_of s r q w d)) (share_in (shares_of s rs is qs ws ds) id)) apart.0 ∙ absent_share s rs is qs ws ds id apart.1
 
 -- where the ids are distinct, each group has one share
-pub one_each : (s : ℕ) (rows : List Row) (ids : List ℕ) (qs : List (Option ℕ)) (ws ds : List ℕ) → IsDistinct eqb ids → HasOneEach (shares_of s rows ids qs ws ds)
+pub one_each : (s : ℕ) (rows : List Row) (ids : List ℕ) (qs : List (Option ℕ)) (ws ds : List ℕ) → IsDistinct eqb ids
+    → HasOneEach (shares_of s rows ids qs ws ds)
 one_each s [] ids qs ws ds apart = tt
 one_each s (r ∷ rs) [] qs ws ds apart = tt
 one_each s (r ∷ rs) (i ∷ is) [] ws ds apart = tt
 one_each s (r ∷ rs) (i ∷ is) (q ∷ qs) [] ds apart = tt
 one_each s (r ∷ rs) (i ∷ is) (q ∷ qs) (w ∷ ws) [] apart = tt
-one_each s (r ∷ rs) (i ∷ is) (q ∷ qs) (w ∷ ws) (d ∷ ds) apart = (absent_share s rs is qs ws ds i (IsDistinct-head eqb i is apart), one_each s rs is qs ws ds (IsDistinct-tail eqb i is apart))
+one_each s (r ∷ rs) (i ∷ is) (q ∷ qs) (w ∷ ws) (d ∷ ds) apart =
+    (absent_share s rs is qs ws ds i (IsDistinct-head eqb i is apart), one_each s rs is qs ws ds (IsDistinct-tail eqb i is apart))

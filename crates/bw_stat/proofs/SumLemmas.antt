@@ -1,5 +1,30 @@
 -- The counters are the sums over the booked periods.
-use Rattle.std.proofs.Common.{◌≡◌, ℕ, suc, zero, ◌+◌, ◌<◌, false, cond, List, [], ◌∷◌, length, fold, Option, Some, None, Contains, slice_index_or, refl, sym, ap, ◌∙◌, arith, eqb}
+use Rattle.std.proofs.Common.{
+  ◌≡◌,
+  ℕ,
+  suc,
+  zero,
+  ◌+◌,
+  ◌<◌,
+  false,
+  cond,
+  List,
+  [],
+  ◌∷◌,
+  length,
+  fold,
+  Option,
+  Some,
+  None,
+  Contains,
+  slice_index_or,
+  refl,
+  sym,
+  ap,
+  ◌∙◌,
+  arith,
+  eqb,
+}
 use Rattle.std.proofs.lemmas.Bool.{ne_eqb, eq-eqb}
 use Rattle.bw_model.specs.declared.stat.Stat.{Stat}
 use Rattle.bw_stat.specs.Books.{Share, added, or_zeros, stat_at, cut, one_if, booked, forgotten}
@@ -18,30 +43,49 @@ counted o (share ∷ shares) = counted (Some (added (or_zeros o) share)) shares
 cut_cut : (a x : ℕ) → cut (cut a + x) ≡ cut (a + x)
 cut_cut a x = omega arith
 
-added_six : (u p t w b x : ℕ) (s : Share) → added (six (cut u) (cut p) (cut t) (cut w) (cut b) (cut x)) s ≡ six (cut (u + s.usage_usec)) (cut (p + 1)) (cut (t + one_if s.is_throttled)) (cut (w + s.withheld_usec)) (cut (b + one_if s.is_burst)) (cut (x + s.burst_usec))
+added_six : (u p t w b x : ℕ) (s : Share)
+    → added (six (cut u) (cut p) (cut t) (cut w) (cut b) (cut x)) s
+    ≡ six (cut (u + s.usage_usec)) (cut (p + 1)) (cut (t + one_if s.is_throttled)) (cut (w + s.withheld_usec)) (cut (b + one_if s.is_burst))
+    (cut (x + s.burst_usec))
 added_six u p t w b x s =
-    ap (λ n. six n (cut (cut p + 1)) (cut (cut t + one_if s.is_throttled)) (cut (cut w + s.withheld_usec)) (cut (cut b + one_if s.is_burst)) (cut (cut x + s.burst_usec))) (cut_cut u s.usage_usec)
-    ∙ ap (λ n. six (cut (u + s.usage_usec)) n (cut (cut t + one_if s.is_throttled)) (cut (cut w + s.withheld_usec)) (cut (cut b + one_if s.is_burst)) (cut (cut x + s.burst_usec))) (cut_cut p 1)
-    ∙ ap (λ n. six (cut (u + s.usage_usec)) (cut (p + 1)) n (cut (cut w + s.withheld_usec)) (cut (cut b + one_if s.is_burst)) (cut (cut x + s.burst_usec))) (cut_cut t (one_if s.is_throttled))
-    ∙ ap (λ n. six (cut (u + s.usage_usec)) (cut (p + 1)) (cut (t + one_if s.is_throttled)) n (cut (cut b + one_if s.is_burst)) (cut (cut x + s.burst_usec))) (cut_cut w s.withheld_usec)
-    ∙ ap (λ n. six (cut (u + s.usage_usec)) (cut (p + 1)) (cut (t + one_if s.is_throttled)) (cut (w + s.withheld_usec)) n (cut (cut x + s.burst_usec))) (cut_cut b (one_if s.is_burst))
-    ∙ ap (λ n. six (cut (u + s.usage_usec)) (cut (p + 1)) (cut (t + one_if s.is_throttled)) (cut (w + s.withheld_usec)) (cut (b + one_if s.is_burst)) n) (cut_cut x s.burst_usec)
+    ap (λ n. six n (cut (cut p + 1)) (cut (cut t + one_if s.is_throttled)) (cut (cut w + s.withheld_usec)) (cut (cut b + one_if s.is_burst))
+    (cut (cut x + s.burst_usec))) (cut_cut u s.usage_usec)
+    ∙ ap (λ n. six (cut (u + s.usage_usec)) n (cut (cut t + one_if s.is_throttled)) (cut (cut w + s.withheld_usec)) (cut (cut b + one_if s.is_burst))
+    (cut (cut x + s.burst_usec))) (cut_cut p 1)
+    ∙ ap (λ n. six (cut (u + s.usage_usec)) (cut (p + 1)) n (cut (cut w + s.withheld_usec)) (cut (cut b + one_if s.is_burst)) (cut (cut x + s.burst_usec)))
+    (cut_cut t (one_if s.is_throttled))
+    ∙ ap (λ n. six (cut (u + s.usage_usec)) (cut (p + 1)) (cut (t + one_if s.is_throttled)) n (cut (cut b + one_if s.is_burst))
+    (cut (cut x + s.burst_usec))) (cut_cut w s.withheld_usec)
+    ∙ ap (λ n. six (cut (u + s.usage_usec)) (cut (p + 1)) (cut (t + one_if s.is_throttled)) (cut (w + s.withheld_usec)) n (cut (cut x + s.burst_usec)))
+    (cut_cut b (one_if s.is_burst))
+    ∙ ap (λ n. six (cut (u + s.usage_usec)) (cut (p + 1)) (cut (t + one_if s.is_throttled)) (cut (w + s.withheld_usec)) (cut (b + one_if s.is_burst)) n)
+    (cut_cut x s.burst_usec)
 
 counted_six : (ss : List Share) (u p t w b x : ℕ) → counted (Some (six (cut u) (cut p) (cut t) (cut w) (cut b) (cut x))) ss
-    ≡ Some (six (cut (fold (λ a (s : Share). a + s.usage_usec) u ss)) (cut (p + length ss)) (cut (fold (λ a (s : Share). a + cond s.is_throttled 1 0) t ss)) (cut (fold (λ a (s : Share). a + s.withheld_usec) w ss)) (cut (fold (λ a (s : Share). a + cond s.is_burst 1 0) b ss)) (cut (fold (λ a (s : Share). a + s.burst_usec) x ss)))
+    ≡ Some (six (cut (fold (λ a (s : Share). a + s.usage_usec) u ss)) (cut (p + length ss))
+    (cut (fold (λ a (s : Share). a + cond s.is_throttled 1 0) t ss)) (cut (fold (λ a (s : Share). a + s.withheld_usec) w ss))
+    (cut (fold (λ a (s : Share). a + cond s.is_burst 1 0) b ss)) (cut (fold (λ a (s : Share). a + s.burst_usec) x ss)))
 counted_six [] u p t w b x = let e : p ≡ p + 0 = omega arith in ap (λ n. Some (six (cut u) (cut n) (cut t) (cut w) (cut b) (cut x))) e
 counted_six (s ∷ ss) u p t w b x =
     let e : p + 1 + length ss ≡ p + suc (length ss) = omega arith in
     ap (λ y. counted (Some y) ss) (added_six u p t w b x s)
     ∙ counted_six ss (u + s.usage_usec) (p + 1) (t + cond s.is_throttled 1 0) (w + s.withheld_usec) (b + cond s.is_burst 1 0) (x + s.burst_usec)
-    ∙ ap (λ n. Some (six (cut (fold (λ a (s : Share). a + s.usage_usec) (u + s.usage_usec) ss)) (cut n) (cut (fold (λ a (s : Share). a + cond s.is_throttled 1 0) (t + cond s.is_throttled 1 0) ss)) (cut (fold (λ a (s : Share). a + s.withheld_usec) (w + s.withheld_usec) ss)) (cut (fold (λ a (s : Share). a + cond s.is_burst 1 0) (b + cond s.is_burst 1 0) ss)) (cut (fold (λ a (s : Share). a + s.burst_usec) (x + s.burst_usec) ss)))) e
+    ∙ ap (λ n. Some (six (cut (fold (λ a (s : Share). a + s.usage_usec) (u + s.usage_usec) ss)) (cut n)
+    (cut (fold (λ a (s : Share). a + cond s.is_throttled 1 0) (t + cond s.is_throttled 1 0) ss))
+    (cut (fold (λ a (s : Share). a + s.withheld_usec) (w + s.withheld_usec) ss))
+    (cut (fold (λ a (s : Share). a + cond s.is_burst 1 0) (b + cond s.is_burst 1 0) ss))
+    (cut (fold (λ a (s : Share). a + s.burst_usec) (x + s.burst_usec) ss)))) e
 
 counted_sums : (ss : List Share) → counted None ss ≡ counters_of ss
 counted_sums [] = refl
 counted_sums (s ∷ ss) =
     let e : 1 + length ss ≡ suc (length ss) = omega arith in
     counted_six ss (0 + s.usage_usec) 1 (0 + cond s.is_throttled 1 0) (0 + s.withheld_usec) (0 + cond s.is_burst 1 0) (0 + s.burst_usec)
-    ∙ ap (λ n. Some (six (cut (fold (λ a (s : Share). a + s.usage_usec) (0 + s.usage_usec) ss)) (cut n) (cut (fold (λ a (s : Share). a + cond s.is_throttled 1 0) (0 + cond s.is_throttled 1 0) ss)) (cut (fold (λ a (s : Share). a + s.withheld_usec) (0 + s.withheld_usec) ss)) (cut (fold (λ a (s : Share). a + cond s.is_burst 1 0) (0 + cond s.is_burst 1 0) ss)) (cut (fold (λ a (s : Share). a + s.burst_usec) (0 + s.burst_usec) ss)))) e
+    ∙ ap (λ n. Some (six (cut (fold (λ a (s : Share). a + s.usage_usec) (0 + s.usage_usec) ss)) (cut n)
+    (cut (fold (λ a (s : Share). a + cond s.is_throttled 1 0) (0 + cond s.is_throttled 1 0) ss))
+    (cut (fold (λ a (s : Share). a + s.withheld_usec) (0 + s.withheld_usec) ss))
+    (cut (fold (λ a (s : Share). a + cond s.is_burst 1 0) (0 + cond s.is_burst 1 0) ss))
+    (cut (fold (λ a (s : Share). a + s.burst_usec) (0 + s.burst_usec) ss)))) e
 
 counted_onto : (o : Option Stat) (m : Option Share) (ss : List Share) → counted (then_share o m) ss ≡ counted o (onto m ss)
 counted_onto o None ss = refl
@@ -51,7 +95,8 @@ later : (c : Call) (cs : List Call) (x : Call) → Contains cs x → Contains (c
 later c cs x h = (suc h.0, omega (arith, h.1), h.2)
 
 -- a group that is not forgotten has its shares counted
-kept : (cs : List Call) (b : List (ℕ × Stat)) (q : ℕ) → AreCalls cs → AreApart b → (IsForgotten cs q → ⊥) → stat_at (after_calls b cs) q ≡ counted (stat_at b q) (shares_for q cs)
+kept : (cs : List Call) (b : List (ℕ × Stat)) (q : ℕ) → AreCalls cs → AreApart b → (IsForgotten cs q → ⊥)
+    → stat_at (after_calls b cs) q ≡ counted (stat_at b q) (shares_for q cs)
 kept [] b q ok apart no_forget = refl
 kept (Book shares ∷ cs) b q ok apart no_forget =
     kept cs (booked b shares) q ok.1 (booked_AreApart shares b apart) (λ h. no_forget (later (Book shares) cs (Forget q) h))
@@ -67,7 +112,8 @@ none_onto None ss h = (refl, h)
 none_onto (Some s) ss h = cc
 
 -- a group that is not there, and not booked any more, stays away
-away : (cs : List Call) (b : List (ℕ × Stat)) (q : ℕ) → AreCalls cs → AreApart b → stat_at b q ≡ None → shares_for q cs ≡ [] → stat_at (after_calls b cs) q ≡ None
+away : (cs : List Call) (b : List (ℕ × Stat)) (q : ℕ) → AreCalls cs → AreApart b → stat_at b q ≡ None → shares_for q cs ≡ []
+    → stat_at (after_calls b cs) q ≡ None
 away [] b q ok apart none unbooked = none
 away (Book shares ∷ cs) b q ok apart none unbooked =
     let parts = none_onto (share_in shares q) (shares_for q cs) unbooked in
@@ -78,7 +124,8 @@ away (Forget id ∷ cs) b q ok apart none unbooked =
 same_id : (a b : ℕ) → Forget a ≡ Forget b → a ≡ b
 same_id a b e = cc
 
-gone : (cs : List Call) (b : List (ℕ × Stat)) (q k : ℕ) → AreCalls cs → AreApart b → k < length cs → slice_index_or cs k (Forget q) ≡ Forget q → stat_at (after_calls b cs) q ≡ None
+gone : (cs : List Call) (b : List (ℕ × Stat)) (q k : ℕ) → AreCalls cs → AreApart b → k < length cs → slice_index_or cs k (Forget q) ≡ Forget q
+    → stat_at (after_calls b cs) q ≡ None
 gone [] b q k ok apart within at = absurd (omega arith)
 gone (Book shares ∷ cs) b q zero ok apart within at = cc
 gone (Book shares ∷ cs) b q (suc k) ok apart within at = gone cs (booked b shares) q k ok.1 (booked_AreApart shares b apart) (omega arith) at

@@ -68,7 +68,8 @@ impl Books {
         requires wants { length gathered.now.want.items ≡ length instance.now.rows }
         requires drawn { length drawn.now ≡ length instance.now.rows }
         requires distinct { IsDistinct nat_eq ids.now }
-        ensures booked { OnOk result (self.new ≡ booked self.old (shares_of instance.now.shape.slice_us instance.now.rows ids.now base.now gathered.now.want.items drawn.now)) }
+        ensures booked { OnOk result
+            (self.new ≡ booked self.old (shares_of instance.now.shape.slice_us instance.now.rows ids.now base.now gathered.now.want.items drawn.now)) }
         ensures err { OnErr result (self.new ≡ self.old) }
     {
         let slice_us = instance.shape().slice_us();

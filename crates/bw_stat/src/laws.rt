@@ -13,5 +13,6 @@ pub fn counters_are_sums()
 
 /// What one call of `book` counts has one share for each group, as the law on sums asks.
 pub fn has_one_each()
-    ensures { (slice_us : ℕ) (rows : List Row) (ids : List ℕ) (base : List (Option ℕ)) (wants drawn : List ℕ) → IsDistinct nat_eq ids → HasOneEach (shares_of slice_us rows ids base wants drawn) }
+    ensures { (slice_us : ℕ) (rows : List Row) (ids : List ℕ) (base : List (Option ℕ)) (wants drawn : List ℕ) → IsDistinct nat_eq ids
+        → HasOneEach (shares_of slice_us rows ids base wants drawn) }
 {}

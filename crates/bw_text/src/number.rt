@@ -3,7 +3,7 @@ ghost use Rattle.std.specs.Prelude.{◌≡◌, ℕ, ◌+◌, ◌-◌, ◌*◌, �
 ghost use Rattle.std.specs.List.{list_all};
 ghost use Rattle.std.specs.Char.{is_ascii_digit};
 ghost use Rattle.std.specs.Fmt.{decimal};
-ghost use Rattle.bw_text.specs.Number.{is_number, value_of, number_read};
+ghost use Rattle.bw_text.specs.Number.{is_number, value_of_digits, number_read};
 
 /// Why a word is no number of 64 bits.
 #[derive(Clone, Copy, Debug, PartialEq, Eq)]
@@ -23,7 +23,7 @@ pub fn read_number(word: &[u8]) -> Result<u64, NumberFault>
     if !is_number(word) {
         return Err(NumberFault::BadForm);
     }
-    match value_of(word) {
+    match value_of_digits(word) {
         None => Err(NumberFault::TooGreat),
         Some(n) => Ok(n),
     }
@@ -49,9 +49,9 @@ fn push_digit(n: u64, digit: u8) -> Option<u64>
     n.checked_mul(10)?.checked_add(u64::from(digit - b'0'))
 }
 
-fn value_of(word: &[u8]) -> Option<u64>
+fn value_of_digits(word: &[u8]) -> Option<u64>
     requires { IsTrue (list_all is_ascii_digit word.now) }
-    ensures { MatchOption result (2 ^ 64 ≤ value_of word.now) (λ n. n ≡ value_of word.now) }
+    ensures { MatchOption result (2 ^ 64 ≤ value_of_digits word.now) (λ n. n ≡ value_of_digits word.now) }
 {
     let mut n: u64 = 0;
     for b in word {

@@ -38,7 +38,8 @@ pub fn next_word(text: &[u8]) -> Option<(&[u8], &[u8])>
 
 /// What stands before the first such byte of a text, and what after it.
 pub fn split_once(text: &[u8], byte: u8) -> Option<(&[u8], &[u8])>
-    ensures { MatchOption result (slice_split (λ b. b == byte) text.now ≡ text.now ∷ []) (λ p. slice_split (λ b. b == byte) text.now ≡ p.0.now ∷ slice_split (λ b. b == byte) p.1.now) }
+    ensures { MatchOption result (slice_split (λ b. b == byte) text.now ≡ text.now ∷ [])
+        (λ p. slice_split (λ b. b == byte) text.now ≡ p.0.now ∷ slice_split (λ b. b == byte) p.1.now) }
 {
     for (i, b) in text.iter().enumerate() {
         if *b == byte {

@@ -26,31 +26,33 @@ fn make(hierarchy: &mut Hierarchy, path: &str) -> Result<(), Fault> {
     made.map(|_| ())
 }
 
+/// Asserts the number of the refusal of a file that is read, 0 for none, and its text.
 fn assert_reads(
     rt: &impl Abort,
     hierarchy: &Hierarchy,
     path: &str,
     file: &str,
-    wanted: Result<&str, u8>,
+    number: u8,
+    text: &str,
 ) {
     let answer = match hierarchy.read_file(path, file) {
         Err(Fault::Tree(TreeFault::OutOfMemory)) => hierarchy.read_file(path, file),
         other => other,
     };
     match answer {
-        Ok(text) => assert_eq!(rt; Ok(text.as_str()), wanted, "{path}"),
-        Err(fault) => assert_eq!(rt; Err(fault.number()), wanted, "{path}"),
+        Ok(read) => assert!(rt; number == 0 && read.as_str() == text, "{path}"),
+        Err(fault) => assert!(rt; fault.number() == number, "{path}"),
     }
 }
 
-/// The group that a builder makes, or the number of the refusal.
+/// The group that a builder makes, or the refusal.
 fn built(
     hierarchy: &mut Hierarchy,
     path: &str,
     shares: Option<u64>,
     quota: Option<i64>,
     period: Option<u64>,
-) -> Result<Cgroup, u8> {
+) -> Result<Cgroup, Fault> {
     let mut resources = CgroupBuilder::new(path).cpu();
     if let Some(shares) = shares {
         resources = resources.shares(shares);
@@ -62,64 +64,76 @@ fn built(
         resources = resources.period(period);
     }
     let builder = resources.done();
-    let answer = match builder.build(hierarchy) {
+    match builder.build(hierarchy) {
         Err(Fault::Tree(TreeFault::OutOfMemory)) => builder.build(hierarchy),
         other => other,
-    };
-    answer.map_err(|fault| fault.number())
+    }
 }
 
 /// What is built at a path, or a file that is read, and what is to come of it.
 #[derive(Clone, Copy)]
-enum Build<'a> {
+enum Build {
     /// Shares, quota and period, and the number of the refusal, 0 for none.
-    Makes(&'a str, Option<u64>, Option<i64>, Option<u64>, u8),
-    /// A file, and its text or the number of the refusal.
-    Reads(&'a str, &'a str, Result<&'a str, u8>),
+    Makes(&'static str, Option<u64>, Option<i64>, Option<u64>, u8),
+    /// A file, the number of the refusal, 0 for none, and its text.
+    Reads(&'static str, &'static str, u8, &'static str),
 }
 
 fn assert_builds(rt: &impl Abort, hierarchy: &mut Hierarchy, steps: &[Build]) {
     for step in steps {
         match *step {
             Build::Makes(path, shares, quota, period, wanted) => {
-                let number = match built(hierarchy, path, shares, quota, period) {
-                    Ok(_) => 0,
-                    Err(number) => number,
-                };
-                assert_eq!(rt; number, wanted, "{path}");
+                let number = number_of(built(hierarchy, path, shares, quota, period));
+                assert!(rt; number == wanted, "{path}");
             }
-            Build::Reads(path, file, wanted) => assert_reads(rt, hierarchy, path, file, wanted),
+            Build::Reads(path, file, number, text) => {
+                assert_reads(rt, hierarchy, path, file, number, text)
+            }
         }
     }
 }
 
+// A static table costs its readers no proof; each entry of a local one is a step of it.
+static BUILDERS: [Build; 19] = [
+    Build::Makes("p/q", Some(300), Some(50_000), Some(100_000), 0),
+    Build::Reads("p", "cpu.weight", 0, "100\n"),
+    Build::Reads("p", "cpu.max", 0, "max 100000\n"),
+    Build::Reads("p/q", "cpu.weight", 0, "300\n"),
+    Build::Reads("p/q", "cpu.max", 0, "50000 100000\n"),
+    Build::Makes("r/s", None, None, Some(999), 15),
+    Build::Reads("r", "cpu.weight", 20, ""),
+    Build::Makes("r/s", None, None, Some(200_000), 0),
+    Build::Reads("r/s", "cpu.max", 0, "max 200000\n"),
+    Build::Makes("r", Some(0), None, None, 12),
+    Build::Makes("u", Some(0), None, None, 12),
+    Build::Reads("u", "cpu.weight", 20, ""),
+    Build::Makes(".", Some(5), None, None, 26),
+    Build::Makes("./x/y", None, None, None, 20),
+    Build::Makes("t//u", None, None, None, 22),
+    Build::Reads("t", "cpu.weight", 20, ""),
+    Build::Makes("p/q", None, Some(-1), None, 0),
+    Build::Reads("p/q", "cpu.weight", 0, "300\n"),
+    Build::Reads("p/q", "cpu.max", 0, "max 100000\n"),
+];
+
 #[test]
 fn builders(rt: HostRuntime) -> Result<(), Fail> {
     let mut hierarchy = new_hierarchy(rt.alloc())?;
-    let steps = [
-        Build::Makes("p/q", Some(300), Some(50_000), Some(100_000), 0),
-        Build::Reads("p", "cpu.weight", Ok("100\n")),
-        Build::Reads("p", "cpu.max", Ok("max 100000\n")),
-        Build::Reads("p/q", "cpu.weight", Ok("300\n")),
-        Build::Reads("p/q", "cpu.max", Ok("50000 100000\n")),
-        Build::Makes("r/s", None, None, Some(999), 15),
-        Build::Reads("r", "cpu.weight", Err(20)),
-        Build::Makes("r/s", None, None, Some(200_000), 0),
-        Build::Reads("r/s", "cpu.max", Ok("max 200000\n")),
-        Build::Makes("r", Some(0), None, None, 12),
-        Build::Makes("u", Some(0), None, None, 12),
-        Build::Reads("u", "cpu.weight", Err(20)),
-        Build::Makes(".", Some(5), None, None, 26),
-        Build::Makes("./x/y", None, None, None, 20),
-        Build::Makes("t//u", None, None, None, 22),
-        Build::Reads("t", "cpu.weight", Err(20)),
-        Build::Makes("p/q", None, Some(-1), None, 0),
-        Build::Reads("p/q", "cpu.weight", Ok("300\n")),
-        Build::Reads("p/q", "cpu.max", Ok("max 100000\n")),
-    ];
-    assert_builds(&rt, &mut hierarchy, &steps);
+    assert_builds(&rt, &mut hierarchy, &BUILDERS);
     Ok(())
 }
+
+static BUILDERS_BELOW_A_BURST: [Build; 9] = [
+    Build::Makes("p", Some(5), Some(49_999), None, 33),
+    Build::Makes("p", Some(0), Some(49_999), None, 12),
+    Build::Makes("p", Some(5), Some(49_999), Some(999), 15),
+    Build::Makes("p", Some(5), Some(49_999), Some(200_000), 33),
+    Build::Reads("p", "cpu.weight", 0, "100\n"),
+    Build::Reads("p", "cpu.max", 0, "max 100000\n"),
+    Build::Makes("p", Some(5), Some(50_000), Some(200_000), 0),
+    Build::Reads("p", "cpu.weight", 0, "5\n"),
+    Build::Reads("p", "cpu.max", 0, "50000 200000\n"),
+];
 
 /// Where the path is there already, its burst is looked at last, and a refused builder changes nothing.
 #[test]
@@ -127,18 +141,7 @@ fn builders_below_a_burst(rt: HostRuntime) -> Result<(), Fail> {
     let mut hierarchy = new_hierarchy(rt.alloc())?;
     make(&mut hierarchy, "p")?;
     hierarchy.write_file("p", "cpu.max.burst", b"50000")?;
-    let steps = [
-        Build::Makes("p", Some(5), Some(49_999), None, 33),
-        Build::Makes("p", Some(0), Some(49_999), None, 12),
-        Build::Makes("p", Some(5), Some(49_999), Some(999), 15),
-        Build::Makes("p", Some(5), Some(49_999), Some(200_000), 33),
-        Build::Reads("p", "cpu.weight", Ok("100\n")),
-        Build::Reads("p", "cpu.max", Ok("max 100000\n")),
-        Build::Makes("p", Some(5), Some(50_000), Some(200_000), 0),
-        Build::Reads("p", "cpu.weight", Ok("5\n")),
-        Build::Reads("p", "cpu.max", Ok("50000 200000\n")),
-    ];
-    assert_builds(&rt, &mut hierarchy, &steps);
+    assert_builds(&rt, &mut hierarchy, &BUILDERS_BELOW_A_BURST);
     Ok(())
 }
 
@@ -146,8 +149,8 @@ fn builders_below_a_burst(rt: HostRuntime) -> Result<(), Fail> {
 fn builder_of_the_root(rt: HostRuntime) -> Result<(), Fail> {
     let mut hierarchy = new_hierarchy(rt.alloc())?;
     match built(&mut hierarchy, ".", None, None, None) {
-        Ok(root) => assert_eq!(rt; root.id, hierarchy.root_control_group().id),
-        Err(number) => assert_eq!(rt; number, 0),
+        Ok(root) => assert!(rt; root.id == hierarchy.root_control_group().id),
+        Err(_) => assert!(rt; false),
     }
     Ok(())
 }
@@ -162,11 +165,8 @@ fn assert_settings(
     settings: &[Setting],
 ) {
     for (quota, period, wanted, after, own) in settings {
-        let number = match cpu.set_cfs_quota_and_period(hierarchy, *quota, *period) {
-            Ok(()) => 0,
-            Err(fault) => fault.number(),
-        };
-        assert_eq!(rt; number, *wanted);
+        let set = cpu.set_cfs_quota_and_period(hierarchy, *quota, *period);
+        assert!(rt; number_of(set) == *wanted);
         assert!(rt; cpu.cfs_quota(hierarchy) == Ok(*after));
         assert!(rt; cpu.cfs_period(hierarchy) == Ok(*own));
     }
@@ -180,28 +180,39 @@ fn two_groups(alloc: Global) -> Result<Hierarchy, Fail> {
     Ok(hierarchy)
 }
 
+static SETTINGS: [Setting; 12] = [
+    (None, Some(200_000), 0, -1, 200_000),
+    (Some(50_000), None, 0, 50_000, 200_000),
+    (Some(999), None, 13, 50_000, 200_000),
+    (Some(-2), None, 13, 50_000, 200_000),
+    (Some(i64::MIN), Some(999), 13, 50_000, 200_000),
+    (Some(1_000_000_000_000_001), None, 14, 50_000, 200_000),
+    (None, Some(999), 15, 50_000, 200_000),
+    (None, Some(1_000_001), 15, 50_000, 200_000),
+    (None, Some(1_000), 0, 50_000, 1_000),
+    (None, None, 0, 50_000, 1_000),
+    (None, Some(100_000), 0, 50_000, 100_000),
+    (Some(-1), None, 0, -1, 100_000),
+];
+
 #[test]
 fn controllers(rt: HostRuntime) -> Result<(), Fail> {
     let mut hierarchy = two_groups(rt.alloc())?;
     let cpu = Cgroup::load(&hierarchy, "a/b")?.cpu();
-    let settings: [Setting; 12] = [
-        (None, Some(200_000), 0, -1, 200_000),
-        (Some(50_000), None, 0, 50_000, 200_000),
-        (Some(999), None, 13, 50_000, 200_000),
-        (Some(-2), None, 13, 50_000, 200_000),
-        (Some(i64::MIN), Some(999), 13, 50_000, 200_000),
-        (Some(1_000_000_000_000_001), None, 14, 50_000, 200_000),
-        (None, Some(999), 15, 50_000, 200_000),
-        (None, Some(1_000_001), 15, 50_000, 200_000),
-        (None, Some(1_000), 0, 50_000, 1_000),
-        (None, None, 0, 50_000, 1_000),
-        (None, Some(100_000), 0, 50_000, 100_000),
-        (Some(-1), None, 0, -1, 100_000),
-    ];
-    assert_settings(&rt, &mut hierarchy, cpu, &settings);
-    assert_reads(&rt, &hierarchy, "a/b", "cpu.max", Ok("max 100000\n"));
+    assert_settings(&rt, &mut hierarchy, cpu, &SETTINGS);
+    assert_reads(&rt, &hierarchy, "a/b", "cpu.max", 0, "max 100000\n");
     Ok(())
 }
+
+static SETTINGS_OF_A_BURST: [Setting; 7] = [
+    (Some(49_999), None, 33, 50_000, 100_000),
+    (Some(49_999), Some(200_000), 33, 50_000, 100_000),
+    (Some(49_999), Some(999), 15, 50_000, 100_000),
+    (None, Some(200_000), 0, 50_000, 200_000),
+    (Some(50_000), None, 0, 50_000, 200_000),
+    (Some(-1), Some(100_000), 0, -1, 100_000),
+    (Some(49_999), None, 33, -1, 100_000),
+];
 
 #[test]
 fn controller_of_a_burst(rt: HostRuntime) -> Result<(), Fail> {
@@ -209,16 +220,7 @@ fn controller_of_a_burst(rt: HostRuntime) -> Result<(), Fail> {
     hierarchy.write_file("a", "cpu.max", b"50000")?;
     hierarchy.write_file("a", "cpu.max.burst", b"50000")?;
     let cpu = Cgroup::load(&hierarchy, "a")?.cpu();
-    let settings: [Setting; 7] = [
-        (Some(49_999), None, 33, 50_000, 100_000),
-        (Some(49_999), Some(200_000), 33, 50_000, 100_000),
-        (Some(49_999), Some(999), 15, 50_000, 100_000),
-        (None, Some(200_000), 0, 50_000, 200_000),
-        (Some(50_000), None, 0, 50_000, 200_000),
-        (Some(-1), Some(100_000), 0, -1, 100_000),
-        (Some(49_999), None, 33, -1, 100_000),
-    ];
-    assert_settings(&rt, &mut hierarchy, cpu, &settings);
+    assert_settings(&rt, &mut hierarchy, cpu, &SETTINGS_OF_A_BURST);
     Ok(())
 }
 
@@ -242,12 +244,12 @@ fn number_of<T: Drop>(answer: Result<T, Fault>) -> u8 {
 
 /// Asserts that each call of a controller is refused with this number.
 fn assert_refuses_all(rt: &impl Abort, hierarchy: &mut Hierarchy, cpu: CpuController, wanted: u8) {
-    assert_eq!(rt; number_of(cpu.shares(hierarchy)), wanted);
-    assert_eq!(rt; number_of(cpu.set_shares(hierarchy, 0)), wanted);
-    assert_eq!(rt; number_of(cpu.cfs_quota(hierarchy)), wanted);
-    assert_eq!(rt; number_of(cpu.cfs_period(hierarchy)), wanted);
+    assert!(rt; number_of(cpu.shares(hierarchy)) == wanted);
+    assert!(rt; number_of(cpu.set_shares(hierarchy, 0)) == wanted);
+    assert!(rt; number_of(cpu.cfs_quota(hierarchy)) == wanted);
+    assert!(rt; number_of(cpu.cfs_period(hierarchy)) == wanted);
     let set = cpu.set_cfs_quota_and_period(hierarchy, None, None);
-    assert_eq!(rt; number_of(set), wanted);
+    assert!(rt; number_of(set) == wanted);
 }
 
 #[test]
@@ -258,12 +260,12 @@ fn deleted_groups(rt: HostRuntime) -> Result<(), Fail> {
     let above = Cgroup::load(&hierarchy, "a")?;
     match above.delete(&mut hierarchy) {
         Ok(()) => assert!(rt; false),
-        Err(kept) => assert_eq!(rt; (kept.fault.number(), kept.cgroup.id), (23, 1)),
+        Err(kept) => assert!(rt; kept.fault.number() == 23 && kept.cgroup.id == 1),
     }
     assert!(rt; group.delete(&mut hierarchy) == Ok(()));
     assert_refuses_all(&rt, &mut hierarchy, cpu, 20);
     let root = hierarchy.root_control_group().cpu();
     assert_refuses_all(&rt, &mut hierarchy, root, 26);
-    assert_eq!(rt; number_of(Cgroup::load(&hierarchy, "a/b")), 20);
+    assert!(rt; number_of(Cgroup::load(&hierarchy, "a/b")) == 20);
     Ok(())
 }

@@ -2,17 +2,12 @@
 use crate::workers_cases::{Without, held_first, meeting};
 use bw_model::HostShape;
 use bw_shell::{RunFault, Watched, run_gated};
-use bw_workers::{Gate, NoGate};
-use std::alloc::AllocError;
+use bw_workers::Gate;
+use std::alloc::{AllocError, Global};
 use std::process::Abort;
 use std::sync::Wait;
 use std::test::Fail;
 use std::thread::Threads;
-
-const TWO_GROUPS: &str =
-    "mkdir a\nmkdir b\nwrite b cpu.weight 200\ndemand a 20\ndemand b 20\nperiod\n";
-
-const TWO_GROUPS_SAID: &str = "ok\nok\nok\nok\nok\nserved 40\n";
 
 const POD_AND_JOB: &str =
     "mkdir pod\nmkdir pod/x\nmkdir pod/y\nmkdir job\nwrite pod cpu.max 50000\nwrite pod/y cpu.weight 300\ndemand pod/x 20\ndemand pod/y 20\ndemand job 20\n";
@@ -39,65 +34,36 @@ fn ran<G: Gate, R: AllocGlobal + Threads + Wait + Abort + Sync>(
     {
         return Err(AllocError);
     }
-    assert_eq!(rt; run, Ok(()));
-    assert_eq!(rt; str::from_utf8(&out), Ok(said));
+    assert!(rt; run.is_ok());
+    assert!(rt; out.as_slice() == said.as_bytes());
     Ok(())
 }
 
-fn one_waits<R: AllocGlobal + Threads + Wait + Abort + Sync>(
-    rt: &R,
-    held: u32,
-    other: u32,
-) -> Result<(), AllocError> {
-    let gate = held_first(held, other, 0);
-    ran(rt, 2, TWO_GROUPS, &gate, TWO_GROUPS_SAID)?;
-    assert!(rt; gate.came.load());
-    Ok(())
-}
+const UNUSED_JOB: &str = "mkdir pod
+mkdir pod/x
+mkdir pod/y
+mkdir job
+write pod cpu.max 50000
+write pod/y cpu.weight 300
+demand pod/x 20
+demand pod/y 20
+demand job 20
+total
+plan
+period
+report
+";
 
-#[test]
-fn worker_zero_waits(rt: HostRuntime) -> Result<(), Fail> {
-    if one_waits(&rt, 0, 1).is_err() {
-        one_waits(&rt, 0, 1)?;
-    }
-    Ok(())
-}
-
-#[test]
-fn worker_one_waits(rt: HostRuntime) -> Result<(), Fail> {
-    if one_waits(&rt, 1, 0).is_err() {
-        one_waits(&rt, 1, 0)?;
-    }
-    Ok(())
-}
-
-// The script of pod and job with one period, on four processors.
-fn one_period<G: Gate, R: AllocGlobal + Threads + Wait + Abort + Sync>(
-    rt: &R,
-    gate: &G,
-    served: &str,
-) -> Result<(), AllocError> {
-    let script = format!(in rt.alloc(); "{POD_AND_JOB}period\n")?;
-    let said = format!(in rt.alloc(); "{POD_AND_JOB_SAID}{served}\n")?;
-    ran(rt, 4, script.as_str(), gate, said.as_str())
-}
-
-fn four_meet<R: AllocGlobal + Threads + Wait + Abort + Sync>(rt: &R) -> Result<(), AllocError> {
-    let gate = meeting();
-    one_period(rt, &gate, "served 30")?;
-    assert_eq!(rt; gate.met.load(), 4);
-    Ok(())
-}
-
-#[test]
-fn all_meet(rt: HostRuntime) -> Result<(), Fail> {
-    if four_meet(&rt).is_err() {
-        four_meet(&rt)?;
-    }
-    Ok(())
-}
-
-const UNUSED_JOB_SAID: &str = "total 20
+const UNUSED_JOB_SAID: &str = "ok
+ok
+ok
+ok
+ok
+ok
+ok
+ok
+ok
+total 20
 limit 20 .
 demand 0
 20 .
@@ -114,18 +80,11 @@ served 10
                    0          1          0                    0 job
 ";
 
-// A gate that does not use job: the plan is as before, and what is drawn of job is given back.
-fn without_job<R: AllocGlobal + Threads + Wait + Abort + Sync>(rt: &R) -> Result<(), AllocError> {
-    one_period(rt, &Without(4), "served 10")?;
-    let script = format!(in rt.alloc(); "{POD_AND_JOB}total\nplan\nperiod\nreport\n")?;
-    let said = format!(in rt.alloc(); "{POD_AND_JOB_SAID}{UNUSED_JOB_SAID}")?;
-    ran(rt, 1, script.as_str(), &Without(4), said.as_str())
-}
-
+/// A gate that does not use job: the plan is as before, and what is drawn of job is given back.
 #[test]
 fn a_leaf_that_is_not_used(rt: HostRuntime) -> Result<(), Fail> {
-    if without_job(&rt).is_err() {
-        without_job(&rt)?;
+    if ran(&rt, 1, UNUSED_JOB, &Without(4), UNUSED_JOB_SAID).is_err() {
+        ran(&rt, 1, UNUSED_JOB, &Without(4), UNUSED_JOB_SAID)?;
     }
     Ok(())
 }
@@ -145,41 +104,68 @@ nr_bursts 0
 burst_usec 0
 ";
 
+// A text, a line fifty times, and another text.
+fn around_fifty(
+    alloc: Global,
+    before: &str,
+    line: &str,
+    after: &str,
+) -> Result<String, AllocError> {
+    let mut text = String::new(alloc);
+    text.push_str(before)?;
+    for _ in 0..50u32 {
+        text.push_str(line)?;
+    }
+    text.push_str(after)?;
+    Ok(text)
+}
+
 // Fifty periods of the script of pod and job, on four processors, and the counters after them.
 fn fifty_periods<G: Gate, R: AllocGlobal + Threads + Wait + Abort + Sync>(
     rt: &R,
     gate: &G,
 ) -> Result<(), AllocError> {
-    let mut script = String::new(rt.alloc());
-    let mut said = String::new(rt.alloc());
-    script.push_str(POD_AND_JOB)?;
-    said.push_str(POD_AND_JOB_SAID)?;
-    for _ in 0..50 {
-        script.push_str("period\n")?;
-        said.push_str("served 30\n")?;
-    }
-    script.push_str("report\nread . cpu.stat\nread pod cpu.stat\n")?;
-    said.push_str(FIFTY_SAID)?;
+    let after = "report\nread . cpu.stat\nread pod cpu.stat\n";
+    let script = around_fifty(rt.alloc(), POD_AND_JOB, "period\n", after)?;
+    let said = around_fifty(rt.alloc(), POD_AND_JOB_SAID, "served 30\n", FIFTY_SAID)?;
     ran(rt, 4, script.as_str(), gate, said.as_str())
 }
 
-#[test]
-fn fifty_periods_without_a_gate(rt: HostRuntime) -> Result<(), Fail> {
-    if fifty_periods(&rt, &NoGate).is_err() {
-        fifty_periods(&rt, &NoGate)?;
-    }
+// The same, where a worker's first draw waits for one of another.
+fn held_periods<R: AllocGlobal + Threads + Wait + Abort + Sync>(
+    rt: &R,
+    held: u32,
+    other: u32,
+    nth: u64,
+) -> Result<(), AllocError> {
+    let gate = held_first(held, other, nth);
+    fifty_periods(rt, &gate)?;
+    assert!(rt; gate.came.load());
     Ok(())
 }
 
 #[test]
-fn fifty_periods_under_gates(rt: HostRuntime) -> Result<(), Fail> {
+fn fifty_periods_where_one_waits(rt: HostRuntime) -> Result<(), Fail> {
     for (held, other, nth) in [(0, 1, 0), (1, 0, 0), (3, 2, 1)] {
-        if fifty_periods(&rt, &held_first(held, other, nth)).is_err() {
-            fifty_periods(&rt, &held_first(held, other, nth))?;
+        if held_periods(&rt, held, other, nth).is_err() {
+            held_periods(&rt, held, other, nth)?;
         }
     }
-    if fifty_periods(&rt, &meeting()).is_err() {
-        fifty_periods(&rt, &meeting())?;
+    Ok(())
+}
+
+// The same, where all four workers wait for one another in the first period; the others find them all there.
+fn met_periods<R: AllocGlobal + Threads + Wait + Abort + Sync>(rt: &R) -> Result<(), AllocError> {
+    let gate = meeting();
+    fifty_periods(rt, &gate)?;
+    assert!(rt; gate.met.load() == 200);
+    Ok(())
+}
+
+#[test]
+fn fifty_periods_where_all_meet(rt: HostRuntime) -> Result<(), Fail> {
+    if met_periods(&rt).is_err() {
+        met_periods(&rt)?;
     }
     Ok(())
 }

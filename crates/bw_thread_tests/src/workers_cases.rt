@@ -1,6 +1,6 @@
 //! Workers in threads of their own under gates, and the slice pool behind a lock.
 //! Where one allocation is refused a case is run once more, so that each holds with any one of its allocations failing.
-ghost use Rattle.std.specs.Prelude.{◌≡◌, ℕ, ◌==◌, not, true, None, IfOk};
+ghost use Rattle.std.specs.Prelude.{◌≡◌, ℕ, ◌==◌, not, true, All, None, IfOk};
 ghost use Rattle.bw_model.specs.Plan.{IsPlan};
 
 use bw_model::{Entry, HostShape, Instance, Row};
@@ -100,7 +100,7 @@ fn served<G: Gate, R: Threads + Wait + Abort + Sync>(
 {
     match serve(rt, alloc, instance, plan, gate) {
         Ok(served) => {
-            assert_eq!(rt; served.drawn.as_slice(), drawn);
+            assert!(rt; served.drawn.as_slice() == drawn);
             Ok(served)
         }
         Err(ServeFault::OutOfMemory) => Err(AllocError),
@@ -214,6 +214,9 @@ impl Gate for Meet {
     }
 }
 
+// What is drawn of pod and job on four processors.
+static POD_AND_JOB_DRAWN: [u64; 5] = [30, 10, 3, 7, 20];
+
 // The seat of the first entry.
 fn first_caller(history: &[Entry<PoolCall, PoolReply>]) -> Option<u32> {
     history.first().map(|entry| entry.seat)
@@ -229,7 +232,7 @@ fn serve_one_waits<R: Threads + Wait + Abort + Sync>(
     let gate = held_first(held, other, 0);
     let served = served(rt, alloc, &instance, &plan, &gate, &[40, 20, 20])?;
     assert!(rt; gate.came.load());
-    assert_eq!(rt; first_caller(&served.history), Some(other));
+    assert!(rt; first_caller(&served.history) == Some(other));
     Ok(())
 }
 
@@ -257,8 +260,8 @@ fn serve_all_meet<R: Threads + Wait + Abort + Sync>(
 ) -> Result<(), AllocError> {
     let (instance, plan) = pod_and_job(rt, alloc)?;
     let gate = meeting();
-    served(rt, alloc, &instance, &plan, &gate, &[30, 10, 3, 7, 20])?;
-    assert_eq!(rt; gate.met.load(), 4);
+    served(rt, alloc, &instance, &plan, &gate, &POD_AND_JOB_DRAWN)?;
+    assert!(rt; gate.met.load() == 4);
     Ok(())
 }
 
@@ -271,18 +274,27 @@ fn all_meet(rt: HostRuntime) -> Result<(), Fail> {
     Ok(())
 }
 
-// The same drawn amounts under gates of other kinds, and those of a gate that does not use job.
-fn serve_under_gates<R: Threads + Wait + Abort + Sync>(
+// The same drawn amounts with no gate, and where a worker's first draw waits for one of another.
+fn serve_in_other_orders<R: Threads + Wait + Abort + Sync>(
     rt: &R,
     alloc: Global,
 ) -> Result<(), AllocError> {
     let (instance, plan) = pod_and_job(rt, alloc)?;
-    served(rt, alloc, &instance, &plan, &NoGate, &[30, 10, 3, 7, 20])?;
+    served(rt, alloc, &instance, &plan, &NoGate, &POD_AND_JOB_DRAWN)?;
     for (held, other, nth) in [(0, 1, 0), (1, 0, 0), (3, 2, 1)] {
         let gate = held_first(held, other, nth);
-        served(rt, alloc, &instance, &plan, &gate, &[30, 10, 3, 7, 20])?;
+        served(rt, alloc, &instance, &plan, &gate, &POD_AND_JOB_DRAWN)?;
         assert!(rt; gate.came.load());
     }
+    Ok(())
+}
+
+// What is drawn under a gate that does not use job, and of a root with no group below it.
+fn serve_what_is_used<R: Threads + Wait + Abort + Sync>(
+    rt: &R,
+    alloc: Global,
+) -> Result<(), AllocError> {
+    let (instance, plan) = pod_and_job(rt, alloc)?;
     served(rt, alloc, &instance, &plan, &Without(4), &[10, 10, 3, 7, 0])?;
     let (alone, nothing) = planned(rt, alloc, 4, &[])?;
     served(rt, alloc, &alone, &nothing, &NoGate, &[0])?;
@@ -296,29 +308,42 @@ fn serve_in_row_order<R: Threads + Wait + Abort + Sync>(
 ) -> Result<(), AllocError> {
     let (instance, plan) = two_groups(rt, alloc, 1, 100)?;
     let served = served(rt, alloc, &instance, &plan, &NoGate, &[20, 10, 10])?;
-    let mut calls = served.history.iter().map(|entry| entry.call);
-    for leaf in [1, 2, 1, 2] {
-        assert_eq!(rt; calls.next(), Some(PoolCall::Draw { leaf, ask: 1 }));
+    assert!(rt; served.history.len() >= 4);
+    for (entry, leaf) in served.history.iter().zip([1, 2, 1, 2]) {
+        assert!(rt; entry.call == PoolCall::Draw { leaf, ask: 1 });
     }
     Ok(())
 }
 
 #[test]
-fn gates(rt: HostRuntime) -> Result<(), Fail> {
+fn orders(rt: HostRuntime) -> Result<(), Fail> {
     let alloc = rt.alloc();
-    if serve_under_gates(&rt, alloc).is_err() {
-        serve_under_gates(&rt, alloc)?;
+    if serve_in_other_orders(&rt, alloc).is_err() {
+        serve_in_other_orders(&rt, alloc)?;
     }
     if serve_in_row_order(&rt, alloc).is_err() {
         serve_in_row_order(&rt, alloc)?;
     }
-    assert!(rt;
-        ServeFault::NotStarted.number() == 70 && ServeFault::NotStarted.name() == "NotStarted"
-    );
-    assert!(rt;
-        ServeFault::OutOfMemory.number() == 71 && ServeFault::OutOfMemory.name() == "OutOfMemory"
-    );
     Ok(())
+}
+
+#[test]
+fn leaves_that_are_used(rt: HostRuntime) -> Result<(), Fail> {
+    let alloc = rt.alloc();
+    if serve_what_is_used(&rt, alloc).is_err() {
+        serve_what_is_used(&rt, alloc)?;
+    }
+    Ok(())
+}
+
+#[test]
+fn faults(rt: HostRuntime) {
+    for (fault, number, name) in [
+        (ServeFault::NotStarted, 70, "NotStarted"),
+        (ServeFault::OutOfMemory, 71, "OutOfMemory"),
+    ] {
+        assert!(rt; fault.number() == number && fault.name() == name);
+    }
 }
 
 // A seat asks 2 of the leaf, and gives the reply with the seat.
@@ -344,26 +369,12 @@ pub(crate) fn pool_of<A: Abort>(
     plan: &Plan,
 ) -> Result<SlicePool, AllocError> {
     let amounts = plan.amounts.as_slice();
-    assert_eq!(rt; amounts.len(), instance.rows().len());
+    assert!(rt; amounts.len() == instance.rows().len());
     SlicePool::new(alloc, instance, amounts)
 }
 
-// Two threads ask 2 of a leaf that has 3: one gets 2 and the other 1, in one order or the other.
-fn draw_in_two<R: Threads + Wait + Abort + Sync>(rt: &R, alloc: Global) -> Result<(), AllocError> {
-    let (instance, plan) = planned(rt, alloc, 2, &[group(0, 100, None, 3)])?;
-    assert_eq!(rt; plan.amounts.as_slice(), [3, 3].as_slice());
-    let pool = pool_of(rt, alloc, &instance, &plan)?;
-    let Ok((lock, mut seats)) = open(alloc, pool, 2, 2) else {
-        return Err(AllocError);
-    };
-    let (Some(second), Some(first)) = (seats.pop(), seats.pop()) else {
-        panic!(rt; "no two seats")
-    };
-    let ((mut first, one), (second, other)) = join(
-        rt,
-        || ask_two(rt, &lock, first),
-        || ask_two(rt, &lock, second),
-    );
+// One of two replies to a call for 2 of a leaf that had 3 is all of it, and the other the rest.
+fn assert_two_and_one(rt: &impl Abort, one: PoolReply, other: PoolReply) {
     let whole = PoolReply::Granted {
         got: 2,
         short: None,
@@ -373,15 +384,62 @@ fn draw_in_two<R: Threads + Wait + Abort + Sync>(rt: &R, alloc: Global) -> Resul
         short: Some(Short::Group(1)),
     };
     assert!(rt; one == whole && other == rest || one == rest && other == whole);
-    let look = PoolCall::Look { group: 1 };
-    let drawn = PoolReply::Drawn { n: 3, ceiling: 3 };
-    assert!(rt; matches!(first.call(rt, &lock, look), Ok(answer) if answer.reply == drawn));
-    assert!(rt; matches!(first.call(rt, &lock, look), Err(CallsSpent)));
-    let Ok(Closed { machine, history }) = close(lock, vec![in alloc; first, second]?) else {
+}
+
+// A seat makes its last call, which has this reply, and the one after it is refused.
+fn assert_last<R: Wait + Abort>(
+    rt: &R,
+    lock: &TicketLock<SlicePool>,
+    mut seat: Seat<SlicePool>,
+    call: PoolCall,
+    reply: PoolReply,
+) -> Seat<SlicePool>
+    requires { (seat.lock_id ≡ lock.now.lock_id) × (seat.pending ≡ None) }
+    ensures { (result.lock_id ≡ lock.now.lock_id) × (result.pending ≡ None) }
+{
+    assert!(rt; matches!(seat.call(rt, lock, call), Ok(answer) if answer.reply == reply));
+    assert!(rt; matches!(seat.call(rt, lock, call), Err(CallsSpent)));
+    seat
+}
+
+// What is drawn in the end, after so many calls.
+fn assert_closed<A: Abort>(
+    rt: &A,
+    lock: TicketLock<SlicePool>,
+    seats: Vec<Seat<SlicePool>>,
+    drawn: &[u64],
+    calls: usize,
+)
+    requires { All (λ s. s.lock_id ≡ lock.lock_id) seats.items × All (λ s. s.pending ≡ None) seats.items }
+{
+    let Ok(Closed { machine, history }) = close(lock, seats) else {
         panic!(rt; "not closed")
     };
-    assert_eq!(rt; machine.all_drawn(), [3, 3].as_slice());
-    assert_eq!(rt; history.len(), 3);
+    assert!(rt; machine.all_drawn() == drawn);
+    assert!(rt; history.len() == calls);
+}
+
+// Two threads ask 2 of a leaf that has 3: one gets 2 and the other 1, in one order or the other.
+fn draw_in_two<R: Threads + Wait + Abort + Sync>(rt: &R, alloc: Global) -> Result<(), AllocError> {
+    let (instance, plan) = planned(rt, alloc, 2, &[group(0, 100, None, 3)])?;
+    let pool = pool_of(rt, alloc, &instance, &plan)?;
+    let Ok((lock, mut seats)) = open(alloc, pool, 2, 2) else {
+        return Err(AllocError);
+    };
+    let (Some(second), Some(first)) = (seats.pop(), seats.pop()) else {
+        panic!(rt; "no two seats")
+    };
+    let ((first, one), (second, other)) = join(
+        rt,
+        || ask_two(rt, &lock, first),
+        || ask_two(rt, &lock, second),
+    );
+    assert_two_and_one(rt, one, other);
+    let look = PoolCall::Look { group: 1 };
+    let drawn = PoolReply::Drawn { n: 3, ceiling: 3 };
+    let first = assert_last(rt, &lock, first, look, drawn);
+    let seats = vec![in alloc; first, second]?;
+    assert_closed(rt, lock, seats, &[3, 3], 3);
     Ok(())
 }
 
@@ -395,23 +453,16 @@ fn give_back_too_many<R: Wait + Abort>(rt: &R, alloc: Global) -> Result<(), Allo
     let Some(seat) = seats.pop() else {
         panic!(rt; "no seat")
     };
-    let (mut seat, reply) = ask_two(rt, &lock, seat);
-    assert_eq!(rt;
-        reply,
-        PoolReply::Granted {
-            got: 2,
-            short: None
-        }
-    );
-    let back = PoolCall::GiveBack { leaf: 1, n: 3 };
-    let not_held = PoolReply::NotHeld { held: 2 };
-    assert!(rt; matches!(seat.call(rt, &lock, back), Ok(answer) if answer.reply == not_held));
-    assert!(rt; matches!(seat.call(rt, &lock, back), Err(CallsSpent)));
-    let Ok(Closed { machine, history }) = close(lock, vec![in alloc; seat]?) else {
-        panic!(rt; "not closed")
+    let (seat, reply) = ask_two(rt, &lock, seat);
+    let whole = PoolReply::Granted {
+        got: 2,
+        short: None,
     };
-    assert_eq!(rt; machine.all_drawn(), [2, 2].as_slice());
-    assert_eq!(rt; history.len(), 2);
+    assert!(rt; reply == whole);
+    let back = PoolCall::GiveBack { leaf: 1, n: 3 };
+    let seat = assert_last(rt, &lock, seat, back, PoolReply::NotHeld { held: 2 });
+    let seats = vec![in alloc; seat]?;
+    assert_closed(rt, lock, seats, &[2, 2], 2);
     Ok(())
 }
 

@@ -1,5 +1,40 @@
 -- What a group draws over many periods is bounded by its quota and its burst.
-use Rattle.std.proofs.Common.{◌≡◌, ◌≢◌, ◌⊎◌, inl, inr, ℕ, suc, ◌+◌, ◌*◌, ◌-◌, ◌/◌, ◌≤◌, min, Bool, true, false, cond, List, [], ◌∷◌, ◌++◌, length, map, Option, Some, None, refl, sym, ap, subst, ◌∙◌, arith, eqb, position}
+use Rattle.std.proofs.Common.{
+  ◌≡◌,
+  ◌≢◌,
+  ◌⊎◌,
+  inl,
+  inr,
+  ℕ,
+  suc,
+  ◌+◌,
+  ◌*◌,
+  ◌-◌,
+  ◌/◌,
+  ◌≤◌,
+  min,
+  Bool,
+  true,
+  false,
+  cond,
+  List,
+  [],
+  ◌∷◌,
+  ◌++◌,
+  length,
+  map,
+  Option,
+  Some,
+  None,
+  refl,
+  sym,
+  ap,
+  subst,
+  ◌∙◌,
+  arith,
+  eqb,
+  position,
+}
 use Rattle.std.specs.Prelude.{IfSome}
 use Rattle.std.proofs.lemmas.Bool.{ne_eqb}
 use Rattle.std.proofs.lemmas.Bool.Decides.{eqb_tells}
@@ -10,8 +45,37 @@ use Rattle.bw_model.specs.Host.{Shape}
 use Rattle.bw_model.specs.Quota.{in_slices}
 use Rattle.bw_tree.specs.Groups.{GroupFields, TreeState, group_at}
 use Rattle.bw_tree.specs.Tree.{changed, with_setting, with_group, set_demand, set_weight, set_quota, set_period, set_burst, set_carry, new_group}
-use Rattle.bw_tree.specs.Snapshot.{quota_slices, with_burst, bursting, period_limit, place_of, row_of, rows_of, base_of, instance_of, left_of, left_over, carried, carried_over, IsDrawnWithin}
-use Rattle.bw_tree.specs.Bandwidth.{Call, after_call, CanBook, burst_slices, HasBandwidth, KeepsBandwidth, drawn_at, drawn_in, periods_in, carry_of, carry_at, with_left, HasNoBurst}
+use Rattle.bw_tree.specs.Snapshot.{
+  quota_slices,
+  with_burst,
+  bursting,
+  period_limit,
+  row_above,
+  row_of,
+  rows_of,
+  base_of,
+  instance_of,
+  left_of,
+  left_over,
+  carried,
+  carried_over,
+  IsDrawnWithin,
+}
+use Rattle.bw_tree.specs.Bandwidth.{
+  Call,
+  after_call,
+  CanBook,
+  burst_slices,
+  HasBandwidth,
+  KeepsBandwidth,
+  drawn_at,
+  drawn_in,
+  periods_in,
+  carry_of,
+  carry_at,
+  with_left,
+  HasNoBurst,
+}
 use Rattle.bw_tree.specs.Bandwidth.Call.{Book, Mkdir, Rmdir, SetDemand, SetWeight, SetLimit, SetPeriod, SetBurst}
 use Rattle.bw_tree.proofs.CarryLemmas.{keys_carried}
 use Rattle.bw_tree.proofs.RemoveLemmas.{look_removed_other}
@@ -147,11 +211,11 @@ limits_from s all (e ∷ es) none =
 pub limits_are_quotas : (s : Shape) (t : TreeState) → HasNoBurst t.groups → map (λ (r : Row). r.limit) (rows_of t.groups s) ≡ base_of t.groups s
 limits_are_quotas s t none = limits_from s t.groups t.groups none
 
-place_same : (gs : List (ℕ × GroupFields)) (cs : List ℕ) (o : Option ℕ) → place_of (carried gs cs) o ≡ place_of gs o
+place_same : (gs : List (ℕ × GroupFields)) (cs : List ℕ) (o : Option ℕ) → row_above (carried gs cs) o ≡ row_above gs o
 place_same gs cs None = refl
 place_same gs cs (Some id) = ap (position (eqb id)) (keys_carried gs cs)
 
-rows_from : (s : Shape) (old new gs : List (ℕ × GroupFields)) (cs : List ℕ) → ((o : Option ℕ) → place_of new o ≡ place_of old o) → HasNoBurst gs
+rows_from : (s : Shape) (old new gs : List (ℕ × GroupFields)) (cs : List ℕ) → ((o : Option ℕ) → row_above new o ≡ row_above old o) → HasNoBurst gs
     → map (row_of new s) (values_of (carried gs cs)) ≡ map (row_of old s) (values_of gs)
 rows_from s old new [] [] same none = refl
 rows_from s old new [] (c ∷ cs) same none = refl
@@ -159,14 +223,17 @@ rows_from s old new (e ∷ es) [] same none =
     ap (λ p. record { parent = p; weight = e.1.weight; limit = period_limit s e.1; demand = e.1.demand } ∷ map (row_of new s) (values_of es)) (same e.1.parent)
     ∙ ap (λ (rows : List Row). row_of old s e.1 ∷ rows) (rows_from s old new es [] same none.1)
 rows_from s old new (e ∷ es) (c ∷ cs) same none =
-    ap (λ p. record { parent = p; weight = e.1.weight; limit = period_limit s (set_carry c e.1); demand = e.1.demand } ∷ map (row_of new s) (values_of (carried es cs))) (same e.1.parent)
-    ∙ ap (λ o. record { parent = place_of old e.1.parent; weight = e.1.weight; limit = o; demand = e.1.demand } ∷ map (row_of new s) (values_of (carried es cs))) (no_burst s c e.1 none.0 ∙ sym (no_burst s e.1.carry e.1 none.0))
+    ap (λ p. record { parent = p; weight = e.1.weight; limit = period_limit s (set_carry c e.1); demand = e.1.demand }
+    ∷ map (row_of new s) (values_of (carried es cs))) (same e.1.parent)
+    ∙ ap (λ o. record { parent = row_above old e.1.parent; weight = e.1.weight; limit = o; demand = e.1.demand }
+    ∷ map (row_of new s) (values_of (carried es cs))) (no_burst s c e.1 none.0 ∙ sym (no_burst s e.1.carry e.1 none.0))
     ∙ ap (λ (rows : List Row). row_of old s e.1 ∷ rows) (rows_from s old new es cs same none.1)
 
 pub carries_unseen : (s : Shape) (t : TreeState) (rows : List Row) (drawn : List ℕ) → HasNoBurst t.groups
     → instance_of (carried_over t rows drawn) s ≡ instance_of t s
 carries_unseen s t rows drawn none =
-    ap (λ (xs : List Row). record { shape = s; rows = xs }) (rows_from s t.groups (carried t.groups (left_over rows drawn)) t.groups (left_over rows drawn) (place_same t.groups (left_over rows drawn)) none)
+    ap (λ (xs : List Row). record { shape = s; rows = xs })
+    (rows_from s t.groups (carried t.groups (left_over rows drawn)) t.groups (left_over rows drawn) (place_same t.groups (left_over rows drawn)) none)
 
 none_carried : (gs : List (ℕ × GroupFields)) (cs : List ℕ) → HasNoBurst gs → HasNoBurst (carried gs cs)
 none_carried gs [] none = none

@@ -1,12 +1,57 @@
 -- What a period leaves over changes no group's place, and nothing else of it.
-use Rattle.std.proofs.Common.{◌≡◌, ℕ, zero, suc, ◌<◌, Bool, true, false, cond, ◌||◌, List, [], ◌∷◌, length, get_or, take, Option, Some, None, is_some, refl, sym, ap, subst, ◌∙◌, arith, eqb}
+use Rattle.std.proofs.Common.{
+  ◌≡◌,
+  ℕ,
+  zero,
+  suc,
+  ◌<◌,
+  Bool,
+  true,
+  false,
+  cond,
+  ◌||◌,
+  List,
+  [],
+  ◌∷◌,
+  length,
+  get_or,
+  take,
+  Option,
+  Some,
+  None,
+  is_some,
+  refl,
+  sym,
+  ap,
+  subst,
+  ◌∙◌,
+  arith,
+  eqb,
+}
 use Rattle.std.proofs.lemmas.Bool.{eq-eqb, ne_eqb}
 use Rattle.std.specs.Map.{keys_of, set_value}
 use Rattle.bw_model.specs.declared.row.Row.{Row}
 use Rattle.bw_model.specs.declared.limits.TheConstants.{MAX_PATH}
 use Rattle.bw_tree.specs.declared.child_index.ChildIndex.{ChildIndex}
 use Rattle.bw_tree.specs.Children.{IsIndexOf}
-use Rattle.bw_tree.specs.Groups.{GroupFields, TreeState, group_at, has_group, has_children, is_parent, is_child_named, demand_of, child_of, parent_of, is_name, IsTree, AllBefore, AllAfter, AreRising, IsSound}
+use Rattle.bw_tree.specs.Groups.{
+  GroupFields,
+  TreeState,
+  group_at,
+  has_group,
+  has_children,
+  is_parent,
+  is_child_named,
+  demand_of,
+  child_of,
+  parent_of,
+  is_name,
+  IsTree,
+  AllBefore,
+  AllAfter,
+  AreRising,
+  IsSound,
+}
 use Rattle.bw_tree.specs.Tree.{changed, changed_at, set_carry}
 use Rattle.bw_tree.specs.Snapshot.{carried, left_of, left_over}
 use Rattle.bw_tree.proofs.GroupLemmas.{above_same}
@@ -121,7 +166,8 @@ module _ (t : TreeState) (cs : List ℕ) (ok : IsTree t) where
         rising = rising_carried t.groups cs ok.rising;
         below_next = before_carried t.groups cs t.next ok.below_next;
         root = (root.0, root.1, ap (λ (x : GroupFields). x.parent) root.3 ∙ ok.root.2, ap (λ (x : GroupFields). x.quota) root.3 ∙ ok.root.3);
-        one_root = λ q h found lacks. let was = was_group t.groups cs q h found in ok.one_root q was.g was.at (sym (ap (λ (x : GroupFields). x.parent) was.is) ∙ lacks);
+        one_root = λ q h found lacks. let was = was_group t.groups cs q h found in
+            ok.one_root q was.g was.at (sym (ap (λ (x : GroupFields). x.parent) was.is) ∙ lacks);
         parents = λ q p h found up.
             let was = was_group t.groups cs q h found in
             let old = ok.parents q p was.g was.at (sym (ap (λ (x : GroupFields). x.parent) was.is) ∙ up) in
@@ -134,7 +180,8 @@ module _ (t : TreeState) (cs : List ℕ) (ok : IsTree t) where
             let was = was_group t.groups cs q h found in
             ap is_name (ap (λ (x : GroupFields). x.name) was.is) ∙ ok.spelled q p was.g was.at (sym (ap (λ (x : GroupFields). x.parent) was.is) ∙ up);
         shallow = λ q there.
-            above_same t.groups (carried t.groups cs) (λ _. Unit {0}) (λ k _. parent_kept (group_at (carried t.groups cs) k) (group_at t.groups k) (look_carried t.groups cs k)) (λ _ _ _ _. tt) MAX_PATH q tt
+            above_same t.groups (carried t.groups cs) (λ _. Unit {0})
+            (λ k _. parent_kept (group_at (carried t.groups cs) k) (group_at t.groups k) (look_carried t.groups cs k)) (λ _ _ _ _. tt) MAX_PATH q tt
             ∙ ok.shallow q (sym (there_stays q) ∙ there);
         leaves =
             λ q some. children_carried t.groups cs q
@@ -142,7 +189,16 @@ module _ (t : TreeState) (cs : List ℕ) (ok : IsTree t) where
         sound = λ q h found.
             let was = was_group t.groups cs q h found in
             let old = ok.sound q was.g was.at in
-            subst IsSound (sym was.is) (record { some_weight = old.some_weight; weight = old.weight; quota = old.quota; long_period = old.long_period; short_period = old.short_period; burst = old.burst; demand = old.demand });
+            subst IsSound (sym was.is)
+            (record {
+              some_weight = old.some_weight;
+              weight = old.weight;
+              quota = old.quota;
+              long_period = old.long_period;
+              short_period = old.short_period;
+              burst = old.burst;
+              demand = old.demand;
+            });
       }
 
 -- the index stays theirs
@@ -195,7 +251,8 @@ carry_next (e ∷ es) [] i up lt within = absurd (omega (arith, within))
 carry_next (e ∷ es) (c ∷ cs) zero up lt within = changed_first (set_carry c) e es
 carry_next (e ∷ es) (c ∷ cs) (suc i) up lt within =
     let after = key_after es e.0 i up.0 (omega (arith, lt)) in
-    changed_later (set_carry (get_or cs i 0)) (e.0, set_carry c e.1) (carried es (take i cs)) (get_or (keys_of es) i 0) (ne_eqb (get_or (keys_of es) i 0) e.0 (λ same. omega (arith, after, same)))
+    changed_later (set_carry (get_or cs i 0)) (e.0, set_carry c e.1) (carried es (take i cs)) (get_or (keys_of es) i 0)
+    (ne_eqb (get_or (keys_of es) i 0) e.0 (λ same. omega (arith, after, same)))
     ∙ ap (λ (xs : List (ℕ × GroupFields)). (e.0, set_carry c e.1) ∷ xs) (carry_next es cs i up.1 (omega (arith, lt)) (omega (arith, within)))
 
 pub length_left_over : (rows : List Row) (drawn : List ℕ) → length drawn ≡ length rows → length (left_over rows drawn) ≡ length rows

@@ -153,7 +153,8 @@ some_named None n h = h
 some_named (Some m) n h = refl
 
 -- one group less
-module _ (t : TreeState) (id : ℕ) (g : GroupFields) (ok : IsTree t) (inner : id ≢ 0) (lone : has_children t.groups id ≡ false) (at : group_at t.groups id ≡ Some g) where
+module _ (t : TreeState) (id : ℕ) (g : GroupFields) (ok : IsTree t) (inner : id ≢ 0) (lone : has_children t.groups id ≡ false)
+    (at : group_at t.groups id ≡ Some g) where
   -- its name finds nothing any more
   pub child_taken : (p : ℕ) (n : List ℕ) → is_child_named g p n ≡ true → child_of (remove_entry (eqb id) t.groups) p n ≡ None
   child_taken p n match_is = by (child_of (remove_entry (eqb id) t.groups) p n) refl
@@ -204,7 +205,8 @@ module _ (t : TreeState) (id : ℕ) (g : GroupFields) (ok : IsTree t) (inner : i
       listing : (p : ℕ) (b : Bool) → is_parent g.parent p ≡ b → is_listed new p ≡ has_children (remove_entry (eqb id) t.groups) p
       listing p false other = others p other ∙ is.listed p ∙ sym (children_unparented id g t.groups p at other)
       listing p true up =
-          by_listed p (is_listed new p) refl (λ match_is. let n = some_left p up match_is in child_has (remove_entry (eqb id) t.groups) p n.0 (ap is_some (sym (found p n.0)) ∙ n.1))
+          by_listed p (is_listed new p) refl
+          (λ match_is. let n = some_left p up match_is in child_has (remove_entry (eqb id) t.groups) p n.0 (ap is_some (sym (found p n.0)) ∙ n.1))
 
 -- the index of some first groups, where the rest are still to come
 abbrev pub either : Option ℕ → Option ℕ → Option ℕ

@@ -1,5 +1,33 @@
 -- A group's path from its parent's, by rows: all paths can be spelled in one pass over the rows.
-use Rattle.std.proofs.Common.{◌≡◌, ◌≢◌, ℕ, zero, suc, ◌<◌, Bool, true, false, cond, not, [], ◌∷◌, ◌++◌, List, length, get_or, Option, Some, None, is_some, refl, sym, ap, ◌∙◌, arith, eqb}
+use Rattle.std.proofs.Common.{
+  ◌≡◌,
+  ◌≢◌,
+  ℕ,
+  zero,
+  suc,
+  ◌<◌,
+  Bool,
+  true,
+  false,
+  cond,
+  not,
+  [],
+  ◌∷◌,
+  ◌++◌,
+  List,
+  length,
+  get_or,
+  Option,
+  Some,
+  None,
+  is_some,
+  refl,
+  sym,
+  ap,
+  ◌∙◌,
+  arith,
+  eqb,
+}
 use Rattle.std.specs.Prelude.{codes}
 use Rattle.std.specs.List.{join_with_byte}
 use Rattle.std.specs.Map.{keys_of}
@@ -11,7 +39,7 @@ use Rattle.bw_model.specs.Groups.{no_row, parent_of as parent_row}
 use Rattle.bw_model.proofs.CallerLemmas.{inside}
 use Rattle.bw_tree.specs.Groups.{GroupFields, TreeState, group_at, has_group, IsTree}
 use Rattle.bw_tree.specs.Paths.{names_to, path_at}
-use Rattle.bw_tree.specs.Snapshot.{place_of, rows_of}
+use Rattle.bw_tree.specs.Snapshot.{row_above, rows_of}
 use Rattle.bw_tree.proofs.SnapshotLemmas.{found_at, place_found, place_le, parent_place, row_parent}
 use Rattle.bw_tree.proofs.WayLemmas.{joined_below, joined_first}
 
@@ -62,11 +90,11 @@ module _ (t : TreeState) (ok : IsTree t) (s : Shape) where
     where
       by : (o : Option ℕ) → (get_or t.groups g other).1.parent ≡ o → HasParent g p
       by None is =
-          let none : Some p ≡ None = sym up ∙ row_parent t ok s other no_row g within ∙ ap (place_of t.groups) is in
+          let none : Some p ≡ None = sym up ∙ row_parent t ok s other no_row g within ∙ ap (row_above t.groups) is in
           absurd (cc)
       by (Some id) is =
           let h = parent_place t ok s other no_row g id within is in
-          let same : h.place ≡ p = inside (sym (row_parent t ok s other no_row g within ∙ ap (place_of t.groups) is ∙ h.is) ∙ up) in
+          let same : h.place ≡ p = inside (sym (row_parent t ok s other no_row g within ∙ ap (row_above t.groups) is ∙ h.is) ∙ up) in
           let key : id ≡ get_or (keys_of t.groups) p 0 =
           sym h.key ∙ sym (id_is h.place (omega (arith, h.before, within))) ∙ ap (λ k. get_or (keys_of t.groups) k 0) same in
           record { parent = is ∙ ap Some key; before = omega (arith, h.before, same) }
@@ -90,7 +118,7 @@ module _ (t : TreeState) (ok : IsTree t) (s : Shape) where
           spelled_as id (ap is_some (group_is g within)) true (eq-eqb id 0 top)
       by (Some p) is =
           let h = parent_place t ok s other no_row g p within is in
-          let none : None ≡ Some h.place = sym up ∙ row_parent t ok s other no_row g within ∙ ap (place_of t.groups) is ∙ h.is in
+          let none : None ≡ Some h.place = sym up ∙ row_parent t ok s other no_row g within ∙ ap (row_above t.groups) is ∙ h.is in
           absurd (cc)
 
   -- the path of a child of the first row

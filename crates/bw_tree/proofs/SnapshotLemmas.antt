@@ -1,5 +1,41 @@
 -- The rows of a tree are an instance.
-use Rattle.std.proofs.Common.{◌≡◌, ◌⊎◌, inl, inr, ℕ, suc, zero, ◌<◌, ◌≤◌, Bool, true, false, cond, ◌==◌, ◌||◌, ◌&&◌, not, List, [], ◌∷◌, length, get_or, Option, Some, None, is_some, refl, sym, ap, ◌∙◌, arith, eqb, ltb, position, zero-add}
+use Rattle.std.proofs.Common.{
+  ◌≡◌,
+  ◌⊎◌,
+  inl,
+  inr,
+  ℕ,
+  suc,
+  zero,
+  ◌<◌,
+  ◌≤◌,
+  Bool,
+  true,
+  false,
+  cond,
+  ◌==◌,
+  ◌||◌,
+  ◌&&◌,
+  not,
+  List,
+  [],
+  ◌∷◌,
+  length,
+  get_or,
+  Option,
+  Some,
+  None,
+  is_some,
+  refl,
+  sym,
+  ap,
+  ◌∙◌,
+  arith,
+  eqb,
+  ltb,
+  position,
+  zero-add,
+}
 use Rattle.std.proofs.lemmas.Bool.{eq-eqb, ne_eqb, eqb-true, lt-ltb, le-ltb, cases_order, cases_lt}
 use Rattle.std.proofs.lemmas.List.{get_or-map, length-map}
 use Rattle.indexmap.proofs.MapLemmas.{some_index}
@@ -10,18 +46,32 @@ use Rattle.std.specs.Map.{keys_of, values_of}
 use Rattle.bw_model.specs.declared.row.Row.{Row}
 use Rattle.bw_model.specs.Quota.{in_slices, slices_of}
 use Rattle.bw_model.specs.declared.limits.TheConstants.{MAX_GROUPS, MIN_WEIGHT, MAX_WEIGHT, MAX_DEMAND, MAX_DEPTH, MAX_PATH}
-use Rattle.bw_model.specs.Groups.{no_row, IsInstance, depth_of, IsTree as IsTreeOfRows, parent_of as parent_row}
+use Rattle.bw_model.specs.Groups.{no_row, IsInstance, depth_of, AreTreeRows, parent_of as parent_row}
 use Rattle.bw_model.specs.Refusal.{is_earlier, are_earlier, depths_of, is_root_limited, refusal, demand_above}
 use Rattle.bw_model.specs.Host.{Shape, IsHost}
 use Rattle.std.proofs.lemmas.List.FromFn.{get_or-map-range_with_len, length-map-range_with_len}
 use Rattle.bw_model.specs.declared.quota.Quota.TheVariants.{Max}
-use Rattle.bw_tree.specs.Groups.{GroupFields, TreeState, group_at, has_group, has_children, demand_at, demand_of, above, parent_of, IsTree, IsSound, AllAfter, AreRising}
-use Rattle.bw_tree.specs.Snapshot.{place_of, bursting, row_of, rows_of, instance_of}
+use Rattle.bw_tree.specs.Groups.{
+  GroupFields,
+  TreeState,
+  group_at,
+  has_group,
+  has_children,
+  demand_at,
+  demand_of,
+  above,
+  parent_of,
+  IsTree,
+  IsSound,
+  AllAfter,
+  AreRising,
+}
+use Rattle.bw_tree.specs.Snapshot.{row_above, bursting, row_of, rows_of, instance_of}
 use Rattle.bw_tree.specs.Tree.{root_group}
 use Rattle.bw_tree.proofs.GroupLemmas.{above_more, above_here, some_of}
 use Rattle.bw_tree.proofs.RemoveLemmas.{children_found}
 use Rattle.bw_tree.proofs.IndexLemmas.{at_more}
-use Rattle.bw_model.proofs.CallerLemmas.{goes_on, earlier-IsTree, refused_none-IsInstance, depth_of-top, depth_of-step}
+use Rattle.bw_model.proofs.CallerLemmas.{goes_on, earlier-AreTreeRows, refused_none-IsInstance, depth_of-top, depth_of-step}
 
 -- a test of each element, from a test at each place
 pub all_places : {X : Type 0} (p : X → Bool) (xs : List X) (d : X) → ((i : ℕ) → i < length xs → p (get_or xs i d) ≡ true) → list_all p xs ≡ true
@@ -105,18 +155,20 @@ module _ (t : TreeState) (ok : IsTree t) (s : Shape) (d : ℕ × GroupFields) (r
       let j = place_found t.groups p above_it.1 in
       let at = position-Some (eqb p) (keys_of t.groups) j.0 0 j.1 in
       let there : j.0 < length t.groups = omega (arith, at.0, length-map t.groups (λ (e : ℕ × GroupFields). e.0)) in
-      let key : (get_or t.groups j.0 d).0 ≡ p = sym (eqb-true p (get_or t.groups j.0 d).0 (ap (eqb p) (sym (get_or-map (λ (e : ℕ × GroupFields). e.0) t.groups j.0 d 0 there)) ∙ at.1)) in
+      let key : (get_or t.groups j.0 d).0 ≡ p =
+      sym (eqb-true p (get_or t.groups j.0 d).0 (ap (eqb p) (sym (get_or-map (λ (e : ℕ × GroupFields). e.0) t.groups j.0 d 0 there)) ∙ at.1)) in
       record { place = j.0; is = j.1; before = earlier j.0 (cases_order j.0 i) key above_it.0 there; key = key }
     where
       earlier : (j : ℕ) → (j ≡ i) ⊎ ((j < i) ⊎ (i < j)) → (get_or t.groups j d).0 ≡ p → p < (get_or t.groups i d).0 → j < length t.groups → j < i
-      earlier j (inl same) key lt there = let e : (get_or t.groups j d).0 ≡ (get_or t.groups i d).0 = ap (λ k. (get_or t.groups k d).0) same in absurd (omega (arith, e, key, lt))
+      earlier j (inl same) key lt there = let e : (get_or t.groups j d).0 ≡ (get_or t.groups i d).0 = ap (λ k. (get_or t.groups k d).0) same in
+          absurd (omega (arith, e, key, lt))
       earlier j (inr (inl before)) key lt there = before
       earlier j (inr (inr after)) key lt there = let up = rising_at t.groups i j d ok.rising after there in absurd (omega (arith, up, key, lt))
 
-  pub earlier_row : (i : ℕ) → i < length t.groups → is_earlier i (place_of t.groups (get_or t.groups i d).1.parent) ≡ true
+  pub earlier_row : (i : ℕ) → i < length t.groups → is_earlier i (row_above t.groups (get_or t.groups i d).1.parent) ≡ true
   earlier_row i within = by (get_or t.groups i d).1.parent refl
     where
-      by : (o : Option ℕ) → (get_or t.groups i d).1.parent ≡ o → is_earlier i (place_of t.groups o) ≡ true
+      by : (o : Option ℕ) → (get_or t.groups i d).1.parent ≡ o → is_earlier i (row_above t.groups o) ≡ true
       by None up =
           let root = ok.one_root (get_or t.groups i d).0 (get_or t.groups i d).1 (found_at t.groups i d ok.rising within) up in
           let low = place_le t.groups i d ok.rising within in
@@ -133,10 +185,10 @@ module _ (t : TreeState) (ok : IsTree t) (s : Shape) (d : ℕ × GroupFields) (r
       ap (λ (q : ℕ × Row). is_earlier q.0 q.1.parent) at ∙ earlier_row i within)
 
   -- the rows are one tree
-  pub rows_tree : IsTreeOfRows (rows_of t.groups s)
+  pub rows_tree : AreTreeRows (rows_of t.groups s)
   rows_tree =
       let root = ok.root in
-      earlier-IsTree (rows_of t.groups s) some_rows rows_earlier
+      earlier-AreTreeRows (rows_of t.groups s) some_rows rows_earlier
     where
       some_rows : length (rows_of t.groups s) == 0 ≡ false
       some_rows =
@@ -145,7 +197,7 @@ module _ (t : TreeState) (ok : IsTree t) (s : Shape) (d : ℕ × GroupFields) (r
           ne_eqb (length (rows_of t.groups s)) 0 (λ e. omega (arith, e, at.0, length-map t.groups (λ (x : ℕ × GroupFields). x.0), length_rows t.groups s))
 
   -- the row's parent is the parent's place
-  pub row_parent : (i : ℕ) → i < length t.groups → parent_row (rows_of t.groups s) i ≡ place_of t.groups (get_or t.groups i d).1.parent
+  pub row_parent : (i : ℕ) → i < length t.groups → parent_row (rows_of t.groups s) i ≡ row_above t.groups (get_or t.groups i d).1.parent
   row_parent i within = ap (λ (q : Row). q.parent) (row_at t.groups s i d no_row within)
 
   -- as many levels lie above a group as its row is deep
@@ -157,18 +209,19 @@ module _ (t : TreeState) (ok : IsTree t) (s : Shape) (d : ℕ × GroupFields) (r
           → ((j : ℕ) → j < length t.groups → m ≤ depth_of (rows_of t.groups s) j → is_some (above t.groups m (get_or t.groups j d).0) ≡ true)
           → (o : Option ℕ) → (get_or t.groups i d).1.parent ≡ o → is_some (above t.groups (suc m) (get_or t.groups i d).0) ≡ true
       step i within le rest None up =
-          let top = depth_of-top (rows_of t.groups s) rows_tree i (row_parent i within ∙ ap (place_of t.groups) up) in
+          let top = depth_of-top (rows_of t.groups s) rows_tree i (row_parent i within ∙ ap (row_above t.groups) up) in
           absurd (omega (arith, le, top))
       step i within le rest (Some p) up =
           let h = parent_place i p within up in
-          let one = depth_of-step (rows_of t.groups s) rows_tree i h.place (row_parent i within ∙ ap (place_of t.groups) up ∙ h.is) in
+          let one = depth_of-step (rows_of t.groups s) rows_tree i h.place (row_parent i within ∙ ap (row_above t.groups) up ∙ h.is) in
           let read : parent_of (group_at t.groups (get_or t.groups i d).0) ≡ Some p = ap parent_of (found_at t.groups i d ok.rising within) ∙ up in
           ap is_some (above_more t.groups m (get_or t.groups i d).0 (Some p) read) ∙ ap (λ k. is_some (above t.groups m k)) (sym h.key)
           ∙ rest h.place (omega (arith, h.before, within)) (omega (arith, le, one))
 
   pub rows_shallow : list_any (λ depth. ltb MAX_DEPTH depth) (depths_of (rows_of t.groups s)) ≡ false
   rows_shallow = no_place (λ depth. ltb MAX_DEPTH depth) (depths_of (rows_of t.groups s)) 0 (λ k lt.
-      let inside : k < length (rows_of t.groups s) = omega (arith, lt, length-map-range_with_len (depth_of (rows_of t.groups s)) 0 (length (rows_of t.groups s))) in
+      let inside : k < length (rows_of t.groups s) =
+      omega (arith, lt, length-map-range_with_len (depth_of (rows_of t.groups s)) 0 (length (rows_of t.groups s))) in
       let within : k < length t.groups = omega (arith, inside, length_rows t.groups s) in
       ap (ltb MAX_DEPTH) (get_or-map-range_with_len (depth_of (rows_of t.groups s)) 0 (length (rows_of t.groups s)) k k 0 inside (zero-add k))
       ∙ low k within (cases_lt MAX_DEPTH (depth_of (rows_of t.groups s) k)))
@@ -196,15 +249,16 @@ module _ (t : TreeState) (ok : IsTree t) (s : Shape) (d : ℕ × GroupFields) (r
       ap (λ (q : Row). ltb MAX_DEMAND q.demand) (row_at t.groups s i d r within) ∙ le-ltb MAX_DEMAND (get_or t.groups i d).1.demand sound.demand)
 
   -- a parent has no demand
-  pub parent_idle : (i : ℕ) → i < length t.groups → demand_above (rows_of t.groups s) (place_of t.groups (get_or t.groups i d).1.parent) ≡ 0
+  pub parent_idle : (i : ℕ) → i < length t.groups → demand_above (rows_of t.groups s) (row_above t.groups (get_or t.groups i d).1.parent) ≡ 0
   parent_idle i within = by (get_or t.groups i d).1.parent refl
     where
-      by : (o : Option ℕ) → (get_or t.groups i d).1.parent ≡ o → demand_above (rows_of t.groups s) (place_of t.groups o) ≡ 0
+      by : (o : Option ℕ) → (get_or t.groups i d).1.parent ≡ o → demand_above (rows_of t.groups s) (row_above t.groups o) ≡ 0
       by None up = refl
       by (Some p) up =
           let h = parent_place i p within up in
           let there : h.place < length t.groups = omega (arith, h.before, within) in
-          let same : demand_at t.groups p ≡ (get_or t.groups h.place d).1.demand = ap (demand_at t.groups) (sym h.key) ∙ ap demand_of (found_at t.groups h.place d ok.rising there) in
+          let same : demand_at t.groups p ≡ (get_or t.groups h.place d).1.demand =
+          ap (demand_at t.groups) (sym h.key) ∙ ap demand_of (found_at t.groups h.place d ok.rising there) in
           let child = children_found t.groups (get_or t.groups i d).0 p (get_or t.groups i d).1 (found_at t.groups i d ok.rising within) up in
           ap (demand_above (rows_of t.groups s)) h.is ∙ ap (λ (q : Row). q.demand) (row_at t.groups s h.place d no_row there) ∙ sym same
           ∙ idle p child (cases_lt 0 (demand_at t.groups p))
@@ -228,7 +282,8 @@ module _ (t : TreeState) (ok : IsTree t) (s : Shape) (d : ℕ × GroupFields) (r
       let j = place_found t.groups 0 (ap is_some ok.root.1) in
       let at = position-Some (eqb 0) (keys_of t.groups) j.0 0 j.1 in
       let there : j.0 < length t.groups = omega (arith, at.0, length-map t.groups (λ (e : ℕ × GroupFields). e.0)) in
-      let key : (get_or t.groups j.0 d).0 ≡ 0 = sym (eqb-true 0 (get_or t.groups j.0 d).0 (ap (eqb 0) (sym (get_or-map (λ (e : ℕ × GroupFields). e.0) t.groups j.0 d 0 there)) ∙ at.1)) in
+      let key : (get_or t.groups j.0 d).0 ≡ 0 =
+      sym (eqb-true 0 (get_or t.groups j.0 d).0 (ap (eqb 0) (sym (get_or-map (λ (e : ℕ × GroupFields). e.0) t.groups j.0 d 0 there)) ∙ at.1)) in
       let low = place_le t.groups j.0 d ok.rising there in
       let zeroth : j.0 ≡ 0 = omega (arith, low, key) in
       record { some = omega (arith, there); key = ap (λ k. (get_or t.groups k d).0) (sym zeroth) ∙ key }
@@ -237,10 +292,12 @@ module _ (t : TreeState) (ok : IsTree t) (s : Shape) (d : ℕ × GroupFields) (r
   root_free =
       let root = root_first in
       let inside : 0 < length (rows_of t.groups s) = omega (arith, root.some, length_rows t.groups s) in
-      let is : (get_or t.groups 0 d).1 ≡ ok.root.0 = unwrapped (sym (found_at t.groups 0 d ok.rising root.some) ∙ ap (group_at t.groups) root.key ∙ ok.root.1) in
+      let is : (get_or t.groups 0 d).1 ≡ ok.root.0 =
+      unwrapped (sym (found_at t.groups 0 d ok.rising root.some) ∙ ap (group_at t.groups) root.key ∙ ok.root.1) in
       let quota : (get_or t.groups 0 d).1.quota ≡ Max = ap (λ g. g.quota) is ∙ ok.root.3 in
       first_limit (rows_of t.groups s) r inside ∙ ap (λ (q : Row). is_some q.limit) (row_at t.groups s 0 d r root.some)
-      ∙ ap (λ q. is_some (bursting (get_or t.groups 0 d).1.carry (in_slices s (get_or t.groups 0 d).1.period (get_or t.groups 0 d).1.burst) (slices_of s (get_or t.groups 0 d).1.period q))) quota
+      ∙ ap (λ q. is_some (bursting (get_or t.groups 0 d).1.carry (in_slices s (get_or t.groups 0 d).1.period (get_or t.groups 0 d).1.burst)
+      (slices_of s (get_or t.groups 0 d).1.period q))) quota
     where
       unwrapped : {A : Type 0} {a b : A} → Some a ≡ Some b → a ≡ b
       unwrapped e = cc
@@ -250,7 +307,8 @@ module _ (t : TreeState) (ok : IsTree t) (s : Shape) (d : ℕ × GroupFields) (r
   rows_valid =
       let root = root_first in
       goes_on _ _ _ (le-ltb MAX_GROUPS (length (rows_of t.groups s)) (omega (arith, ok.count, length_rows t.groups s)))
-      (goes_on _ _ _ (ap (λ b. b || not (are_earlier (rows_of t.groups s))) (ne_eqb (length (rows_of t.groups s)) 0 (λ e. omega (arith, e, root.some, length_rows t.groups s))) ∙ ap not rows_earlier)
+      (goes_on _ _ _ (ap (λ b. b || not (are_earlier (rows_of t.groups s)))
+      (ne_eqb (length (rows_of t.groups s)) 0 (λ e. omega (arith, e, root.some, length_rows t.groups s))) ∙ ap not rows_earlier)
       (goes_on _ _ _ rows_weighted
       (goes_on _ _ _ rows_shallow
       (goes_on _ _ _ rows_idle

@@ -1,5 +1,35 @@
 -- The way from the root down to a group: the names on it find the group, and no other names do.
-use Rattle.std.proofs.Common.{◌≡◌, ◌≢◌, ℕ, suc, zero, ◌<◌, ◌≤◌, Bool, true, false, cond, ◌&&◌, not, List, [], ◌∷◌, ◌++◌, length, Option, Some, None, is_some, refl, sym, ap, ◌∙◌, arith, eqb, append_assoc}
+use Rattle.std.proofs.Common.{
+  ◌≡◌,
+  ◌≢◌,
+  ℕ,
+  suc,
+  zero,
+  ◌<◌,
+  ◌≤◌,
+  Bool,
+  true,
+  false,
+  cond,
+  ◌&&◌,
+  not,
+  List,
+  [],
+  ◌∷◌,
+  ◌++◌,
+  length,
+  Option,
+  Some,
+  None,
+  is_some,
+  refl,
+  sym,
+  ap,
+  ◌∙◌,
+  arith,
+  eqb,
+  append_assoc,
+}
 use Rattle.std.specs.Prelude.{codes}
 use Rattle.std.specs.List.{list_all, All, slice_split, join_with_byte}
 use Rattle.std.specs.Str.{bytes_eq}
@@ -117,7 +147,8 @@ module _ (t : TreeState) (ok : IsTree t) where
       at_parent rest g at None up = refl
       at_parent rest g at (Some p) up =
           list_all-append is_name (names_within steps t.groups p) (g.name ∷ [])
-          ∙ and_from (list_all is_name (names_within steps t.groups p)) (is_name g.name && true) (rest p) (and_from (is_name g.name) true (ok.spelled id p g at up) refl)
+          ∙ and_from (list_all is_name (names_within steps t.groups p)) (is_name g.name && true) (rest p)
+          (and_from (is_name g.name) true (ok.spelled id p g at up) refl)
 
       onto : ((p : ℕ) → list_all is_name (names_within steps t.groups p) ≡ true) → (o : Option GroupFields) → group_at t.groups id ≡ o
           → list_all is_name (names_at (names_within steps t.groups) o) ≡ true
@@ -133,7 +164,8 @@ module _ (t : TreeState) (ok : IsTree t) where
   walk_names (name ∷ names) at id there leads = onto (child_of t.groups at name) refl leads (walk_names names)
     where
       onto : (o : Option ℕ) → child_of t.groups at name ≡ o → onward (λ q. walk t.groups q names) o ≡ Some id
-          → ((q k : ℕ) → has_group t.groups q ≡ true → walk t.groups q names ≡ Some k → (names_to t.groups k ≡ names_to t.groups q ++ names) × (has_group t.groups k ≡ true))
+          → ((q k : ℕ) → has_group t.groups q ≡ true → walk t.groups q names ≡ Some k
+          → (names_to t.groups k ≡ names_to t.groups q ++ names) × (has_group t.groups k ≡ true))
           → (names_to t.groups id ≡ names_to t.groups at ++ name ∷ names) × (has_group t.groups id ≡ true)
       onto None found leads rest = cc
       onto (Some q) found leads rest =
@@ -204,7 +236,8 @@ module _ (t : TreeState) (ok : IsTree t) where
               → walk t.groups 0 (slice_split (λ b. eqb b 47) path) ≡ Some id → find_path t.groups path ≡ Some id
           by_dot true dot {first} {rest} parts fit leads =
               let is_dot : path ≡ codes "." = (bytes_decides path (codes ".")).0 dot in
-              let wrong : list_all is_name (slice_split (λ b. eqb b 47) (codes ".")) ≡ true = ap (λ p. list_all is_name (slice_split (λ b. eqb b 47) p)) (sym is_dot) ∙ ap (list_all is_name) parts ∙ fit in
+              let wrong : list_all is_name (slice_split (λ b. eqb b 47) (codes ".")) ≡ true =
+              ap (λ p. list_all is_name (slice_split (λ b. eqb b 47) p)) (sym is_dot) ∙ ap (list_all is_name) parts ∙ fit in
               absurd (cc)
           by_dot false dot parts fit leads = ap (λ b. cond b (Some 0) (walk t.groups 0 (slice_split (λ b. eqb b 47) path))) dot ∙ leads
 

@@ -9,9 +9,9 @@ use Rattle.bw_tree.specs.Groups.{GroupFields, TreeState}
 use Rattle.bw_tree.specs.Tree.{set_carry}
 
 -- the row number of the parent
-abbrev pub place_of : List (ℕ × GroupFields) → Option ℕ → Option ℕ
-place_of groups None = None
-place_of groups (Some id) = position (nat_eq id) (keys_of groups)
+abbrev pub row_above : List (ℕ × GroupFields) → Option ℕ → Option ℕ
+row_above groups None = None
+row_above groups (Some id) = position (nat_eq id) (keys_of groups)
 
 -- the quota of a group in whole slices of the host's period, where there is one
 abbrev pub quota_slices : Shape → GroupFields → Option ℕ
@@ -32,7 +32,7 @@ period_limit shape g = bursting g.carry (in_slices shape g.period g.burst) (quot
 
 -- a group as a row, its limit in whole slices
 abbrev pub row_of : List (ℕ × GroupFields) → Shape → GroupFields → Row
-row_of groups shape g = record { parent = place_of groups g.parent; weight = g.weight; limit = period_limit shape g; demand = g.demand }
+row_of groups shape g = record { parent = row_above groups g.parent; weight = g.weight; limit = period_limit shape g; demand = g.demand }
 
 -- a row for each group, in order of creation
 abbrev pub rows_of : List (ℕ × GroupFields) → Shape → List Row

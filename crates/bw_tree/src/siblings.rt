@@ -81,7 +81,8 @@ fn pair(
     name: String,
     id: GroupId,
 ) -> Result<BTreeMap<String, GroupId>, AllocError>
-    ensures { IfOk result (λ m. (n : List ℕ) → get_by_text m n ≡ cond (bytes_eq (string_bytes name) n) (Some id) (cond (bytes_eq (string_bytes first) n) (Some first_id) None)) }
+    ensures { IfOk result (λ m. (n : List ℕ)
+        → get_by_text m n ≡ cond (bytes_eq (string_bytes name) n) (Some id) (cond (bytes_eq (string_bytes first) n) (Some first_id) None)) }
 {
     let mut children = BTreeMap::new(alloc);
     children.insert(first, first_id)?;

@@ -34,12 +34,7 @@ pub fn put_lines(line: Line<'_>, paths: &Paths, answer: &mut Vec<u8>) -> Result<
 }
 
 // Appends the line of one group.
-fn put_line(
-    line: Line<'_>,
-    g: usize,
-    path: &[u8],
-    answer: &mut Vec<u8>,
-) -> Result<(), AllocError>
+fn put_line(line: Line<'_>, g: usize, path: &[u8], answer: &mut Vec<u8>) -> Result<(), AllocError>
     requires { HasRow line g }
     ensures ok { OnOk result (answer.new.items ≡ answer.old.items ++ line_of line.entry g path.now) }
     ensures room { vec_capacity answer.old ≤ vec_capacity answer.new }

@@ -25,9 +25,11 @@ returns-clause-certified c =
     let levels_each : length c.loop-g.levels.items ≡ length c.args.instance.now.rows = omega (arith, long, c.loop-g.invariant.long, c.loop-g-test.false) in
     record {
       bounds = c.args.gathered.most.items;
-      certified = planned-IsCertified c.args.instance.now c.rows-g-end.ensures.valid c.args.gathered.most.items c.requires.gathered.mosts c.args.plan.now.amounts.items c.requires.plan
+      certified = planned-IsCertified c.args.instance.now c.rows-g-end.ensures.valid c.args.gathered.most.items c.requires.gathered.mosts
+          c.args.plan.now.amounts.items c.requires.plan
           (record { tight = c.args.gathered.tight.items; levels = c.loop-g.levels.items }) c.requires.gathered.flags_each levels_each
           c.requires.gathered.flags
-          (λ h below. let here : IsLevelAt c.args.instance.now c.as_slice-amounts.result.now h (get_or c.loop-g.levels.items h None) = c.loop-g.invariant.each h (omega (arith, long, below)) in
+          (λ h below. let here : IsLevelAt c.args.instance.now c.as_slice-amounts.result.now h (get_or c.loop-g.levels.items h None) =
+          c.loop-g.invariant.each h (omega (arith, long, below)) in
           rw c.as_slice-amounts.ensures.value at here);
     }

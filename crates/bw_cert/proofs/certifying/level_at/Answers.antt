@@ -14,8 +14,10 @@ returns-then-amount-eq0 c = λ _. omega (arith, c.if-amount-eq0.true)
 pub level_of-requires-clause-few : goal.level_of-requires-clause-few
 level_of-requires-clause-few c =
     let e : length c.as_slice.result.now ≡ length (children_of c.args.instance.now.rows c.args.g) =
-    ap (length {A = ℕ}) (c.as_slice.ensures.value ∙ c.in_ok-parts.ensures) ∙ length-map (children_of c.args.instance.now.rows c.args.g) (slice_index c.args.amounts.now) in
-    let le : length (children_of c.args.instance.now.rows c.args.g) < length c.args.instance.now.rows = few_children c.args.instance.now.rows c.args.g c.rows-rows.ensures.valid.tree in
+    ap (length {A = ℕ}) (c.as_slice.ensures.value ∙ c.in_ok-parts.ensures)
+    ∙ length-map (children_of c.args.instance.now.rows c.args.g) (slice_index c.args.amounts.now) in
+    let le : length (children_of c.args.instance.now.rows c.args.g) < length c.args.instance.now.rows =
+    few_children c.args.instance.now.rows c.args.g c.rows-rows.ensures.valid.tree in
     let few : length c.args.instance.now.rows ≤ MAX_GROUPS = c.rows-rows.ensures.valid.few in
     omega (arith, e, le, few)
 

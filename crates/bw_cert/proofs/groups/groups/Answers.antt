@@ -10,23 +10,54 @@ use Rattle.bw_cert.proofs.groups.groups.Goals as goal
 
 pub returns-in_err-line : goal.returns-in_err-line
 returns-in_err-line c =
-    let front : Columns = record { rows = c.loop.rows.items; amounts = c.loop.amounts.items; flags = c.loop.tight.items; levels = map (option_map price_of) c.loop.levels.items } in
+    let front : Columns = record {
+      rows = c.loop.rows.items;
+      amounts = c.loop.amounts.items;
+      flags = c.loop.tight.items;
+      levels = map (option_map price_of) c.loop.levels.items;
+    } in
     let p = err_from_is_err_and c.from_residual.result c.from_residual.ensures.1 in
-    rw (p.1, p.2) (line_ends c.in_err-line.field-0.0 front c.args.count c.loop.counter (lines_of c.loop.rest.now) (groups_at c.args.count (lines_of c.args.text.now)) c.loop-test.true (sym c.in_err-line.ensures) c.loop.invariant)
+    rw (p.1, p.2) (line_ends c.in_err-line.field-0.0 front c.args.count c.loop.counter (lines_of c.loop.rest.now)
+    (groups_at c.args.count (lines_of c.args.text.now)) c.loop-test.true (sym c.in_err-line.ensures) c.loop.invariant)
 
 pub returns-in_err-next : goal.returns-in_err-next
 returns-in_err-next c =
-    let front : Columns = record { rows = c.loop.rows.items; amounts = c.loop.amounts.items; flags = c.loop.tight.items; levels = map (option_map price_of) c.loop.levels.items } in
+    let front : Columns = record {
+      rows = c.loop.rows.items;
+      amounts = c.loop.amounts.items;
+      flags = c.loop.tight.items;
+      levels = map (option_map price_of) c.loop.levels.items;
+    } in
     let p = err_from_is_err_and c.from_residual-in_err-next.result c.from_residual-in_err-next.ensures.1 in
-    rw (p.1, p.2) (group_ends c.in_err-next.field-0.0 front c.args.count c.loop.counter (lines_of c.loop.rest.now) (lines_of c.in_ok-line.after.now) c.in_ok-line.line.now (groups_at c.args.count (lines_of c.args.text.now)) c.loop-test.true (sym c.in_ok-line.ensures) (sym c.in_err-next.ensures) c.loop.invariant)
+    rw (p.1, p.2) (group_ends c.in_err-next.field-0.0 front c.args.count c.loop.counter (lines_of c.loop.rest.now)
+    (lines_of c.in_ok-line.after.now) c.in_ok-line.line.now (groups_at c.args.count (lines_of c.args.text.now)) c.loop-test.true
+    (sym c.in_ok-line.ensures) (sym c.in_err-next.ensures) c.loop.invariant)
 
 pub loop-preserved : goal.loop-preserved
 loop-preserved c =
-    let front : Columns = record { rows = c.loop.rows.items; amounts = c.loop.amounts.items; flags = c.loop.tight.items; levels = map (option_map price_of) c.loop.levels.items } in
-    rw (c.in_ok-push.ensures.items, c.in_ok-push-2.ensures.items, c.in_ok-push-3.ensures.items, c.in_ok-push-4.ensures.items, map_push (option_map price_of) c.loop.levels.items c.in_ok-next.next.level)
-    (goes_on front c.args.count c.loop.counter (lines_of c.loop.rest.now) (lines_of c.in_ok-line.after.now) c.in_ok-line.line.now (group_view c.in_ok-next.next) (groups_at c.args.count (lines_of c.args.text.now)) c.loop-test.true (sym c.in_ok-line.ensures) (sym c.in_ok-next.ensures) c.loop.invariant)
+    let front : Columns = record {
+      rows = c.loop.rows.items;
+      amounts = c.loop.amounts.items;
+      flags = c.loop.tight.items;
+      levels = map (option_map price_of) c.loop.levels.items;
+    } in
+    rw (
+      c.in_ok-push.ensures.items,
+      c.in_ok-push-2.ensures.items,
+      c.in_ok-push-3.ensures.items,
+      c.in_ok-push-4.ensures.items,
+      map_push (option_map price_of) c.loop.levels.items c.in_ok-next.next.level,
+    )
+    (goes_on front c.args.count c.loop.counter (lines_of c.loop.rest.now) (lines_of c.in_ok-line.after.now) c.in_ok-line.line.now
+    (group_view c.in_ok-next.next) (groups_at c.args.count (lines_of c.args.text.now)) c.loop-test.true (sym c.in_ok-line.ensures)
+    (sym c.in_ok-next.ensures) c.loop.invariant)
 
 pub returns : goal.returns
 returns c =
-    let front : Columns = record { rows = c.loop.rows.items; amounts = c.loop.amounts.items; flags = c.loop.tight.items; levels = map (option_map price_of) c.loop.levels.items } in
+    let front : Columns = record {
+      rows = c.loop.rows.items;
+      amounts = c.loop.amounts.items;
+      flags = c.loop.tight.items;
+      levels = map (option_map price_of) c.loop.levels.items;
+    } in
     is_done front c.args.count c.loop.counter (lines_of c.loop.rest.now) (groups_at c.args.count (lines_of c.args.text.now)) c.loop-test.false c.loop.invariant

@@ -8,5 +8,14 @@ use Rattle.bw_cert.proofs.writing.push_group.Goals as goal
 
 pub returns-clause-text : goal.returns-clause-text
 returns-clause-text c =
-    rw (c.in_ok-push_str-3.ensures.bytes, c.in_ok-push_level.ensures, c.in_ok-push_str-2.ensures.bytes, c.in_ok-push_flag.ensures, c.in_ok-push_str.ensures.bytes, c.in_ok-push_number.ensures, c.in_ok-push_row.ensures)
-    (group_text (string_bytes c.args.out.now) (parent_word c.args.row.parent) (decimal c.args.row.weight) (limit_word c.args.row.limit) (decimal c.args.row.demand) (decimal c.args.amount) (flag_word c.args.flag) (level_word (option_map price_of c.args.level)))
+    rw (
+      c.in_ok-push_str-3.ensures.bytes,
+      c.in_ok-push_level.ensures,
+      c.in_ok-push_str-2.ensures.bytes,
+      c.in_ok-push_flag.ensures,
+      c.in_ok-push_str.ensures.bytes,
+      c.in_ok-push_number.ensures,
+      c.in_ok-push_row.ensures,
+    )
+    (group_text (string_bytes c.args.out.now) (parent_word c.args.row.parent) (decimal c.args.row.weight) (limit_word c.args.row.limit)
+    (decimal c.args.row.demand) (decimal c.args.amount) (flag_word c.args.flag) (level_word (option_map price_of c.args.level)))

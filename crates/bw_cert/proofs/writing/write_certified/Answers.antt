@@ -9,7 +9,8 @@ use Rattle.bw_cert.proofs.writing.write_certified.Goals as goal
 
 pub loop-i-init : goal.loop-i-init
 loop-i-init c =
-    let text : string_bytes c.push_head.new.out ++ rest_text c.args.instance.now.rows c.args.amounts.now c.args.certificate.now.tight.items c.args.certificate.now.levels.items 0
+    let text : string_bytes c.push_head.new.out
+    ++ rest_text c.args.instance.now.rows c.args.amounts.now c.args.certificate.now.tight.items c.args.certificate.now.levels.items 0
     ≡ spelling (certified_value c.args.instance.now c.args.amounts.now c.args.certificate.now) = search rules in
     (text, record { of_rows = first_none IsSmallRow _; of_amounts = first_none (λ n. n < 2 ^ 64) _; of_levels = first_none IsSmallMark _ })
 
@@ -21,20 +22,24 @@ loop-i-preserved c =
       written_more (string_bytes c.loop-i.out) (string_bytes c.push_group.new.out) _
           (rest_text rows c.args.amounts.now c.args.certificate.now.tight.items c.args.certificate.now.levels.items c.loop-i.i) _ _
           (rw c.rows-rows.ensures.rows at c.in_ok-push_group.ensures.text)
-          (rest_step rows c.args.amounts.now c.args.certificate.now.tight.items c.args.certificate.now.levels.items c.loop-i.i _ _ _ _ _ _ _ _ lt (omega arith) (omega arith) (omega arith) refl refl c.index.ensures c.index-in-loop-i.ensures)
+          (rest_step rows c.args.amounts.now c.args.certificate.now.tight.items c.args.certificate.now.levels.items c.loop-i.i _ _ _ _ _ _ _ _ lt
+          (omega arith) (omega arith) (omega arith) refl refl c.index.ensures c.index-in-loop-i.ensures)
           c.loop-i.invariant.0,
       record {
         of_rows = first_more IsSmallRow rows c.loop-i.i _ _ refl (rw c.rows-rows.ensures.rows at c.in_ok-push_group.ensures.small_row) small.of_rows;
         of_amounts = first_more (λ n. n < 2 ^ 64) c.args.amounts.now c.loop-i.i _ _ refl c.in_ok-push_group.ensures.small_amount small.of_amounts;
-        of_levels = first_more IsSmallMark c.args.certificate.now.levels.items c.loop-i.i _ _ c.index-in-loop-i.ensures c.in_ok-push_group.ensures.small_level small.of_levels;
+        of_levels = first_more IsSmallMark c.args.certificate.now.levels.items c.loop-i.i _ _ c.index-in-loop-i.ensures
+            c.in_ok-push_group.ensures.small_level small.of_levels;
       },
     )
 
 pub returns-clause-text : goal.returns-clause-text
 returns-clause-text c =
     let rows = c.args.instance.now.rows in
-    written_all (string_bytes c.loop-i.out) (rest_text rows c.args.amounts.now c.args.certificate.now.tight.items c.args.certificate.now.levels.items c.loop-i.i) _
-    (rest_none rows c.args.amounts.now c.args.certificate.now.tight.items c.args.certificate.now.levels.items c.loop-i.i (omega (arith, ap length c.rows-rows.ensures.rows)))
+    written_all (string_bytes c.loop-i.out)
+    (rest_text rows c.args.amounts.now c.args.certificate.now.tight.items c.args.certificate.now.levels.items c.loop-i.i) _
+    (rest_none rows c.args.amounts.now c.args.certificate.now.tight.items c.args.certificate.now.levels.items c.loop-i.i
+    (omega (arith, ap length c.rows-rows.ensures.rows)))
     c.loop-i.invariant.0
 
 pub returns-clause-valid : goal.returns-clause-valid
@@ -49,5 +54,6 @@ returns-clause-valid c =
       levels = length-map c.args.certificate.now.levels.items (option_map price_of) ∙ c.requires.levels;
       small_rows = first_all IsSmallRow rows c.loop-i.i last small.of_rows;
       small_amounts = first_all (λ n. n < 2 ^ 64) c.args.amounts.now c.loop-i.i (omega (arith, last, c.requires.amounts)) small.of_amounts;
-      small_levels = all_levels c.args.certificate.now.levels.items (first_all IsSmallMark c.args.certificate.now.levels.items c.loop-i.i (omega (arith, last, c.requires.levels)) small.of_levels);
+      small_levels = all_levels c.args.certificate.now.levels.items
+          (first_all IsSmallMark c.args.certificate.now.levels.items c.loop-i.i (omega (arith, last, c.requires.levels)) small.of_levels);
     }

@@ -47,7 +47,8 @@ loop-g-preserved-in-Some c =
     let before : c.in-Some.parent < c.loop-g.g - 1 = c.in-Some.ensures.before in
     let read : c.index-sum.result.now ≡ get_or below c.in-Some.parent 0 =
     c.index-sum.ensures ∙ get_or_default_zero below c.in-Some.parent c.index-sum.result.now (omega (arith, within, long, before)) in
-    let value : c.bound_of-bound.result ≡ bound_over c.args.instance.now (certified_of c.args.certificate.now) (get_or below (c.loop-g.g - 1) 0) (c.loop-g.g - 1) =
+    let value : c.bound_of-bound.result
+    ≡ bound_over c.args.instance.now (certified_of c.args.certificate.now) (get_or below (c.loop-g.g - 1) 0) (c.loop-g.g - 1) =
     c.bound_of-bound.ensures.value ∙ ap (λ (x : ℕ). bound_over c.args.instance.now (certified_of c.args.certificate.now) x (c.loop-g.g - 1)) here in
     let sum = c.index-sum.result.now + c.bound_of-bound.result in
     let sum_is : c.index-sum.result.now + c.bound_of-bound.result ≡ get_or below c.in-Some.parent 0 + c.bound_of-bound.result =
@@ -69,7 +70,8 @@ loop-g-preserved c =
     let long : length below ≡ length rows = c.loop-g.invariant.made.summed.one_each in
     let here : c.index.result.now ≡ get_or below (c.loop-g.g - 1) 0 =
     c.index.ensures ∙ get_or_default_zero below (c.loop-g.g - 1) c.index.result.now (omega (arith, within, long)) in
-    let value : c.bound_of-bound.result ≡ bound_over c.args.instance.now (certified_of c.args.certificate.now) (get_or below (c.loop-g.g - 1) 0) (c.loop-g.g - 1) =
+    let value : c.bound_of-bound.result
+    ≡ bound_over c.args.instance.now (certified_of c.args.certificate.now) (get_or below (c.loop-g.g - 1) 0) (c.loop-g.g - 1) =
     c.bound_of-bound.ensures.value ∙ ap (λ (x : ℕ). bound_over c.args.instance.now (certified_of c.args.certificate.now) x (c.loop-g.g - 1)) here in
     record {
       made = made_top c.args.instance.now (certified_of c.args.certificate.now) c.group_count-count.ensures.valid.tree
@@ -83,4 +85,5 @@ pub returns : goal.returns
 returns c =
     let done : c.loop-g.g ≡ 0 = omega (arith, c.loop-g-test.false) in
     all_made c.args.instance.now (certified_of c.args.certificate.now) c.group_count-count.ensures.valid.tree c.loop-g.below.items c.loop-g.bounds.items
-    (subst (λ (g : ℕ). AreMadeFrom c.args.instance.now (certified_of c.args.certificate.now) g c.loop-g.below.items c.loop-g.bounds.items) done c.loop-g.invariant.made)
+    (subst (λ (g : ℕ). AreMadeFrom c.args.instance.now
+    (certified_of c.args.certificate.now) g c.loop-g.below.items c.loop-g.bounds.items) done c.loop-g.invariant.made)

@@ -18,7 +18,17 @@ overflow_add-sum c =
     c.index-sum.ensures ∙ get_or_default_zero sums c.in-Some.parent c.index-sum.result.now (omega (arith, within, c.loop-c.invariant.one_each)) in
     let most = first-le rows (slice_index amounts) (2 ^ 64 - 1) c.loop-c.c c.in-Some.parent (λ k _. omega (arith, c.type_inv.amounts k)) in
     let few : length rows ≤ MAX_GROUPS = c.group_count-count.ensures.valid.few in
-    omega (arith, read, c.loop-c.invariant.each c.in-Some.parent within, most, c.from.ensures, c.type_inv.amounts c.loop-c.c, few, c.loop-c-test.true, c.group_count-count.ensures.count)
+    omega (
+      arith,
+      read,
+      c.loop-c.invariant.each c.in-Some.parent within,
+      most,
+      c.from.ensures,
+      c.type_inv.amounts c.loop-c.c,
+      few,
+      c.loop-c-test.true,
+      c.group_count-count.ensures.count,
+    )
 
 pub loop-c-preserved : goal.loop-c-preserved
 loop-c-preserved c = elim c.match-parent.branch [

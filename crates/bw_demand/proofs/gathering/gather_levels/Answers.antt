@@ -25,8 +25,10 @@ loop-k-init c =
     let next : c.loop-depth.depth - 1 + 1 ≡ c.loop-depth.depth = omega (arith, c.loop-depth-test.true) in
     record {
       level = level_is c.args.instance.now.rows c.args.levels.now (c.loop-depth.depth - 1) c.index-levels-depth.result c.as_slice-level.result.now
-          c.requires.levels (slice_get_read c.args.levels.now (length c.args.levels.now) (c.loop-depth.depth - 1) c.index-levels-depth.result refl (omega (arith, c.loop-depth-test.true, c.loop-depth.auto.depth)) c.index-levels-depth.is) c.as_slice-level.ensures.value;
-      gathering = same_seen c.args.instance.now (seen_from c.args.instance.now.rows c.loop-depth.depth) (seen_at c.args.instance.now.rows (c.loop-depth.depth - 1) 0)
+          c.requires.levels (slice_get_read c.args.levels.now (length c.args.levels.now) (c.loop-depth.depth - 1) c.index-levels-depth.result refl
+          (omega (arith, c.loop-depth-test.true, c.loop-depth.auto.depth)) c.index-levels-depth.is) c.as_slice-level.ensures.value;
+      gathering = same_seen c.args.instance.now (seen_from c.args.instance.now.rows c.loop-depth.depth)
+          (seen_at c.args.instance.now.rows (c.loop-depth.depth - 1) 0)
           c.loop-depth.want.items c.loop-depth.most.items c.loop-depth.tight.items
           (λ r _. first_seen c.args.instance.now.rows (c.loop-depth.depth - 1) r ∙ ap (λ (d : ℕ). seen_from c.args.instance.now.rows d r) next)
           c.loop-depth.invariant;
@@ -36,14 +38,16 @@ pub loop-depth-preserved : goal.loop-depth-preserved
 loop-depth-preserved c =
     let whole : length (level_of c.args.instance.now.rows (c.loop-depth.depth - 1)) ≤ c.loop-k.k =
     omega (arith, c.loop-k-test.false, ap (length {A = ℕ}) c.loop-k.invariant.level) in
-    same_seen c.args.instance.now (seen_at c.args.instance.now.rows (c.loop-depth.depth - 1) c.loop-k.k) (seen_from c.args.instance.now.rows (c.loop-depth.depth - 1))
+    same_seen c.args.instance.now (seen_at c.args.instance.now.rows (c.loop-depth.depth - 1) c.loop-k.k)
+    (seen_from c.args.instance.now.rows (c.loop-depth.depth - 1))
     c.loop-k.want.items c.loop-k.most.items c.loop-k.tight.items
     (λ r below. last_seen c.args.instance.now.rows (c.loop-depth.depth - 1) c.loop-k.k r below whole)
     c.loop-k.invariant.gathering
 
 pub index-wanted-requires : goal.index-wanted-requires
 index-wanted-requires c =
-    let inside = level_within c.args.instance.now.rows (c.loop-depth.depth - 1) c.loop-k.k c.as_slice-level.result.now c.loop-k.invariant.level c.loop-k-test.true in
+    let inside = level_within c.args.instance.now.rows
+    (c.loop-depth.depth - 1) c.loop-k.k c.as_slice-level.result.now c.loop-k.invariant.level c.loop-k-test.true in
     omega (arith, inside, c.loop-k.invariant.gathering.wants_each)
 
 pub limit-limit-requires : goal.limit-limit-requires
@@ -52,17 +56,20 @@ limit-limit-requires c =
 
 pub index_mut-requires : goal.index_mut-requires
 index_mut-requires c =
-    let inside = level_within c.args.instance.now.rows (c.loop-depth.depth - 1) c.loop-k.k c.as_slice-level.result.now c.loop-k.invariant.level c.loop-k-test.true in
+    let inside = level_within c.args.instance.now.rows
+    (c.loop-depth.depth - 1) c.loop-k.k c.as_slice-level.result.now c.loop-k.invariant.level c.loop-k-test.true in
     omega (arith, inside, c.loop-k.invariant.gathering.mosts_each)
 
 pub index_mut-requires-in-loop-k : goal.index_mut-requires-in-loop-k
 index_mut-requires-in-loop-k c =
-    let inside = level_within c.args.instance.now.rows (c.loop-depth.depth - 1) c.loop-k.k c.as_slice-level.result.now c.loop-k.invariant.level c.loop-k-test.true in
+    let inside = level_within c.args.instance.now.rows
+    (c.loop-depth.depth - 1) c.loop-k.k c.as_slice-level.result.now c.loop-k.invariant.level c.loop-k-test.true in
     omega (arith, inside, c.loop-k.invariant.gathering.flags_each)
 
 pub bounds : goal.bounds
 bounds c =
-    let inside = level_within c.args.instance.now.rows (c.loop-depth.depth - 1) c.loop-k.k c.as_slice-level.result.now c.loop-k.invariant.level c.loop-k-test.true in
+    let inside = level_within c.args.instance.now.rows
+    (c.loop-depth.depth - 1) c.loop-k.k c.as_slice-level.result.now c.loop-k.invariant.level c.loop-k-test.true in
     omega (arith, inside, ap (length {A = Row}) c.rows-rows.ensures.rows)
 
 pub index_mut-requires-in-Some : goal.index_mut-requires-in-Some
@@ -87,7 +94,8 @@ overflow_add-index_mut c =
     let e : parent_of rows g ≡ Some c.in-Some.parent = rw c.rows-rows.ensures.rows at c.in-Some.is in
     let up : c.in-Some.parent < g = parent_lt rows c.rows-rows.ensures.valid.tree g c.in-Some.parent e in
     let read : c.index_mut-in-Some.result.now ≡ get_or c.loop-k.want.items c.in-Some.parent 0 =
-    c.index_mut-in-Some.ensures.value ∙ get_or_within c.loop-k.want.items c.in-Some.parent c.index_mut-in-Some.result.now (omega (arith, up, inside, so_far.wants_each)) in
+    c.index_mut-in-Some.ensures.value
+    ∙ get_or_within c.loop-k.want.items c.in-Some.parent c.index_mut-in-Some.result.now (omega (arith, up, inside, so_far.wants_each)) in
     let wanted : c.index-wanted.result.now ≡ get_or c.loop-k.want.items g 0 =
     c.index-wanted.ensures ∙ get_or_within c.loop-k.want.items g c.index-wanted.result.now (omega (arith, inside, so_far.wants_each)) in
     let given : c.cut_at-given.result ≡ capped (limit_of c.args.instance.now g) (get_or c.loop-k.want.items g 0) =
@@ -121,7 +129,8 @@ loop-k-preserved c =
             let e : parent_of rows g ≡ Some w.in-Some.parent = rw c.rows-rows.ensures.rows at w.in-Some.is in
             let up : w.in-Some.parent < g = parent_lt rows tree g w.in-Some.parent e in
             let read : w.index_mut-in-Some.result.now ≡ get_or c.loop-k.want.items w.in-Some.parent 0 =
-            w.index_mut-in-Some.ensures.value ∙ get_or_within c.loop-k.want.items w.in-Some.parent w.index_mut-in-Some.result.now (omega (arith, up, inside, so_far.wants_each)) in
+            w.index_mut-in-Some.ensures.value
+            ∙ get_or_within c.loop-k.want.items w.in-Some.parent w.index_mut-in-Some.result.now (omega (arith, up, inside, so_far.wants_each)) in
             rw w.want-is
             (gathered_child c.args.instance.now tree (seen_at rows d c.loop-k.k) (seen_at rows d (c.loop-k.k + 1)) g inside
             (fresh rows d c.loop-k.k g here is) (λ r _. next_seen rows d c.loop-k.k g r here is)

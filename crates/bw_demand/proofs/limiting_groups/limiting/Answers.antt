@@ -1,4 +1,30 @@
-use Rattle.std.proofs.Common.{◌≡◌, ◌<◌, ◌≤◌, ◌+◌, ◌*◌, ℕ, Bool, false, [], ◌∷◌, ◌++◌, cond, append-nil, Vec, ◌&&◌, ◌||◌, not, Some, length, refl, ap, sym, ◌∙◌, arith, rules}
+use Rattle.std.proofs.Common.{
+  ◌≡◌,
+  ◌<◌,
+  ◌≤◌,
+  ◌+◌,
+  ◌*◌,
+  ℕ,
+  Bool,
+  false,
+  [],
+  ◌∷◌,
+  ◌++◌,
+  cond,
+  append-nil,
+  Vec,
+  ◌&&◌,
+  ◌||◌,
+  not,
+  Some,
+  length,
+  refl,
+  ap,
+  sym,
+  ◌∙◌,
+  arith,
+  rules,
+}
 use Rattle.std.specs.declared.alloc.Global.{Global}
 use Rattle.bw_model.specs.declared.row.Row.{Row}
 use Rattle.bw_model.specs.declared.limits.TheConstants.{MAX_DEMAND, MAX_GROUPS}
@@ -38,18 +64,25 @@ loop-g-preserved c =
     let long : length c.rows-rows.result.now ≡ length c.args.instance.now.rows = ap (length {A = Row}) c.rows-rows.ensures.rows in
     let below : c.loop-g.g < length c.args.instance.now.rows = omega (arith, c.loop-g-test.true, long) in
     let tight : c.index-tight.result.now ≡ is_tight c.args.instance.now c.args.gathered.now.most.items c.loop-g.g =
-    c.index-tight.ensures ∙ flag_within c.args.gathered.now.tight.items c.loop-g.g c.index-tight.result.now false (omega (arith, below, c.requires.gathered.flags_each))
+    c.index-tight.ensures ∙ flag_within c.args.gathered.now.tight.items c.loop-g.g c.index-tight.result.now false
+    (omega (arith, below, c.requires.gathered.flags_each))
     ∙ c.requires.gathered.flags c.loop-g.g below in
     let above : c.is_parent_covered-above.result ≡ has_tight_above c.args.instance.now c.args.gathered.now.most.items c.loop-g.g =
     above_by_parent c.args.instance.now c.rows-rows.ensures.valid (demands_of c.args.gathered.now) c.requires.gathered
     c.loop-g.g c.loop-g.covered.items c.loop-g.groups.items c.loop-g.rest c.loop-g.invariant c.is_parent_covered-above.result
     (c.is_parent_covered-above.ensures ∙ rw (c.as_slice.ensures.value, c.rows-rows.ensures.rows) refl) in
-    let here : c.is_covered-here.result ≡ (is_tight c.args.instance.now c.args.gathered.now.most.items c.loop-g.g || has_tight_above c.args.instance.now c.args.gathered.now.most.items c.loop-g.g) =
+    let here : c.is_covered-here.result
+    ≡ (is_tight c.args.instance.now c.args.gathered.now.most.items c.loop-g.g
+    || has_tight_above c.args.instance.now c.args.gathered.now.most.items c.loop-g.g) =
     c.is_covered-here.ensures ∙ rw (tight, above) refl in
     let more : c.demand_if_outside-rest.result
-    ≡ cond (is_leaf c.args.instance.now.rows c.loop-g.g && not (is_tight c.args.instance.now c.args.gathered.now.most.items c.loop-g.g || has_tight_above c.args.instance.now c.args.gathered.now.most.items c.loop-g.g)) (demand_of c.args.instance.now.rows c.loop-g.g) 0 =
+    ≡ cond (is_leaf c.args.instance.now.rows c.loop-g.g
+    && not (is_tight c.args.instance.now c.args.gathered.now.most.items c.loop-g.g
+    || has_tight_above c.args.instance.now c.args.gathered.now.most.items c.loop-g.g)) (demand_of c.args.instance.now.rows c.loop-g.g) 0 =
     c.demand_if_outside-rest.ensures.value ∙ rw (c.is_leaf.ensures, here, c.rows-rows.ensures.rows) refl in
-    let limits : c.is_limiting.result ≡ (is_tight c.args.instance.now c.args.gathered.now.most.items c.loop-g.g && not (has_tight_above c.args.instance.now c.args.gathered.now.most.items c.loop-g.g)) =
+    let limits : c.is_limiting.result
+    ≡ (is_tight c.args.instance.now c.args.gathered.now.most.items c.loop-g.g
+    && not (has_tight_above c.args.instance.now c.args.gathered.now.most.items c.loop-g.g)) =
     c.is_limiting.ensures ∙ rw (tight, above) refl in
     let list : c.if-is_limiting.groups.items ≡ c.loop-g.groups.items ++ cond c.is_limiting.result (c.loop-g.g ∷ []) [] =
     elim c.if-is_limiting.branch [

@@ -27,9 +27,11 @@ overflow_add-index_mut c =
     let long : length c.rows-rows.result.now ≡ length c.args.instance.now.rows = ap (length {A = Row}) c.rows-rows.ensures.rows in
     let up : c.in-Some.parent < c.loop-g.g - 1 = parent_lt c.args.instance.now.rows c.rows-rows.ensures.valid.tree (c.loop-g.g - 1) c.in-Some.parent e in
     let so_far : IsGathering c.args.instance.now (rows_from (c.loop-g.g - 1 + 1)) c.loop-g.want.items c.loop-g.most.items c.loop-g.tight.items =
-    subst (λ (g : ℕ). IsGathering c.args.instance.now (rows_from g) c.loop-g.want.items c.loop-g.most.items c.loop-g.tight.items) (omega arith) c.loop-g.invariant in
+    subst (λ (g : ℕ). IsGathering c.args.instance.now (rows_from g) c.loop-g.want.items c.loop-g.most.items c.loop-g.tight.items)
+    (omega arith) c.loop-g.invariant in
     let read : c.index_mut-in-Some.result.now ≡ get_or c.loop-g.want.items c.in-Some.parent 0 =
-    c.index_mut-in-Some.ensures.value ∙ get_or_within c.loop-g.want.items c.in-Some.parent c.index_mut-in-Some.result.now (omega (arith, up, so_far.wants_each)) in
+    c.index_mut-in-Some.ensures.value
+    ∙ get_or_within c.loop-g.want.items c.in-Some.parent c.index_mut-in-Some.result.now (omega (arith, up, so_far.wants_each)) in
     let wanted : c.index-wanted.result.now ≡ get_or c.loop-g.want.items (c.loop-g.g - 1) 0 =
     c.index-wanted.ensures ∙ get_or_within c.loop-g.want.items (c.loop-g.g - 1) c.index-wanted.result.now (omega (arith, so_far.wants_each)) in
     let given : c.cut_at-given.result ≡ capped (limit_of c.args.instance.now (c.loop-g.g - 1)) (get_or c.loop-g.want.items (c.loop-g.g - 1) 0) =
@@ -48,9 +50,11 @@ loop-g-preserved-in-Some c =
     let long : length c.rows-rows.result.now ≡ length c.args.instance.now.rows = ap (length {A = Row}) c.rows-rows.ensures.rows in
     let up : c.in-Some.parent < c.loop-g.g - 1 = parent_lt c.args.instance.now.rows c.rows-rows.ensures.valid.tree (c.loop-g.g - 1) c.in-Some.parent e in
     let so_far : IsGathering c.args.instance.now (rows_from (c.loop-g.g - 1 + 1)) c.loop-g.want.items c.loop-g.most.items c.loop-g.tight.items =
-    subst (λ (g : ℕ). IsGathering c.args.instance.now (rows_from g) c.loop-g.want.items c.loop-g.most.items c.loop-g.tight.items) (omega arith) c.loop-g.invariant in
+    subst (λ (g : ℕ). IsGathering c.args.instance.now (rows_from g) c.loop-g.want.items c.loop-g.most.items c.loop-g.tight.items)
+    (omega arith) c.loop-g.invariant in
     let read : c.index_mut-in-Some.result.now ≡ get_or c.loop-g.want.items c.in-Some.parent 0 =
-    c.index_mut-in-Some.ensures.value ∙ get_or_within c.loop-g.want.items c.in-Some.parent c.index_mut-in-Some.result.now (omega (arith, up, so_far.wants_each)) in
+    c.index_mut-in-Some.ensures.value
+    ∙ get_or_within c.loop-g.want.items c.in-Some.parent c.index_mut-in-Some.result.now (omega (arith, up, so_far.wants_each)) in
     let wanted : c.index-wanted.result.now ≡ get_or c.loop-g.want.items (c.loop-g.g - 1) 0 =
     c.index-wanted.ensures ∙ get_or_within c.loop-g.want.items (c.loop-g.g - 1) c.index-wanted.result.now (omega (arith, so_far.wants_each)) in
     let given : c.cut_at-given.result ≡ capped (limit_of c.args.instance.now (c.loop-g.g - 1)) (get_or c.loop-g.want.items (c.loop-g.g - 1) 0) =
@@ -67,7 +71,8 @@ loop-g-preserved c =
     let other : (x : ℕ) → parent_of c.args.instance.now.rows (c.loop-g.g - 1) ≡ Some x → ⊥ = rw c.rows-rows.ensures.rows at c.in_default.not-Some in
     let long : length c.rows-rows.result.now ≡ length c.args.instance.now.rows = ap (length {A = Row}) c.rows-rows.ensures.rows in
     let so_far : IsGathering c.args.instance.now (rows_from (c.loop-g.g - 1 + 1)) c.loop-g.want.items c.loop-g.most.items c.loop-g.tight.items =
-    subst (λ (g : ℕ). IsGathering c.args.instance.now (rows_from g) c.loop-g.want.items c.loop-g.most.items c.loop-g.tight.items) (omega arith) c.loop-g.invariant in
+    subst (λ (g : ℕ). IsGathering c.args.instance.now (rows_from g) c.loop-g.want.items c.loop-g.most.items c.loop-g.tight.items)
+    (omega arith) c.loop-g.invariant in
     let wanted : c.index-wanted.result.now ≡ get_or c.loop-g.want.items (c.loop-g.g - 1) 0 =
     c.index-wanted.ensures ∙ get_or_within c.loop-g.want.items (c.loop-g.g - 1) c.index-wanted.result.now (omega (arith, so_far.wants_each)) in
     let given : c.cut_at-given.result ≡ capped (limit_of c.args.instance.now (c.loop-g.g - 1)) (get_or c.loop-g.want.items (c.loop-g.g - 1) 0) =

@@ -13,7 +13,8 @@ returns-then-not-is_even-clause-err c =
 pub returns-in_err-instance-clause-err : goal.returns-in_err-instance-clause-err
 returns-in_err-instance-clause-err c =
     let e : are_levels_even (claimed_of c.args.claim.now) ≡ true = search rules in
-    let known : Answers (claimed_number (shape_of c.args.host) (table_of c.args.columns.now) (claimed_of c.args.claim.now)) (number_of c.in_err-instance.field-0.0) =
+    let known : Answers (claimed_number (shape_of c.args.host) (table_of c.args.columns.now) (claimed_of c.args.claim.now))
+    (number_of c.in_err-instance.field-0.0) =
     subst (λ (n : ℕ). Answers n (number_of c.in_err-instance.field-0.0))
     (sym (claimed_even (shape_of c.args.host) (table_of c.args.columns.now) (claimed_of c.args.claim.now) e)) c.in_err-instance.ensures.err in
     search (known, rules)

@@ -6,4 +6,5 @@ use Rattle.bw_plan.proofs.level_plan.level_at.Goals as goal
 pub returns : goal.returns
 returns c =
     level_is c.args.instance.now.rows c.args.levels.now c.args.depth c.index-levels-depth.result c.as_slice.result.now c.requires.levels
-    (slice_get_read c.args.levels.now (length c.args.levels.now) c.args.depth c.index-levels-depth.result refl c.requires.depth c.index-levels-depth.is) c.as_slice.ensures.value
+    (slice_get_read c.args.levels.now
+    (length c.args.levels.now) c.args.depth c.index-levels-depth.result refl c.requires.depth c.index-levels-depth.is) c.as_slice.ensures.value

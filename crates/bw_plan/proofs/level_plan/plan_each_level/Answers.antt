@@ -34,5 +34,6 @@ returns g c =
     let known : AreMaxTotals groups most = rw c.as_slice-most.ensures.value c.requires.gathered.mosts in
     all_planned groups valid most (AreMaxTotals-capped groups valid.tree most known)
     (is_above groups.rows (c.loop-below.below - 1)) c.loop-below.amounts.items
-    (λ h _ inner. inner_above groups.rows valid.tree c.args.levels.now (c.loop-below.below - 1) c.requires.levels (omega (arith, c.loop-below-test.false, c.loop-below.auto.below-end)) h inner)
+    (λ h _ inner. inner_above groups.rows valid.tree c.args.levels.now (c.loop-below.below - 1) c.requires.levels
+    (omega (arith, c.loop-below-test.false, c.loop-below.auto.below-end)) h inner)
     c.loop-below.invariant

@@ -52,7 +52,8 @@ returns g c =
 pub index-requires : goal.index-requires
 index-requires g c =
     let long : length c.in_ok-parts.parts.items ≡ length c.level_at-level.result.now =
-    zip_long (λ row v. AreParts c.args.instance.now c.args.most.now c.as_slice.result.now row v.items) c.level_at-level.result.now c.in_ok-parts.parts.items c.in_ok-parts.ensures in
+    zip_long (λ row v. AreParts c.args.instance.now c.args.most.now c.as_slice.result.now row v.items) c.level_at-level.result.now
+    c.in_ok-parts.parts.items c.in_ok-parts.ensures in
     omega (arith, long, c.loop-k-test.true)
 
 pub give-requires-clause-row : goal.give-requires-clause-row

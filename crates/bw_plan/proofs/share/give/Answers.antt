@@ -59,9 +59,11 @@ returns-in_default c =
     record {
       one_each = c.write_parts.ensures.len;
       nothing = λ e. absurd (c.if-amount-eq0.false (read ∙ e));
-      only = λ _ child list. absurd (let one : length (children_of rows c.args.g) ≡ 1 = ap (length {A = ℕ}) list in omega (arith, one, long, c.in_default.len_at_least));
+      only = λ _ child list. absurd
+          (let one : length (children_of rows c.args.g) ≡ 1 = ap (length {A = ℕ}) list in omega (arith, one, long, c.in_default.len_at_least));
       among = λ has two.
           ap (map (slice_index c.write_parts.new.amounts.items)) (sym c.children.ensures)
-          ∙ map_is (slice_index c.write_parts.new.amounts.items) c.children.result.now c.args.parts.now (c.requires.part_each has two ∙ sym long) c.write_parts.ensures.written;
+          ∙ map_is (slice_index c.write_parts.new.amounts.items) c.children.result.now c.args.parts.now
+          (c.requires.part_each has two ∙ sym long) c.write_parts.ensures.written;
       others = λ i no'. c.write_parts.ensures.others i (not_listed rows c.args.g i c.children.result.now c.children.ensures no');
     }

@@ -7,7 +7,8 @@ use Rattle.bw_shell.proofs.Known.{Consumes-trans, moves_err}
 use Rattle.bw_shell.proofs.text_check.read_text.Goals as goal
 
 -- a text so far, and a read that makes it too long
-reads_too_much : (a b d : Option (List ℕ)) (text : List ℕ) → Consumes a b text → (bytes : List ℕ) × Consumes b d bytes × (TEXT_BYTES < length text + length bytes) → ReadsTooMuch a d
+reads_too_much : (a b d : Option (List ℕ)) (text : List ℕ) → Consumes a b text
+    → (bytes : List ℕ) × Consumes b d bytes × (TEXT_BYTES < length text + length bytes) → ReadsTooMuch a d
 reads_too_much a b d text p q =
     let sum = length-append text q.0 in
     (text ++ q.0, Consumes-trans a b d text q.0 p q.1, omega (arith, sum, q.2))

@@ -1,7 +1,12 @@
 use Rattle.std.proofs.Common.{◌<◌, ◌+◌, ℕ, get_or, arith}
 use Rattle.bw_split.proofs.LastMarks.{LastOf, last_kept, last_first, last_taken, last_stays}
 use Rattle.bw_split.proofs.level.level_of.Goals as goal
-use Rattle.bw_split.proofs.level.level_of.Goals.{then-parts-i-gt0+in-None, then-parts-i-gt0+in-Some+then-parts-i, then-parts-i-gt0+in-Some+else-parts-i, else-parts-i-gt0}
+use Rattle.bw_split.proofs.level.level_of.Goals.{
+  then-parts-i-gt0+in-None,
+  then-parts-i-gt0+in-Some+then-parts-i,
+  then-parts-i-gt0+in-Some+else-parts-i,
+  else-parts-i-gt0,
+}
 
 pub loop-i-preserved : goal.loop-i-preserved
 loop-i-preserved c =
@@ -14,7 +19,8 @@ loop-i-preserved c =
       | then-parts-i-gt0+in-Some+then-parts-i w ↦
           rw w.best-is (last_stays c.args.weights.now c.args.parts.now c.loop-i.i positive w.in-Some.b (rw w.in-Some.is at so_far) w.if-parts-i.true)
       | then-parts-i-gt0+in-Some+else-parts-i w ↦
-          rw w.best-is (last_taken c.args.weights.now c.args.parts.now c.loop-i.i positive w.in-Some.b (rw w.in-Some.is at so_far) w.if-parts-i-gt0.true w.if-parts-i.false)
+          rw w.best-is (last_taken c.args.weights.now c.args.parts.now c.loop-i.i positive w.in-Some.b
+          (rw w.in-Some.is at so_far) w.if-parts-i-gt0.true w.if-parts-i.false)
       | else-parts-i-gt0 w ↦
           rw w.best-is (last_kept c.args.weights.now c.args.parts.now c.loop-i.i positive c.loop-i.best so_far (omega (arith, w.if-parts-i-gt0.false)))
     ]

@@ -4,7 +4,12 @@ use Rattle.bw_split.specs.Levels.{taken_by_all}
 use Rattle.bw_split.proofs.Takes.{by_all-zero, by_all-mono}
 use Rattle.bw_split.proofs.Search.{halved}
 use Rattle.bw_split.proofs.level_search.find_level.Goals as goal
-use Rattle.bw_split.proofs.level_search.find_level.Goals.{then-total-amount, else-total-amount, then-above-level-eq1-via-then-above-level-eq1, then-above-level-eq1-via-else-above-level-eq1+then-rest-eq0-2}
+use Rattle.bw_split.proofs.level_search.find_level.Goals.{
+  then-total-amount,
+  else-total-amount,
+  then-above-level-eq1-via-then-above-level-eq1,
+  then-above-level-eq1-via-else-above-level-eq1+then-rest-eq0-2,
+}
 
 pub loop-round-preserved : goal.loop-round-preserved
 loop-round-preserved c =
@@ -58,7 +63,16 @@ returns-then-above-level-eq1-clause-enough c =
     let inv = c.loop-round.invariant in
     elim c.then-above-level-eq1.branch [
       | then-above-level-eq1-via-then-above-level-eq1 w ↦
-          omega (arith, inv.enough, by_all-mono c.loop-round.above (c.loop-round.level + 1) c.args.weights.now c.args.most.now (omega (arith, w.if-above-level-eq1.true)))
+          omega (
+            arith,
+            inv.enough,
+            by_all-mono c.loop-round.above (c.loop-round.level + 1) c.args.weights.now c.args.most.now (omega (arith, w.if-above-level-eq1.true)),
+          )
       | then-above-level-eq1-via-else-above-level-eq1+then-rest-eq0-2 w ↦
-          omega (arith, inv.rest_is, w.if-rest-eq0-2.true, by_all-mono c.loop-round.level (c.loop-round.level + 1) c.args.weights.now c.args.most.now (omega arith))
+          omega (
+            arith,
+            inv.rest_is,
+            w.if-rest-eq0-2.true,
+            by_all-mono c.loop-round.level (c.loop-round.level + 1) c.args.weights.now c.args.most.now (omega arith),
+          )
     ]

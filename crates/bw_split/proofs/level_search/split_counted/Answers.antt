@@ -5,7 +5,12 @@ use Rattle.bw_model.specs.Split.{IsBestSplit}
 use Rattle.bw_split.proofs.Picks.{IsGiven, given-none, given-kept, given-pick, given-IsBestSplit}
 use Rattle.bw_split.proofs.Search.{all-IsBestSplit, one-IsBestSplit}
 use Rattle.bw_split.proofs.level_search.split_counted.Goals as goal
-use Rattle.bw_split.proofs.level_search.split_counted.Goals.{then-rest-gt0+then-takes-part+in_ok-push, else-rest-gt0+in_ok-push-2, else-rest-gt0-via-then-rest-gt0+else-takes-part, else-rest-gt0-via-else-rest-gt0}
+use Rattle.bw_split.proofs.level_search.split_counted.Goals.{
+  then-rest-gt0+then-takes-part+in_ok-push,
+  else-rest-gt0+in_ok-push-2,
+  else-rest-gt0-via-then-rest-gt0+else-takes-part,
+  else-rest-gt0-via-else-rest-gt0,
+}
 
 pub loop-i-init : goal.loop-i-init
 loop-i-init c = record {
@@ -63,7 +68,8 @@ returns-then-fits_in-clause-best c =
 pub returns-then-weights-eq1-clause-best : goal.returns-then-weights-eq1-clause-best
 returns-then-weights-eq1-clause-best c =
     let copied : IfOk c.to_vec-then-weights-eq1.result (λ v. v.items ≡ c.args.amount ∷ []) = search rules in
-    IfOk-weaker c.to_vec-then-weights-eq1.result (λ v. v.items ≡ c.args.amount ∷ []) (λ parts. IsBestSplit c.args.amount c.args.weights.now c.args.most.now parts.items)
+    IfOk-weaker c.to_vec-then-weights-eq1.result (λ v. v.items ≡ c.args.amount ∷ [])
+    (λ parts. IsBestSplit c.args.amount c.args.weights.now c.args.most.now parts.items)
     (λ v is. rw is (one-IsBestSplit c.args.amount c.args.weights.now c.args.most.now c.if-weights-eq1.true c.requires.one_each
     (c.requires.weights_in_range 0 (omega (arith, c.if-weights-eq1.true))).0 c.requires.enough)) copied
 
@@ -72,5 +78,6 @@ returns-clause-best c =
     let all : c.loop-i.i ≡ length c.args.weights.now = omega arith in
     given-IsBestSplit c.find_level-found.result.level c.find_level-found.result.rest c.loop-i.rest c.args.weights.now c.args.most.now
     c.loop-i.parts.items c.requires.weights_in_range
-    (subst (λ (n : ℕ). IsGiven c.find_level-found.result.level c.find_level-found.result.rest c.loop-i.rest n c.args.weights.now c.args.most.now c.loop-i.parts.items)
+    (subst (λ (n : ℕ). IsGiven c.find_level-found.result.level c.find_level-found.result.rest c.loop-i.rest n c.args.weights.now c.args.most.now
+    c.loop-i.parts.items)
     all c.loop-i.invariant.given) c.args.amount c.requires.one_each c.find_level-found.ensures.rest c.find_level-found.ensures.enough

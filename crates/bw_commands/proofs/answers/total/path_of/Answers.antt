@@ -15,4 +15,5 @@ returns-clause-err c =
     let lt : c.args.g < length (keys_of t.groups) = omega (arith, c.requires.within, ap length c.requires.ids) in
     let there : has_group t.groups id ≡ true = ap (λ ids. has_group t.groups (get_or ids c.args.g 0)) c.requires.ids ∙ row_has_group t.groups c.args.g lt in
     let none : path_refusal t id ≡ None = ap (λ b. cond (not b) (Some NotFound) None) there in
-    if_err c.path_of.result (IsRefused (path_refusal t id)) (λ (fault : TreeFault). fault ≡ OutOfMemory) (λ fault. only_memory (path_refusal t id) fault none) c.path_of.ensures.refused
+    if_err c.path_of.result (IsRefused (path_refusal t id)) (λ (fault : TreeFault). fault ≡ OutOfMemory)
+    (λ fault. only_memory (path_refusal t id) fault none) c.path_of.ensures.refused

@@ -8,4 +8,5 @@ returns c =
     let most = c.args.gathered.now.most.items in
     let tree = c.rows-rows.ensures.valid.tree in
     let some : 0 < length most = omega (arith, tree.has_root, c.requires.mosts.one_each) in
-    c.index.ensures ∙ get_or_within most 0 c.index.result.now some ∙ sym (limited_total-is groups tree most (AreMaxTotals-capped groups tree most c.requires.mosts))
+    c.index.ensures ∙ get_or_within most 0 c.index.result.now some
+    ∙ sym (limited_total-is groups tree most (AreMaxTotals-capped groups tree most c.requires.mosts))

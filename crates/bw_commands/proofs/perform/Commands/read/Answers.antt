@@ -12,4 +12,8 @@ unfolding read_outcome
 returns-in_err-text-clause-outcome g c =
     let s : State = state_of g.G.Gate.used c.args.self.now in
     let p = err_from_is_err_and c.from_residual.result c.from_residual.ensures.1 in
-    rw (p.1, p.2) (refl, call_outcome-IsRefusal s (λ text. text) (λ text. s) (read_of s.hierarchy c.args.path.now c.args.file.now) c.in_err-text.field-0.0 c.in_err-text.ensures.refused)
+    rw (p.1, p.2) (
+      refl,
+      call_outcome-IsRefusal s (λ text. text) (λ text. s)
+          (read_of s.hierarchy c.args.path.now c.args.file.now) c.in_err-text.field-0.0 c.in_err-text.ensures.refused,
+    )

@@ -58,7 +58,8 @@ overflow_add-index_mut-2 c =
     let held : c.index_mut-2.result.now ≡ get_or c.self.inside.held.items (c.args.seat * c.len.result + c.args.leaf) c.index_mut-2.result.now =
     c.index_mut-2.ensures.value in
     let held' = held ∙ (ap (λ i. get_or c.self.inside.held.items i c.index_mut-2.result.now) place
-    ∙ get_or_within c.self.inside.held.items (held_place s c.args.seat c.args.leaf) c.index_mut-2.result.now (place_in s c.args.seat c.args.leaf ok here.0 here.1)) in
+    ∙ get_or_within c.self.inside.held.items (held_place s c.args.seat c.args.leaf) c.index_mut-2.result.now
+    (place_in s c.args.seat c.args.leaf ok here.0 here.1)) in
     let small = got_small s c.args.seat c.args.leaf c.args.ask in
     omega (arith, got, small, held', held_small s c.args.seat c.args.leaf ok here.0 here.1 here.2, ok.few_slices)
 
@@ -78,7 +79,8 @@ invariant_of-self c =
     let held : c.index_mut-2.result.now ≡ get_or c.self.inside.held.items (c.args.seat * c.len.result + c.args.leaf) c.index_mut-2.result.now =
     c.index_mut-2.ensures.value in
     let held' = held ∙ (ap (λ i. get_or c.self.inside.held.items i c.index_mut-2.result.now) place
-    ∙ get_or_within c.self.inside.held.items (held_place s c.args.seat c.args.leaf) c.index_mut-2.result.now (place_in s c.args.seat c.args.leaf ok here.0 here.1)) in
+    ∙ get_or_within c.self.inside.held.items (held_place s c.args.seat c.args.leaf) c.index_mut-2.result.now
+    (place_in s c.args.seat c.args.leaf ok here.0 here.1)) in
     let size = ap length c.raise.ensures ∙ (length-raised (path_up c.deref-4.result.now c.args.leaf) c.least_left-got.result c.deref_mut.result.now
     ∙ (ap length c.deref_mut.ensures.value ∙ sym c.self.inside.drawn.ok.0)) in
     let state = drew_from s c.args.seat c.args.leaf c.args.ask c.deref-4.result.now c.deref_mut.result.now
@@ -108,7 +110,8 @@ returns-clause-state c =
     let held : c.index_mut-2.result.now ≡ get_or c.self.inside.held.items (c.args.seat * c.len.result + c.args.leaf) c.index_mut-2.result.now =
     c.index_mut-2.ensures.value in
     let held' = held ∙ (ap (λ i. get_or c.self.inside.held.items i c.index_mut-2.result.now) place
-    ∙ get_or_within c.self.inside.held.items (held_place s c.args.seat c.args.leaf) c.index_mut-2.result.now (place_in s c.args.seat c.args.leaf ok here.0 here.1)) in
+    ∙ get_or_within c.self.inside.held.items (held_place s c.args.seat c.args.leaf) c.index_mut-2.result.now
+    (place_in s c.args.seat c.args.leaf ok here.0 here.1)) in
     let size = ap length c.raise.ensures ∙ (length-raised (path_up c.deref-4.result.now c.args.leaf) c.least_left-got.result c.deref_mut.result.now
     ∙ (ap length c.deref_mut.ensures.value ∙ sym c.self.inside.drawn.ok.0)) in
     let state = drew_from s c.args.seat c.args.leaf c.args.ask c.deref-4.result.now c.deref_mut.result.now

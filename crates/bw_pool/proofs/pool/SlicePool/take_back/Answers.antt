@@ -46,7 +46,8 @@ invariant_of-self c =
     let held : c.index_mut-2.result.now ≡ get_or c.self.inside.held.items (c.args.seat * c.len.result + c.args.leaf) c.index_mut-2.result.now =
     c.index_mut-2.ensures.value in
     let held' = held ∙ (ap (λ i. get_or c.self.inside.held.items i c.index_mut-2.result.now) place
-    ∙ get_or_within c.self.inside.held.items (held_place s c.args.seat c.args.leaf) c.index_mut-2.result.now (place_in s c.args.seat c.args.leaf ok here.0 here.1)) in
+    ∙ get_or_within c.self.inside.held.items (held_place s c.args.seat c.args.leaf) c.index_mut-2.result.now
+    (place_in s c.args.seat c.args.leaf ok here.0 here.1)) in
     let size = ap length c.lower.ensures ∙ (length-lowered (path_up c.deref.result.now c.args.leaf) c.args.n c.deref_mut.result.now
     ∙ (ap length c.deref_mut.ensures.value ∙ sym c.self.inside.drawn.ok.0)) in
     let state = gave_from s c.args.seat c.args.leaf c.args.n c.deref.result.now c.deref_mut.result.now

@@ -54,15 +54,20 @@ returns-in-Err g c =
     let newline = first_newline-rest xs n c.in-Some.ensures.0 c.in-Some.ensures.1 in
     let front_is : c.split_at.result.0.now ≡ front = c.split_at.ensures.front in
     let whole = parted c.args.piece.now t.0 xs front behind t.4 (sym (take-append-drop n xs)) newline in
-    Writes-fails g.W.Write.contents c.args.writer.now c.loop-end.writer c.end_line.new.writer c.in-Err.fault t.1 {Q' = λ l. (u : Scan) × TakesBytes (scan_of g.G.Gate.used c.args.self.now) c.args.piece.now l u} t.3
+    Writes-fails g.W.Write.contents c.args.writer.now c.loop-end.writer c.end_line.new.writer c.in-Err.fault t.1 {Q' =
+    λ l. (u : Scan) × TakesBytes (scan_of g.G.Gate.used c.args.self.now) c.args.piece.now l u} t.3
     (λ text p.
-      let takes : TakesLine (scan_of g.G.Gate.used c.loop-end.self) front text p.0 =
-      subst (λ l. TakesLine (scan_of g.G.Gate.used c.loop-end.self) l text p.0) front_is p.1 in
-      let so_far = TakesBytes-append t.0 (front ++ 10 ∷ []) t.1 text _ _ _ t.2 (TakesBytes-line front text _ _ clean takes) in
-      let more = TakesBytes-total (drop 1 behind) p.0 in
-      (more.0, (more.1,
+    let takes : TakesLine (scan_of g.G.Gate.used c.loop-end.self) front text p.0 =
+    subst (λ l. TakesLine (scan_of g.G.Gate.used c.loop-end.self) l text p.0) front_is p.1 in
+    let so_far = TakesBytes-append t.0 (front ++ 10 ∷ []) t.1 text _ _ _ t.2 (TakesBytes-line front text _ _ clean takes) in
+    let more = TakesBytes-total (drop 1 behind) p.0 in (
+      more.0,
+      (
+        more.1,
         subst (λ l. TakesBytes (scan_of g.G.Gate.used c.args.self.now) l ((t.1 ++ text) ++ more.0) more.1) (sym whole)
-        (TakesBytes-append (t.0 ++ (front ++ 10 ∷ [])) (drop 1 behind) (t.1 ++ text) more.0 _ _ _ so_far more.2))))
+            (TakesBytes-append (t.0 ++ (front ++ 10 ∷ [])) (drop 1 behind) (t.1 ++ text) more.0 _ _ _ so_far more.2),
+      ),
+    ))
     c.in-Err.ensures
 
 pub returns : goal.returns

@@ -10,5 +10,6 @@ use Rattle.bw_tree.proofs.siblings.Siblings.insert.Goals as goal
 pub returns-in_ok-insert-in-Many-clause-added : goal.returns-in_ok-insert-in-Many-clause-added
 returns-in_ok-insert-in-Many-clause-added c =
     let was : (n : List ℕ) → get_by_text c.in-Many.children n ≡ named_in c.args.self.now n = λ n. search rules in
-    let texts = btree_map_updates_text (string_bytes c.args.name) c.in-Many.children c.insert.new.self (Some c.args.id) c.in_ok-insert-in-Many.ensures.updates in
+    let texts = btree_map_updates_text (string_bytes c.args.name) c.in-Many.children c.insert.new.self
+    (Some c.args.id) c.in_ok-insert-in-Many.ensures.updates in
     λ n. texts n ∙ ap (λ o. cond (bytes_eq (string_bytes c.args.name) n) (Some c.args.id) o) (was n)

@@ -16,7 +16,8 @@ returns-in-Many-clause-taken c =
 
 pub returns-in-Many-clause-some_left : goal.returns-in-Many-clause-some_left
 returns-in-Many-clause-some_left c =
-    λ full. some_text c.remove-removed.new.self (λ none. let is : c.is_empty.result ≡ true = c.is_empty.ensures.1 none in let wrong : false ≡ true = ap not (sym is) ∙ full in absurd (cc))
+    λ full. some_text c.remove-removed.new.self
+    (λ none. let is : c.is_empty.result ≡ true = c.is_empty.ensures.1 none in let wrong : false ≡ true = ap not (sym is) ∙ full in absurd (cc))
 
 pub returns-in-Many-clause-none_left : goal.returns-in-Many-clause-none_left
 returns-in-Many-clause-none_left c =

@@ -14,14 +14,17 @@ use Rattle.bw_tree.proofs.tree.Tree.+push_path.Goals.{then-parent-ne0+in_ok-push
 pub returns-in_default-parent : goal.returns-in_default-parent
 returns-in_default-parent t c =
     let tree : IsTree c.args.self.now = subst IsTree c.self.view_is c.self.invariant.tree in
-    let at : group_at c.args.self.now.groups c.args.id ≡ Some c.in-Some.group.now = ap (λ (s : TreeState). group_at s.groups c.args.id) (sym c.self.view_is) ∙ sym c.in-Some.ensures.value in
+    let at : group_at c.args.self.now.groups c.args.id ≡ Some c.in-Some.group.now =
+    ap (λ (s : TreeState). group_at s.groups c.args.id) (sym c.self.view_is) ∙ sym c.in-Some.ensures.value in
     let up = sym (ap (λ g. g.parent) c.group.view_is) ∙ no_parent _ c.in_default-parent.not-Some in
-    sym (ap (λ n. string_bytes c.args.path.now ++ n) (joined_none c.args.self.now tree c.args.id c.in-Some.group.now at up) ∙ append-nil (string_bytes c.args.path.now))
+    sym (ap (λ n. string_bytes c.args.path.now ++ n) (joined_none c.args.self.now tree c.args.id c.in-Some.group.now at up)
+    ∙ append-nil (string_bytes c.args.path.now))
 
 pub push_path-requires : goal.push_path-requires
 push_path-requires t c =
     let tree : IsTree c.args.self.now = subst IsTree c.self.view_is c.self.invariant.tree in
-    let at : group_at c.args.self.now.groups c.args.id ≡ Some c.in-Some.group.now = ap (λ (s : TreeState). group_at s.groups c.args.id) (sym c.self.view_is) ∙ sym c.in-Some.ensures.value in
+    let at : group_at c.args.self.now.groups c.args.id ≡ Some c.in-Some.group.now =
+    ap (λ (s : TreeState). group_at s.groups c.args.id) (sym c.self.view_is) ∙ sym c.in-Some.ensures.value in
     let up = sym (ap (λ g. g.parent) c.group.view_is) ∙ c.in-Some-parent.is in
     let above_it = tree.parents c.args.id c.in-Some-parent.parent c.in-Some.group.now at up in
     (omega (arith, above_it.0, c.decreases), above_it.1)
@@ -35,7 +38,8 @@ pub returns : goal.returns
 unfolding lib.Utf8.encode
 returns t c =
     let tree : IsTree c.args.self.now = subst IsTree c.self.view_is c.self.invariant.tree in
-    let at : group_at c.args.self.now.groups c.args.id ≡ Some c.in-Some.group.now = ap (λ (s : TreeState). group_at s.groups c.args.id) (sym c.self.view_is) ∙ sym c.in-Some.ensures.value in
+    let at : group_at c.args.self.now.groups c.args.id ≡ Some c.in-Some.group.now =
+    ap (λ (s : TreeState). group_at s.groups c.args.id) (sym c.self.view_is) ∙ sym c.in-Some.ensures.value in
     let up = sym (ap (λ g. g.parent) c.group.view_is) ∙ c.in-Some-parent.is in
     let name = c.as_str.ensures.value ∙ ap (λ g. g.name) c.group.view_is in
     let old = string_bytes c.args.path.now in

@@ -32,9 +32,17 @@ loop-g-preserved c =
     let cut_are : cuts c.put_path.new.text.items c.push.new.self.items ≡ paths ++ path ∷ [] =
     ap (λ x. cuts x c.push.new.self.items) wider ∙ ap (cuts (text ++ path)) longer ∙ cuts-push text path spans span i.within from to in
     let lt : g < length t.groups =
-    omega (arith, c.loop-g-test.true, c.group_count-g-end.ensures.count, c.requires.each, ap length c.requires.ids, length-map t.groups (λ (e : ℕ × GroupFields). e.0)) in
+    omega (
+      arith,
+      c.loop-g-test.true,
+      c.group_count-g-end.ensures.count,
+      c.requires.each,
+      ap length c.requires.ids,
+      length-map t.groups (λ (e : ℕ × GroupFields). e.0),
+    ) in
     let at : group_at t.groups (get_or (keys_of t.groups) g 0) ≡ Some group.0 = ap (λ ids. group_at t.groups (get_or ids g 0)) (sym c.requires.ids) ∙ group.1 in
-    let up : parent_of (rows_of t.groups shape) g ≡ c.parent.result = ap (λ (x : Groups). parent_of x.rows g) (sym c.requires.rows) ∙ sym c.parent.ensures.value in
+    let up : parent_of (rows_of t.groups shape) g ≡ c.parent.result =
+    ap (λ (x : Groups). parent_of x.rows g) (sym c.requires.rows) ∙ sym c.parent.ensures.value in
     let count : length paths ≡ g = length-map spans (cut text) ∙ i.count in
     let before : (k : ℕ) → k < g → path_at t.groups (get_or (keys_of t.groups) k 0) ≡ Some (get_or paths k []) =
     λ k low. ap (λ ids. path_at t.groups (get_or ids k 0)) (sym c.requires.ids) ∙ i.named k low in
@@ -43,20 +51,24 @@ loop-g-preserved c =
     ∙ ap (λ name. Some (path_below paths c.parent.result name)) (sym group.2) in
     let all : (k : ℕ) → k < length paths + 1 → path_at t.groups (get_or (keys_of t.groups) k 0) ≡ Some (get_or (paths ++ path ∷ []) k []) =
     each_push (λ k p. path_at t.groups (get_or (keys_of t.groups) k 0) ≡ Some p) paths path [] (λ k low. before k (omega (arith, low, count)))
-        (ap (λ k. path_at t.groups (get_or (keys_of t.groups) k 0)) count ∙ here) in
-    let named : (k : ℕ) → k < g + 1 → path_at t.groups (get_or (keys_of t.groups) k 0) ≡ Some (get_or (cuts c.put_path.new.text.items c.push.new.self.items) k []) =
+    (ap (λ k. path_at t.groups (get_or (keys_of t.groups) k 0)) count ∙ here) in
+    let named : (k : ℕ) → k < g + 1
+    → path_at t.groups (get_or (keys_of t.groups) k 0) ≡ Some (get_or (cuts c.put_path.new.text.items c.push.new.self.items) k []) =
     λ k low. all k (omega (arith, low, count)) ∙ ap (λ xs. Some (get_or xs k [])) (sym cut_are) in
     record {
       count = ap length longer ∙ length-append spans (span ∷ []) ∙ ap (λ n. n + 1) i.count;
       within = subst (AreWithin (length c.put_path.new.text.items)) (sym longer)
-      (within_push (length text) (length c.put_path.new.text.items) spans span i.within (omega (arith, ap length wider, long)) (omega (arith, from, to, long)) (omega (arith, to, ap length wider)));
+          (within_push (length text) (length c.put_path.new.text.items) spans span i.within (omega (arith, ap length wider, long))
+          (omega (arith, from, to, long)) (omega (arith, to, ap length wider)));
       named = λ k low. ap (λ ids. path_at t.groups (get_or ids k 0)) c.requires.ids ∙ named k low;
-      found = λ k low. path_leads t c.name_of-name.ensures.valid (get_or (cuts c.put_path.new.text.items c.push.new.self.items) k []) (get_or (keys_of t.groups) k 0) (named k low);
+      found = λ k low. path_leads t c.name_of-name.ensures.valid (get_or (cuts c.put_path.new.text.items c.push.new.self.items) k [])
+          (get_or (keys_of t.groups) k 0) (named k low);
     }
 
 pub returns-clause-named : goal.returns-clause-named
 returns-clause-named c =
-    let count : c.loop-g.g ≡ length c.args.ids.now = omega (arith, c.loop-g-test.false, c.loop-g.auto.g-end, c.group_count-g-end.ensures.count, c.requires.each) in
+    let count : c.loop-g.g ≡ length c.args.ids.now =
+    omega (arith, c.loop-g-test.false, c.loop-g.auto.g-end, c.group_count-g-end.ensures.count, c.requires.each) in
     paths_of_rows c.args.tree.now (cuts c.loop-g.text.items c.loop-g.spans.items) (length c.args.ids.now)
     (length-map c.loop-g.spans.items (cut c.loop-g.text.items) ∙ c.loop-g.invariant.count ∙ count)
     (λ k low. c.loop-g.invariant.found k (omega (arith, low, count)))
