@@ -1,6 +1,6 @@
 -- The rule allows the steps look and enter, and a seat that finds its own ticket has the slot.
 use Rattle.std.proofs.Common.{arith, ◌≡◌, [], ◌∷◌, map, sym, ap, ◌∙◌, subst, ◌≤◌}
-use Rattle.bw_ticket.specs.Rule.{ticket_of, Each}
+use Rattle.bw_ticket.specs.Rule.{Each}
 use Rattle.bw_ticket.specs.Plays.{ticket_in, entered, goes, missed}
 use Rattle.bw_ticket.proofs.Allowed.{may_look}
 use Rattle.bw_ticket.proofs.Kept.{waits_is}
