@@ -1,8 +1,9 @@
 -- The rule allows the steps look and enter, and a seat that finds its own ticket has the slot.
 use Rattle.std.proofs.Common.{arith, ◌≡◌, [], ◌∷◌, map, sym, ap, ◌∙◌, subst, ◌≤◌}
-use Rattle.bw_ticket.specs.Rule.{ticket_of, Each}
-use Rattle.bw_ticket.specs.Plays.{ticket_in, entered}
+use Rattle.bw_ticket.specs.Rule.{Each}
+use Rattle.bw_ticket.specs.Plays.{ticket_in, entered, goes, missed}
 use Rattle.bw_ticket.proofs.Allowed.{may_look}
+use Rattle.bw_ticket.proofs.Kept.{waits_is}
 use Rattle.bw_ticket.proofs.steps.look.Goals as goal
 
 pub load-found-requires : goal.load-found-requires
@@ -11,7 +12,7 @@ load-found-requires g c = let w = c.requires.waits in
 
 pub returns-then-found-ticket-clause-looked : goal.returns-then-found-ticket-clause-looked
 returns-then-found-ticket-clause-looked g c = let w = c.requires.waits in
-    let mine : ticket_in c.args.seat.now.me.0 ≡ c.args.ticket = ap (λ m. ticket_in m.0) w.1 ∙ ap ticket_of w.2 in
+    let mine : ticket_in c.args.seat.now.me.0 ≡ c.args.ticket = ap (λ m. ticket_in m.0) w.1 ∙ (waits_is c.args.ticket w.0.phase w.2).0 in
     let found : c.load-found.result ≡ c.args.ticket = c.if-found-ticket.true in
     let bare : c.args.seat.now.me.1 ≡ [] = ap (λ m. m.1) w.1 in
     let got = c.load-found.ensures.2.0 (found ∙ sym mine) in let y = got.0 in (
@@ -21,5 +22,7 @@ returns-then-found-ticket-clause-looked g c = let w = c.requires.waits in
 
 pub returns-clause-looked : goal.returns-clause-looked
 returns-clause-looked g c = let w = c.requires.waits in
-    let mine : ticket_in c.args.seat.now.me.0 ≡ c.args.ticket = ap (λ m. ticket_in m.0) w.1 ∙ ap ticket_of w.2 in
-    c.load-found.ensures.2.1 (λ h. c.if-found-ticket.false (h ∙ mine))
+    let mine : ticket_in c.args.seat.now.me.0 ≡ c.args.ticket = ap (λ m. ticket_in m.0) w.1 ∙ (waits_is c.args.ticket w.0.phase w.2).0 in
+    let bare : c.args.seat.now.me.1 ≡ [] = ap (λ m. m.1) w.1 in
+    let got = c.load-found.ensures.2.1 (λ h. c.if-found-ticket.false (h ∙ mine)) in
+    (got.0 ∙ (λ i. (map (goes missed) c.args.seat.now.me.0, bare i)), omega (arith, got.1, mine))
