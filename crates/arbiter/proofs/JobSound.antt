@@ -1,66 +1,14 @@
 -- Words that clap takes name the job that is found for them.
-use Rattle.std.proofs.Common.{
-  ◌≡◌,
-  ◌∙◌,
-  ap,
-  ap₂,
-  sym,
-  subst,
-  refl,
-  ℕ,
-  ◌==◌,
-  ◌&&◌,
-  ◌||◌,
-  List,
-  [],
-  ◌∷◌,
-  Bool,
-  true,
-  false,
-  Option,
-  Some,
-  None,
-  codes,
-  cond,
-  is_some,
-}
+use Rattle.std.proofs.Common.{◌≡◌, ◌∙◌, ap, ap₂, sym, subst, refl, ℕ, ◌==◌, ◌&&◌, ◌||◌, List, [], ◌∷◌, Bool, true, false, Option, Some, None, codes, cond}
+use Rattle.std.proofs.Common.{is_some}
 use Rattle.std.specs.Prelude.{fold, option_map}
 use Rattle.std.specs.Str.{bytes_eq}
 use Rattle.clap.specs.Words.{Row, Text, Shape, subcommand_of}
 use Rattle.clap.specs.Lexer.{long_of}
-use Rattle.clap.specs.Walk.{
-  Held,
-  Names,
-  Walk,
-  arg_by_long,
-  idle,
-  trailing,
-  finished,
-  nothing_held,
-  settled,
-  walk,
-  walk_from,
-  walked,
-  subcommand_met,
-  subcommand_or_other,
-  long_or_other,
-  after_step,
-}
-use Rattle.clap.specs.Faults.{
-  check_fault,
-  defaults_fault,
-  entered_fault,
-  fault_of,
-  level_fault,
-  settle_fault,
-  react_fault,
-  walk_fault,
-  turn_fault,
-  other_fault,
-  step_fault,
-  long_fault,
-  short_fault,
-}
+use Rattle.clap.specs.Walk.{Held, Names, Walk, arg_by_long, idle, trailing, finished, nothing_held, settled, walk, walk_from, walked, subcommand_met}
+use Rattle.clap.specs.Walk.{subcommand_or_other, long_or_other, after_step}
+use Rattle.clap.specs.Faults.{check_fault, defaults_fault, entered_fault, fault_of, level_fault, settle_fault, react_fault, walk_fault, turn_fault, other_fault}
+use Rattle.clap.specs.Faults.{step_fault, long_fault, short_fault}
 use Rattle.clap.specs.Kinds.{Kinds, or_else}
 use Rattle.clap.specs.Simple.{entered, filled, help_rule, version_rule}
 use Rattle.clap.proofs.WalkLemmas.{walk_stopped}

@@ -5,40 +5,10 @@ use Rattle.std.specs.Option.{option_map_or}
 use Rattle.std.specs.Str.{bytes_eq, chars}
 use Rattle.clap.specs.Words.{Shape, Text}
 use Rattle.clap.specs.Lexer.{long_of, short_of}
-use Rattle.clap.specs.Walk.{
-  Held,
-  Names,
-  Outcome,
-  Step,
-  Waiting,
-  Walk,
-  arg_by_index,
-  arg_by_long,
-  arg_by_short,
-  idle,
-  trailing,
-  value,
-  walked,
-  long_or_other,
-  short_or_plain,
-  plain_word,
-  after_flag,
-  plain,
-}
-use Rattle.clap.specs.Faults.{
-  bundle_step_fault,
-  positional_fault,
-  settle_fault,
-  turn_fault,
-  walk_fault,
-  flag_word_fault,
-  flags_fault,
-  long_fault,
-  short_fault,
-  step_fault,
-  stray_fault,
-  bundle_fault,
-}
+use Rattle.clap.specs.Walk.{Held, Names, Outcome, Step, Waiting, Walk, arg_by_index, arg_by_long, arg_by_short, idle, trailing, value, walked, long_or_other}
+use Rattle.clap.specs.Walk.{short_or_plain, plain_word, after_flag, plain}
+use Rattle.clap.specs.Faults.{bundle_step_fault, positional_fault, settle_fault, turn_fault, walk_fault, flag_word_fault, flags_fault, long_fault, short_fault}
+use Rattle.clap.specs.Faults.{step_fault, stray_fault, bundle_fault}
 use Rattle.clap.specs.Kinds.{or_else, Kinds}
 use Rattle.clap.proofs.WalkLemmas.{bundle_ends}
 use Rattle.arbiter.proofs.RunWalk.{state, none≢some}

@@ -1,33 +1,6 @@
 -- Words that clap takes name a job.
-use Rattle.std.proofs.Common.{
-  ◌≡◌,
-  ◌∙◌,
-  ap,
-  ap₂,
-  sym,
-  subst,
-  refl,
-  ℕ,
-  ◌==◌,
-  ◌&&◌,
-  ◌||◌,
-  not,
-  List,
-  [],
-  ◌∷◌,
-  ◌++◌,
-  Bool,
-  true,
-  false,
-  Option,
-  Some,
-  None,
-  codes,
-  cond,
-  pos,
-  true≢false,
-  length,
-}
+use Rattle.std.proofs.Common.{◌≡◌, ◌∙◌, ap, ap₂, sym, subst, refl, ℕ, ◌==◌, ◌&&◌, ◌||◌, not, List, [], ◌∷◌, ◌++◌, Bool, true, false, Option, Some, None, codes}
+use Rattle.std.proofs.Common.{cond, pos, true≢false, length}
 use Rattle.std.specs.Prelude.{fold, slice_get}
 use Rattle.std.specs.Option.{option_map_or}
 use Rattle.std.specs.Str.{bytes_eq, chars, chars_after}
@@ -43,25 +16,8 @@ use Rattle.clap.specs.Lexer.{short_of_rest}
 use Rattle.arbiter.specs.Words.{are_digits}
 use Rattle.clap.specs.Words.{Shape, Text}
 use Rattle.clap.specs.Lexer.{long_of, short_of}
-use Rattle.clap.specs.Walk.{
-  Held,
-  arg_by_id,
-  arg_by_long,
-  idle,
-  option,
-  next,
-  trailing,
-  settled,
-  walked,
-  word_met,
-  long_or_other,
-  plain_word,
-  option_word,
-  pushed,
-  reacted,
-  has_row,
-  pending_count,
-}
+use Rattle.clap.specs.Walk.{Held, arg_by_id, arg_by_long, idle, option, next, trailing, settled, walked, word_met, long_or_other, plain_word, option_word}
+use Rattle.clap.specs.Walk.{pushed, reacted, has_row, pending_count}
 use Rattle.clap.specs.Faults.{settle_fault, react_fault, turn_fault, walk_fault, use_fault, long_fault, short_fault, step_fault, repeat_fault, values_fault}
 use Rattle.clap.specs.Kinds.{or_else, Kinds}
 use Rattle.clap.specs.ValueTests.{accepts}
@@ -69,46 +25,12 @@ use Rattle.clap.specs.Simple.{filled, help_rule}
 use Rattle.clap.specs.declared.builder.ValueParser.TheVariants as parser
 use Rattle.clap.proofs.WalkLemmas.{both}
 use Rattle.arbiter.specs.Words.{Uses, is_setting, is_given, may_give, is_number, option_parts, begins_with_dash, uses_after, after_parts, is_empty}
-use Rattle.arbiter.proofs.RunWalk.{
-  Reads,
-  IsIdle,
-  IsWaiting,
-  state,
-  rows_for,
-  setting_rule,
-  turned,
-  given_row,
-  number_is,
-  none≢some,
-  parts_are,
-  name_met,
-  name_turn,
-  pair_met,
-  pair_turn,
-  paired,
-  valued,
-}
+use Rattle.arbiter.proofs.RunWalk.{Reads, IsIdle, IsWaiting, state, rows_for, setting_rule, turned, given_row, number_is, none≢some, parts_are, name_met}
+use Rattle.arbiter.proofs.RunWalk.{name_turn, pair_met, pair_turn, paired, valued}
 use Rattle.bw_model.proofs.CallerLemmas.{bytes_eq-self}
 use Rattle.arbiter.proofs.RunFaults.{run_shape}
-use Rattle.arbiter.proofs.Refused.{
-  RefusesWords,
-  is_fault,
-  contra,
-  or_none,
-  fault_left,
-  fault_right,
-  split,
-  turn_of,
-  trails,
-  short_refused,
-  fault_at,
-  long_fault_at,
-  short_fault_at,
-  met_at,
-  met_other,
-  met_empty,
-  idle_other,
-}
+use Rattle.arbiter.proofs.Refused.{RefusesWords, is_fault, contra, or_none, fault_left, fault_right, split, turn_of, trails, short_refused, fault_at}
+use Rattle.arbiter.proofs.Refused.{long_fault_at, short_fault_at, met_at, met_other, met_empty, idle_other}
 
 -- the options of a run are all that the command takes
 pub record Refuses (s : Shape) : Type 0 where

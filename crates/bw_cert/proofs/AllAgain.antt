@@ -1,30 +1,6 @@
 -- The whole of a spelled text is read.
-use Rattle.std.proofs.Common.{
-  ◌≡◌,
-  ℕ,
-  ◌<◌,
-  ◌≤◌,
-  ◌^◌,
-  Bool,
-  true,
-  false,
-  List,
-  [],
-  ◌∷◌,
-  ◌++◌,
-  length,
-  Option,
-  Some,
-  None,
-  Result,
-  Ok,
-  refl,
-  sym,
-  ap,
-  subst,
-  ◌∙◌,
-  arith,
-}
+use Rattle.std.proofs.Common.{◌≡◌, ℕ, ◌<◌, ◌≤◌, ◌^◌, Bool, true, false, List, [], ◌∷◌, ◌++◌, length, Option, Some, None, Result, Ok, refl, sym, ap, subst, ◌∙◌}
+use Rattle.std.proofs.Common.{arith}
 use Rattle.std.specs.Prelude.{codes, IfSome}
 use Rattle.std.specs.List.{join_with_byte, AllByRecursion}
 use Rattle.std.specs.Fmt.{decimal}
@@ -37,23 +13,8 @@ use Rattle.bw_model.specs.declared.row.Row.{Row}
 use Rattle.bw_cert.specs.declared.fault.CertFault.{CertFault}
 use Rattle.bw_cert.specs.declared.groups.Certified.{Certified}
 use Rattle.bw_model.specs.Marks.{MarkValue}
-use Rattle.bw_cert.specs.Spelling.{
-  groups_of,
-  Value,
-  lines_of,
-  line,
-  parent_word,
-  limit_word,
-  flag_word,
-  level_word,
-  head_words,
-  group_words,
-  groups_text,
-  spelling,
-  IsSmallRow,
-  IsSmallLevel,
-  IsValue,
-}
+use Rattle.bw_cert.specs.Spelling.{groups_of, Value, lines_of, line, parent_word, limit_word, flag_word, level_word, head_words, group_words, groups_text}
+use Rattle.bw_cert.specs.Spelling.{spelling, IsSmallRow, IsSmallLevel, IsValue}
 use Rattle.bw_cert.specs.Reading.{ReadsAs, line_at, head_of, group_of, groups_at, certified_of, certified_view}
 use Rattle.bw_cert.proofs.Lines.{line_there}
 use Rattle.bw_cert.proofs.Again.{IsPlain, digits_plain, number_again, parent_again, limit_again, flag_again, level_again, words_again, line_again}

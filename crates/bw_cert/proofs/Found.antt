@@ -1,35 +1,6 @@
 -- A text that is read is the one spelling of its value.
-use Rattle.std.proofs.Common.{
-  ◌≡◌,
-  ℕ,
-  zero,
-  suc,
-  ◌<◌,
-  ◌^◌,
-  Bool,
-  true,
-  false,
-  cond,
-  ltb,
-  eqb,
-  List,
-  [],
-  ◌∷◌,
-  ◌++◌,
-  length,
-  Option,
-  Some,
-  None,
-  Result,
-  Ok,
-  Err,
-  refl,
-  sym,
-  ap,
-  subst,
-  ◌∙◌,
-  append_assoc,
-}
+use Rattle.std.proofs.Common.{◌≡◌, ℕ, zero, suc, ◌<◌, ◌^◌, Bool, true, false, cond, ltb, eqb, List, [], ◌∷◌, ◌++◌, length, Option, Some, None, Result, Ok, Err}
+use Rattle.std.proofs.Common.{refl, sym, ap, subst, ◌∙◌, append_assoc}
 use Rattle.std.specs.Prelude.{codes, IfSome, IfOk}
 use Rattle.std.specs.List.{join_with_byte, AllByRecursion}
 use Rattle.std.specs.Str.{bytes_eq}
@@ -48,44 +19,10 @@ use Rattle.bw_cert.specs.declared.fault.CertFault.{CertFault}
 use Rattle.bw_cert.specs.declared.fault.CertFault.TheVariants as faults
 use Rattle.bw_cert.specs.declared.groups.Certified.{Certified}
 use Rattle.bw_model.specs.Marks.{MarkValue}
-use Rattle.bw_cert.specs.Spelling.{
-  groups_of,
-  Columns,
-  Value,
-  lines_of,
-  words_of,
-  line,
-  head_words,
-  group_words,
-  groups_text,
-  spelling,
-  IsSmallRow,
-  IsSmallLevel,
-  IsValue,
-}
-use Rattle.bw_cert.specs.Reading.{
-  ◌>>=◌,
-  ReadsAs,
-  number_at,
-  parent_at,
-  limit_at,
-  flag_at,
-  level_in_word,
-  line_at,
-  word_is,
-  host_unless,
-  host_in,
-  head_of,
-  Group,
-  group_of,
-  with_group,
-  no_groups,
-  groups_at,
-  value_unless,
-  is_over,
-  certified_of,
-  certified_view,
-}
+use Rattle.bw_cert.specs.Spelling.{groups_of, Columns, Value, lines_of, words_of, line, head_words, group_words, groups_text, spelling, IsSmallRow}
+use Rattle.bw_cert.specs.Spelling.{IsSmallLevel, IsValue}
+use Rattle.bw_cert.specs.Reading.{◌>>=◌, ReadsAs, number_at, parent_at, limit_at, flag_at, level_in_word, line_at, word_is, host_unless, host_in, head_of}
+use Rattle.bw_cert.specs.Reading.{Group, group_of, with_group, no_groups, groups_at, value_unless, is_over, certified_of, certified_view}
 use Rattle.bw_cert.proofs.WordsFound.{bind_ok, number_found, parent_found, limit_found, flag_found, level_found}
 
 -- seven words read one after the other

@@ -3,20 +3,8 @@ ghost use Rattle.std.specs.Prelude.{◌≡◌, ◌++◌, ◌<◌, ◌^◌, lengt
 ghost use Rattle.std.specs.Fmt.{decimal};
 ghost use Rattle.std.specs.Option.{option_map};
 ghost use Rattle.bw_model.specs.Marks.{price_of};
-ghost use Rattle.bw_cert.specs.Spelling.{
-  parent_word,
-  limit_word,
-  flag_word,
-  level_word,
-  line,
-  head_words,
-  group_words,
-  certified_value,
-  spelling,
-  IsSmallRow,
-  IsSmallLevel,
-  IsValue,
-};
+ghost use Rattle.bw_cert.specs.Spelling.{parent_word, limit_word, flag_word, level_word, line, head_words, group_words, certified_value, spelling, IsSmallRow};
+ghost use Rattle.bw_cert.specs.Spelling.{IsSmallLevel, IsValue};
 
 use bw_model::{Certificate, HostShape, Instance, Mark, Row};
 use bw_text::push_number;

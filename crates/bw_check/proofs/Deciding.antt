@@ -2,17 +2,8 @@
 use Rattle.std.proofs.Common.{◌≡◌, ℕ, zero, suc, ◌+◌, ◌-◌, ◌<◌, ◌≤◌, List, [], ◌∷◌, Some, None, length, get_or, refl, subst, ap, sym, ◌∙◌, arith, inl, inr}
 use Rattle.std.proofs.lemmas.Bool.{cases_eq}
 use Rattle.bw_check.specs.declared.fault.CheckFault.{CheckFault}
-use Rattle.bw_check.specs.declared.fault.CheckFault.TheVariants.{
-  WrongLength,
-  OverLimit,
-  OverDemand,
-  SumDiffers,
-  FlagWithoutLimit,
-  NotGreatest,
-  LevelMissing,
-  LastMarkAbove,
-  NextMarkNotAbove,
-}
+use Rattle.bw_check.specs.declared.fault.CheckFault.TheVariants.{WrongLength, OverLimit, OverDemand, SumDiffers, FlagWithoutLimit, NotGreatest, LevelMissing}
+use Rattle.bw_check.specs.declared.fault.CheckFault.TheVariants.{LastMarkAbove, NextMarkNotAbove}
 use Rattle.bw_model.specs.Groups.{Groups, AreTreeRows, IsInstance}
 use Rattle.bw_model.specs.Certificate.{Certified, AreBounds, IsCertified}
 use Rattle.bw_check.specs.Faults.{fault_number}

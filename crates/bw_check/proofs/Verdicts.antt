@@ -1,17 +1,8 @@
 -- Amounts without a fault at any group are certified, and refused ones are not.
 use Rattle.std.proofs.Common.{◌≡◌, ℕ, ◌<◌, List, length, get_or, ◌∙◌, arith}
 use Rattle.bw_check.specs.declared.fault.CheckFault.{CheckFault}
-use Rattle.bw_check.specs.declared.fault.CheckFault.TheVariants.{
-  WrongLength,
-  OverLimit,
-  OverDemand,
-  SumDiffers,
-  FlagWithoutLimit,
-  NotGreatest,
-  LevelMissing,
-  LastMarkAbove,
-  NextMarkNotAbove,
-}
+use Rattle.bw_check.specs.declared.fault.CheckFault.TheVariants.{WrongLength, OverLimit, OverDemand, SumDiffers, FlagWithoutLimit, NotGreatest, LevelMissing}
+use Rattle.bw_check.specs.declared.fault.CheckFault.TheVariants.{LastMarkAbove, NextMarkNotAbove}
 use Rattle.bw_model.specs.Groups.{Groups, AreTreeRows}
 use Rattle.bw_model.specs.Certificate.{Certified, AreBounds, IsCertified, IsAccepted}
 use Rattle.bw_model.proofs.CallerLemmas.{parent_lt, bounds-unique}

@@ -1,17 +1,8 @@
 -- The numbers and names of the faults.
 use Rattle.std.specs.Prelude.{ℕ, List, codes}
 use Rattle.bw_check.specs.declared.fault.CheckFault.{CheckFault}
-use Rattle.bw_check.specs.declared.fault.CheckFault.TheVariants.{
-  WrongLength,
-  OverLimit,
-  OverDemand,
-  SumDiffers,
-  FlagWithoutLimit,
-  NotGreatest,
-  LevelMissing,
-  LastMarkAbove,
-  NextMarkNotAbove,
-}
+use Rattle.bw_check.specs.declared.fault.CheckFault.TheVariants.{WrongLength, OverLimit, OverDemand, SumDiffers, FlagWithoutLimit, NotGreatest, LevelMissing}
+use Rattle.bw_check.specs.declared.fault.CheckFault.TheVariants.{LastMarkAbove, NextMarkNotAbove}
 
 abbrev pub fault_number : CheckFault → ℕ
 fault_number WrongLength = 50

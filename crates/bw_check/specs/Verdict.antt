@@ -3,17 +3,8 @@ use Rattle.std.specs.Prelude.{◌≡◌, ℕ, ◌<◌, ◌≤◌, List, false, S
 use Rattle.std.specs.Option.{IsSome}
 use Rattle.bw_model.specs.declared.mark.Mark.{Mark}
 use Rattle.bw_check.specs.declared.fault.CheckFault.{CheckFault}
-use Rattle.bw_check.specs.declared.fault.CheckFault.TheVariants.{
-  WrongLength,
-  OverLimit,
-  OverDemand,
-  SumDiffers,
-  FlagWithoutLimit,
-  NotGreatest,
-  LevelMissing,
-  LastMarkAbove,
-  NextMarkNotAbove,
-}
+use Rattle.bw_check.specs.declared.fault.CheckFault.TheVariants.{WrongLength, OverLimit, OverDemand, SumDiffers, FlagWithoutLimit, NotGreatest, LevelMissing}
+use Rattle.bw_check.specs.declared.fault.CheckFault.TheVariants.{LastMarkAbove, NextMarkNotAbove}
 use Rattle.bw_check.specs.declared.verdict.Verdict.{Verdict}
 use Rattle.bw_check.specs.declared.verdict.Verdict.TheVariants.{Accepted, Refused}
 use Rattle.bw_model.specs.Groups.{Groups, sum_of_children, parent_of, is_leaf, weight_of, demand_of, limit_of}

@@ -1,29 +1,9 @@
 -- Refusals are short: a number of at most two digits, and a name of at most 20 bytes.
 use Rattle.std.proofs.Common.{◌<◌, ◌≤◌, length, arith}
-use Rattle.bw_tree.specs.declared.fault.TreeFault.TheVariants.{
-  NotFound,
-  Exists,
-  BadName,
-  HasChildren,
-  HasDemand,
-  ParentHasDemand,
-  RootFixed,
-  TreeFull,
-  IdsSpent,
-  TooDeep,
-  InnerDemand,
-  DemandTooLarge,
-  OutOfMemory,
-}
-use Rattle.bw_files.specs.declared.fault.FileFault.TheVariants.{
-  BadNumber,
-  WeightOutOfRange,
-  QuotaTooSmall,
-  QuotaTooLarge,
-  PeriodOutOfRange,
-  TooManyWords,
-  Empty,
-}
+use Rattle.bw_tree.specs.declared.fault.TreeFault.TheVariants.{NotFound, Exists, BadName, HasChildren, HasDemand, ParentHasDemand, RootFixed, TreeFull}
+use Rattle.bw_tree.specs.declared.fault.TreeFault.TheVariants.{IdsSpent, TooDeep, InnerDemand, DemandTooLarge, OutOfMemory}
+use Rattle.bw_files.specs.declared.fault.FileFault.TheVariants.{BadNumber, WeightOutOfRange, QuotaTooSmall, QuotaTooLarge, PeriodOutOfRange, TooManyWords}
+use Rattle.bw_files.specs.declared.fault.FileFault.TheVariants.{Empty}
 use Rattle.bw_hierarchy.specs.Faults.{fault_number, fault_name}
 use Rattle.bw_hierarchy.specs.declared.fault.Fault.{Fault}
 use Rattle.bw_hierarchy.specs.declared.fault.Fault.TheVariants.{Tree, File, NoSuchFile, ReadOnly, BurstAboveQuota}

@@ -3,21 +3,8 @@ use Rattle.std.proofs.Common.{◌≡◌, Option, Some, None, refl, sym, ◌∙�
 use Rattle.std.specs.Prelude.{Result, Ok, Err, IfErr}
 use Rattle.bw_tree.specs.Tree.{IsRefused}
 use Rattle.bw_tree.specs.declared.fault.TreeFault.{TreeFault}
-use Rattle.bw_tree.specs.declared.fault.TreeFault.TheVariants.{
-  NotFound,
-  Exists,
-  BadName,
-  HasChildren,
-  HasDemand,
-  ParentHasDemand,
-  RootFixed,
-  TreeFull,
-  IdsSpent,
-  TooDeep,
-  InnerDemand,
-  DemandTooLarge,
-  OutOfMemory,
-}
+use Rattle.bw_tree.specs.declared.fault.TreeFault.TheVariants.{NotFound, Exists, BadName, HasChildren, HasDemand, ParentHasDemand, RootFixed, TreeFull}
+use Rattle.bw_tree.specs.declared.fault.TreeFault.TheVariants.{IdsSpent, TooDeep, InnerDemand, DemandTooLarge, OutOfMemory}
 
 -- what holds of each error, of another kind
 pub if_err : {T E : Type 0} (r : Result T E) (p q : E → Type 0) → ((e : E) → p e → q e) → IfErr r p → IfErr r q

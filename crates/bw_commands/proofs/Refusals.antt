@@ -1,20 +1,7 @@
 -- What a refused call on the hierarchy means for its line.
 use Rattle.std.proofs.Common.{◌≡◌, ℕ, List, Result, Ok, Err, refl, inl, inr, sym, subst}
-use Rattle.bw_tree.specs.declared.fault.TreeFault.TheVariants.{
-  NotFound,
-  Exists,
-  BadName,
-  HasChildren,
-  HasDemand,
-  ParentHasDemand,
-  RootFixed,
-  TreeFull,
-  IdsSpent,
-  TooDeep,
-  InnerDemand,
-  DemandTooLarge,
-  OutOfMemory,
-}
+use Rattle.bw_tree.specs.declared.fault.TreeFault.TheVariants.{NotFound, Exists, BadName, HasChildren, HasDemand, ParentHasDemand, RootFixed, TreeFull}
+use Rattle.bw_tree.specs.declared.fault.TreeFault.TheVariants.{IdsSpent, TooDeep, InnerDemand, DemandTooLarge, OutOfMemory}
 use Rattle.bw_hierarchy.specs.Faults.{IsRefusal}
 use Rattle.bw_hierarchy.specs.declared.fault.Fault.{Fault}
 use Rattle.bw_hierarchy.specs.declared.fault.Fault.TheVariants.{Tree, File, NoSuchFile, ReadOnly, BurstAboveQuota}

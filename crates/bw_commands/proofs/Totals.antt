@@ -1,29 +1,6 @@
 -- The lines of the limiting groups.
-use Rattle.std.proofs.Common.{
-  ◌≡◌,
-  ◌∙◌,
-  ◌<◌,
-  ◌+◌,
-  ℕ,
-  zero,
-  suc,
-  List,
-  [],
-  ◌∷◌,
-  ◌++◌,
-  Bool,
-  length,
-  refl,
-  sym,
-  ap,
-  arith,
-  append_assoc,
-  append-nil,
-  get_or,
-  cond,
-  true,
-  false,
-}
+use Rattle.std.proofs.Common.{◌≡◌, ◌∙◌, ◌<◌, ◌+◌, ℕ, zero, suc, List, [], ◌∷◌, ◌++◌, Bool, length, refl, sym, ap, arith, append_assoc, append-nil, get_or, cond}
+use Rattle.std.proofs.Common.{true, false}
 use Rattle.std.specs.Prelude.{filter}
 use Rattle.std.specs.List.{range_with_len}
 use Rattle.bw_model.specs.Groups.{Groups}

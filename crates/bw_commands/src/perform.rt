@@ -2,22 +2,8 @@
 ghost use Rattle.std.specs.Prelude.{◌≡◌, ◌≤◌, [], IfOk};
 ghost use Rattle.std.specs.Vec.{vec_capacity};
 ghost use Rattle.bw_text.specs.Number.{number_spelled};
-ghost use Rattle.bw_commands.specs.Script.{
-  outcome_of_command,
-  outcome_of_text,
-  mkdir_outcome,
-  rmdir_outcome,
-  demand_outcome,
-  read_outcome,
-  write_outcome,
-  ok_line,
-  Performs,
-  Total,
-  Plan,
-  Cert,
-  Period,
-  Report,
-};
+ghost use Rattle.bw_commands.specs.Script.{outcome_of_command, outcome_of_text, mkdir_outcome, rmdir_outcome, demand_outcome, read_outcome, write_outcome};
+ghost use Rattle.bw_commands.specs.Script.{ok_line, Performs, Total, Plan, Cert, Period, Report};
 ghost use Rattle.bw_commands.specs.State.{start};
 ghost use Rattle.bw_commands.specs.Commands.{state_of};
 ghost use Rattle.bw_commands.specs.Parsed.{meaning_of};

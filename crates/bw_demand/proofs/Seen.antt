@@ -1,37 +1,6 @@
 -- Which groups a walk from the deepest level up has seen.
-use Rattle.std.proofs.Common.{
-  ◌≡◌,
-  ℕ,
-  zero,
-  suc,
-  ◌+◌,
-  ◌<◌,
-  ◌≤◌,
-  ◌==◌,
-  ◌||◌,
-  Bool,
-  true,
-  false,
-  not,
-  true≢false,
-  eqb,
-  ltb,
-  List,
-  [],
-  ◌∷◌,
-  take,
-  length,
-  get_or,
-  Some,
-  Vec,
-  refl,
-  sym,
-  ap,
-  ◌∙◌,
-  arith,
-  inl,
-  inr,
-}
+use Rattle.std.proofs.Common.{◌≡◌, ℕ, zero, suc, ◌+◌, ◌<◌, ◌≤◌, ◌==◌, ◌||◌, Bool, true, false, not, true≢false, eqb, ltb, List, [], ◌∷◌, take, length, get_or}
+use Rattle.std.proofs.Common.{Some, Vec, refl, sym, ap, ◌∙◌, arith, inl, inr}
 use Rattle.std.specs.List.{list_any}
 use Rattle.std.specs.declared.alloc.Global.{Global}
 use Rattle.std.proofs.Math.Bool.{or-false, or_assoc}

@@ -1,39 +1,6 @@
 -- Wants and the most of each group, as far as they are gathered.
-use Rattle.std.proofs.Common.{
-  ◌≡◌,
-  ℕ,
-  zero,
-  suc,
-  ◌+◌,
-  ◌*◌,
-  ◌<◌,
-  ◌≤◌,
-  List,
-  [],
-  ◌∷◌,
-  Bool,
-  true,
-  false,
-  ◌||◌,
-  eqb,
-  true≢false,
-  cond,
-  Option,
-  None,
-  Some,
-  length,
-  get_or,
-  set,
-  replicate,
-  ltb,
-  refl,
-  ap,
-  sym,
-  ◌∙◌,
-  arith,
-  inl,
-  inr,
-}
+use Rattle.std.proofs.Common.{◌≡◌, ℕ, zero, suc, ◌+◌, ◌*◌, ◌<◌, ◌≤◌, List, [], ◌∷◌, Bool, true, false, ◌||◌, eqb, true≢false, cond, Option, None, Some, length}
+use Rattle.std.proofs.Common.{get_or, set, replicate, ltb, refl, ap, sym, ◌∙◌, arith, inl, inr}
 use Rattle.std.specs.Prelude.{sum_by, slice_index, map, min}
 use Rattle.std.specs.Option.{option_map_or}
 use Rattle.std.proofs.Math.Bool.{or-false}

@@ -1,45 +1,13 @@
 -- The number that refuses what is asked, case by case.
-use Rattle.std.proofs.Common.{
-  ◌&&◌,
-  not,
-  filter,
-  subst,
-  count_by,
-  ◌≡◌,
-  ◌≤◌,
-  arith,
-  ℕ,
-  Bool,
-  true,
-  false,
-  cond,
-  Option,
-  None,
-  Some,
-  List,
-  length,
-  refl,
-  ap,
-  sym,
-  ◌∙◌,
-  inl,
-  inr,
-}
+use Rattle.std.proofs.Common.{◌&&◌, not, filter, subst, count_by, ◌≡◌, ◌≤◌, arith, ℕ, Bool, true, false, cond, Option, None, Some, List, length, refl, ap, sym}
+use Rattle.std.proofs.Common.{◌∙◌, inl, inr}
 use Rattle.std.specs.Option.{option_map_or}
 use Rattle.std.proofs.lemmas.Bool.{ne_eqb, eq-eqb}
 use Rattle.std.proofs.lemmas.List.FromFn.{length-map-range_with_len, length-range_with_len}
 use Rattle.bw_model.specs.declared.host.HostFault.{HostFault}
 use Rattle.bw_model.specs.declared.instance_fault.InstanceFault.{InstanceFault}
-use Rattle.bw_model.specs.declared.instance_fault.InstanceFault.TheVariants.{
-  TooMany,
-  BadParent,
-  BadWeight,
-  TooDeep,
-  InnerDemand,
-  DemandTooLarge,
-  RootLimited,
-  OutOfMemory,
-}
+use Rattle.bw_model.specs.declared.instance_fault.InstanceFault.TheVariants.{TooMany, BadParent, BadWeight, TooDeep, InnerDemand, DemandTooLarge, RootLimited}
+use Rattle.bw_model.specs.declared.instance_fault.InstanceFault.TheVariants.{OutOfMemory}
 use Rattle.bw_model.specs.Host.{Shape, IsHost, host_refusal}
 use Rattle.bw_model.specs.Refusal.{refusal, IsRefused}
 use Rattle.bw_model.specs.Faults.{host_fault_number, instance_fault_number}

@@ -1,30 +1,6 @@
 -- The columns of a certificate spell it.
-use Rattle.std.proofs.Common.{
-  ◌≡◌,
-  ℕ,
-  ◌<◌,
-  ◌==◌,
-  not,
-  List,
-  [],
-  ◌∷◌,
-  Bool,
-  true,
-  false,
-  Option,
-  Some,
-  None,
-  length,
-  map,
-  get_or,
-  refl,
-  ap,
-  sym,
-  suc,
-  true≢false,
-  ◌∙◌,
-  arith,
-}
+use Rattle.std.proofs.Common.{◌≡◌, ℕ, ◌<◌, ◌==◌, not, List, [], ◌∷◌, Bool, true, false, Option, Some, None, length, map, get_or, refl, ap, sym, suc, true≢false}
+use Rattle.std.proofs.Common.{◌∙◌, arith}
 use Rattle.std.proofs.lemmas.List.{get_or-map}
 use Rattle.bw_model.specs.declared.mark.Mark.{Mark}
 use Rattle.bw_model.specs.Certificate.{Certified}

@@ -1,25 +1,6 @@
 -- What a caller claims of amounts, and what the check of it answers.
-use Rattle.std.specs.Prelude.{
-  ◌≡◌,
-  ◌↔◌,
-  ◌⊎◌,
-  ℕ,
-  ◌<◌,
-  Bool,
-  ◌==◌,
-  ◌&&◌,
-  not,
-  List,
-  Option,
-  None,
-  length,
-  map,
-  slice_index,
-  slice_index_or,
-  if◌then◌else◌,
-  IsSome,
-  IfSome,
-}
+use Rattle.std.specs.Prelude.{◌≡◌, ◌↔◌, ◌⊎◌, ℕ, ◌<◌, Bool, ◌==◌, ◌&&◌, not, List, Option, None, length, map, slice_index, slice_index_or, if◌then◌else◌, IsSome}
+use Rattle.std.specs.Prelude.{IfSome}
 use Rattle.bw_model.specs.declared.mark.Mark.{Mark}
 use Rattle.bw_model.specs.Host.{Shape}
 use Rattle.bw_model.specs.Groups.{Groups}

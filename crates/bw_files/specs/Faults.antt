@@ -1,15 +1,8 @@
 -- The numbers and names of the refusals.
 use Rattle.std.specs.Prelude.{ℕ, List, codes}
 use Rattle.bw_files.specs.declared.fault.FileFault.{FileFault}
-use Rattle.bw_files.specs.declared.fault.FileFault.TheVariants.{
-  BadNumber,
-  WeightOutOfRange,
-  QuotaTooSmall,
-  QuotaTooLarge,
-  PeriodOutOfRange,
-  TooManyWords,
-  Empty,
-}
+use Rattle.bw_files.specs.declared.fault.FileFault.TheVariants.{BadNumber, WeightOutOfRange, QuotaTooSmall, QuotaTooLarge, PeriodOutOfRange, TooManyWords}
+use Rattle.bw_files.specs.declared.fault.FileFault.TheVariants.{Empty}
 
 -- the number that is printed
 abbrev pub file_fault_number : FileFault → ℕ

@@ -6,15 +6,8 @@ use Rattle.bw_model.specs.declared.limits.TheConstants.{MIN_WEIGHT, MAX_WEIGHT, 
 use Rattle.bw_model.specs.declared.quota.Quota.{Quota}
 use Rattle.bw_model.specs.declared.quota.Quota.TheVariants.{Max, Micros}
 use Rattle.bw_files.specs.declared.fault.FileFault.{FileFault}
-use Rattle.bw_files.specs.declared.fault.FileFault.TheVariants.{
-  BadNumber,
-  WeightOutOfRange,
-  QuotaTooSmall,
-  QuotaTooLarge,
-  PeriodOutOfRange,
-  TooManyWords,
-  Empty,
-}
+use Rattle.bw_files.specs.declared.fault.FileFault.TheVariants.{BadNumber, WeightOutOfRange, QuotaTooSmall, QuotaTooLarge, PeriodOutOfRange, TooManyWords}
+use Rattle.bw_files.specs.declared.fault.FileFault.TheVariants.{Empty}
 use Rattle.bw_files.specs.declared.reading.MaxWrite.{MaxWrite}
 
 -- the first refusal of two steps

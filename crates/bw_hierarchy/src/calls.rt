@@ -7,23 +7,8 @@ ghost use Rattle.bw_model.specs.Quota.{IsValid};
 ghost use Rattle.bw_tree.specs.Groups.{find_path, group_at, IsTree};
 ghost use Rattle.bw_tree.specs.Tree.{setting_refusal, with_setting, set_max, set_burst};
 ghost use Rattle.bw_hierarchy.specs.Faults.{IsRefusal, IsMemoryLast};
-ghost use Rattle.bw_hierarchy.specs.Calls.{
-  found_at,
-  setting,
-  mkdir_of,
-  set_shares_of,
-  quota_of_int,
-  int_of_quota,
-  quota_given,
-  period_given,
-  is_above,
-  fitting,
-  quota_at,
-  burst_at,
-  max_set,
-  set_cfs_of,
-  value_at,
-};
+ghost use Rattle.bw_hierarchy.specs.Calls.{found_at, setting, mkdir_of, set_shares_of, quota_of_int, int_of_quota, quota_given, period_given, is_above};
+ghost use Rattle.bw_hierarchy.specs.Calls.{fitting, quota_at, burst_at, max_set, set_cfs_of, value_at};
 
 use crate::fault::Fault;
 use bw_files::{FileFault, check_period, check_quota, check_weight};

@@ -3,16 +3,8 @@
 
 ghost use Rattle.std.specs.Prelude.{◌≡◌};
 ghost use Rattle.bw_model.specs.declared.limits.TheConstants.{MAX_PROCESSORS, MIN_PERIOD_US, MAX_PERIOD_US, MIN_SLICE_US, MAX_PER_PROCESSOR, MAX_CAPACITY};
-ghost use Rattle.bw_model.specs.declared.limits.TheConstants.{
-  MIN_QUOTA_US,
-  MAX_QUOTA_US,
-  MAX_BURST_US,
-  MIN_WEIGHT,
-  MAX_WEIGHT,
-  MAX_DEMAND,
-  MAX_GROUPS,
-  MAX_DEPTH,
-};
+ghost use Rattle.bw_model.specs.declared.limits.TheConstants.{MIN_QUOTA_US, MAX_QUOTA_US, MAX_BURST_US, MIN_WEIGHT, MAX_WEIGHT, MAX_DEMAND, MAX_GROUPS};
+ghost use Rattle.bw_model.specs.declared.limits.TheConstants.{MAX_DEPTH};
 ghost use Rattle.bw_tree.specs.declared.limits.TheConstants.{MAX_NAME, DEFAULT_WEIGHT, DEFAULT_PERIOD_US, FIRST_ID};
 ghost use Rattle.bw_split.specs.declared.limits.TheConstants.{MAX_CHILDREN, MAX_ROUNDS};
 ghost use Rattle.bw_pool.specs.declared.seats.TheConstants.{MAX_SEATS as POOL_SEATS};

@@ -1,44 +1,6 @@
 -- Sums, lists, options and tests of numbers: what the other proofs use, and what stands on none of them.
-use Rattle.std.proofs.Common.{
-  ◌≡◌,
-  ℕ,
-  zero,
-  suc,
-  ◌+◌,
-  ◌*◌,
-  ◌<◌,
-  ◌≤◌,
-  List,
-  [],
-  ◌∷◌,
-  Bool,
-  cond,
-  refl,
-  arith,
-  sym,
-  ap,
-  ◌∙◌,
-  inl,
-  inr,
-  ◌-◌,
-  ◌⊎◌,
-  ◌≢◌,
-  length,
-  get_or,
-  true,
-  false,
-  Option,
-  None,
-  Some,
-  ◌||◌,
-  eqb,
-  ◌==◌,
-  ◌++◌,
-  ◌&&◌,
-  true≢false,
-  replicate,
-  bytes_eq,
-}
+use Rattle.std.proofs.Common.{◌≡◌, ℕ, zero, suc, ◌+◌, ◌*◌, ◌<◌, ◌≤◌, List, [], ◌∷◌, Bool, cond, refl, arith, sym, ap, ◌∙◌, inl, inr, ◌-◌, ◌⊎◌, ◌≢◌, length}
+use Rattle.std.proofs.Common.{get_or, true, false, Option, None, Some, ◌||◌, eqb, ◌==◌, ◌++◌, ◌&&◌, true≢false, replicate, bytes_eq}
 use Rattle.std.proofs.lemmas.Bool.{cases_eq, cond_both, eq-eqb, eqb-true, or_cases, or_right, false_from_ne_true, ne_eqb, cases_Bool, or_left, false≢true}
 use Rattle.std.specs.Prelude.{sum, sum_by, filter, map}
 use Rattle.std.specs.List.{range_with_len, list_any}

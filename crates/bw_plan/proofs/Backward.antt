@@ -16,21 +16,8 @@ use Rattle.bw_model.proofs.CallerLemmas.{is_child_from_parent, child_at, capped,
 use Rattle.bw_plan.proofs.Existence.{best_split}
 use Rattle.bw_plan.specs.Laws.{HasOnePlan}
 use Rattle.bw_plan.specs.Shared.{IsShared, IsPlanning}
-use Rattle.bw_plan.proofs.Shares.{
-  begun,
-  enough,
-  shared_more,
-  leaf_more,
-  all_planned,
-  same_done,
-  rows_before,
-  next_fresh,
-  next_marks,
-  before_closed,
-  parent_done,
-  map_is,
-  weights_in_range,
-}
+use Rattle.bw_plan.proofs.Shares.{begun, enough, shared_more, leaf_more, all_planned, same_done, rows_before, next_fresh, next_marks, before_closed}
+use Rattle.bw_plan.proofs.Shares.{parent_done, map_is, weights_in_range}
 
 -- amounts with the parts at the children of a group
 written : List Row → ℕ → List ℕ → List ℕ → ℕ → ℕ

@@ -1,36 +1,6 @@
 -- What a walk from the root down has shared out, group by group, is the plan at its end.
-use Rattle.std.proofs.Common.{
-  rules,
-  ◌≡◌,
-  ℕ,
-  zero,
-  suc,
-  ◌<◌,
-  ◌≤◌,
-  List,
-  [],
-  ◌∷◌,
-  Bool,
-  true,
-  false,
-  true≢false,
-  ◌||◌,
-  eqb,
-  ltb,
-  Some,
-  None,
-  length,
-  get_or,
-  set,
-  replicate,
-  refl,
-  ap,
-  sym,
-  ◌∙◌,
-  arith,
-  inl,
-  inr,
-}
+use Rattle.std.proofs.Common.{rules, ◌≡◌, ℕ, zero, suc, ◌<◌, ◌≤◌, List, [], ◌∷◌, Bool, true, false, true≢false, ◌||◌, eqb, ltb, Some, None, length, get_or, set}
+use Rattle.std.proofs.Common.{replicate, refl, ap, sym, ◌∙◌, arith, inl, inr}
 use Rattle.std.specs.Prelude.{All, sum, slice_index, map, filter}
 use Rattle.std.specs.List.{range_with_len}
 use Rattle.std.proofs.lemmas.Bool.{cases_Bool, cases_eq, cases_lt, eq-eqb, ne_eqb, eqb-true, ltb-true, lt-ltb, le-ltb, or_cases, or_parts}

@@ -1,31 +1,6 @@
 -- What the code of a give-back computes, in the pool's own terms.
-use Rattle.std.proofs.Common.{
-  ◌≡◌,
-  ◌≢◌,
-  ℕ,
-  ◌-◌,
-  ◌<◌,
-  ◌≤◌,
-  ◌&&◌,
-  inl,
-  inr,
-  List,
-  length,
-  Bool,
-  true,
-  cond,
-  None,
-  Some,
-  get_or,
-  set,
-  ap,
-  ◌∙◌,
-  subst,
-  arith,
-  eqb,
-  eq-eqb,
-  ltb,
-}
+use Rattle.std.proofs.Common.{◌≡◌, ◌≢◌, ℕ, ◌-◌, ◌<◌, ◌≤◌, ◌&&◌, inl, inr, List, length, Bool, true, cond, None, Some, get_or, set, ap, ◌∙◌, subst, arith, eqb}
+use Rattle.std.proofs.Common.{eq-eqb, ltb}
 use Rattle.std.proofs.lemmas.Bool.{lt-ltb, le-ltb, cases_lt}
 use Rattle.std.specs.List.{AllByRecursion}
 use Rattle.bw_model.specs.declared.row.Row.{Row}

@@ -6,21 +6,8 @@ use Rattle.bw_pool.specs.declared.calls.PoolCall.{PoolCall}
 use Rattle.bw_pool.specs.declared.calls.PoolCall.TheVariants.{Draw, GiveBack, Lower, Look}
 use Rattle.bw_pool.specs.declared.calls.Refusal.{Refusal}
 use Rattle.bw_pool.specs.Drained.{PoolEntry}
-use Rattle.bw_pool.specs.Pool.{
-  PoolState,
-  IsSound,
-  refusal,
-  state_after,
-  unless_refused,
-  after,
-  held_by,
-  gave_back,
-  lowered_ceiling,
-  leaf_refusal,
-  NeverPastThePlan,
-  StaysSound,
-  CutsNothing,
-}
+use Rattle.bw_pool.specs.Pool.{PoolState, IsSound, refusal, state_after, unless_refused, after, held_by, gave_back, lowered_ceiling, leaf_refusal}
+use Rattle.bw_pool.specs.Pool.{NeverPastThePlan, StaysSound, CutsNothing}
 use Rattle.bw_pool.proofs.Sound.{sound_drew, sound_gave_back, sound_lowered, draw_passed, group_passed, set_below, held_le_processor, held_le_path}
 use Rattle.bw_pool.proofs.Backs.{back_passed}
 

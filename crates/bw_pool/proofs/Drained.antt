@@ -1,40 +1,6 @@
 -- In every schedule drained workers leave the plan's amounts: an induction on the history, call by call.
-use Rattle.std.proofs.Common.{
-  ◌≡◌,
-  ℕ,
-  ◌+◌,
-  ◌-◌,
-  ◌*◌,
-  ◌<◌,
-  ◌≤◌,
-  ◌⊎◌,
-  inl,
-  inr,
-  min,
-  List,
-  [],
-  ◌∷◌,
-  length,
-  replicate,
-  Bool,
-  true,
-  false,
-  cond,
-  Option,
-  None,
-  Some,
-  get_or,
-  set,
-  refl,
-  sym,
-  ap,
-  ◌∙◌,
-  subst,
-  arith,
-  eqb,
-  ne_eqb,
-  eq-eqb,
-}
+use Rattle.std.proofs.Common.{◌≡◌, ℕ, ◌+◌, ◌-◌, ◌*◌, ◌<◌, ◌≤◌, ◌⊎◌, inl, inr, min, List, [], ◌∷◌, length, replicate, Bool, true, false, cond, Option, None}
+use Rattle.std.proofs.Common.{Some, get_or, set, refl, sym, ap, ◌∙◌, subst, arith, eqb, ne_eqb, eq-eqb}
 use Rattle.std.proofs.lemmas.Bool.{cases_lt}
 use Rattle.bw_model.specs.History.{replay, IsLegal, own, entry}
 use Rattle.bw_model.specs.declared.row.Row.{Row}
@@ -45,22 +11,8 @@ use Rattle.bw_pool.specs.declared.calls.PoolReply.{PoolReply}
 use Rattle.bw_pool.specs.declared.calls.PoolReply.TheVariants.{Granted}
 use Rattle.bw_pool.specs.declared.calls.Refusal.{Refusal}
 use Rattle.bw_pool.specs.Pool.{PoolState, raised, got_of, group_refusal, reply_to, unless_refused, or_refused, after, answer, short_of}
-use Rattle.bw_pool.specs.Drained.{
-  PoolEntry,
-  Worker,
-  fresh,
-  is_look,
-  without_looks,
-  got_one,
-  drawn_one,
-  returned_one,
-  MayCall,
-  worker_after,
-  Drains,
-  IsPlanned,
-  IsDrawnOut,
-  DrainedWorkersDrawTheAmounts,
-}
+use Rattle.bw_pool.specs.Drained.{PoolEntry, Worker, fresh, is_look, without_looks, got_one, drawn_one, returned_one, MayCall, worker_after, Drains, IsPlanned}
+use Rattle.bw_pool.specs.Drained.{IsDrawnOut, DrainedWorkersDrawTheAmounts}
 use Rattle.bw_pool.proofs.Lists.{raised_zero, set_plus_zero, put, put_all}
 use Rattle.bw_pool.proofs.Workers.{pool, IsRun, run_starts, run_ends}
 use Rattle.bw_pool.proofs.Drawing.{draw_not_refused, draw_state, got_is, draw_none_keeps, draw_one_keeps}

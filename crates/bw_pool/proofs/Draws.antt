@@ -1,30 +1,6 @@
 -- What the code of a draw computes, in the pool's own terms.
-use Rattle.std.proofs.Common.{
-  ◌≡◌,
-  ◌≢◌,
-  ℕ,
-  ◌+◌,
-  ◌-◌,
-  ◌<◌,
-  ◌≤◌,
-  min,
-  List,
-  length,
-  Bool,
-  true,
-  cond,
-  None,
-  Some,
-  get_or,
-  set,
-  sym,
-  ap,
-  ◌∙◌,
-  subst,
-  arith,
-  eq-eqb,
-  ne_eqb,
-}
+use Rattle.std.proofs.Common.{◌≡◌, ◌≢◌, ℕ, ◌+◌, ◌-◌, ◌<◌, ◌≤◌, min, List, length, Bool, true, cond, None, Some, get_or, set, sym, ap, ◌∙◌, subst, arith, eq-eqb}
+use Rattle.std.proofs.Common.{ne_eqb}
 use Rattle.std.specs.List.{AllByRecursion}
 use Rattle.bw_model.specs.declared.limits.TheConstants.{MAX_PER_PROCESSOR}
 use Rattle.bw_model.specs.declared.row.Row.{Row}

@@ -1,39 +1,6 @@
 -- What giving a slice back does to the run.
-use Rattle.std.proofs.Common.{
-  ◌≡◌,
-  ◌≢◌,
-  ℕ,
-  suc,
-  ◌+◌,
-  ◌-◌,
-  ◌*◌,
-  ◌<◌,
-  ◌≤◌,
-  ◌||◌,
-  inl,
-  inr,
-  List,
-  length,
-  Bool,
-  true,
-  false,
-  cond,
-  None,
-  Some,
-  get_or,
-  set,
-  refl,
-  sym,
-  ap,
-  ◌∙◌,
-  subst,
-  arith,
-  eqb,
-  leb,
-  length-set,
-  get_or-set_same,
-  get_or-set_other,
-}
+use Rattle.std.proofs.Common.{◌≡◌, ◌≢◌, ℕ, suc, ◌+◌, ◌-◌, ◌*◌, ◌<◌, ◌≤◌, ◌||◌, inl, inr, List, length, Bool, true, false, cond, None, Some, get_or, set, refl}
+use Rattle.std.proofs.Common.{sym, ap, ◌∙◌, subst, arith, eqb, leb, length-set, get_or-set_same, get_or-set_other}
 use Rattle.std.proofs.lemmas.Bool.{lt-ltb, le-leb}
 use Rattle.std.proofs.lemmas.Bool.Decides.{eqb_tells}
 use Rattle.std.proofs.lemmas.List.Sums.{get_or-le-sum_by}

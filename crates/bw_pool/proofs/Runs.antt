@@ -1,41 +1,6 @@
 -- Every schedule of a core is one thread's, in ticket order: an induction on the events.
-use Rattle.std.proofs.Common.{
-  ◌≡◌,
-  ◌≢◌,
-  ℕ,
-  zero,
-  suc,
-  ◌+◌,
-  ◌≤◌,
-  inl,
-  inr,
-  List,
-  [],
-  ◌∷◌,
-  ◌++◌,
-  length,
-  take,
-  replicate,
-  Bool,
-  true,
-  false,
-  cond,
-  Option,
-  None,
-  Some,
-  set,
-  slice_get,
-  refl,
-  sym,
-  ap,
-  ◌∙◌,
-  subst,
-  arith,
-  eqb,
-  eqb-true,
-  append_assoc,
-  append-nil,
-}
+use Rattle.std.proofs.Common.{◌≡◌, ◌≢◌, ℕ, zero, suc, ◌+◌, ◌≤◌, inl, inr, List, [], ◌∷◌, ◌++◌, length, take, replicate, Bool, true, false, cond, Option, None}
+use Rattle.std.proofs.Common.{Some, set, slice_get, refl, sym, ap, ◌∙◌, subst, arith, eqb, eqb-true, append_assoc, append-nil}
 use Rattle.std.proofs.lemmas.Bool.{cases_lt}
 use Rattle.std.proofs.lemmas.Bool.Decides.{eqb_tells}
 use Rattle.std.proofs.lemmas.List.{take-append-le}

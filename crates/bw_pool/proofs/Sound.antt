@@ -1,43 +1,6 @@
 -- Each call keeps what holds of every pool, and raises no ceiling.
-use Rattle.std.proofs.Common.{
-  ◌≡◌,
-  ◌≢◌,
-  ℕ,
-  zero,
-  suc,
-  ◌+◌,
-  ◌-◌,
-  ◌*◌,
-  ◌<◌,
-  ◌≤◌,
-  inl,
-  inr,
-  min,
-  List,
-  length,
-  replicate,
-  Bool,
-  true,
-  false,
-  cond,
-  Option,
-  None,
-  Some,
-  get_or,
-  set,
-  refl,
-  sym,
-  ap,
-  ◌∙◌,
-  subst,
-  arith,
-  eqb,
-  ltb,
-  ne_eqb,
-  length-set,
-  get_or-set_same,
-  get_or-set_other,
-}
+use Rattle.std.proofs.Common.{◌≡◌, ◌≢◌, ℕ, zero, suc, ◌+◌, ◌-◌, ◌*◌, ◌<◌, ◌≤◌, inl, inr, min, List, length, replicate, Bool, true, false, cond, Option, None}
+use Rattle.std.proofs.Common.{Some, get_or, set, refl, sym, ap, ◌∙◌, subst, arith, eqb, ltb, ne_eqb, length-set, get_or-set_same, get_or-set_other}
 use Rattle.std.proofs.lemmas.Bool.{ltb-true}
 use Rattle.std.proofs.lemmas.Bool.Decides.{eqb_tells}
 use Rattle.std.proofs.Math.Nat.{mul-le-mul_right}
@@ -49,43 +12,10 @@ use Rattle.bw_model.proofs.CallerLemmas.{child_le_sum, sum_below-term, path_up-w
 use Rattle.bw_pool.specs.declared.calls.PoolCall.TheVariants.{Draw}
 use Rattle.bw_pool.specs.declared.calls.Refusal.{Refusal}
 use Rattle.bw_pool.specs.declared.calls.Refusal.TheVariants.{NoProcessor, NoGroup, NotLeaf, ZeroAsk}
-use Rattle.bw_pool.specs.Pool.{
-  PoolState,
-  IsSound,
-  new_pool,
-  left_at,
-  held_place,
-  held_of_seat,
-  held_of_leaf,
-  least,
-  raised,
-  lowered,
-  got_of,
-  drew,
-  gave_back,
-  lowered_ceiling,
-  refusal,
-  leaf_refusal,
-  group_refusal,
-}
-use Rattle.bw_pool.proofs.Trees.{
-  Rising,
-  parent_below,
-  length-raised,
-  length-lowered,
-  least_le,
-  least_all,
-  least_rising,
-  raised_within,
-  raised_balanced,
-  lowered_balanced,
-  raised_leaf,
-  lowered_leaf,
-  raised_own,
-  lowered_own,
-  get_or-set,
-  by_path,
-}
+use Rattle.bw_pool.specs.Pool.{PoolState, IsSound, new_pool, left_at, held_place, held_of_seat, held_of_leaf, least, raised, lowered, got_of, drew, gave_back}
+use Rattle.bw_pool.specs.Pool.{lowered_ceiling, refusal, leaf_refusal, group_refusal}
+use Rattle.bw_pool.proofs.Trees.{Rising, parent_below, length-raised, length-lowered, least_le, least_all, least_rising, raised_within, raised_balanced}
+use Rattle.bw_pool.proofs.Trees.{lowered_balanced, raised_leaf, lowered_leaf, raised_own, lowered_own, get_or-set, by_path}
 use Rattle.bw_pool.proofs.Lists.{sum_of_children-zeros, lowered_le}
 use Rattle.bw_pool.proofs.Holdings.{seat_sum, leaf_sum, seat_other, leaf_other, seat_own, leaf_own}
 

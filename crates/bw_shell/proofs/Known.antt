@@ -1,29 +1,6 @@
 -- What follows when known bytes are appended or consumed twice.
-use Rattle.std.proofs.Common.{
-  ◌≡◌,
-  ℕ,
-  List,
-  [],
-  ◌++◌,
-  refl,
-  sym,
-  ◌∙◌,
-  ap,
-  subst,
-  append_assoc,
-  append-nil,
-  Option,
-  Some,
-  None,
-  Result,
-  Ok,
-  Err,
-  OnOk,
-  OnErr,
-  IsErrOf,
-  take,
-  drop,
-}
+use Rattle.std.proofs.Common.{◌≡◌, ℕ, List, [], ◌++◌, refl, sym, ◌∙◌, ap, subst, append_assoc, append-nil, Option, Some, None, Result, Ok, Err, OnOk, OnErr}
+use Rattle.std.proofs.Common.{IsErrOf, take, drop}
 use Rattle.std.proofs.lemmas.List.{take-append-drop}
 use Rattle.std.specs.Io.KnownBytes.{Appends, Consumes, Keeps}
 use Rattle.bw_shell.specs.Stream.{AppendsFront}

@@ -1,27 +1,6 @@
 //! A certified text is read whole, checked, and answered by one line.
-ghost use Rattle.std.specs.Prelude.{
-  ◌≡◌,
-  ◌≢◌,
-  ◌⊎◌,
-  ◌||◌,
-  ◌<◌,
-  ◌≤◌,
-  ◌+◌,
-  ◌-◌,
-  ◌++◌,
-  ◌^◌,
-  ℕ,
-  List,
-  min,
-  length,
-  true,
-  false,
-  OnOk,
-  IfOk,
-  IfErr,
-  IsErrOf,
-  string_bytes,
-};
+ghost use Rattle.std.specs.Prelude.{◌≡◌, ◌≢◌, ◌⊎◌, ◌||◌, ◌<◌, ◌≤◌, ◌+◌, ◌-◌, ◌++◌, ◌^◌, ℕ, List, min, length, true, false, OnOk, IfOk, IfErr, IsErrOf};
+ghost use Rattle.std.specs.Prelude.{string_bytes};
 ghost use Rattle.std.specs.Io.KnownBytes.{Appends, Consumes, IsAtEnd, Keeps};
 ghost use Rattle.bw_shell.specs.Stream.{AppendsFront};
 ghost use Rattle.bw_shell.specs.CheckText.{line_of, verdict_line, fault_line, is_accepted, IsFinding, HoldsPlan, Checks, ChecksFront, ReadsTooMuch};

@@ -1,30 +1,6 @@
 -- The counters are the sums over the booked periods.
-use Rattle.std.proofs.Common.{
-  ◌≡◌,
-  ℕ,
-  suc,
-  zero,
-  ◌+◌,
-  ◌<◌,
-  false,
-  cond,
-  List,
-  [],
-  ◌∷◌,
-  length,
-  fold,
-  Option,
-  Some,
-  None,
-  Contains,
-  slice_index_or,
-  refl,
-  sym,
-  ap,
-  ◌∙◌,
-  arith,
-  eqb,
-}
+use Rattle.std.proofs.Common.{◌≡◌, ℕ, suc, zero, ◌+◌, ◌<◌, false, cond, List, [], ◌∷◌, length, fold, Option, Some, None, Contains, slice_index_or, refl, sym}
+use Rattle.std.proofs.Common.{ap, ◌∙◌, arith, eqb}
 use Rattle.std.proofs.lemmas.Bool.{ne_eqb, eq-eqb}
 use Rattle.bw_model.specs.declared.stat.Stat.{Stat}
 use Rattle.bw_stat.specs.Books.{Share, added, or_zeros, stat_at, cut, one_if, booked, forgotten}

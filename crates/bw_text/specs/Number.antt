@@ -1,29 +1,6 @@
 -- A number is `0`, or decimal digits of which the first is not `0`. It may have any length.
-use Rattle.std.specs.Prelude.{
-  ℕ,
-  ◌+◌,
-  ◌-◌,
-  ◌*◌,
-  ◌^◌,
-  Bool,
-  ◌&&◌,
-  ◌||◌,
-  not,
-  ◌==◌,
-  nat_lt,
-  List,
-  [],
-  ◌∷◌,
-  length,
-  slice_index,
-  Option,
-  Some,
-  None,
-  Result,
-  Ok,
-  Err,
-  if◌then◌else◌,
-}
+use Rattle.std.specs.Prelude.{ℕ, ◌+◌, ◌-◌, ◌*◌, ◌^◌, Bool, ◌&&◌, ◌||◌, not, ◌==◌, nat_lt, List, [], ◌∷◌, length, slice_index, Option, Some, None, Result, Ok}
+use Rattle.std.specs.Prelude.{Err, if◌then◌else◌}
 use Rattle.std.specs.Char.{is_ascii_digit}
 use Rattle.std.specs.List.{list_all}
 use Rattle.bw_text.specs.declared.number.NumberFault.{NumberFault}

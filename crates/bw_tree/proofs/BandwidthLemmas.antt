@@ -1,40 +1,6 @@
 -- What a group draws over many periods is bounded by its quota and its burst.
-use Rattle.std.proofs.Common.{
-  ◌≡◌,
-  ◌≢◌,
-  ◌⊎◌,
-  inl,
-  inr,
-  ℕ,
-  suc,
-  ◌+◌,
-  ◌*◌,
-  ◌-◌,
-  ◌/◌,
-  ◌≤◌,
-  min,
-  Bool,
-  true,
-  false,
-  cond,
-  List,
-  [],
-  ◌∷◌,
-  ◌++◌,
-  length,
-  map,
-  Option,
-  Some,
-  None,
-  refl,
-  sym,
-  ap,
-  subst,
-  ◌∙◌,
-  arith,
-  eqb,
-  position,
-}
+use Rattle.std.proofs.Common.{◌≡◌, ◌≢◌, ◌⊎◌, inl, inr, ℕ, suc, ◌+◌, ◌*◌, ◌-◌, ◌/◌, ◌≤◌, min, Bool, true, false, cond, List, [], ◌∷◌, ◌++◌, length, map, Option}
+use Rattle.std.proofs.Common.{Some, None, refl, sym, ap, subst, ◌∙◌, arith, eqb, position}
 use Rattle.std.specs.Prelude.{IfSome}
 use Rattle.std.proofs.lemmas.Bool.{ne_eqb}
 use Rattle.std.proofs.lemmas.Bool.Decides.{eqb_tells}
@@ -45,37 +11,10 @@ use Rattle.bw_model.specs.Host.{Shape}
 use Rattle.bw_model.specs.Quota.{in_slices}
 use Rattle.bw_tree.specs.Groups.{GroupFields, TreeState, group_at}
 use Rattle.bw_tree.specs.Tree.{changed, with_setting, with_group, set_demand, set_weight, set_quota, set_period, set_burst, set_carry, new_group}
-use Rattle.bw_tree.specs.Snapshot.{
-  quota_slices,
-  with_burst,
-  bursting,
-  period_limit,
-  row_above,
-  row_of,
-  rows_of,
-  base_of,
-  instance_of,
-  left_of,
-  left_over,
-  carried,
-  carried_over,
-  IsDrawnWithin,
-}
-use Rattle.bw_tree.specs.Bandwidth.{
-  Call,
-  after_call,
-  CanBook,
-  burst_slices,
-  HasBandwidth,
-  KeepsBandwidth,
-  drawn_at,
-  drawn_in,
-  periods_in,
-  carry_of,
-  carry_at,
-  with_left,
-  HasNoBurst,
-}
+use Rattle.bw_tree.specs.Snapshot.{quota_slices, with_burst, bursting, period_limit, row_above, row_of, rows_of, base_of, instance_of, left_of, left_over}
+use Rattle.bw_tree.specs.Snapshot.{carried, carried_over, IsDrawnWithin}
+use Rattle.bw_tree.specs.Bandwidth.{Call, after_call, CanBook, burst_slices, HasBandwidth, KeepsBandwidth, drawn_at, drawn_in, periods_in, carry_of, carry_at}
+use Rattle.bw_tree.specs.Bandwidth.{with_left, HasNoBurst}
 use Rattle.bw_tree.specs.Bandwidth.Call.{Book, Mkdir, Rmdir, SetDemand, SetWeight, SetLimit, SetPeriod, SetBurst}
 use Rattle.bw_tree.proofs.CarryLemmas.{keys_carried}
 use Rattle.bw_tree.proofs.RemoveLemmas.{look_removed_other}

@@ -1,57 +1,14 @@
 -- What a period leaves over changes no group's place, and nothing else of it.
-use Rattle.std.proofs.Common.{
-  ◌≡◌,
-  ℕ,
-  zero,
-  suc,
-  ◌<◌,
-  Bool,
-  true,
-  false,
-  cond,
-  ◌||◌,
-  List,
-  [],
-  ◌∷◌,
-  length,
-  get_or,
-  take,
-  Option,
-  Some,
-  None,
-  is_some,
-  refl,
-  sym,
-  ap,
-  subst,
-  ◌∙◌,
-  arith,
-  eqb,
-}
+use Rattle.std.proofs.Common.{◌≡◌, ℕ, zero, suc, ◌<◌, Bool, true, false, cond, ◌||◌, List, [], ◌∷◌, length, get_or, take, Option, Some, None, is_some, refl}
+use Rattle.std.proofs.Common.{sym, ap, subst, ◌∙◌, arith, eqb}
 use Rattle.std.proofs.lemmas.Bool.{eq-eqb, ne_eqb}
 use Rattle.std.specs.Map.{keys_of, set_value}
 use Rattle.bw_model.specs.declared.row.Row.{Row}
 use Rattle.bw_model.specs.declared.limits.TheConstants.{MAX_PATH}
 use Rattle.bw_tree.specs.declared.child_index.ChildIndex.{ChildIndex}
 use Rattle.bw_tree.specs.Children.{IsIndexOf}
-use Rattle.bw_tree.specs.Groups.{
-  GroupFields,
-  TreeState,
-  group_at,
-  has_group,
-  has_children,
-  is_parent,
-  is_child_named,
-  demand_of,
-  child_of,
-  parent_of,
-  is_name,
-  IsTree,
-  AllBefore,
-  AllAfter,
-  AreRising,
-  IsSound,
-}
+use Rattle.bw_tree.specs.Groups.{GroupFields, TreeState, group_at, has_group, has_children, is_parent, is_child_named, demand_of, child_of, parent_of, is_name}
+use Rattle.bw_tree.specs.Groups.{IsTree, AllBefore, AllAfter, AreRising, IsSound}
 use Rattle.bw_tree.specs.Tree.{changed, changed_at, set_carry}
 use Rattle.bw_tree.specs.Snapshot.{carried, left_of, left_over}
 use Rattle.bw_tree.proofs.GroupLemmas.{above_same}

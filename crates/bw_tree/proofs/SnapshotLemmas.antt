@@ -1,41 +1,6 @@
 -- The rows of a tree are an instance.
-use Rattle.std.proofs.Common.{
-  ◌≡◌,
-  ◌⊎◌,
-  inl,
-  inr,
-  ℕ,
-  suc,
-  zero,
-  ◌<◌,
-  ◌≤◌,
-  Bool,
-  true,
-  false,
-  cond,
-  ◌==◌,
-  ◌||◌,
-  ◌&&◌,
-  not,
-  List,
-  [],
-  ◌∷◌,
-  length,
-  get_or,
-  Option,
-  Some,
-  None,
-  is_some,
-  refl,
-  sym,
-  ap,
-  ◌∙◌,
-  arith,
-  eqb,
-  ltb,
-  position,
-  zero-add,
-}
+use Rattle.std.proofs.Common.{◌≡◌, ◌⊎◌, inl, inr, ℕ, suc, zero, ◌<◌, ◌≤◌, Bool, true, false, cond, ◌==◌, ◌||◌, ◌&&◌, not, List, [], ◌∷◌, length, get_or, Option}
+use Rattle.std.proofs.Common.{Some, None, is_some, refl, sym, ap, ◌∙◌, arith, eqb, ltb, position, zero-add}
 use Rattle.std.proofs.lemmas.Bool.{eq-eqb, ne_eqb, eqb-true, lt-ltb, le-ltb, cases_order, cases_lt}
 use Rattle.std.proofs.lemmas.List.{get_or-map, length-map}
 use Rattle.indexmap.proofs.MapLemmas.{some_index}
@@ -51,21 +16,8 @@ use Rattle.bw_model.specs.Refusal.{is_earlier, are_earlier, depths_of, is_root_l
 use Rattle.bw_model.specs.Host.{Shape, IsHost}
 use Rattle.std.proofs.lemmas.List.FromFn.{get_or-map-range_with_len, length-map-range_with_len}
 use Rattle.bw_model.specs.declared.quota.Quota.TheVariants.{Max}
-use Rattle.bw_tree.specs.Groups.{
-  GroupFields,
-  TreeState,
-  group_at,
-  has_group,
-  has_children,
-  demand_at,
-  demand_of,
-  above,
-  parent_of,
-  IsTree,
-  IsSound,
-  AllAfter,
-  AreRising,
-}
+use Rattle.bw_tree.specs.Groups.{GroupFields, TreeState, group_at, has_group, has_children, demand_at, demand_of, above, parent_of, IsTree, IsSound, AllAfter}
+use Rattle.bw_tree.specs.Groups.{AreRising}
 use Rattle.bw_tree.specs.Snapshot.{row_above, bursting, row_of, rows_of, instance_of}
 use Rattle.bw_tree.specs.Tree.{root_group}
 use Rattle.bw_tree.proofs.GroupLemmas.{above_more, above_here, some_of}

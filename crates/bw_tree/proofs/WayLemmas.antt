@@ -1,35 +1,6 @@
 -- The way from the root down to a group: the names on it find the group, and no other names do.
-use Rattle.std.proofs.Common.{
-  ◌≡◌,
-  ◌≢◌,
-  ℕ,
-  suc,
-  zero,
-  ◌<◌,
-  ◌≤◌,
-  Bool,
-  true,
-  false,
-  cond,
-  ◌&&◌,
-  not,
-  List,
-  [],
-  ◌∷◌,
-  ◌++◌,
-  length,
-  Option,
-  Some,
-  None,
-  is_some,
-  refl,
-  sym,
-  ap,
-  ◌∙◌,
-  arith,
-  eqb,
-  append_assoc,
-}
+use Rattle.std.proofs.Common.{◌≡◌, ◌≢◌, ℕ, suc, zero, ◌<◌, ◌≤◌, Bool, true, false, cond, ◌&&◌, not, List, [], ◌∷◌, ◌++◌, length, Option, Some, None, is_some}
+use Rattle.std.proofs.Common.{refl, sym, ap, ◌∙◌, arith, eqb, append_assoc}
 use Rattle.std.specs.Prelude.{codes}
 use Rattle.std.specs.List.{list_all, All, slice_split, join_with_byte}
 use Rattle.std.specs.Str.{bytes_eq}

@@ -1,30 +1,5 @@
-use Rattle.std.proofs.Common.{
-  ◌≡◌,
-  ◌<◌,
-  ◌≤◌,
-  ◌+◌,
-  ◌*◌,
-  ℕ,
-  Bool,
-  false,
-  [],
-  ◌∷◌,
-  ◌++◌,
-  cond,
-  append-nil,
-  Vec,
-  ◌&&◌,
-  ◌||◌,
-  not,
-  Some,
-  length,
-  refl,
-  ap,
-  sym,
-  ◌∙◌,
-  arith,
-  rules,
-}
+use Rattle.std.proofs.Common.{◌≡◌, ◌<◌, ◌≤◌, ◌+◌, ◌*◌, ℕ, Bool, false, [], ◌∷◌, ◌++◌, cond, append-nil, Vec, ◌&&◌, ◌||◌, not, Some, length, refl, ap, sym, ◌∙◌}
+use Rattle.std.proofs.Common.{arith, rules}
 use Rattle.std.specs.declared.alloc.Global.{Global}
 use Rattle.bw_model.specs.declared.row.Row.{Row}
 use Rattle.bw_model.specs.declared.limits.TheConstants.{MAX_DEMAND, MAX_GROUPS}

@@ -6,20 +6,8 @@ use Rattle.std.proofs.lemmas.List.Sums.{get_or-le-sum_by}
 use Rattle.bw_model.specs.Split.{IsCheapest}
 use Rattle.bw_split.proofs.Filling.{IsFilled, none_filled, filled_more, not_full, filled-IsBestSplit}
 use Rattle.bw_model.proofs.CallerLemmas.{get_or_within, zeros}
-use Rattle.bw_split.proofs.NextMarks.{
-  IsNextOf,
-  IsLined,
-  mark_in,
-  lined-none,
-  lined-full,
-  popped-IsNextOf,
-  popped-IsCheapest,
-  given-full,
-  least_of,
-  empty-full,
-  first-lined,
-  back-lined,
-}
+use Rattle.bw_split.proofs.NextMarks.{IsNextOf, IsLined, mark_in, lined-none, lined-full, popped-IsNextOf, popped-IsCheapest, given-full, least_of, empty-full}
+use Rattle.bw_split.proofs.NextMarks.{first-lined, back-lined}
 use Rattle.bw_split.proofs.by_marks.split_by_marks.Goals as goal
 use Rattle.bw_split.proofs.by_marks.split_by_marks.Goals.{then-most-i-gt0+in_ok-push, else-most-i-gt0, then-index-most+in_ok-push-in-Some, else-index-most}
 

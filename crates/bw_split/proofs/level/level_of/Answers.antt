@@ -1,12 +1,8 @@
 use Rattle.std.proofs.Common.{◌<◌, ◌+◌, ℕ, get_or, arith}
 use Rattle.bw_split.proofs.LastMarks.{LastOf, last_kept, last_first, last_taken, last_stays}
 use Rattle.bw_split.proofs.level.level_of.Goals as goal
-use Rattle.bw_split.proofs.level.level_of.Goals.{
-  then-parts-i-gt0+in-None,
-  then-parts-i-gt0+in-Some+then-parts-i,
-  then-parts-i-gt0+in-Some+else-parts-i,
-  else-parts-i-gt0,
-}
+use Rattle.bw_split.proofs.level.level_of.Goals.{then-parts-i-gt0+in-None, then-parts-i-gt0+in-Some+then-parts-i, then-parts-i-gt0+in-Some+else-parts-i}
+use Rattle.bw_split.proofs.level.level_of.Goals.{else-parts-i-gt0}
 
 pub loop-i-preserved : goal.loop-i-preserved
 loop-i-preserved c =

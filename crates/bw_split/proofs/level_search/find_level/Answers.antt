@@ -4,12 +4,8 @@ use Rattle.bw_split.specs.Levels.{taken_by_all}
 use Rattle.bw_split.proofs.Takes.{by_all-zero, by_all-mono}
 use Rattle.bw_split.proofs.Search.{halved}
 use Rattle.bw_split.proofs.level_search.find_level.Goals as goal
-use Rattle.bw_split.proofs.level_search.find_level.Goals.{
-  then-total-amount,
-  else-total-amount,
-  then-above-level-eq1-via-then-above-level-eq1,
-  then-above-level-eq1-via-else-above-level-eq1+then-rest-eq0-2,
-}
+use Rattle.bw_split.proofs.level_search.find_level.Goals.{then-total-amount, else-total-amount, then-above-level-eq1-via-then-above-level-eq1}
+use Rattle.bw_split.proofs.level_search.find_level.Goals.{then-above-level-eq1-via-else-above-level-eq1+then-rest-eq0-2}
 
 pub loop-round-preserved : goal.loop-round-preserved
 loop-round-preserved c =

@@ -5,12 +5,8 @@ use Rattle.bw_model.specs.Split.{IsBestSplit}
 use Rattle.bw_split.proofs.Picks.{IsGiven, given-none, given-kept, given-pick, given-IsBestSplit}
 use Rattle.bw_split.proofs.Search.{all-IsBestSplit, one-IsBestSplit}
 use Rattle.bw_split.proofs.level_search.split_counted.Goals as goal
-use Rattle.bw_split.proofs.level_search.split_counted.Goals.{
-  then-rest-gt0+then-takes-part+in_ok-push,
-  else-rest-gt0+in_ok-push-2,
-  else-rest-gt0-via-then-rest-gt0+else-takes-part,
-  else-rest-gt0-via-else-rest-gt0,
-}
+use Rattle.bw_split.proofs.level_search.split_counted.Goals.{then-rest-gt0+then-takes-part+in_ok-push, else-rest-gt0+in_ok-push-2}
+use Rattle.bw_split.proofs.level_search.split_counted.Goals.{else-rest-gt0-via-then-rest-gt0+else-takes-part, else-rest-gt0-via-else-rest-gt0}
 
 pub loop-i-init : goal.loop-i-init
 loop-i-init c = record {
