@@ -153,8 +153,11 @@ fn storm_once<R: Threads + Wait + Abort + Sync>(rt: &R, alloc: Global) -> Result
     };
     assert!(rt; history.len() == 501);
     assert_entries(rt, &history);
-    assert!(rt; machine.drawn(POD) == 0);
-    assert!(rt; machine.ceiling(POD) == 4);
+    // pod is row 1
+    let drawn = machine.all_drawn();
+    assert!(rt; drawn.len() == 5);
+    assert!(rt; drawn[1] == 0);
+    assert!(rt; machine.ceiling(1) == 4);
     Ok(())
 }
 
