@@ -2,7 +2,6 @@
 mod Faults
 mod Refusals
 mod Words
-mod Decimals
 mod Totals
 mod Within
 mod PathLists

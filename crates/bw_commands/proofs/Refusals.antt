@@ -1,7 +1,9 @@
 -- What a refused call on the hierarchy means for its line.
-use Rattle.std.proofs.Common.{◌≡◌, ℕ, List, Result, Ok, Err, refl, inl, inr, sym, subst}
-use Rattle.bw_tree.specs.declared.fault.TreeFault.TheVariants.{NotFound, Exists, BadName, HasChildren, HasDemand, ParentHasDemand, RootFixed, TreeFull}
-use Rattle.bw_tree.specs.declared.fault.TreeFault.TheVariants.{IdsSpent, TooDeep, InnerDemand, DemandTooLarge, OutOfMemory}
+use Rattle.std.proofs.Common.{◌≡◌, ◌≢◌, ◌⊎◌, ℕ, Bool, true, false, List, Result, Ok, Err, refl, inl, inr, sym, subst}
+use denote.Enum.Bare.{sameb, same_true, same_false}
+use Rattle.bw_tree.specs.contracts.fault.TreeFault.{the_type}
+use Rattle.bw_tree.specs.declared.fault.TreeFault.{TreeFault}
+use Rattle.bw_tree.specs.declared.fault.TreeFault.TheVariants.{OutOfMemory}
 use Rattle.bw_hierarchy.specs.Faults.{IsRefusal}
 use Rattle.bw_hierarchy.specs.declared.fault.Fault.{Fault}
 use Rattle.bw_hierarchy.specs.declared.fault.Fault.TheVariants.{Tree, File, NoSuchFile, ReadOnly, BurstAboveQuota}
@@ -21,23 +23,22 @@ pub call_outcome-memory : {A : Type 0} (s : State) (text : A → List ℕ) (afte
 call_outcome-memory s text after (Ok x) = inr (refl, refl)
 call_outcome-memory s text after (Err f) = inr (refl, refl)
 
+-- a fault of the tree is want of memory, or another one
+memory_or_other : (f : TreeFault) → (f ≡ OutOfMemory) ⊎ (f ≢ OutOfMemory)
+memory_or_other f = by (sameb the_type f OutOfMemory) refl
+  where
+    by : (b : Bool) → sameb the_type f OutOfMemory ≡ b → (f ≡ OutOfMemory) ⊎ (f ≢ OutOfMemory)
+    by true is = inl (same_true the_type tt f OutOfMemory is)
+    by false is = inr (same_false the_type f OutOfMemory is)
+
 -- a call that grows something
 pub call_outcome-IsRefusal : {A : Type 0} (s : State) (text : A → List ℕ) (after : A → State) (r : Result A Fault) (f : Fault) → IsRefusal r f
     → IsOutcome s (call_outcome s text after r) (error_line (fault.Call f)) s
 unfolding error_line
-call_outcome-IsRefusal s text after r (Tree OutOfMemory) h = call_outcome-memory s text after r
-call_outcome-IsRefusal s text after r (Tree NotFound) h = call_outcome-refused s text after r _ (h (λ e. cc))
-call_outcome-IsRefusal s text after r (Tree Exists) h = call_outcome-refused s text after r _ (h (λ e. cc))
-call_outcome-IsRefusal s text after r (Tree BadName) h = call_outcome-refused s text after r _ (h (λ e. cc))
-call_outcome-IsRefusal s text after r (Tree HasChildren) h = call_outcome-refused s text after r _ (h (λ e. cc))
-call_outcome-IsRefusal s text after r (Tree HasDemand) h = call_outcome-refused s text after r _ (h (λ e. cc))
-call_outcome-IsRefusal s text after r (Tree ParentHasDemand) h = call_outcome-refused s text after r _ (h (λ e. cc))
-call_outcome-IsRefusal s text after r (Tree RootFixed) h = call_outcome-refused s text after r _ (h (λ e. cc))
-call_outcome-IsRefusal s text after r (Tree TreeFull) h = call_outcome-refused s text after r _ (h (λ e. cc))
-call_outcome-IsRefusal s text after r (Tree IdsSpent) h = call_outcome-refused s text after r _ (h (λ e. cc))
-call_outcome-IsRefusal s text after r (Tree TooDeep) h = call_outcome-refused s text after r _ (h (λ e. cc))
-call_outcome-IsRefusal s text after r (Tree InnerDemand) h = call_outcome-refused s text after r _ (h (λ e. cc))
-call_outcome-IsRefusal s text after r (Tree DemandTooLarge) h = call_outcome-refused s text after r _ (h (λ e. cc))
+call_outcome-IsRefusal s text after r (Tree f) h = elim (memory_or_other f) [
+  | inl is ↦ subst (λ g. IsOutcome s (call_outcome s text after r) (error_line (fault.Call (Tree g))) s) (sym is) (call_outcome-memory s text after r)
+  | inr other ↦ call_outcome-refused s text after r (Tree f) (h (λ e. other (let is : f ≡ OutOfMemory = cc in is)))
+]
 call_outcome-IsRefusal s text after r (File f) h = call_outcome-refused s text after r _ (h (λ e. cc))
 call_outcome-IsRefusal s text after r NoSuchFile h = call_outcome-refused s text after r _ (h (λ e. cc))
 call_outcome-IsRefusal s text after r ReadOnly h = call_outcome-refused s text after r _ (h (λ e. cc))

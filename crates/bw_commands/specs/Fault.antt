@@ -30,6 +30,10 @@ abbrev pub of_serve_fault : ServeFault → ScriptFault
 of_serve_fault serve.NotStarted = NotStarted
 of_serve_fault serve.OutOfMemory = OutOfMemory
 
--- the line that a refusal prints
+-- the line that a refusal prints, by its number and its name
+abbrev pub refusal_line : ℕ → List ℕ → List ℕ
+refusal_line number name = codes "error " ++ decimal number ++ codes " " ++ name ++ 10 ∷ []
+
+-- the line that the refusal of a line prints
 unfoldable pub error_line : ScriptFault → List ℕ
-error_line fault = codes "error " ++ decimal (number_of fault) ++ codes " " ++ name_of fault ++ 10 ∷ []
+error_line fault = refusal_line (number_of fault) (name_of fault)

@@ -4,6 +4,7 @@ pub mod Fault
 pub mod Word
 pub mod Command
 pub mod Parsed
+pub mod Answers
 pub mod GroupLines
 pub mod PathList
 pub mod Total

@@ -5,7 +5,6 @@ mod paths;
 mod period;
 mod plan;
 mod report;
-mod text;
 mod total;
 
 pub(crate) use cert::put_certified;

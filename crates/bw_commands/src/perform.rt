@@ -3,7 +3,7 @@ ghost use Rattle.std.specs.Prelude.{◌≡◌, ◌≤◌, [], IfOk};
 ghost use Rattle.std.specs.Vec.{vec_capacity};
 ghost use Rattle.bw_text.specs.Number.{number_spelled};
 ghost use Rattle.bw_commands.specs.Script.{outcome_of_command, outcome_of_text, mkdir_outcome, rmdir_outcome, demand_outcome, read_outcome, write_outcome};
-ghost use Rattle.bw_commands.specs.Script.{ok_line, Performs, Total, Plan, Cert, Period, Report};
+ghost use Rattle.bw_commands.specs.Script.{ok_line, Performs, Period};
 ghost use Rattle.bw_commands.specs.State.{start};
 ghost use Rattle.bw_commands.specs.Commands.{state_of};
 ghost use Rattle.bw_commands.specs.Parsed.{meaning_of};
@@ -91,46 +91,6 @@ impl<'a, G: Gate> Commands<'a, G> {
         Ok(self.hierarchy.write_file(path, file, text.as_bytes())?)
     }
 
-    // `total`
-    #[tactic(auto, unfolding(crate::specs::Fault::error_line))]
-    fn total(&self, alloc: Global, answer: &mut Vec<u8>) -> Result<(), ScriptFault>
-        requires { answer.old.items ≡ [] }
-        ensures outcome { Performs (state_of G.used self.now) Total result answer.new.items (state_of G.used self.now) }
-        ensures room { vec_capacity answer.old ≤ vec_capacity answer.new }
-    {
-        Ok(put_total(alloc, &self.hierarchy, answer)?)
-    }
-
-    // `plan`
-    #[tactic(auto, unfolding(crate::specs::Fault::error_line))]
-    fn plan<H: Threads + Sync>(
-        &self,
-        rt: &H,
-        alloc: Global,
-        answer: &mut Vec<u8>,
-    ) -> Result<(), ScriptFault>
-        requires { answer.old.items ≡ [] }
-        ensures outcome { Performs (state_of G.used self.now) Plan result answer.new.items (state_of G.used self.now) }
-        ensures room { vec_capacity answer.old ≤ vec_capacity answer.new }
-    {
-        Ok(put_plan(rt, alloc, &self.hierarchy, answer)?)
-    }
-
-    // `cert`
-    #[tactic(auto, unfolding(crate::specs::Fault::error_line))]
-    fn cert<H: Threads + Sync>(
-        &self,
-        rt: &H,
-        alloc: Global,
-        answer: &mut Vec<u8>,
-    ) -> Result<(), ScriptFault>
-        requires { answer.old.items ≡ [] }
-        ensures outcome { Performs (state_of G.used self.now) Cert result answer.new.items (state_of G.used self.now) }
-        ensures room { vec_capacity answer.old ≤ vec_capacity answer.new }
-    {
-        Ok(put_certified(rt, alloc, &self.hierarchy, answer)?)
-    }
-
     // `period`
     fn period<H: Threads + Wait + Sync>(
         &mut self,
@@ -145,17 +105,8 @@ impl<'a, G: Gate> Commands<'a, G> {
         Ok(serve_period(rt, alloc, &mut self.hierarchy, self.gate, answer)?)
     }
 
-    // `report`
-    #[tactic(auto, unfolding(crate::specs::Fault::error_line))]
-    fn report(&self, alloc: Global, answer: &mut Vec<u8>) -> Result<(), ScriptFault>
-        requires { answer.old.items ≡ [] }
-        ensures outcome { Performs (state_of G.used self.now) Report result answer.new.items (state_of G.used self.now) }
-        ensures room { vec_capacity answer.old ≤ vec_capacity answer.new }
-    {
-        Ok(put_report(alloc, &self.hierarchy, answer)?)
-    }
-
     // Forms the whole answer to a command in an empty buffer, and then makes its change.
+    #[tactic(auto, unfolding(crate::specs::Fault::error_line))]
     fn perform<H: Threads + Wait + Sync>(
         &mut self,
         rt: &H,
@@ -188,11 +139,11 @@ impl<'a, G: Gate> Commands<'a, G> {
                 put(answer, b"ok\n");
                 self.write(path, file, text)
             }
-            Command::Total => self.total(alloc, answer),
-            Command::Plan => self.plan(rt, alloc, answer),
-            Command::Cert => self.cert(rt, alloc, answer),
+            Command::Total => Ok(put_total(alloc, &self.hierarchy, answer)?),
+            Command::Plan => Ok(put_plan(rt, alloc, &self.hierarchy, answer)?),
+            Command::Cert => Ok(put_certified(rt, alloc, &self.hierarchy, answer)?),
             Command::Period => self.period(rt, alloc, answer),
-            Command::Report => self.report(alloc, answer),
+            Command::Report => Ok(put_report(alloc, &self.hierarchy, answer)?),
         }
     }
 

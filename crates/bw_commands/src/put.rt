@@ -1,17 +1,20 @@
-//! Text at the end of a buffer that has the room for it.
-ghost use Rattle.std.specs.Prelude.{◌≡◌, ◌≤◌, ◌<◌, ◌+◌, ◌++◌, [], ◌∷◌, length, vec_len};
+//! Text at the end of an answer, whose room grows by need. Where there is room, nothing fails and no memory is taken.
+ghost use Rattle.std.specs.Prelude.{◌≡◌, ◌≤◌, ◌<◌, ◌+◌, ◌++◌, [], ◌∷◌, codes, length, vec_len, OnOk, OnErr};
 ghost use Rattle.std.specs.Vec.{vec_capacity};
 ghost use Rattle.std.specs.Fmt.{decimal};
-ghost use Rattle.bw_commands.specs.Fault.{error_line};
+ghost use Rattle.bw_commands.specs.Fault.{refusal_line, error_line};
+ghost use Rattle.bw_commands.specs.Total.{number_line};
 
 use crate::fault::ScriptFault;
+use itoa::Buffer;
+use std::alloc::AllocError;
 
 /// The room for any refusal.
 pub const REFUSAL_BYTES: usize = 64;
 
 ghost use Rattle.bw_commands.specs.declared.put.TheConstants.{REFUSAL_BYTES};
 
-/// Appends bytes for which there is room. It takes no memory.
+/// Appends bytes for which there is room.
 pub fn put(answer: &mut Vec<u8>, bytes: &[u8])
     requires { vec_len answer.old + length bytes.now ≤ vec_capacity answer.old }
     ensures items { answer.new.items ≡ answer.old.items ++ bytes.now }
@@ -20,19 +23,51 @@ pub fn put(answer: &mut Vec<u8>, bytes: &[u8])
     let _ = answer.extend_from_slice(bytes);
 }
 
-// Appends a number of one digit or two.
-fn put_small(answer: &mut Vec<u8>, number: u8)
-    requires small { number < 100 }
-    requires room { vec_len answer.old + 2 ≤ vec_capacity answer.old }
-    ensures items { answer.new.items ≡ answer.old.items ++ decimal number }
+/// Appends a word and a number, which has at most 20 digits.
+pub fn put_number(word: &[u8], number: u64, answer: &mut Vec<u8>) -> Result<(), AllocError>
+    ensures ok { OnOk result (answer.new.items ≡ answer.old.items ++ (word.now ++ decimal number)) }
+    ensures len { OnOk result (vec_len answer.new ≤ vec_len answer.old + length word.now + 20) }
+    ensures full { OnErr result (vec_capacity answer.old < vec_len answer.old + length word.now + 20) }
     ensures room { vec_capacity answer.old ≤ vec_capacity answer.new }
-    ensures len { vec_len answer.new ≤ vec_len answer.old + 2 }
 {
-    if number < 10 {
-        put(answer, &[b'0' + number]);
-    } else {
-        put(answer, &[b'0' + number / 10, b'0' + number % 10]);
-    }
+    let mut buffer = Buffer::new();
+    answer.extend_from_slice(word)?;
+    answer.extend_from_slice(buffer.format(number).as_bytes())?;
+    Ok(())
+}
+
+/// Appends a blank, the last word of a line and a newline.
+pub fn put_last_word(word: &[u8], answer: &mut Vec<u8>) -> Result<(), AllocError>
+    ensures ok { OnOk result (answer.new.items ≡ answer.old.items ++ (codes " " ++ word.now ++ 10 ∷ [])) }
+    ensures full { OnErr result (vec_capacity answer.old < vec_len answer.old + length word.now + 2) }
+    ensures room { vec_capacity answer.old ≤ vec_capacity answer.new }
+{
+    answer.extend_from_slice(b" ")?;
+    answer.extend_from_slice(word)?;
+    answer.extend_from_slice(b"\n")?;
+    Ok(())
+}
+
+/// Appends a word and a number on a line of their own.
+pub fn put_number_line(word: &[u8], number: u64, answer: &mut Vec<u8>) -> Result<(), AllocError>
+    ensures ok { OnOk result (answer.new.items ≡ answer.old.items ++ number_line word.now number) }
+    ensures room { vec_capacity answer.old ≤ vec_capacity answer.new }
+{
+    put_number(word, number, answer)?;
+    answer.extend_from_slice(b"\n")?;
+    Ok(())
+}
+
+/// Appends the line that a refusal prints, by its number and its name. It fails only where there is no room for 28 bytes
+/// more than the name has.
+pub fn put_refusal(number: u8, name: &str, answer: &mut Vec<u8>) -> Result<(), AllocError>
+    ensures ok { OnOk result (answer.new.items ≡ answer.old.items ++ refusal_line number name.now) }
+    ensures full { OnErr result (vec_capacity answer.old < vec_len answer.old + length name.now + 28) }
+    ensures room { vec_capacity answer.old ≤ vec_capacity answer.new }
+{
+    put_number(b"error ", u64::from(number), answer)?;
+    put_last_word(name.as_bytes(), answer)?;
+    Ok(())
 }
 
 /// Puts the line of a refusal in an empty buffer. It takes no memory.
@@ -43,9 +78,5 @@ pub fn put_error(answer: &mut Vec<u8>, fault: ScriptFault)
     ensures items { answer.new.items ≡ error_line fault }
     ensures room { REFUSAL_BYTES ≤ vec_capacity answer.new }
 {
-    put(answer, b"error ");
-    put_small(answer, fault.number());
-    put(answer, b" ");
-    put(answer, fault.name().as_bytes());
-    put(answer, b"\n");
+    let _ = put_refusal(fault.number(), fault.name(), answer);
 }

@@ -1,13 +1,11 @@
 //! The answer to `cert`.
-ghost use Rattle.std.specs.Prelude.{◌≡◌, ◌≤◌, ◌++◌, ℕ, List, OnOk, IfErr};
-ghost use Rattle.std.specs.Vec.{vec_capacity};
+ghost use Rattle.bw_commands.specs.Answers.{Answers};
 ghost use Rattle.bw_commands.specs.CertifiedPlan.{IsCertifiedPlan};
 
 use bw_cert::{certify_gathered, write_certified};
 use bw_demand::gather_rows;
 use bw_hierarchy::{Fault, Hierarchy};
 use bw_plan::plan_gathered;
-use bw_tree::TreeFault;
 use std::alloc::Global;
 use std::thread::Threads;
 
@@ -18,9 +16,7 @@ pub fn put_certified<H: Threads + Sync>(
     hierarchy: &Hierarchy,
     answer: &mut Vec<u8>,
 ) -> Result<(), Fault>
-    ensures ok { OnOk result ((text : List ℕ) × IsCertifiedPlan hierarchy.now text × (answer.new.items ≡ answer.old.items ++ text)) }
-    ensures err { IfErr result (λ fault. fault ≡ Fault.Tree TreeFault.OutOfMemory) }
-    ensures room { vec_capacity answer.old ≤ vec_capacity answer.new }
+    ensures { Answers (IsCertifiedPlan hierarchy.now) answer.old answer.new result }
 {
     let (instance, _ids, _base) = hierarchy.snapshot()?;
     let gathered = gather_rows(alloc, &instance)?;

@@ -7,7 +7,7 @@ ghost use Rattle.bw_commands.specs.GroupLines.{group_lines};
 ghost use Rattle.bw_commands.specs.LineText.{line_of, HasRow};
 
 use super::paths::Paths;
-use super::text::{put_number, put_path};
+use crate::put::{put_last_word, put_number};
 use bw_stat::{Books, put_report_line};
 use bw_tree::GroupId;
 use std::alloc::AllocError;
@@ -52,6 +52,6 @@ fn put_amount(amount: u64, path: &[u8], answer: &mut Vec<u8>) -> Result<(), Allo
     ensures room { vec_capacity answer.old ≤ vec_capacity answer.new }
 {
     put_number(b"", amount, answer)?;
-    put_path(path, answer)?;
+    put_last_word(path, answer)?;
     Ok(())
 }

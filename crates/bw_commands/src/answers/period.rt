@@ -5,7 +5,7 @@ ghost use Rattle.bw_commands.specs.Fault.{error_line};
 ghost use Rattle.bw_commands.specs.Period.{IsPeriod};
 ghost use Rattle.bw_commands.specs.Script.{Period, IsAllowedFailure};
 
-use super::text::put_number_line;
+use crate::put::put_number_line;
 use crate::fault::ScriptFault;
 use bw_demand::gather_rows;
 use bw_hierarchy::Hierarchy;

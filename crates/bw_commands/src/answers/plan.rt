@@ -1,13 +1,11 @@
 //! The answer to `plan`.
-ghost use Rattle.std.specs.Prelude.{◌≡◌, ◌≤◌, ◌++◌, ℕ, List, OnOk, IfErr};
-ghost use Rattle.std.specs.Vec.{vec_capacity};
+ghost use Rattle.bw_commands.specs.Answers.{Answers};
 ghost use Rattle.bw_commands.specs.Planned.{IsPlanText};
 
 use super::line::{Line, put_lines};
 use super::paths::Paths;
 use bw_hierarchy::{Fault, Hierarchy};
 use bw_plan::plan_levels;
-use bw_tree::TreeFault;
 use std::alloc::Global;
 use std::thread::Threads;
 
@@ -19,9 +17,7 @@ pub fn put_plan<H: Threads + Sync>(
     hierarchy: &Hierarchy,
     answer: &mut Vec<u8>,
 ) -> Result<(), Fault>
-    ensures ok { OnOk result ((text : List ℕ) × IsPlanText hierarchy.now text × (answer.new.items ≡ answer.old.items ++ text)) }
-    ensures err { IfErr result (λ fault. fault ≡ Fault.Tree TreeFault.OutOfMemory) }
-    ensures room { vec_capacity answer.old ≤ vec_capacity answer.new }
+    ensures { Answers (IsPlanText hierarchy.now) answer.old answer.new result }
 {
     let (instance, ids, _base) = hierarchy.snapshot()?;
     let plan = plan_levels(rt, alloc, &instance)?;

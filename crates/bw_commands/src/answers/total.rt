@@ -6,10 +6,11 @@ ghost use Rattle.std.specs.Vec.{vec_capacity};
 ghost use Rattle.bw_model.specs.Groups.{limit_of};
 ghost use Rattle.bw_model.specs.Demand.{limited_total};
 ghost use Rattle.bw_demand.specs.Demands.{demands_of, IsGathered};
+ghost use Rattle.bw_commands.specs.Answers.{Answers};
 ghost use Rattle.bw_commands.specs.GroupLines.{IsPathOf, ArePathsOf};
 ghost use Rattle.bw_commands.specs.Total.{IsTotal, limit_line, limit_lines};
 
-use super::text::{put_number, put_number_line, put_path};
+use crate::put::{put_last_word, put_number, put_number_line};
 use bw_demand::{Gathered, gather, limiting};
 use bw_hierarchy::{Fault, Hierarchy};
 use bw_model::Instance;
@@ -19,9 +20,7 @@ use std::alloc::Global;
 /// Appends the answer to `total`: the greatest total, a line for each limiting group in order of
 /// creation, and the demands outside them, in slices of one period. It fails for want of memory alone.
 pub fn put_total(alloc: Global, hierarchy: &Hierarchy, answer: &mut Vec<u8>) -> Result<(), Fault>
-    ensures ok { OnOk result ((text : List ℕ) × IsTotal hierarchy.now text × (answer.new.items ≡ answer.old.items ++ text)) }
-    ensures err { IfErr result (λ fault. fault ≡ Fault.Tree TreeFault.OutOfMemory) }
-    ensures room { vec_capacity answer.old ≤ vec_capacity answer.new }
+    ensures { Answers (IsTotal hierarchy.now) answer.old answer.new result }
 {
     let (instance, ids, _base) = hierarchy.snapshot()?;
     let gathered = gather(alloc, &instance)?;
@@ -90,7 +89,7 @@ fn put_limit(
     let path = path_of(tree, ids, g as usize)?;
     let limit = instance.limit(g).unwrap_or(0);
     put_number(b"limit ", limit, answer)?;
-    put_path(path.as_bytes(), answer)?;
+    put_last_word(path.as_bytes(), answer)?;
     Ok(())
 }
 

@@ -5,7 +5,8 @@ use Rattle.bw_tree.specs.Tree.{IsRefused, path_refusal}
 use Rattle.bw_tree.specs.declared.fault.TreeFault.{TreeFault}
 use Rattle.bw_tree.specs.declared.fault.TreeFault.TheVariants.{NotFound, OutOfMemory}
 use Rattle.bw_tree.proofs.CallerLemmas.{row_has_group}
-use Rattle.bw_commands.proofs.OnlyMemory.{if_err, only_memory}
+use Rattle.std.proofs.lemmas.Result.{IfErr-weaker}
+use Rattle.bw_commands.proofs.OnlyMemory.{only_memory}
 use Rattle.bw_commands.proofs.answers.total.path_of.Goals as goal
 
 pub returns-clause-err : goal.returns-clause-err
@@ -15,5 +16,5 @@ returns-clause-err c =
     let lt : c.args.g < length (keys_of t.groups) = omega (arith, c.requires.within, ap length c.requires.ids) in
     let there : has_group t.groups id ≡ true = ap (λ ids. has_group t.groups (get_or ids c.args.g 0)) c.requires.ids ∙ row_has_group t.groups c.args.g lt in
     let none : path_refusal t id ≡ None = ap (λ b. cond (not b) (Some NotFound) None) there in
-    if_err c.path_of.result (IsRefused (path_refusal t id)) (λ (fault : TreeFault). fault ≡ OutOfMemory)
+    IfErr-weaker c.path_of.result (IsRefused (path_refusal t id)) (λ (fault : TreeFault). fault ≡ OutOfMemory)
     (λ fault. only_memory (path_refusal t id) fault none) c.path_of.ensures.refused
