@@ -20,8 +20,8 @@ SECONDS = 60
 AT_ONCE = 64
 
 MEMORY = (1, b"", b"arbiter: out of memory\n")
-READ_FAULT = b"arbiter: read fault\n"
-WRITE_FAULT = b"arbiter: write fault\n"
+READ_FAULT = b"arbiter: read fault: "
+WRITE_FAULT = b"arbiter: write fault: "
 CERTIFIED = {
     "the root alone": b"bw 1 1 100000 5000 1\n- 100 max 0 0 0 -\n",
     "two groups": b"bw 1 1 100000 5000 3\n- 100 max 0 20 1 13/100@0\n0 100 max 20 7 0 -\n0 200 max 20 13 0 -\n",

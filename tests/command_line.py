@@ -99,7 +99,7 @@ CASES = [
     ("amounts that are not the plan", ["check"], TWO_CERTIFIED.replace(b"20 7 0", b"20 6 0").replace(b"20 13 0", b"20 14 0"), same(b"refused 57 LastMarkAbove 2\n"), NOTHING, 3),
     ("a text cut short", ["check"], TWO_CERTIFIED[:-1], same(b"error 42 CutShort\n"), NOTHING, 3),
     ("no text", ["check"], b"", same(b"error 42 CutShort\n"), NOTHING, 3),
-    ("a text of 4 MiB and a byte", ["check"], b"0" * 4194305, NOTHING, same(b"arbiter: read fault\n"), 1),
+    ("a text of 4 MiB and a byte", ["check"], b"0" * 4194305, NOTHING, same(b"arbiter: read fault: the text is longer than 4 MiB\n"), 1),
     ("no processors", ["run", "--processors", "0"], TWO_GROUPS, NOTHING, same(b"error 1 BadProcessors\n"), 2),
     ("short period", ["run", "--period", "999"], TWO_GROUPS, NOTHING, same(b"error 2 BadPeriod\n"), 2),
     ("slice that does not divide", ["run", "--slice", "3000"], TWO_GROUPS, NOTHING, same(b"error 3 BadSlice\n"), 2),
@@ -143,7 +143,7 @@ def full_device(word, given):
     """A device that takes no byte: a write fault."""
     with open("/dev/full", "wb") as device:
         ended = run([word], given=given, stdout=device)
-    return told(f"{word} on a full device", ended, NOTHING, same(b"arbiter: write fault\n"), 1)
+    return told(f"{word} on a full device", ended, NOTHING, same(b"arbiter: write fault: no space is left\n"), 1)
 
 
 def folder_as_input(word):
@@ -153,7 +153,7 @@ def folder_as_input(word):
         ended = run([word], stdin=folder)
     finally:
         os.close(folder)
-    return told(f"{word} on a folder", ended, NOTHING, same(b"arbiter: read fault\n"), 1)
+    return told(f"{word} on a folder", ended, NOTHING, same(b"arbiter: read fault: it is a directory\n"), 1)
 
 
 def certified(script):

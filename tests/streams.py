@@ -18,8 +18,21 @@ from cases import CERTIFIED, PROGRAM, READ_FAULT, SECONDS, TOP, WRITE_FAULT, Cas
 SCRIPT = b"".join(script("counters.script"))
 TWO_CERTIFIED = CERTIFIED["two groups"]
 MOST_TEXT = 4194304
-READ_FAILED = (1, b"", READ_FAULT)
-WRITE_FAILED = (1, b"", WRITE_FAULT)
+NOT_OPEN = b"it is not open for this\n"
+FOLDER = b"it is a directory\n"
+WOULD_WAIT = b"it would have to wait\n"
+FULL = b"no space is left\n"
+TOO_LARGE = b"the file would be too large\n"
+NOBODY_READS = b"nobody reads it any more\n"
+TOO_LONG = b"the text is longer than 4 MiB\n"
+
+
+def read_failed(reason, out=b""):
+    return 1, out, READ_FAULT + reason
+
+
+def write_failed(reason, out=b""):
+    return 1, out, WRITE_FAULT + reason
 
 
 def differs(answer, wanted):
@@ -50,13 +63,18 @@ def cut(words, given, taken):
         os.close(write)
 
 
+def reader_would_wait(words):
+    """Standard input is an empty pipe that stays open and does not wait."""
+    return differs(cut(words, b"", 0), read_failed(WOULD_WAIT))
+
+
 def reader_fails():
     """After every number of bytes: the answers of the whole lines among them, and a line that is cut is not run."""
     answers = each(functools.partial(cut, ["run"], SCRIPT), range(len(SCRIPT) + 1))
     lines = SCRIPT.splitlines(keepends=True)
     fronts = [transcript(["run"], lines[:number]) for number in range(len(lines) + 1)]
     for taken, answer in enumerate(answers):
-        wanted = (1, fronts[SCRIPT[:taken].count(b"\n")], READ_FAULT)
+        wanted = read_failed(WOULD_WAIT, fronts[SCRIPT[:taken].count(b"\n")])
         if answer != wanted:
             return f"after {taken} bytes: {differs(answer, wanted)}"
     print(f"  a reader that fails: after each of {len(answers)} numbers of bytes", flush=True)
@@ -65,10 +83,11 @@ def reader_fails():
 
 def check_reader_fails():
     """After every number of bytes: nothing is written, also where all of the text was there."""
+    wanted = read_failed(WOULD_WAIT)
     answers = each(functools.partial(cut, ["check"], TWO_CERTIFIED), range(len(TWO_CERTIFIED) + 1))
     for taken, answer in enumerate(answers):
-        if answer != READ_FAILED:
-            return f"after {taken} bytes: {differs(answer, READ_FAILED)}"
+        if answer != wanted:
+            return f"after {taken} bytes: {differs(answer, wanted)}"
     return None
 
 
@@ -93,7 +112,7 @@ def writer_fails(words, given, ended):
         return f"{whole}"[:300]
     answers = each(functools.partial(short_file, words, given), range(len(whole[1]) + 1))
     for most, answer in enumerate(answers):
-        wanted = (1, whole[1][:most], WRITE_FAULT) if most < len(whole[1]) else whole
+        wanted = write_failed(TOO_LARGE, whole[1][:most]) if most < len(whole[1]) else whole
         if answer != wanted:
             return f"after {most} bytes: {differs(answer, wanted)}"
     print(f"  a writer that fails, {words[0]}: after each of {len(answers)} numbers of bytes", flush=True)
@@ -108,7 +127,7 @@ def reader_gone(words, given, ignored):
         status, _, err = ran(words, given, stdout=write, restore_signals=not ignored)
     finally:
         os.close(write)
-    return differs((status, b"", err), WRITE_FAILED)
+    return differs((status, b"", err), write_failed(NOBODY_READS))
 
 
 def reader_goes_away():
@@ -126,7 +145,24 @@ def reader_goes_away():
             talk.kill()
             return f"no end in {SECONDS} seconds"
         err = talk.stderr.read()
-    return differs((status, first, err), (1, b"ok\n", WRITE_FAULT))
+    return differs((status, first, err), write_failed(NOBODY_READS, b"ok\n"))
+
+
+def writer_would_wait(words, given):
+    """Standard output is a full pipe that does not wait, and nobody takes a byte out of it."""
+    read, write = os.pipe()
+    try:
+        os.set_blocking(write, False)
+        while True:
+            try:
+                os.write(write, b"x" * 4096)
+            except BlockingIOError:
+                break
+        status, _, err = ran(words, given, stdout=write)
+    finally:
+        os.close(read)
+        os.close(write)
+    return differs((status, b"", err), write_failed(WOULD_WAIT))
 
 
 def opened(path, flags, words, wanted):
@@ -151,23 +187,26 @@ def main():
     ok = (0, transcript(["run"], [SCRIPT]), b"")
     accepted = (0, b"accepted\n", b"")
     for words, given in [(["run"], SCRIPT), (["check"], TWO_CERTIFIED)]:
-        cases.case(f"{words[0]}, closed input", closed, words, "<&-", given, READ_FAILED)
-        cases.case(f"{words[0]}, closed output", closed, words, ">&-", given, WRITE_FAILED)
-        cases.case(f"{words[0]}, closed input and output", closed, words, "<&- >&-", given, READ_FAILED)
+        cases.case(f"{words[0]}, closed input", closed, words, "<&-", given, read_failed(NOT_OPEN))
+        cases.case(f"{words[0]}, closed output", closed, words, ">&-", given, write_failed(NOT_OPEN))
+        cases.case(f"{words[0]}, closed input and output", closed, words, "<&- >&-", given, read_failed(NOT_OPEN))
         cases.case(f"{words[0]}, closed error", closed, words, "2>&-", given, ok if words == ["run"] else accepted)
         cases.case(f"{words[0]}, closed input and error", closed, words, "<&- 2>&-", given, (1, b"", b""))
-        cases.case(f"{words[0]}, full output", closed, words, ">/dev/full", given, WRITE_FAILED)
+        cases.case(f"{words[0]}, full output", closed, words, ">/dev/full", given, write_failed(FULL))
         cases.case(f"{words[0]}, full output and error", closed, words, ">/dev/full 2>/dev/full", given, (1, b"", b""))
-        cases.case(f"{words[0]}, an input that can only be written", closed, words, "</dev/null 0>/dev/null", given, READ_FAILED)
-        cases.case(f"{words[0]}, an output that can only be read", closed, words, "1</dev/null", given, WRITE_FAILED)
-        cases.case(f"{words[0]}, a folder", opened, TOP, os.O_RDONLY, words, READ_FAILED)
+        only_written = "</dev/null 0>/dev/null"
+        cases.case(f"{words[0]}, an input that can only be written", closed, words, only_written, given, read_failed(NOT_OPEN))
+        cases.case(f"{words[0]}, an output that can only be read", closed, words, "1</dev/null", given, write_failed(NOT_OPEN))
+        cases.case(f"{words[0]}, a folder", opened, TOP, os.O_RDONLY, words, read_failed(FOLDER))
+        cases.case(f"{words[0]}, an empty input that does not wait", reader_would_wait, words)
+        cases.case(f"{words[0]}, a full output that does not wait", writer_would_wait, words, given)
         for ignored in (False, True):
             cases.case(f"{words[0]}, a reader that is gone, signal ignored: {ignored}", reader_gone, words, given, ignored)
         cases.case(f"{words[0]}, a writer that fails", writer_fails, words, given, 0)
     cases.case("check, a writer that fails in a refusal", writer_fails, ["check"], TWO_CERTIFIED.replace(b"20 7", b"20 8"), 3)
     for words in (["--help"], ["--version"], ["run", "--help"]):
-        cases.case(f"{words}, closed output", closed, words, ">&-", b"", WRITE_FAILED)
-        cases.case(f"{words}, full output", closed, words, ">/dev/full", b"", WRITE_FAILED)
+        cases.case(f"{words}, closed output", closed, words, ">&-", b"", write_failed(NOT_OPEN))
+        cases.case(f"{words}, full output", closed, words, ">/dev/full", b"", write_failed(FULL))
     cases.case("a refused option, closed error", closed, ["run", "--frob"], "2>&-", b"", (2, b"", b""))
     cases.case("a refused host, full error", closed, ["run", "--processors", "0"], "2>/dev/full", b"", (2, b"", b""))
     cases.case("no answers, closed output", closed, ["run"], ">&-", b"# nothing\n\n", (0, b"", b""))
@@ -178,10 +217,10 @@ def main():
         cut_short, trailing = (3, b"error 42 CutShort\n", b""), (3, b"error 43 Trailing\n", b"")
         padded = TWO_CERTIFIED + b"0" * (MOST_TEXT - len(TWO_CERTIFIED))
         cases.case("a line of 4 MiB", long_text, folder, b"1" * MOST_TEXT, cut_short)
-        cases.case("a line of 4 MiB and a byte", long_text, folder, b"1" * (MOST_TEXT + 1), READ_FAILED)
+        cases.case("a line of 4 MiB and a byte", long_text, folder, b"1" * (MOST_TEXT + 1), read_failed(TOO_LONG))
         cases.case("a text of 4 MiB", long_text, folder, padded, trailing)
-        cases.case("a text of 4 MiB and a byte", long_text, folder, padded + b"0", READ_FAILED)
-        cases.case("the greatest text that is read and more", long_text, folder, padded * 4, READ_FAILED)
+        cases.case("a text of 4 MiB and a byte", long_text, folder, padded + b"0", read_failed(TOO_LONG))
+        cases.case("the greatest text that is read and more", long_text, folder, padded * 4, read_failed(TOO_LONG))
     return cases.end()
 
 

@@ -2,11 +2,13 @@
 //! text and writes whether its amounts are the plan.
 #![tactic(auto)]
 
+mod failure;
 mod status;
 mod words;
 
 use bw_model::HostShape;
 use bw_shell::{RunFault, Watched, check_text, run, status_of_check, status_of_run};
+use failure::Failure;
 use status::status_of_words;
 use std::io;
 use std::io::BufWriter;
@@ -22,23 +24,33 @@ const USAGE_STATUS: u8 = 2;
 fn run_script<R: AllocGlobal + Input + Print + Threads + Wait + Sync>(
     rt: &R,
     shape: HostShape,
-) -> Result<(), RunFault> {
+) -> Result<(), Failure> {
     let Ok(output) = BufWriter::new(rt.alloc(), io::writer(rt)) else {
-        return Err(RunFault::Memory);
+        return Err(Failure::memory());
     };
     let mut reader = Watched::new(rt.reader());
     let mut writer = Watched::new(output);
-    run(rt, &mut reader, &mut writer, shape)
+    match run(rt, &mut reader, &mut writer, shape) {
+        Ok(()) => Ok(()),
+        Err(fault) => Err(Failure::of(fault, &reader, &writer)),
+    }
+}
+
+// Says on standard error what failed, and why where that is known.
+fn told(rt: &impl Eprint, failure: Failure) -> RunFault {
+    let fault = failure.fault();
+    let _ = match failure.reason() {
+        Some(reason) => eprintln!(rt; "arbiter: {fault}: {reason}"),
+        None => eprintln!(rt; "arbiter: {fault}"),
+    };
+    fault
 }
 
 // The end of a run or of a text that is printed, with its fault on standard error.
-fn ended(rt: &impl Eprint, outcome: Result<(), RunFault>, status: u8) -> ExitCode {
+fn ended(rt: &impl Eprint, outcome: Result<(), Failure>, status: u8) -> ExitCode {
     match outcome {
         Ok(()) => ExitCode::from(status),
-        Err(fault) => {
-            let _ = eprintln!(rt; "arbiter: {fault}");
-            ExitCode::from(status_of_run(&Err(fault)))
-        }
+        Err(failure) => ExitCode::from(status_of_run(&Err(told(rt, failure)))),
     }
 }
 
@@ -63,21 +75,21 @@ fn run_job<R: AllocGlobal + Input + Print + Eprint + Threads + Wait + Sync>(
 }
 
 // Checks the certified text on standard input.
-fn check_input(rt: &HostRuntime) -> Result<bool, RunFault> {
+fn check_input(rt: &HostRuntime) -> Result<bool, Failure> {
     let Ok(output) = BufWriter::new(rt.alloc(), io::writer(rt)) else {
-        return Err(RunFault::Memory);
+        return Err(Failure::memory());
     };
     let mut reader = Watched::new(rt.reader());
     let mut writer = Watched::new(output);
-    check_text(rt.alloc(), &mut reader, &mut writer)
+    match check_text(rt.alloc(), &mut reader, &mut writer) {
+        Ok(accepted) => Ok(accepted),
+        Err(fault) => Err(Failure::of(fault, &reader, &writer)),
+    }
 }
 
 // `arbiter check`
 fn check_job(rt: &HostRuntime) -> ExitCode {
-    let checked = check_input(rt);
-    if let Err(fault) = &checked {
-        let _ = eprintln!(rt; "arbiter: {fault}");
-    }
+    let checked = check_input(rt).map_err(|failure| told(rt, failure));
     ExitCode::from(status_of_check(&checked))
 }
 
@@ -86,14 +98,14 @@ fn no_job(rt: &HostRuntime, fault: WordsFault) -> ExitCode {
     let status = status_of_words(&fault);
     match fault {
         WordsFault::Help(text) => {
-            let printed = print!(rt; "{text}").map_err(|_| RunFault::Write);
+            let printed = print!(rt; "{text}").map_err(|error| Failure::print(error));
             ended(rt, printed, status)
         }
         WordsFault::Usage(text) => {
             let _ = eprint!(rt; "{text}");
             ExitCode::from(status)
         }
-        WordsFault::Memory => ended(rt, Err(RunFault::Memory), status),
+        WordsFault::Memory => ended(rt, Err(Failure::memory()), status),
     }
 }
 

@@ -1,14 +1,19 @@
 -- What contracts see of a watched reader or writer.
-use Rattle.std.specs.Prelude.{ℕ, Bool, true, false, ◌&&◌, ◌==◌, ◌≡◌, List, length, Result, Ok, Err, nat_lt}
+use Rattle.std.specs.Prelude.{ℕ, Bool, true, false, ◌&&◌, ◌==◌, ◌≡◌, List, length, Option, is_some, Result, Ok, Err, nat_lt}
+use Rattle.std.specs.declared.io.Error.{Error}
 use Rattle.bw_shell.specs.declared.watched.Watched.{Watched}
 
 -- the reader or writer inside
 abbrev pub inner_of : {T : Type 0} → Watched T → T
 inner_of w = w.inner
 
+-- the error of the first call that failed
+abbrev pub first_error : {T : Type 0} → Watched T → Option Error
+first_error w = w.error
+
 -- whether a call has failed
 abbrev pub has_failed : {T : Type 0} → Watched T → Bool
-has_failed w = w.failed
+has_failed w = is_some (first_error w)
 
 -- whether a write of some bytes took none
 abbrev pub has_stalled : {T : Type 0} → Watched T → Bool

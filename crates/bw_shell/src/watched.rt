@@ -1,23 +1,25 @@
 // A reader or a writer that remembers how its calls went.
 ghost use Rattle.std.specs.Prelude.{◌≡◌, ◌+◌, ◌-◌, ◌^◌, ◌||◌, ◌&&◌, ℕ, min, length, false, is_ok, is_err};
+ghost use Rattle.std.specs.Option.{option_or};
+ghost use Rattle.std.specs.Result.{result_err};
 ghost use Rattle.std.specs.Io.{ReadsAtMost, WritesAtMost};
 ghost use Rattle.std.specs.Io.KnownBytes.{Keeps, ReadConsumes, WriteAppends};
 
-use std::io::{Read, Result, Write};
+use std::io::{Error, Read, Result, Write};
 
-/// Passes each read, write and flush on to what it holds, once, and remembers whether one failed, whether a write of
-/// some bytes took none, how many reads there were, and whether each write that went well was flushed.
+/// Passes each read, write and flush on to what it holds, once, and remembers the error of the first that failed, whether
+/// a write of some bytes took none, how many reads there were, and whether each write that went well was flushed.
 #[derive(Drop)]
 pub struct Watched<T> {
     inner: T,
-    failed: bool,
+    error: Option<Error>,
     stalled: bool,
     reads: u64,
     flushed: bool,
 }
 
 impl<T> Watched<T> {
-    ghost use Rattle.bw_shell.specs.Watched.{inner_of, has_failed, has_stalled, read_calls, is_flushed, IsFresh};
+    ghost use Rattle.bw_shell.specs.Watched.{inner_of, first_error, has_failed, has_stalled, read_calls, is_flushed, IsFresh};
 
     pub fn new(inner: T) -> Watched<T>
         ensures inner { inner_of result ≡ inner }
@@ -25,7 +27,7 @@ impl<T> Watched<T> {
     {
         Watched {
             inner,
-            failed: false,
+            error: None,
             stalled: false,
             reads: 0,
             flushed: true,
@@ -36,7 +38,14 @@ impl<T> Watched<T> {
     pub fn failed(&self) -> bool
         ensures { result ≡ has_failed self.now }
     {
-        self.failed
+        self.error.is_some()
+    }
+
+    /// The error of the first read, write or flush that failed.
+    pub fn error(&self) -> Option<Error>
+        ensures { result ≡ first_error self.now }
+    {
+        self.error
     }
 
     /// Whether a write of at least one byte took none.
@@ -63,15 +72,18 @@ impl<T> Watched<T> {
 
 impl<T: Read> Read for Watched<T> {
     ghost use Rattle.std.specs.Prelude.{◌≡◌, ◌+◌, ◌-◌, ◌^◌, ◌||◌, min, is_err};
+    ghost use Rattle.std.specs.Option.{option_or};
+    ghost use Rattle.std.specs.Result.{result_err};
     ghost use Rattle.std.specs.Io.{ReadsAtMost};
     ghost use Rattle.std.specs.Io.KnownBytes.{ReadConsumes};
-    ghost use Rattle.bw_shell.specs.Watched.{inner_of, has_failed, has_stalled, read_calls, is_flushed};
+    ghost use Rattle.bw_shell.specs.Watched.{inner_of, first_error, has_failed, has_stalled, read_calls, is_flushed};
 
     ghost remaining = { λ w. T.remaining (inner_of w) };
 
     fn read(&mut self, buf: &mut [u8]) -> Result<usize>
         ensures bound { ReadsAtMost result buf.new }
         ensures bytes { ReadConsumes (T.remaining (inner_of self.old)) (T.remaining (inner_of self.new)) result buf.new }
+        ensures error { first_error self.new ≡ option_or (first_error self.old) (result_err result) }
         ensures failed { has_failed self.new ≡ (has_failed self.old || is_err result) }
         ensures stalled { has_stalled self.new ≡ has_stalled self.old }
         ensures reads { read_calls self.new ≡ min (read_calls self.old + 1) (2 ^ 64 - 1) }
@@ -79,53 +91,53 @@ impl<T: Read> Read for Watched<T> {
     {
         self.reads = self.reads.saturating_add(1);
         let result = self.inner.read(buf);
-        if result.is_err() {
-            self.failed = true;
-        }
+        self.error = self.error.or(result.err());
         result
     }
 }
 
 impl<T: Write> Write for Watched<T> {
     ghost use Rattle.std.specs.Prelude.{◌≡◌, ◌||◌, ◌&&◌, is_ok, is_err};
+    ghost use Rattle.std.specs.Option.{option_or};
+    ghost use Rattle.std.specs.Result.{result_err};
     ghost use Rattle.std.specs.Io.{WritesAtMost};
     ghost use Rattle.std.specs.Io.KnownBytes.{Keeps, WriteAppends};
-    ghost use Rattle.bw_shell.specs.Watched.{inner_of, has_failed, has_stalled, read_calls, is_flushed, takes_none};
+    ghost use Rattle.bw_shell.specs.Watched.{inner_of, first_error, has_failed, has_stalled, read_calls, is_flushed, takes_none};
 
     ghost contents = { λ w. T.contents (inner_of w) };
 
     fn write(&mut self, buf: &[u8]) -> Result<usize>
         ensures bound { WritesAtMost result buf.now }
         ensures bytes { WriteAppends (T.contents (inner_of self.old)) (T.contents (inner_of self.new)) result buf.now }
+        ensures error { first_error self.new ≡ option_or (first_error self.old) (result_err result) }
         ensures failed { has_failed self.new ≡ (has_failed self.old || is_err result) }
         ensures stalled { has_stalled self.new ≡ (has_stalled self.old || takes_none buf.now result) }
         ensures reads { read_calls self.new ≡ read_calls self.old }
         ensures flushed { is_flushed self.new ≡ (is_flushed self.old && is_err result) }
     {
         let result = self.inner.write(buf);
-        match &result {
-            Ok(n) => {
-                self.flushed = false;
-                if *n == 0 && !buf.is_empty() {
-                    self.stalled = true;
-                }
+        self.error = self.error.or(result.err());
+        if let Ok(n) = result {
+            self.flushed = false;
+            if n == 0 && !buf.is_empty() {
+                self.stalled = true;
             }
-            Err(_) => self.failed = true,
         }
         result
     }
 
     fn flush(&mut self) -> Result<()>
         ensures bytes { Keeps (T.contents (inner_of self.old)) (T.contents (inner_of self.new)) }
+        ensures error { first_error self.new ≡ option_or (first_error self.old) (result_err result) }
         ensures failed { has_failed self.new ≡ (has_failed self.old || is_err result) }
         ensures stalled { has_stalled self.new ≡ has_stalled self.old }
         ensures reads { read_calls self.new ≡ read_calls self.old }
         ensures flushed { is_flushed self.new ≡ (is_flushed self.old || is_ok result) }
     {
         let result = self.inner.flush();
-        match &result {
-            Ok(()) => self.flushed = true,
-            Err(_) => self.failed = true,
+        self.error = self.error.or(result.err());
+        if result.is_ok() {
+            self.flushed = true;
         }
         result
     }

@@ -1,0 +1,115 @@
+//! What failed, in the words that are printed.
+ghost use Rattle.std.specs.Prelude.{◌≡◌};
+
+use bw_shell::script::READ_CALLS;
+use bw_shell::{RunFault, Watched};
+use std::io::{Error, ErrorKind};
+
+// The system's numbers of two errors that have no kind: input or output, and a bad descriptor.
+const DEVICE_FAILED: i32 = 5;
+
+const NOT_OPEN: i32 = 9;
+
+/// A fault, and why it came about where that is known.
+#[derive(Clone, Copy)]
+pub struct Failure {
+    fault: RunFault,
+    reason: Option<&'static str>,
+}
+
+impl Failure {
+    ghost use Rattle.std.specs.Prelude.{◌≡◌};
+    ghost use Rattle.arbiter.specs.Failure.{what_failed};
+    ghost use Rattle.bw_shell.specs.declared.script.RunFault.TheVariants.{Memory, Write};
+
+    /// Memory was refused.
+    pub fn memory() -> Failure
+        ensures { what_failed result ≡ Memory }
+    {
+        Failure {
+            fault: RunFault::Memory,
+            reason: None,
+        }
+    }
+
+    /// A text could not be printed.
+    pub fn print(error: Error) -> Failure
+        ensures { what_failed result ≡ Write }
+    {
+        Failure {
+            fault: RunFault::Write,
+            reason: reason_of(error),
+        }
+    }
+
+    /// The fault of a run or of a check, with the reason that its reader or its writer tells.
+    pub fn of<R, W>(fault: RunFault, reader: &Watched<R>, writer: &Watched<W>) -> Failure
+        ensures { what_failed result ≡ fault }
+    {
+        let reason = match fault {
+            RunFault::Read => read_reason(reader),
+            RunFault::Write => write_reason(writer),
+            RunFault::Memory => None,
+        };
+        Failure { fault, reason }
+    }
+
+    /// What failed.
+    pub fn fault(&self) -> RunFault
+        ensures { result ≡ what_failed self.now }
+    {
+        self.fault
+    }
+
+    /// Why, as `it is a directory`.
+    pub fn reason(&self) -> Option<&'static str> {
+        self.reason
+    }
+}
+
+// Why a read fault came about. Where no call failed, all the read calls are spent, or `check` was given too long a text.
+fn read_reason<R>(reader: &Watched<R>) -> Option<&'static str> {
+    match reader.error() {
+        Some(error) => reason_of(error),
+        None if reader.reads() == READ_CALLS => Some("too many read calls"),
+        None => Some("the text is longer than 4 MiB"),
+    }
+}
+
+// Why a write fault came about. Where no call failed, a write took no byte.
+fn write_reason<W>(writer: &Watched<W>) -> Option<&'static str> {
+    match writer.error() {
+        Some(error) => reason_of(error),
+        None => Some("it takes no bytes"),
+    }
+}
+
+// Why a call on standard input or output failed, where its error tells.
+fn reason_of(error: Error) -> Option<&'static str> {
+    match error.kind() {
+        ErrorKind::IsADirectory => Some("it is a directory"),
+        ErrorKind::WouldBlock => Some("it would have to wait"),
+        ErrorKind::StorageFull => Some("no space is left"),
+        ErrorKind::QuotaExceeded => Some("the disk quota is used up"),
+        ErrorKind::FileTooLarge => Some("the file would be too large"),
+        ErrorKind::BrokenPipe => Some("nobody reads it any more"),
+        ErrorKind::WriteZero => Some("it takes no bytes"),
+        ErrorKind::Interrupted => Some("a signal interrupted it"),
+        ErrorKind::PermissionDenied => Some("it is not permitted"),
+        ErrorKind::TimedOut => Some("it took too long"),
+        ErrorKind::OutOfMemory => Some("the system is out of memory"),
+        ErrorKind::NotConnected | ErrorKind::ConnectionReset | ErrorKind::ConnectionAborted => Some(
+            "the connection is gone",
+        ),
+        _ => reason_of_number(error.raw_os_error()),
+    }
+}
+
+// The same of the system's number of an error that has no kind.
+fn reason_of_number(number: Option<i32>) -> Option<&'static str> {
+    match number {
+        Some(DEVICE_FAILED) => Some("the device failed"),
+        Some(NOT_OPEN) => Some("it is not open for this"),
+        _ => None,
+    }
+}
