@@ -17,9 +17,10 @@ use Rattle.bw_ticket.specs.declared.board.Phase.{Phase}
 use Rattle.bw_ticket.specs.declared.board.Phase.TheVariants.{Idle, Waiting, Marked, Looked, Inside, Done, Served, Owes, Found, Wakes}
 use Rattle.bw_ticket.specs.Rule.{waits, wake_word}
 use Rattle.bw_ticket.specs.Plays.{missed, marked, saw_next, saw_word, took, one_less}
-use Rattle.bw_ticket.specs.Seats.{MayMark}
+use Rattle.bw_ticket.specs.Plays.{MayMark}
 use Rattle.bw_ticket.specs.Follows.{words_of, in_protocol, IsEvent, IsWake, StepsAreEvents}
-use Rattle.bw_ticket.proofs.Kept.{waits_is, same_words}
+use Rattle.bw_ticket.proofs.Kept.{waits_is}
+use Rattle.bw_ticket.proofs.Owing.{same_words}
 
 -- a list that has at a place what is written there stays
 set_same : {A : Type 0} (xs : List A) (i : ℕ) (a : A) → slice_get xs i ≡ Some a → slice_set xs i a ≡ xs
@@ -43,7 +44,7 @@ get_else (x ∷ xs) (suc i) (suc j) b ne = get_else xs i j b (λ e. ne (ap suc e
 two_on : (x : ℕ) → 2 + x ≡ suc (suc x)
 two_on x = omega arith
 
-index_past : (a b x : ℕ) (ws : List ℕ) → slice_index (a ∷ b ∷ ws) (2 + x) ≡ slice_index ws x
+pub index_past : (a b x : ℕ) (ws : List ℕ) → slice_index (a ∷ b ∷ ws) (2 + x) ≡ slice_index ws x
 index_past a b x ws = ap (λ (k : ℕ). slice_index (a ∷ b ∷ ws) k) (two_on x)
 
 set_past : (a b x v : ℕ) (ws : List ℕ) → slice_set (a ∷ b ∷ ws) (2 + x) v ≡ a ∷ b ∷ slice_set ws x v

@@ -14,7 +14,7 @@ use Rattle.bw_ticket.specs.declared.board.Phase.{Phase}
 use Rattle.bw_ticket.specs.declared.board.Phase.TheVariants.{Idle, Waiting, Marked, Looked, Inside, Done, Served, Owes, Found, Wakes}
 use Rattle.bw_ticket.specs.Rule.{waits, wake_word}
 use Rattle.bw_ticket.specs.Plays.{missed, marked, saw_next, saw_word, took, woke}
-use Rattle.bw_ticket.specs.Seats.{MayMark}
+use Rattle.bw_ticket.specs.Plays.{MayMark}
 
 -- the words of the table, as the protocol has them
 abbrev pub words_of : WaitState → List ℕ

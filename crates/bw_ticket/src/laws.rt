@@ -1,5 +1,6 @@
-//! The law of the lock's steps: the contract of a function that does nothing.
+//! The laws of how the lock's seats wait: each is the contract of a function that does nothing.
 ghost use Rattle.bw_ticket.specs.Follows.{StepsAreEvents};
+ghost use Rattle.bw_ticket.specs.UnderWay.{NoWakeIsLostInLock};
 
 use bw_model::Machine;
 
@@ -8,4 +9,13 @@ use bw_model::Machine;
 /// where its view is after the step. The wake moves the woken seat too.
 pub fn steps_are_events<M: Machine>()
     ensures { StepsAreEvents M M.Call M.Reply }
+{}
+
+/// No wake is lost in any state under the rule of the lock's table, which each of its steps keeps. A sleep is no step of the table, so a seat
+/// that sleeps is one whose view tells that it looked in vain since it stored its mark. Whichever of these sleep, if each of them has its mark
+/// standing or is woken next: where one sleeps with the ticket that is served, its wake-up is under way; it never is so that a ticket is drawn
+/// and not left, and each seat is idle or asleep; and after each event of the protocol the sleepers are so again. Where just those sleep whose
+/// marks stand, it is so with no condition.
+pub fn no_wake_is_lost<M: Machine>()
+    ensures { NoWakeIsLostInLock M.after M.answer }
 {}

@@ -1,4 +1,5 @@
 -- The lemmas on the waiting protocol.
+pub mod CallerLemmas
 mod CanStep
 mod CoreRefined
 mod Counts
