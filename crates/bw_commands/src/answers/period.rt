@@ -5,8 +5,8 @@ ghost use Rattle.bw_commands.specs.Fault.{error_line};
 ghost use Rattle.bw_commands.specs.Period.{IsPeriod};
 ghost use Rattle.bw_commands.specs.Script.{Period, IsAllowedFailure};
 
-use crate::put::put_number_line;
 use crate::fault::ScriptFault;
+use crate::put::put_number_line;
 use bw_demand::gather_rows;
 use bw_hierarchy::Hierarchy;
 use bw_plan::plan_gathered;
