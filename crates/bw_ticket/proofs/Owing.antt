@@ -8,7 +8,7 @@ use Rattle.bw_wake.proofs.CallerLemmas.{index_here, index_else}
 use Rattle.bw_ticket.specs.declared.board.SeatView.{SeatView}
 use Rattle.bw_ticket.specs.declared.board.Phase.{Phase}
 use Rattle.bw_ticket.specs.declared.board.Phase.TheVariants.{Idle, Waiting, Marked, Looked, Inside, Done, Served, Owes, Found, Wakes}
-use Rattle.bw_ticket.specs.Rule.{weigh_all, waits, holds, may_sleep, will_peek, wake_word, IsOwed}
+use Rattle.bw_ticket.specs.Rule.{waits, holds, may_sleep, will_peek, wake_word, IsOwed}
 use Rattle.bw_ticket.proofs.Views.{weigh_set}
 
 -- a word that is read stays

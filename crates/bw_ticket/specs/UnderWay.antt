@@ -1,7 +1,7 @@
 -- That no wake is lost in the running lock, in the words of the waiting protocol of bw_wake, of every state that the table's rule holds of.
 -- The sleep is no step of the table, so a seat that sleeps has no phase of its own in its view: it is one that has looked in vain since it stored
 -- its mark, and may sleep. What is said here is said whichever of these sleep.
-use Rattle.std.specs.Prelude.{◌≡◌, ℕ, ◌+◌, ◌%◌, ◌≤◌, ◌==◌, ◌⊎◌, Bool, false, if◌then◌else◌, List, [], ◌∷◌, ◌++◌, map, drop, length, slice_index}
+use Rattle.std.specs.Prelude.{◌≡◌, ℕ, ◌+◌, ◌%◌, ◌≤◌, ◌==◌, ◌⊎◌, false, if◌then◌else◌, List, [], ◌∷◌, ◌++◌, map, drop, length, slice_index}
 use Rattle.atomic_table.specs.Table.{State}
 use Rattle.bw_wake.specs.declared.seats.Phase.{Phase as WaitPhase}
 use Rattle.bw_wake.specs.declared.seats.Phase.TheVariants.{Looked as PLooked, Asleep as PAsleep}
