@@ -4,7 +4,7 @@ use Rattle.std.proofs.Common.{zero-add}
 use Rattle.std.specs.Prelude.{IfSome}
 use Rattle.std.proofs.lemmas.List.FromFn.{get_or-map-range_with_len}
 use Rattle.bw_model.specs.declared.row.Row.{Row}
-use Rattle.bw_model.specs.Groups.{Groups, IsInstance, row_of, is_leaf, is_child, sum_of_children}
+use Rattle.bw_model.specs.Groups.{Groups, IsInstance, row_of, is_leaf, is_child}
 use Rattle.bw_model.specs.Allocation.{total}
 use Rattle.bw_model.specs.Plan.{IsPlan}
 use Rattle.bw_model.proofs.CallerLemmas.{sum_of_children-below, parent_from_is_child, from_the_last, parent_lt, sum_below-le}

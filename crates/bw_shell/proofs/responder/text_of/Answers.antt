@@ -1,5 +1,4 @@
-use Rattle.std.proofs.Common.{◌≡◌, ◌∙◌, ap, sym, subst, arith}
-use Rattle.std.specs.Str.{IsUtf8}
+use Rattle.std.proofs.Common.{◌∙◌, ap, sym, arith}
 use Rattle.bw_commands.specs.Script.{outcome_of_kept, outcome_of_text}
 use Rattle.bw_shell.proofs.Kept.{outcome_of_kept-text, outcome_of_kept-bad, outcome_of_kept-long}
 use Rattle.bw_shell.proofs.Scanning.{kept_of-long, kept_of-short}

@@ -1,4 +1,4 @@
-use Rattle.std.proofs.Common.{◌≡◌, ◌<◌, get_or, length, true, arith, ap, sym, ◌∙◌}
+use Rattle.std.proofs.Common.{◌≡◌, ◌<◌, get_or, length, true, arith, ap, ◌∙◌}
 use Rattle.std.specs.Map.{keys_of}
 use Rattle.bw_tree.specs.Groups.{group_at, has_group}
 use Rattle.bw_tree.proofs.CallerLemmas.{row_has_group}

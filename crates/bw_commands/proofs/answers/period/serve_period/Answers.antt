@@ -1,4 +1,4 @@
-use Rattle.std.proofs.Common.{◌≡◌, sym, subst}
+use Rattle.std.proofs.Common.{sym, subst}
 use Rattle.bw_model.specs.Groups.{IsInstance}
 use Rattle.bw_tree.specs.Snapshot.{IsDrawnWithin}
 use Rattle.bw_commands.proofs.Within.{drawn_within}

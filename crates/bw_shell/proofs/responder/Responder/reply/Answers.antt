@@ -1,6 +1,6 @@
-use Rattle.std.proofs.Common.{◌≡◌, ◌∙◌, sym, subst, inl, refl}
+use Rattle.std.proofs.Common.{sym, subst, inl, refl}
 use Rattle.bw_commands.specs.Fault.{error_line}
-use Rattle.bw_commands.specs.Script.{IsOutcome, IsAnswer, refused, outcome_of}
+use Rattle.bw_commands.specs.Script.{IsOutcome, IsAnswer}
 use Rattle.bw_shell.specs.Responder.{responder_state}
 use Rattle.bw_shell.proofs.Writing.{Writes-map}
 use Rattle.bw_shell.proofs.responder.Responder.reply.Goals as goal

@@ -1,9 +1,7 @@
-use Rattle.std.proofs.Common.{rules, ◌≡◌, ◌++◌, ◌∙◌, ℕ, List, [], Some, ap, sym, subst, refl, length}
+use Rattle.std.proofs.Common.{rules, ◌≡◌, ◌∙◌, [], Some, ap, sym, subst, refl, length}
 use Rattle.bw_commands.specs.Script.{kept_of, IsAnswer}
-use Rattle.bw_commands.specs.State.{State}
 use Rattle.bw_shell.specs.Responder.{responder_state}
-use Rattle.bw_shell.specs.Scan.{Scan, TakesLine, kept_after}
-use Rattle.bw_shell.specs.Session.{scan_of}
+use Rattle.bw_shell.specs.Scan.{Scan, kept_after}
 use Rattle.bw_shell.proofs.Scanning.{TakesLine-kept, kept_after-kept_of, nil_of_length}
 use Rattle.bw_shell.proofs.Writing.{Writes-err, Writes-map}
 use Rattle.bw_shell.proofs.session.Session.end_line.Goals as goal

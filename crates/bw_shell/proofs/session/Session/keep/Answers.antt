@@ -1,7 +1,6 @@
-use Rattle.std.proofs.Common.{rules, ◌≡◌, ◌≤◌, ◌-◌, ◌++◌, min, ◌∙◌, ap, take, length, arith}
+use Rattle.std.proofs.Common.{rules, ◌≡◌, ◌≤◌, ◌-◌, ◌++◌, min, ◌∙◌, ap, take, length}
 use Rattle.bw_commands.specs.Script.{kept_of}
 use Rattle.bw_shell.specs.Responder.{responder_state}
-use Rattle.bw_shell.specs.Scan.{Scan}
 use Rattle.bw_shell.proofs.Scanning.{kept_of-cut}
 use Rattle.bw_shell.proofs.session.Session.keep.Goals as goal
 

@@ -1,4 +1,4 @@
-use Rattle.std.proofs.Common.{◌≡◌, ◌<◌, ℕ, List, length, get_or, arith, rules, sym, ap, ◌∙◌}
+use Rattle.std.proofs.Common.{◌≡◌, ◌<◌, ℕ, List, length, get_or, arith, ap}
 use Rattle.std.proofs.lemmas.List.{length-map}
 use Rattle.bw_commands.specs.PathList.{cut}
 use Rattle.bw_commands.proofs.PathLists.{within_at}
