@@ -22,13 +22,13 @@ raised low high total part i weights most up within reached so_far =
     (λ k _. taken-mono low high (get_or weights k 0) (get_or most k 0) up) in
     omega (arith, here, front, so_far, sum_below-more i (each_takes high weights most))
 
--- a round halves the width
-pub halved : (low high round : ℕ) → round < MAX_ROUNDS → low < high → high ≤ low + 2 ^ (MAX_ROUNDS - round) →
-    (low + (high - low) / 2 ≤ low + 2 ^ (MAX_ROUNDS - (round + 1))) × (high ≤ low + (high - low) / 2 + 2 ^ (MAX_ROUNDS - (round + 1)))
-halved low high round few apart width =
+-- a round halves the reach, with nothing over
+pub next_reach : (round reach : ℕ) → round < MAX_ROUNDS → reach ≡ 2 ^ (MAX_ROUNDS - round) →
+    (reach / 2 ≡ 2 ^ (MAX_ROUNDS - (round + 1))) × (2 * (reach / 2) ≡ reach)
+next_reach round reach few is =
     let e : MAX_ROUNDS - round ≡ suc (MAX_ROUNDS - (round + 1)) = omega arith in
     let p : 2 ^ (MAX_ROUNDS - round) ≡ 2 * 2 ^ (MAX_ROUNDS - (round + 1)) = ap (λ n. 2 ^ n) e ∙ omega (arith, pow-suc 2 (MAX_ROUNDS - (round + 1))) in
-    (omega (arith, p, width), omega (arith, p, width))
+    (omega (arith, p, is), omega (arith, p, is))
 
 -- Where the amount is the sum of the maxima, they are the split.
 pub all-IsBestSplit : (amount : ℕ) (weights most : List ℕ) → length most ≡ length weights →

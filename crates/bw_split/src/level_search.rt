@@ -1,12 +1,15 @@
 //! The split by a level of cost: a search for the level in rounds, then what is left, one slice each.
-ghost use Rattle.std.specs.Prelude.{◌≡◌, ◌+◌, ◌<◌, ◌≤◌, ℕ, length, slice_index, sum, EachIndex, IfOk};
+ghost use Rattle.std.specs.Prelude.{◌≡◌, ◌+◌, ◌*◌, ◌<◌, ◌≤◌, ℕ, length, slice_index, sum, EachIndex, IfOk};
 ghost use Rattle.bw_model.specs.Split.{IsBestSplit};
 ghost use Rattle.bw_split.specs.Conditions.{CanSplit, NeedsNoSearch};
 ghost use Rattle.bw_split.specs.Levels.{taken, taken_by_all};
 
 use crate::Work;
 use crate::conditions::fits_in;
-use crate::limits::{GREATEST_LEVEL, MAX_CHILDREN, MAX_ROUNDS, MOST_TAKEN, STEPS};
+use crate::limits::{
+    EVEN_ROUNDS, FILLINGS, GREATEST_LEVEL, GREATEST_RATIO, MAX_CHILDREN, MAX_ROUNDS, MOST_TAKEN,
+    RATIO_UNITS, STEPS, WIDEST,
+};
 use bw_model::limits::{MAX_CAPACITY, MAX_WEIGHT, MIN_WEIGHT};
 use std::alloc::{AllocError, Global};
 
@@ -49,8 +52,59 @@ fn with_one_more(part: u64, work: &mut Work) -> u64
     part + 1
 }
 
-/// A level that the amount does not pass: the greatest mark up to three times each child's share by weight,
-/// where they make up the amount, else the greatest level.
+/// What the children take when each is filled up to its share at a ratio of slices to weight.
+#[derive(Clone, Copy)]
+struct Filling {
+    /// The greatest of their last marks.
+    level: u64,
+    /// What they take, at most as much as at the level.
+    sum: u64,
+    /// The weight of those that could take more.
+    open: u64,
+}
+
+/// The weight of a child where it could take more than its share.
+fn open_weight(weight: u64, share: u64, bound: u64) -> u64
+    ensures { result ≤ weight }
+{
+    if share < bound { weight } else { 0 }
+}
+
+/// Each child's share by weight at a ratio, a slice more, and no more than its maximum and the amount.
+fn fill(ratio: u64, amount: u64, weights: &[u64], most: &[u64]) -> Filling
+    requires can { CanSplit amount weights.now most.now }
+    requires ratio { ratio ≤ (FILLINGS + 1) * GREATEST_RATIO }
+    ensures in_range { result.level ≤ GREATEST_LEVEL }
+    ensures reached { result.sum ≤ taken_by_all result.level weights.now most.now }
+{
+    let mut level = 1;
+    let mut sum = 0;
+    let mut open: u64 = 0;
+    for i in 0..weights.len() {
+        let share = weights[i] * ratio / RATIO_UNITS + 1;
+        let bound = most[i].min(amount);
+        open += open_weight(weights[i], share, bound);
+        let part = share.min(bound);
+        sum += part;
+        // The last mark of the part is `(mark - STEPS) / weight`: the level is raised to it where it is below.
+        let mark = 2 * part * STEPS;
+        if mark > level * weights[i] + STEPS {
+            level = (mark - STEPS).div_ceil(weights[i]);
+        }
+    }
+    Filling { level, sum, open }
+}
+
+/// Three times what an amount is to a weight, in units of 1 / 65536.
+fn ratio_of(amount: u64, weight: u64) -> u64
+    requires { amount ≤ MAX_CAPACITY }
+    ensures { result ≤ GREATEST_RATIO }
+{
+    3 * amount * RATIO_UNITS / weight.max(1)
+}
+
+/// A level that the amount does not pass: of the children filled up to three times their shares; where they do not make up
+/// the amount, because some have reached their maxima, the others once more with what is wanting; else the greatest level.
 fn upper_level(amount: u64, weights: &[u64], most: &[u64]) -> u64
     requires can { CanSplit amount weights.now most.now }
     requires some { 0 < amount }
@@ -61,24 +115,15 @@ fn upper_level(amount: u64, weights: &[u64], most: &[u64]) -> u64
     for weight in weights {
         whole += *weight;
     }
-    // Three times the share of a weight of one, in units of 1 / 65536.
-    let ratio = if whole > 0 {
-        3 * amount * 65536 / whole
-    } else {
-        0
-    };
-    let mut sum = 0;
-    let mut level = 1;
-    for i in 0..weights.len() {
-        let part = (weights[i] * ratio / 65536 + 1).min(most[i]).min(amount);
-        sum += part;
-        // The last mark of the part is `(mark - STEPS) / weight`: the level is raised to it where it is below.
-        let mark = 2 * part * STEPS;
-        if mark > level * weights[i] + STEPS {
-            level = (mark - STEPS).div_ceil(weights[i]);
+    let mut ratio = ratio_of(amount, whole);
+    for _filling in 0..FILLINGS {
+        let filling = fill(ratio, amount, weights, most);
+        if filling.sum >= amount {
+            return filling.level;
         }
+        ratio += ratio_of(amount - filling.sum, filling.open);
     }
-    if sum >= amount { level } else { GREATEST_LEVEL }
+    GREATEST_LEVEL
 }
 
 /// A level, and what is left of the amount above what the children take there.
@@ -88,7 +133,58 @@ struct Found {
     rest: u64,
 }
 
+/// A level between two others from which either end is at most so many steps away: the guess, where it is one.
+fn trial(level: u64, above: u64, reach: u64, guess: u64) -> u64
+    requires apart { level + 1 < above }
+    requires in_range { above ≤ GREATEST_LEVEL }
+    requires wide { above ≤ level + 2 * reach }
+    requires short { reach ≤ GREATEST_LEVEL }
+    ensures inside { (level < result) × (result < above) }
+    ensures from_level { result ≤ level + reach }
+    ensures from_above { above ≤ result + reach }
+{
+    let least = above.saturating_sub(reach).max(level + 1);
+    let greatest = (level + reach).min(above - 1);
+    guess.max(least).min(greatest)
+}
+
+/// Where the amount lies between two levels if what the children take grows evenly, by how far each end is from it.
+fn even_guess(level: u64, above: u64, short_by: u64, over_by: u64) -> u64
+    requires apart { level ≤ above }
+    requires in_range { above ≤ GREATEST_LEVEL }
+    requires small { short_by ≤ MAX_CAPACITY }
+    ensures { result ≤ above }
+{
+    let share = short_by.saturating_add(over_by).max(1);
+    (level + (above - level) * short_by / share).min(above)
+}
+
+/// A mark between two levels of a child with this weight: the last one up to the guess, or else the next; where there is
+/// none, the step below the upper level. Children of one weight have their marks together, so between two of these no
+/// guess finds anything.
+fn mark_near(guess: u64, level: u64, above: u64, weight: u64) -> u64
+    requires guess { guess ≤ GREATEST_LEVEL }
+    requires above { 0 < above }
+    requires weight_in_range { (MIN_WEIGHT ≤ weight) × (weight ≤ MAX_WEIGHT) }
+    ensures { result < above }
+{
+    let taken = takes(guess, weight, u64::MAX);
+    let last = ((2 * taken).saturating_sub(1) * STEPS).div_ceil(weight);
+    let next = ((2 * taken + 1) * STEPS).div_ceil(weight);
+    if level < last && last < above {
+        last
+    } else if next < above {
+        next
+    } else {
+        above - 1
+    }
+}
+
 /// A level at which the children take at most the amount, and one step above which the amount or more.
+///
+/// Each trial is a guess by the two ends, taken as far as halving would still end within the rounds that are left. Where
+/// an end stays twice, its distance from the amount is halved in the next guess, so that it moves too (the false
+/// position in its Illinois form). After some rounds every second guess goes to a mark of one child or another.
 fn find_level(amount: u64, weights: &[u64], most: &[u64], work: &mut Work) -> Found
     requires { CanSplit amount weights.now most.now }
     ensures in_range { result.level < GREATEST_LEVEL }
@@ -105,20 +201,43 @@ fn find_level(amount: u64, weights: &[u64], most: &[u64], work: &mut Work) -> Fo
         return Found { level, rest };
     }
     let mut above = upper_level(amount, weights, most);
-    for _round in 0..MAX_ROUNDS {
+    // at three times their shares the children take about three times the amount
+    let mut over_by = 2 * amount;
+    let mut short_by = amount;
+    let mut level_moved = false;
+    let mut reach = WIDEST;
+    for round in 0..MAX_ROUNDS {
         if above - level == 1 || rest == 0 {
             return Found { level, rest };
         }
-        let middle = level + (above - level) / 2;
+        reach /= 2;
+        let mut guess = even_guess(level, above, short_by, over_by);
+        if round >= EVEN_ROUNDS && round % 2 == 0 {
+            let weight = weights[round as usize % weights.len()];
+            guess = mark_near(guess, level, above, weight);
+        }
+        let middle = trial(level, above, reach, guess);
         let total = test_level(middle, weights, most, work);
         if total > amount {
             above = middle;
+            over_by = total - amount;
+            short_by = halved_where(!level_moved, short_by);
+            level_moved = false;
         } else {
             level = middle;
             rest = amount - total;
+            short_by = rest;
+            over_by = halved_where(level_moved, over_by);
+            level_moved = true;
         }
     }
     Found { level, rest }
+}
+
+fn halved_where(stayed: bool, distance: u64) -> u64
+    ensures { result ≤ distance }
+{
+    if stayed { distance / 2 } else { distance }
 }
 
 /// What [`split`] answers, with a count of its work: a round for each level that was tested on all children, at most

@@ -1,8 +1,9 @@
-use Rattle.std.proofs.Common.{◌≡◌, ◌≤◌, ◌<◌, ◌+◌, ℕ, List, arith, ◌∙◌, inl, inr}
+use Rattle.std.proofs.Common.{◌≡◌, ◌≤◌, ◌<◌, ◌+◌, ℕ, List, arith, refl, ◌∙◌, inl, inr}
 use Rattle.std.proofs.lemmas.Bool.{cases_lt}
+use Rattle.bw_model.specs.declared.limits.TheConstants.{MAX_CAPACITY}
 use Rattle.bw_split.specs.Levels.{taken_by_all}
 use Rattle.bw_split.proofs.Takes.{by_all-zero, by_all-mono}
-use Rattle.bw_split.proofs.Search.{halved}
+use Rattle.bw_split.proofs.Search.{next_reach}
 use Rattle.bw_split.proofs.level_search.find_level.Goals as goal
 use Rattle.bw_split.proofs.level_search.find_level.Goals.{then-total-amount, else-total-amount, then-above-level-eq1-via-then-above-level-eq1}
 use Rattle.bw_split.proofs.level_search.find_level.Goals.{then-above-level-eq1-via-else-above-level-eq1+then-rest-eq0-2}
@@ -10,27 +11,44 @@ use Rattle.bw_split.proofs.level_search.find_level.Goals.{then-above-level-eq1-v
 pub loop-round-preserved : goal.loop-round-preserved
 loop-round-preserved c =
     let inv = c.loop-round.invariant in
-    let h = halved c.loop-round.level c.loop-round.above c.loop-round._round c.loop-round-test.true inv.apart inv.width in
+    let both = next_reach c.loop-round.round c.loop-round.reach c.loop-round-test.true inv.reach in
+    let half = both.0 in
+    let small : c.args.amount ≤ MAX_CAPACITY = c.requires.small in
     elim c.if-total-amount.branch [
-      | then-total-amount w ↦ rw (w.level-is, w.rest-is, w.above-is) (record {
-        apart = omega (arith, c.if-above-level-eq1.false, inv.apart);
-        in_range = omega (arith, inv.in_range, inv.apart);
+      | then-total-amount w ↦ rw (w.level-is, w.rest-is, w.above-is, w.short_by-is) (record {
+        apart = omega (arith, c.trial-middle.ensures.inside);
+        in_range = omega (arith, inv.in_range, c.trial-middle.ensures.inside);
         rest_is = inv.rest_is;
         enough = omega (arith, c.test_level-total.ensures.all, w.if-total-amount.true);
-        width = h.0;
+        width = omega (arith, c.trial-middle.ensures.from_level, half);
+        reach = half;
+        narrow = omega (arith, inv.narrow);
+        near = omega (arith, w.halved_where-short_by.ensures, inv.near);
         rounds = omega (arith, c.test_level-total.ensures.rounds, inv.rounds);
         picks = c.test_level-total.ensures.picks ∙ inv.picks;
       })
-      | else-total-amount w ↦ rw (w.level-is, w.rest-is, w.above-is) (record {
-        apart = omega (arith, c.if-above-level-eq1.false, inv.apart);
+      | else-total-amount w ↦ rw (w.level-is, w.rest-is, w.above-is, w.short_by-is) (record {
+        apart = omega (arith, c.trial-middle.ensures.inside);
         in_range = inv.in_range;
         rest_is = omega (arith, c.test_level-total.ensures.all, w.if-total-amount.false);
         enough = inv.enough;
-        width = h.1;
+        width = omega (arith, c.trial-middle.ensures.from_above, half);
+        reach = half;
+        narrow = omega (arith, inv.narrow);
+        near = omega (arith, small, inv.rest_is);
         rounds = omega (arith, c.test_level-total.ensures.rounds, inv.rounds);
         picks = c.test_level-total.ensures.picks ∙ inv.picks;
       })
     ]
+
+pub trial-middle-requires-clause-wide : goal.trial-middle-requires-clause-wide
+trial-middle-requires-clause-wide c =
+    let inv = c.loop-round.invariant in
+    let half = next_reach c.loop-round.round c.loop-round.reach c.loop-round-test.true inv.reach in
+    omega (arith, half.1, inv.reach, inv.width)
+
+pub trial-middle-requires-clause-short : goal.trial-middle-requires-clause-short
+trial-middle-requires-clause-short c = omega (arith, c.loop-round.invariant.narrow)
 
 pub returns-then-rest-eq0-clause-rest : goal.returns-then-rest-eq0-clause-rest
 returns-then-rest-eq0-clause-rest c = omega (arith, by_all-zero c.args.weights.now c.args.most.now)
@@ -50,6 +68,9 @@ loop-round-init c = record {
   rest_is = omega (arith, by_all-zero c.args.weights.now c.args.most.now);
   enough = c.upper_level-above.ensures.enough;
   width = omega (arith, c.upper_level-above.ensures.in_range);
+  reach = refl;
+  narrow = omega arith;
+  near = c.requires.small;
   rounds = omega arith;
   picks = omega arith;
 }

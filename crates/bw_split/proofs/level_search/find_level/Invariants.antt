@@ -1,7 +1,8 @@
 use Rattle.std.proofs.Common.{◌≡◌, ◌+◌, ◌-◌, ◌^◌, ◌<◌, ◌≤◌}
 use Rattle.bw_split.specs.Levels.{taken_by_all}
 use Rattle.bw_split.proofs.level_search.find_level.Given as goal
-use Rattle.bw_split.specs.declared.limits.TheConstants.{GREATEST_LEVEL, MAX_ROUNDS}
+use Rattle.bw_model.specs.declared.limits.TheConstants.{MAX_CAPACITY}
+use Rattle.bw_split.specs.declared.limits.TheConstants.{GREATEST_LEVEL, MAX_ROUNDS, WIDEST}
 
 abbrev pub invariant-loop-round : goal.invariant-loop-round
 invariant-loop-round l = record {
@@ -9,7 +10,10 @@ invariant-loop-round l = record {
   in_range : l.above ≤ GREATEST_LEVEL;
   rest_is : l.rest + taken_by_all l.level l.weights l.most ≡ l.amount;
   enough : l.amount ≤ taken_by_all l.above l.weights l.most;
-  width : l.above ≤ l.level + 2 ^ (MAX_ROUNDS - l._round);
-  rounds : l.work.rounds ≡ l.fn.work.rounds + l._round;
+  width : l.above ≤ l.level + 2 ^ (MAX_ROUNDS - l.round);
+  reach : l.reach ≡ 2 ^ (MAX_ROUNDS - l.round);
+  narrow : l.reach ≤ WIDEST;
+  near : l.short_by ≤ MAX_CAPACITY;
+  rounds : l.work.rounds ≡ l.fn.work.rounds + l.round;
   picks : l.work.picks ≡ l.fn.work.picks;
 }

@@ -1,4 +1,4 @@
-use Rattle.std.proofs.Common.{◌≡◌, rules}
+use Rattle.std.proofs.Common.{rules}
 use Rattle.bw_model.proofs.instance.Instance.of_valid.Goals as goal
 
 pub invariant_of-result : goal.invariant_of-result
