@@ -55,4 +55,5 @@ returns c =
 pub first_group-requires-clause-small : goal.first_group-requires-clause-small
 first_group-requires-clause-small c =
     small_at c.args.instance.now c.args.amounts.now (certified_of c.args.certificate.now) c.are_one_per_row.ensures.valid.tree
-    c.in_ok-tables.tables.bounds.items c.in_ok-tables.ensures.bounded c.loop-fault.fault-index c.loop-fault.invariant c.are_one_per_row.ensures.valid c.loop-fault-test.true
+    c.in_ok-tables.tables.bounds.items c.in_ok-tables.ensures.bounded c.loop-fault.fault-index c.loop-fault.invariant
+    c.are_one_per_row.ensures.valid c.loop-fault-test.true

@@ -11,7 +11,7 @@ ghost use Rattle.bw_commands.specs.GroupLines.{IsPathOf, ArePathsOf};
 ghost use Rattle.bw_commands.specs.Total.{IsTotal, limit_line, limit_lines};
 
 use crate::put::{put_last_word, put_number, put_number_line};
-use bw_demand::{Gathered, gather, limiting};
+use bw_demand::{Gathered, gather_rows, limiting};
 use bw_hierarchy::{Fault, Hierarchy};
 use bw_model::Instance;
 use bw_tree::{GroupId, Tree, TreeFault};
@@ -23,7 +23,7 @@ pub fn put_total(alloc: Global, hierarchy: &Hierarchy, answer: &mut Vec<u8>) -> 
     ensures { Answers (IsTotal hierarchy.now) answer.old answer.new result }
 {
     let (instance, ids, _base) = hierarchy.snapshot()?;
-    let gathered = gather(alloc, &instance)?;
+    let gathered = gather_rows(alloc, &instance)?;
     let limits = limiting(alloc, &instance, &gathered)?;
     let total = total_of(&instance, &gathered);
     put_number_line(b"total ", total, answer)?;
