@@ -170,10 +170,11 @@ key_after [] low i all lt = absurd (omega (arith, lt))
 key_after (e ∷ es) low zero all lt = all.0
 key_after (e ∷ es) low (suc i) all lt = key_after es low i all.1 (omega (arith, lt))
 
-key_found : (gs : List (ℕ × GroupFields)) (i : ℕ) → i < length (keys_of gs) → has_group gs (get_or (keys_of gs) i 0) ≡ true
-key_found [] i lt = absurd (omega (arith, lt))
-key_found (e ∷ es) zero lt = ap (λ b. is_some (cond b (Some e.1) (group_at es e.0))) (eq-eqb e.0 e.0 refl)
-key_found (e ∷ es) (suc i) lt = onto (eqb (get_or (keys_of es) i 0) e.0) (key_found es i (omega (arith, lt)))
+-- each key of the groups is a group's
+pub row_has_group : (gs : List (ℕ × GroupFields)) (i : ℕ) → i < length (keys_of gs) → has_group gs (get_or (keys_of gs) i 0) ≡ true
+row_has_group [] i lt = absurd (omega (arith, lt))
+row_has_group (e ∷ es) zero lt = ap (λ b. is_some (cond b (Some e.1) (group_at es e.0))) (eq-eqb e.0 e.0 refl)
+row_has_group (e ∷ es) (suc i) lt = onto (eqb (get_or (keys_of es) i 0) e.0) (row_has_group es i (omega (arith, lt)))
   where
     onto : (b : Bool) → has_group es (get_or (keys_of es) i 0) ≡ true → is_some (cond b (Some e.1) (group_at es (get_or (keys_of es) i 0))) ≡ true
     onto true there = refl
@@ -183,7 +184,7 @@ key_found (e ∷ es) (suc i) lt = onto (eqb (get_or (keys_of es) i 0) e.0) (key_
 pub key_there : (gs : List (ℕ × GroupFields)) (cs : List ℕ) (i : ℕ) → i < length (keys_of gs) → has_group (carried gs cs) (get_or (keys_of gs) i 0) ≡ true
 key_there gs cs i lt =
     there_kept (group_at (carried gs cs) (get_or (keys_of gs) i 0)) (group_at gs (get_or (keys_of gs) i 0)) (look_carried gs cs (get_or (keys_of gs) i 0))
-    ∙ key_found gs i lt
+    ∙ row_has_group gs i lt
 
 -- a change of a later group
 changed_later : (f : GroupFields → GroupFields) (e : ℕ × GroupFields) (gs : List (ℕ × GroupFields)) (id : ℕ) → eqb id e.0 ≡ false
