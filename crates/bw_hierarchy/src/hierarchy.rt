@@ -97,7 +97,7 @@ impl Hierarchy {
         ensures kept { OnErr result (self.new ≡ self.old) }
     {
         self.books.book(instance, ids, base, gathered, drawn)?;
-        self.tree.carry_over(instance, ids, drawn);
+        self.tree.carry_over(instance, drawn);
         Ok(())
     }
 

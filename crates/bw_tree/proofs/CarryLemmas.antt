@@ -1,16 +1,17 @@
 -- What a period leaves over changes no group's place, and nothing else of it.
 use Rattle.std.proofs.Common.{◌≡◌, ℕ, zero, suc, ◌<◌, Bool, true, false, cond, ◌||◌, List, [], ◌∷◌, length, get_or, take, Option, Some, None, is_some, refl}
 use Rattle.std.proofs.Common.{sym, ap, subst, ◌∙◌, arith, eqb}
-use Rattle.std.proofs.lemmas.Bool.{eq-eqb, ne_eqb}
-use Rattle.std.specs.Map.{keys_of, set_value}
+use Rattle.std.specs.Prelude.{slice_get}
+use Rattle.std.specs.Map.{keys_of, values_of}
+use Rattle.indexmap.specs.IndexMap.{set_value_at}
 use Rattle.bw_model.specs.declared.row.Row.{Row}
 use Rattle.bw_model.specs.declared.limits.TheConstants.{MAX_PATH}
 use Rattle.bw_tree.specs.declared.child_index.ChildIndex.{ChildIndex}
 use Rattle.bw_tree.specs.Children.{IsIndexOf}
 use Rattle.bw_tree.specs.Groups.{GroupFields, TreeState, group_at, has_group, has_children, is_parent, is_child_named, demand_of, child_of, parent_of, is_name}
 use Rattle.bw_tree.specs.Groups.{IsTree, AllBefore, AllAfter, AreRising, IsSound}
-use Rattle.bw_tree.specs.Tree.{changed, changed_at, set_carry}
-use Rattle.bw_tree.specs.Snapshot.{carried, left_of, left_over}
+use Rattle.bw_tree.specs.Tree.{set_carry}
+use Rattle.bw_tree.specs.Snapshot.{carried, carried_at, left_of, left_over}
 use Rattle.bw_tree.proofs.GroupLemmas.{above_same}
 
 pub length_carried : (gs : List (ℕ × GroupFields)) (cs : List ℕ) → length (carried gs cs) ≡ length gs
@@ -165,52 +166,21 @@ index_carried gs cs index is =
 
 -- ---- one group after another
 
-key_after : (gs : List (ℕ × GroupFields)) (low i : ℕ) → AllAfter low gs → i < length gs → low < get_or (keys_of gs) i 0
-key_after [] low i all lt = absurd (omega (arith, lt))
-key_after (e ∷ es) low zero all lt = all.0
-key_after (e ∷ es) low (suc i) all lt = key_after es low i all.1 (omega (arith, lt))
-
-key_found : (gs : List (ℕ × GroupFields)) (i : ℕ) → i < length (keys_of gs) → has_group gs (get_or (keys_of gs) i 0) ≡ true
-key_found [] i lt = absurd (omega (arith, lt))
-key_found (e ∷ es) zero lt = ap (λ b. is_some (cond b (Some e.1) (group_at es e.0))) (eq-eqb e.0 e.0 refl)
-key_found (e ∷ es) (suc i) lt = onto (eqb (get_or (keys_of es) i 0) e.0) (key_found es i (omega (arith, lt)))
-  where
-    onto : (b : Bool) → has_group es (get_or (keys_of es) i 0) ≡ true → is_some (cond b (Some e.1) (group_at es (get_or (keys_of es) i 0))) ≡ true
-    onto true there = refl
-    onto false there = there
-
--- each key of the groups finds one, whatever they left over
-pub key_there : (gs : List (ℕ × GroupFields)) (cs : List ℕ) (i : ℕ) → i < length (keys_of gs) → has_group (carried gs cs) (get_or (keys_of gs) i 0) ≡ true
-key_there gs cs i lt =
-    there_kept (group_at (carried gs cs) (get_or (keys_of gs) i 0)) (group_at gs (get_or (keys_of gs) i 0)) (look_carried gs cs (get_or (keys_of gs) i 0))
-    ∙ key_found gs i lt
-
--- a change of a later group
-changed_later : (f : GroupFields → GroupFields) (e : ℕ × GroupFields) (gs : List (ℕ × GroupFields)) (id : ℕ) → eqb id e.0 ≡ false
-    → changed_at f (e ∷ gs) id ≡ e ∷ changed_at f gs id
-changed_later f e gs id apart = ap (λ b. changed f (e ∷ gs) id (cond b (Some e.1) (group_at gs id))) apart ∙ by (group_at gs id)
-  where
-    by : (o : Option GroupFields) → changed f (e ∷ gs) id o ≡ e ∷ changed f gs id o
-    by None = refl
-    by (Some g) = ap (λ b. cond b ((e.0, f g) ∷ gs) (e ∷ set_value (eqb id) gs (f g))) apart
-
--- a change of the first group
-changed_first : (f : GroupFields → GroupFields) (e : ℕ × GroupFields) (gs : List (ℕ × GroupFields)) → changed_at f (e ∷ gs) e.0 ≡ (e.0, f e.1) ∷ gs
-changed_first f e gs =
-    ap (λ b. changed f (e ∷ gs) e.0 (cond b (Some e.1) (group_at gs e.0))) (eq-eqb e.0 e.0 refl)
-    ∙ ap (λ b. cond b ((e.0, f e.1) ∷ gs) (e ∷ set_value (eqb e.0) gs (f e.1))) (eq-eqb e.0 e.0 refl)
+-- a group that is written at a place
+pub written_at : (gs : List (ℕ × GroupFields)) (i carry : ℕ) (g : GroupFields) → slice_get (values_of gs) i ≡ Some g
+    → set_value_at gs i (set_carry carry g) ≡ carried_at gs i carry
+written_at [] i carry g at = cc
+written_at (e ∷ es) zero carry g at = let is : e.1 ≡ g = cc in ap (λ (x : GroupFields). (e.0, set_carry carry x) ∷ es) (sym is)
+written_at (e ∷ es) (suc i) carry g at = ap (λ (xs : List (ℕ × GroupFields)). e ∷ xs) (written_at es i carry g at)
 
 -- the next group keeps what it left over
-pub carry_next : (gs : List (ℕ × GroupFields)) (cs : List ℕ) (i : ℕ) → AreRising gs → i < length gs → i < length cs
-    → changed_at (set_carry (get_or cs i 0)) (carried gs (take i cs)) (get_or (keys_of gs) i 0) ≡ carried gs (take (suc i) cs)
-carry_next [] cs i up lt within = absurd (omega (arith, lt))
-carry_next (e ∷ es) [] i up lt within = absurd (omega (arith, within))
-carry_next (e ∷ es) (c ∷ cs) zero up lt within = changed_first (set_carry c) e es
-carry_next (e ∷ es) (c ∷ cs) (suc i) up lt within =
-    let after = key_after es e.0 i up.0 (omega (arith, lt)) in
-    changed_later (set_carry (get_or cs i 0)) (e.0, set_carry c e.1) (carried es (take i cs)) (get_or (keys_of es) i 0)
-    (ne_eqb (get_or (keys_of es) i 0) e.0 (λ same. omega (arith, after, same)))
-    ∙ ap (λ (xs : List (ℕ × GroupFields)). (e.0, set_carry c e.1) ∷ xs) (carry_next es cs i up.1 (omega (arith, lt)) (omega (arith, within)))
+pub carry_next : (gs : List (ℕ × GroupFields)) (cs : List ℕ) (i : ℕ) → i < length gs → i < length cs
+    → carried_at (carried gs (take i cs)) i (get_or cs i 0) ≡ carried gs (take (suc i) cs)
+carry_next [] cs i lt within = absurd (omega (arith, lt))
+carry_next (e ∷ es) [] i lt within = absurd (omega (arith, within))
+carry_next (e ∷ es) (c ∷ cs) zero lt within = refl
+carry_next (e ∷ es) (c ∷ cs) (suc i) lt within =
+    ap (λ (xs : List (ℕ × GroupFields)). (e.0, set_carry c e.1) ∷ xs) (carry_next es cs i (omega (arith, lt)) (omega (arith, within)))
 
 pub length_left_over : (rows : List Row) (drawn : List ℕ) → length drawn ≡ length rows → length (left_over rows drawn) ≡ length rows
 length_left_over [] drawn same = refl

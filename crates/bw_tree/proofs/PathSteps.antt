@@ -16,15 +16,15 @@ use Rattle.bw_tree.specs.Snapshot.{row_above, rows_of}
 use Rattle.bw_tree.proofs.SnapshotLemmas.{found_at, place_found, place_le, parent_place, row_parent}
 use Rattle.bw_tree.proofs.WayLemmas.{joined_below, joined_first}
 
--- the id of each row is a group's
-pub row_has_group : (gs : List (ℕ × GroupFields)) (g : ℕ) → g < length (keys_of gs) → has_group gs (get_or (keys_of gs) g 0) ≡ true
-row_has_group [] g lt = absurd (omega (arith, lt))
+-- each key of the groups is a group's
+pub row_has_group : (gs : List (ℕ × GroupFields)) (i : ℕ) → i < length (keys_of gs) → has_group gs (get_or (keys_of gs) i 0) ≡ true
+row_has_group [] i lt = absurd (omega (arith, lt))
 row_has_group (e ∷ es) zero lt = ap (λ b. is_some (cond b (Some e.1) (group_at es e.0))) (eq-eqb e.0 e.0 refl)
-row_has_group (e ∷ es) (suc g) lt = either (eqb (get_or (keys_of es) g 0) e.0) (row_has_group es g (omega (arith, lt)))
+row_has_group (e ∷ es) (suc i) lt = onto (eqb (get_or (keys_of es) i 0) e.0) (row_has_group es i (omega (arith, lt)))
   where
-    either : (b : Bool) → has_group es (get_or (keys_of es) g 0) ≡ true → is_some (cond b (Some e.1) (group_at es (get_or (keys_of es) g 0))) ≡ true
-    either true there = refl
-    either false there = there
+    onto : (b : Bool) → has_group es (get_or (keys_of es) i 0) ≡ true → is_some (cond b (Some e.1) (group_at es (get_or (keys_of es) i 0))) ≡ true
+    onto true there = refl
+    onto false there = there
 
 module _ (t : TreeState) (ok : IsTree t) (s : Shape) where
   -- the root, where no group is

@@ -71,6 +71,36 @@ found_at (e ∷ es) (suc i) d up lt =
 pub place_found : (gs : List (ℕ × GroupFields)) (id : ℕ) → has_group gs id ≡ true → (i : ℕ) × (position (eqb id) (keys_of gs) ≡ Some i)
 place_found gs id there = some_of (position (eqb id) (keys_of gs)) (some_index (eqb id) gs ∙ there)
 
+-- a key that is read at a place has its place there
+pub place_read : (gs : List (ℕ × GroupFields)) (i id : ℕ) → AreRising gs → i < length (keys_of gs) → get_or (keys_of gs) i 0 ≡ id
+    → position (eqb id) (keys_of gs) ≡ Some i
+place_read gs i id up lt read = same (cases_order j.0 i)
+  where
+    d : ℕ × GroupFields
+    d = (0, root_group)
+
+    within : i < length gs
+    within = omega (arith, lt, length-map gs (λ (e : ℕ × GroupFields). e.0))
+
+    here : (get_or gs i d).0 ≡ id
+    here = sym (get_or-map (λ (e : ℕ × GroupFields). e.0) gs i d 0 within) ∙ read
+
+    j : (k : ℕ) × (position (eqb id) (keys_of gs) ≡ Some k)
+    j = place_found gs id (ap (has_group gs) (sym here) ∙ ap is_some (found_at gs i d up within))
+
+    there : j.0 < length gs
+    there = omega (arith, (position-Some (eqb id) (keys_of gs) j.0 0 j.1).0, length-map gs (λ (e : ℕ × GroupFields). e.0))
+
+    key : (get_or gs j.0 d).0 ≡ id
+    key =
+        sym (eqb-true id (get_or gs j.0 d).0
+        (ap (eqb id) (sym (get_or-map (λ (e : ℕ × GroupFields). e.0) gs j.0 d 0 there)) ∙ (position-Some (eqb id) (keys_of gs) j.0 0 j.1).1))
+
+    same : (j.0 ≡ i) ⊎ ((j.0 < i) ⊎ (i < j.0)) → position (eqb id) (keys_of gs) ≡ Some i
+    same (inl is) = j.1 ∙ ap Some is
+    same (inr (inl before)) = let low = rising_at gs j.0 i d up before within in absurd (omega (arith, low, key, here))
+    same (inr (inr after)) = let high = rising_at gs i j.0 d up after there in absurd (omega (arith, high, key, here))
+
 -- the values of each group are in range
 pub all_sound : (gs : List (ℕ × GroupFields)) → AreRising gs → ((id : ℕ) (g : GroupFields) → group_at gs id ≡ Some g → IsSound g)
     → AllByRecursion IsSound (values_of gs)

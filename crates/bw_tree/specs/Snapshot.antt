@@ -1,5 +1,5 @@
 -- A tree as an instance has it: a row for each group, in order of creation.
-use Rattle.std.specs.Prelude.{ℕ, ◌+◌, ◌-◌, ◌<◌, ◌≤◌, min, nat_eq, List, [], ◌∷◌, map, length, slice_index, Option, Some, None, IfSome, position}
+use Rattle.std.specs.Prelude.{ℕ, zero, suc, ◌+◌, ◌-◌, ◌<◌, ◌≤◌, min, nat_eq, List, [], ◌∷◌, map, length, slice_index, Option, Some, None, IfSome, position}
 use Rattle.std.specs.Map.{keys_of, values_of}
 use Rattle.bw_model.specs.Host.{Shape}
 use Rattle.bw_model.specs.Quota.{in_slices, slices_of}
@@ -66,6 +66,12 @@ abbrev pub carried : List (ℕ × GroupFields) → List ℕ → List (ℕ × Gro
 carried groups [] = groups
 carried [] (carry ∷ carries) = []
 carried (e ∷ es) (carry ∷ carries) = (e.0, set_carry carry e.1) ∷ carried es carries
+
+-- the groups, of which the one at a place left so many slices over
+abbrev pub carried_at : List (ℕ × GroupFields) → ℕ → ℕ → List (ℕ × GroupFields)
+carried_at [] place carry = []
+carried_at (e ∷ es) zero carry = (e.0, set_carry carry e.1) ∷ es
+carried_at (e ∷ es) (suc place) carry = e ∷ carried_at es place carry
 
 -- the tree after a period: each group keeps what its row left over, and all else is as it was
 abbrev pub carried_over : TreeState → List Row → List ℕ → TreeState

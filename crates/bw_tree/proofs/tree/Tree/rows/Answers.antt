@@ -12,4 +12,5 @@ loop-group-init c =
       tt,
       subst (AllByRecursion IsSound) (sym items) (all_sound c.self.inside.groups.entries c.self.invariant.tree.rising c.self.invariant.tree.sound),
       search rules,
+      search rules,
     )
