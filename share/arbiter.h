@@ -37,6 +37,7 @@
 extern "C" {
 #endif
 
+#define ARBITER_VERSION "1.0.0"
 #define ARBITER_NO_PARENT UINT32_MAX
 #define ARBITER_NO_LIMIT UINT64_MAX
 /* Room for each name and the 0 behind it. */

@@ -22,15 +22,17 @@ import native
 TOP = native.TOP
 SECONDS = 60
 # what the scripts call; a copy finds nothing else on its PATH, so that the machine's own rt is not there
-COMMANDS = "bash cat chmod cmp cp env find grep mkdir mktemp mv readlink rm rmdir sh sort tail tee timeout xargs".split()
+COMMANDS = "bash cat chmod cmp cp env find grep ln mkdir mktemp mv readlink rm rmdir sh sort tail tee timeout xargs".split()
 COPIED = ("arbiter", "build", "test", "crates.txt", "HANDLES", "tests/lib.sh")
 OUT = "crates/arbiter/out"
 PROGRAM, STAMP, TIMES = f"{OUT}/arbiter", f"{OUT}/arbiter.sources", f"{OUT}/arbiter.times"
 LIBRARY = "crates/bw_exports/out/libarbiter"
+VERSION, SONAME = "1.0.0", "libarbiter.so.1"
 PROVED, LIBRARY_PROVED = "rt run -- --help", "rt lib"
-INSTALLED = {
+LINKS = {f"lib/{SONAME}": f"libarbiter.so.{VERSION}", "lib/libarbiter.so": SONAME}
+FILES = {
     "bin/arbiter": (PROGRAM, 0o755),
-    "lib/libarbiter.so": (f"{LIBRARY}.so", 0o755),
+    f"lib/libarbiter.so.{VERSION}": (f"{LIBRARY}.so", 0o755),
     "lib/libarbiter.a": (f"{LIBRARY}.a", 0o644),
     "lib/pkgconfig/arbiter.pc": ("share/arbiter.pc", 0o644),
     "include/arbiter.h": ("share/arbiter.h", 0o644),
@@ -39,6 +41,7 @@ INSTALLED = {
     "share/zsh/site-functions/_arbiter": ("share/completions/_arbiter", 0o644),
     "share/fish/vendor_completions.d/arbiter.fish": ("share/completions/arbiter.fish", 0o644),
 }
+INSTALLED = {*FILES, *LINKS}
 NATIVE = "#!/bin/sh\nfor word do echo \"native: $word\"; done\ncat\nexit 7\n"
 # proves nothing, and does what the words of a file say while it builds
 KIT = """#!/bin/sh
@@ -261,7 +264,7 @@ def leaves_other_crates_out(copy):
     """The crates of tests are no part of the program."""
     copy.build()
     others = set(copy.crates) - copy.ours
-    same({"bw_tests", "bw_tree_tests", "plan_bench"} <= others and not {"bw_shell", "bw_model"} & others, True, f"other crates: {others}")
+    same({"bw_core_tests", "bw_tree_tests", "plan_bench"} <= others and not {"bw_shell", "bw_model"} & others, True, f"other crates: {others}")
     for crate in sorted(others):
         for path in copy.sources(crate):
             copy.write(path, "edited\n")
@@ -481,7 +484,7 @@ def reads_its_words(copy):
     for part in ("--install DIR", "DIR/bin/arbiter", *(f"\n  {place}\n" for place in INSTALLED)):
         holds(part, out, "--help")
     with open(f"{TOP}/docs/BUILDING.md", encoding="utf-8") as file:
-        same(set(re.findall(r"^    DIR/(\S+)$", file.read(), re.M)), set(INSTALLED), "what docs/BUILDING.md lists")
+        same(set(re.findall(r"^    DIR/(\S+)$", file.read(), re.M)), INSTALLED, "what docs/BUILDING.md lists")
     no_folder = [(words, "needs a folder") for words in (["--install"], ["--install", ""], ["--install="])]
     for words, part in ((["--frob"], "'--frob'"), (["dir"], "'dir'"), *no_folder):
         status, out, err = copy.call(["./build", *words])
@@ -505,7 +508,8 @@ def bytes_of(path):
 def is_installed(copy, folder):
     found = files_below(folder)
     same(sorted(found), sorted(INSTALLED), "what is installed")
-    for place, (source, mode) in INSTALLED.items():
+    same({place: os.readlink(found[place]) for place in LINKS}, LINKS, "where links point to")
+    for place, (source, mode) in FILES.items():
         same(bytes_of(found[place]) == bytes_of(f"{copy.top}/{source}"), True, f"the bytes of {place}")
         same((stat.S_IMODE(os.stat(found[place]).st_mode), os.path.islink(found[place])), (mode, False), f"the mode of {place}")
 
@@ -524,8 +528,11 @@ def installs(copy):
     copy.write("precious", "precious\n")
     os.remove(f"{folder}/bin/arbiter")
     os.symlink(f"{copy.top}/precious", f"{folder}/bin/arbiter")
-    with open(f"{folder}/share/man/man1/arbiter.1", "w", encoding="utf-8") as file:
-        file.write("old\n")
+    # as an installation without a version left it
+    os.remove(f"{folder}/lib/libarbiter.so")
+    for name in ("share/man/man1/arbiter.1", "lib/libarbiter.so"):
+        with open(f"{folder}/{name}", "w", encoding="utf-8") as file:
+            file.write("old\n")
     os.chmod(f"{folder}/share/man/man1/arbiter.1", 0o400)
     same(copy.call(["./build", f"--install={folder}"])[0], 0, "again, and without the kit")
     is_installed(copy, folder)
@@ -534,11 +541,11 @@ def installs(copy):
 
 
 def library_is_linked(copy):
-    """The two libraries are linked from the proved archive and what the kit's code needs, the shared one with its name; its proof is told before."""
+    """The two libraries are linked from the proved archive and what the kit's code needs, the shared one with its soname and the names that it shows; its proof is told before."""
     _, err = copy.installs("there", "a first installation", [PROVED, LIBRARY_PROVED])
     holds(f"build: proving and linking {LIBRARY}.so; from nothing this proves eight crates, five to eight minutes", err, "standard error")
     same(copy.read(f"{LIBRARY}.a"), "archive\nrun time\n", "the static library")
-    for part in (" -shared ", " -Wl,-soname,libarbiter.so ", " -Wl,--whole-archive crates/bw_exports/out/libbw_exports.a ", "/c/liblibc_c.a "):
+    for part in (" -shared ", f" -Wl,-soname,{SONAME} ", " -Wl,--version-script=share/arbiter.map ", " -Wl,--whole-archive crates/bw_exports/out/libbw_exports.a ", "/c/liblibc_c.a\n"):
         holds(part, copy.read(f"{LIBRARY}.so"), "how the shared library is linked")
     made = ["libarbiter.a", "libarbiter.so", "libarbiter.sources", "libbw_exports.a"]
     same(sorted(os.listdir(f"{copy.top}/crates/bw_exports/out")), made, "what is in out/")
@@ -553,7 +560,7 @@ def library_where_needed(copy):
     out, err = copy.installs("there", "a second one")
     holds(f"build: {PROGRAM} is current\nbuild: {LIBRARY}.so is current\n", out, "a second one")
     same(err, "", "a second one")
-    for crate, wanted in (("bw_exports", [LIBRARY_PROVED]), ("bw_shell", [PROVED]), ("bw_plan", [PROVED, LIBRARY_PROVED]), ("bw_tests", [])):
+    for crate, wanted in (("bw_exports", [LIBRARY_PROVED]), ("bw_shell", [PROVED]), ("bw_plan", [PROVED, LIBRARY_PROVED]), ("bw_core_tests", [])):
         copy.write(copy.sources(crate)[0], "edited\n")
         copy.installs("there", f"after an edit of {crate}", wanted)
         copy.installs("there", f"again, after an edit of {crate}")
@@ -562,6 +569,21 @@ def library_where_needed(copy):
     os.remove(f"{copy.top}/{LIBRARY}.so")
     copy.installs("there", "no shared library", [LIBRARY_PROVED])
     is_installed(copy, f"{copy.top}/there")
+
+
+def library_of_another_version(copy):
+    """The library is linked again for other names and another version; one of another soname is put beside the old one, which stays."""
+    copy.installs("there", "a first installation", [PROVED, LIBRARY_PROVED])
+    copy.write("share/arbiter.map", copy.read("share/arbiter.map") + "# edited\n")
+    copy.installs("there", "other names", [LIBRARY_PROVED])
+    is_installed(copy, f"{copy.top}/there")
+    copy.write("tests/lib.sh", copy.read("tests/lib.sh").replace(f"library_version={VERSION}\n", "library_version=2.3.4\n"))
+    copy.installs("there", "another version", [LIBRARY_PROVED])
+    holds(" -Wl,-soname,libarbiter.so.2 ", copy.read("there/lib/libarbiter.so"), "the library that is linked with")
+    holds(f" -Wl,-soname,{SONAME} ", copy.read(f"there/lib/{SONAME}"), "the old library")
+    new = {"lib/libarbiter.so.2": "libarbiter.so.2.3.4", "lib/libarbiter.so": "libarbiter.so.2"}
+    same({place: os.readlink(f"{copy.top}/there/{place}") for place in {**LINKS, **new}}, {**LINKS, **new}, "where links point to")
+    copy.installs("there", "again")
 
 
 def no_wrong_library(copy):
@@ -711,10 +733,19 @@ def man_page_agrees(program):
 
 
 def library_has_the_version(program):
-    """The library has the version of the program."""
-    version = native.run([program, "--version"], b"", SECONDS).stdout.decode().split()[1]
-    same(re.search(r"^Version: (.*)$", share("arbiter.pc"), re.M).group(1), version, "the version in arbiter.pc")
-    same(re.search(r'^version = "(\d+)\.0\.0"$', share("rust/Cargo.toml"), re.M).group(1), version, "the version of the Rust crate")
+    """All that is said of the library's version is one, its first number that of the program."""
+    same(native.run([program, "--version"], b"", SECONDS).stdout.decode().split()[1], VERSION.partition(".")[0], "the program's version")
+    for name, spelled in (("arbiter.pc", "^Version: (.*)$"), ("arbiter.h", '^#define ARBITER_VERSION "(.*)"$'), ("rust/Cargo.toml", '^version = "(.*)"$'),
+                          ("../tests/lib.sh", "^library_version=(.*)$")):
+        same(re.findall(spelled, share(name), re.M), [VERSION], f"the version in {name}")
+    same(re.findall(r"^LIBARBITER_(\w+) {$", share("arbiter.map"), re.M), [SONAME.rpartition(".")[2]], "the version of the names")
+
+
+def library_shows_its_header(_):
+    """The names that the shared library is told to show are those that the header declares."""
+    declared = re.findall(r"^uint32_t (\w+)\(", share("arbiter.h"), re.M)
+    shown = re.search(r"^  global:\n((?: {4}\w+;\n)*)  local:\n    \*;\n", share("arbiter.map"), re.M).group(1)
+    same((len(declared), re.findall(r"\w+", shown)), (6, declared), "names in arbiter.map")
 
 
 def man_page_examples(program):
@@ -825,9 +856,9 @@ def installed_program_runs(program):
 
 OF_COPIES = [passes_all_through, runs_without_the_kit, tells_the_first_run, sees_every_source, leaves_other_crates_out, sees_the_lists, sees_files_come_and_go,
              sees_an_edit_in_disguise, reads_once, sees_the_kit, needs_program_and_stamp, runs_at_once, builds_where_needed, takes_no_wrong_program,
-             test_notes_its_program, reads_its_words, installs, library_is_linked, library_where_needed, no_wrong_library, tells_where_it_cannot,
-             installs_whole_or_not]
-OF_PROGRAM = [help_is_read, man_page_agrees, library_has_the_version, man_page_examples, man_page_is_clean, bash_completes,
+             test_notes_its_program, reads_its_words, installs, library_is_linked, library_where_needed, library_of_another_version, no_wrong_library,
+             tells_where_it_cannot, installs_whole_or_not]
+OF_PROGRAM = [help_is_read, man_page_agrees, library_has_the_version, library_shows_its_header, man_page_examples, man_page_is_clean, bash_completes,
               zsh_completes, fish_completes, installed_program_runs]
 
 

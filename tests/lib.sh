@@ -4,16 +4,23 @@
 program=crates/arbiter/out/arbiter
 # the C library, .so and .a
 library=crates/bw_exports/out/libarbiter
+# Its version, as share/arbiter.h has it. A program that was linked with one of the same first number runs with it.
+library_version=1.0.0
+library_soname=libarbiter.so.${library_version%%.*}
+# the names that the shared one shows, and no other
+library_names=share/arbiter.map
 
-# Each of these two says what the functions below speak of. Sets `crate`, and `made`, what is made of it and of all crates
-# below it, a file first that can be run or loaded.
+# Each of these two says what the functions below speak of. Sets `crate`; `made`, what is made of it and of all crates below
+# it, a file first that can be run or loaded; and how it is linked, as far as that is said here: `lists`, the files beside
+# the sources that count, and `linked`, words for the linker.
 of_program() {
-  crate=arbiter made=("$program")
+  crate=arbiter made=("$program") lists=(HANDLES) linked=()
   of_stamp "$program"
 }
 
 of_library() {
-  crate=bw_exports made=("$library.so" "$library.a")
+  crate=bw_exports made=("$library.so" "$library.a") lists=(HANDLES "$library_names")
+  linked=("-Wl,-soname,$library_soname" "-Wl,--version-script=$library_names")
   of_stamp "$library"
 }
 
@@ -81,7 +88,7 @@ sources_now() (
   [ -n "$kit" ] && [ -n "${folders[*]}" ] || return 1
   printf '%s\n' "$kit"
   {
-    printf '%s\n' "${crate_lines[@]}" && cat HANDLES &&
+    printf '%s\n' "${crate_lines[@]}" "${linked[@]}" && cat "${lists[@]}" &&
       find -L "${folders[@]}" -type f \( -name '*.rt' -o -name '*.antt' \) -print0 | LC_ALL=C sort -z | xargs -0 sha256sum
   } | sha256sum
 )
@@ -98,8 +105,8 @@ stamp_now() (
 times_now() {
   local file named=(-name '*.antt' -o -name '*.rt')
   find_crates
-  for file in "${made[@]}" "$stamp" crates.txt HANDLES; do named+=(-o -path "$file"); done
-  find -L "${made[@]}" "$stamp" crates.txt HANDLES "${folders[@]}" -type f \( "${named[@]}" \) \
+  for file in "${made[@]}" "$stamp" crates.txt "${lists[@]}"; do named+=(-o -path "$file"); done
+  find -L "${made[@]}" "$stamp" crates.txt "${lists[@]}" "${folders[@]}" -type f \( "${named[@]}" \) \
     -printf '%p %s %T@ %C@ %i' \( -newerct '2 seconds ago' -printf ' fresh' -o -true \) -printf '\n' 2>/dev/null
 }
 
@@ -161,8 +168,8 @@ make_library() {
   runtime=${rt%/*/*}/c/liblibc_c.a
   (cd crates/bw_exports && rt lib </dev/null) && folder=$(mktemp -d crates/bw_exports/out/link.XXXXXX) || return 1
   "${rt%/*/*}/toolchain/bin/llvm-ar" qcL "$folder/libarbiter.a" "$archive" "$runtime" &&
-    "${rt%/*/*}/toolchain/bin/clang" -shared -fuse-ld=lld -Wl,-soname,libarbiter.so -o "$folder/libarbiter.so" \
-      -Wl,--whole-archive "$archive" -Wl,--no-whole-archive "$runtime" "-Wl,--exclude-libs,${runtime##*/}" &&
+    "${rt%/*/*}/toolchain/bin/clang" -shared -fuse-ld=lld "${linked[@]}" -o "$folder/libarbiter.so" \
+      -Wl,--whole-archive "$archive" -Wl,--no-whole-archive "$runtime" &&
     mv -f "$folder/libarbiter.so" "$folder/libarbiter.a" "${library%/*}" && rmdir "$folder" && return 0
   rm -rf "$folder"
   return 1

@@ -9,6 +9,7 @@ import os
 import random
 import re
 import shutil
+import struct
 import subprocess
 import sys
 import tempfile
@@ -338,14 +339,47 @@ def from_rust(_, __):
 
 
 def installed_below(folder):
-    """What ./build --install puts below lib and include, from its own list."""
-    with open(f"{native.TOP}/build", encoding="utf-8") as file:
-        rows = re.findall(r"^  (\S+) ((?:lib|include)/\S+) \d+$", file.read(), re.M)
-    for source, place in rows:
-        source = source.strip('"').replace("$library", native.library())
-        os.makedirs(os.path.dirname(f"{folder}/{place}"), exist_ok=True)
-        shutil.copy(os.path.join(native.TOP, source), f"{folder}/{place}")
-    same(len(rows), 4, "files of the library")
+    """Installs, where the program and the library are current: nothing is proved here."""
+    native.program([])
+    ended = native.run(["./build", "--install", folder], b"", SECONDS, cwd=native.TOP)
+    same((ended.returncode, ended.stderr), (0, b""), "./build --install")
+
+
+def sections(image):
+    """The sections of a file in ELF, 64 bits and little-endian: (kind, begin, size, section of its texts)."""
+    first, = struct.unpack_from("<Q", image, 0x28)
+    size, count = struct.unpack_from("<HH", image, 0x3A)
+    rows = [struct.unpack_from("<IIQQQQII", image, first + at * size) for at in range(count)]
+    return [(row[1], row[4], row[5], row[6]) for row in rows]
+
+
+def soname_and_names(path):
+    """The soname of a shared library, and the names that it shows."""
+    with open(path, "rb") as file:
+        image = file.read()
+    found = sections(image)
+
+    def words_of(kind, form):
+        """The entries of the one section of a kind, and where their texts begin."""
+        begin, size, texts = next(row[1:] for row in found if row[0] == kind)
+        return struct.iter_unpack(form, image[begin:begin + size]), found[texts][1]
+
+    def text(at):
+        return image[at:image.index(b"\0", at)].decode()
+
+    entries, texts = words_of(6, "<qQ")
+    soname = [text(texts + value) for tag, value in entries if tag == 14]
+    symbols, texts = words_of(11, "<IBBHQQ")
+    return soname, sorted(text(texts + name) for name, _, _, section, _, _ in symbols if section)
+
+
+def shows_its_header(_, __):
+    """The shared library has its soname, and shows the names that the header declares and no other."""
+    with open(f"{native.TOP}/share/arbiter.h", encoding="utf-8") as file:
+        header = file.read()
+    declared = sorted(re.findall(r"^uint32_t (\w+)\(", header, re.M))
+    first = re.search(r'^#define ARBITER_VERSION "(\d+)\.', header, re.M).group(1)
+    same(soname_and_names(f"{native.library()}.so"), ([f"libarbiter.so.{first}"], declared), "soname and names")
 
 
 def embedded(language):
@@ -396,7 +430,7 @@ def example_in_rust(_, __):
     example("rust", "cargo", "rustc", "pkg-config")
 
 
-CHECKS = [from_c, from_rust, example_in_c, example_in_python, example_in_rust, worked, refused, wrong_lengths, uneven_levels,
+CHECKS = [shows_its_header, from_c, from_rust, example_in_c, example_in_python, example_in_rust, worked, refused, wrong_lengths, uneven_levels,
           keeps_on_refusal, wrong_claims, texts, names, random_trees, greatest_tree, out_of_range]
 
 

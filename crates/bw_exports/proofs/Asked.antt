@@ -19,7 +19,9 @@ use Rattle.std.proofs.lemmas.List.Sums.{length-filter, count_by-le-length}
 use Rattle.bw_model.specs.declared.limits.TheConstants.{MAX_GROUPS}
 use Rattle.std.specs.List.{range_with_len}
 use Rattle.bw_model.proofs.CallerLemmas.{IsHost-accepted, IsInstance-accepted}
-use Rattle.bw_exports.specs.Asked.{Table, row_in, rows_in, groups_in, are_even, refusal_number, asked_number, asked_number_with, Answers}
+use Rattle.bw_exports.specs.declared.columns.Columns.{Columns}
+use Rattle.bw_exports.specs.declared.asking.Host.{Host}
+use Rattle.bw_exports.specs.Asked.{Table, table_of, shape_of, row_in, rows_in, groups_in, are_even, refusal_number, asked_number, asked_number_with, Answers}
 
 -- uneven columns
 pub asked_uneven : (shape : Shape) (table : Table) → are_even table ≡ false → asked_number shape table ≡ 50
@@ -29,6 +31,13 @@ asked_uneven shape table e = ap (λ (b : Bool). cond b (refusal_number (groups_i
 asked_even : (shape : Shape) (table : Table) → are_even table ≡ true → asked_number shape table ≡ refusal_number (groups_in shape table)
 unfolding asked_number
 asked_even shape table e = ap (λ (b : Bool). cond b (refusal_number (groups_in shape table)) 50) e
+
+-- what is asked by the same host and the same columns
+pub asked_by : {one two : Host} {these those : Columns} → one ≡ two → these ≡ those →
+    asked_number (shape_of one) (table_of these) ≡ asked_number (shape_of two) (table_of those)
+asked_by {one} {two} {these} {those} host columns =
+    ap (λ (h : Host). asked_number (shape_of h) (table_of these)) host
+    ∙ ap (λ (c : Columns). asked_number (shape_of two) (table_of c)) columns
 
 -- even columns, and no such host
 pub asked_host : (shape : Shape) (table : Table) (fault : HostFault) → are_even table ≡ true → host_refusal shape ≡ Some fault →

@@ -12,9 +12,22 @@ use std::alloc::Global;
 /// The numbers of a host, as a caller gives them.
 #[derive(Clone, Copy)]
 pub(crate) struct Host {
-    pub(crate) processors: u64,
-    pub(crate) period_us: u64,
-    pub(crate) slice_us: u64,
+    processors: u64,
+    period_us: u64,
+    slice_us: u64,
+}
+
+impl Host {
+    /// The host of the numbers with which a call begins.
+    pub(crate) fn new(processors: u64, period_us: u64, slice_us: u64) -> Host
+        ensures { result ≡ record { processors = processors; period_us = period_us; slice_us = slice_us } }
+    {
+        Host {
+            processors,
+            period_us,
+            slice_us,
+        }
+    }
 }
 
 /// The instance that a caller asks about; else the first refusal, that of uneven columns before the others.

@@ -98,17 +98,8 @@ pub extern "C" fn arbiter_certify(
     if !are_fit(parents.len(), amounts, flags, nums, dens, places) {
         return Refusal::WrongLength.number();
     }
-    let host = Host {
-        processors,
-        period_us,
-        slice_us,
-    };
-    let columns = Columns {
-        parents,
-        weights,
-        limits,
-        demands,
-    };
+    let host = Host::new(processors, period_us, slice_us);
+    let columns = Columns::new(parents, weights, limits, demands);
     match found_in(alloc, host, &columns) {
         Ok(found) => {
             amounts.copy_from_slice(found.amounts.as_slice());

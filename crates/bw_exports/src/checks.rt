@@ -71,17 +71,8 @@ pub extern "C" fn arbiter_check(
         (record { parents = parents.now; weights = weights.now; limits = limits.now; demands = demands.now }))
         amounts.now }
 {
-    let host = Host {
-        processors,
-        period_us,
-        slice_us,
-    };
-    let columns = Columns {
-        parents,
-        weights,
-        limits,
-        demands,
-    };
+    let host = Host::new(processors, period_us, slice_us);
+    let columns = Columns::new(parents, weights, limits, demands);
     let claim = Claim {
         flags,
         nums,

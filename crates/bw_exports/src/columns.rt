@@ -14,10 +14,10 @@ pub const NO_LIMIT: u64 = 18_446_744_073_709_551_615;
 /// One entry in each column for each row.
 #[derive(Clone, Copy)]
 pub(crate) struct Columns<'a> {
-    pub(crate) parents: &'a [u32],
-    pub(crate) weights: &'a [u64],
-    pub(crate) limits: &'a [u64],
-    pub(crate) demands: &'a [u64],
+    parents: &'a [u32],
+    weights: &'a [u64],
+    limits: &'a [u64],
+    demands: &'a [u64],
 }
 
 fn parent_of(number: u32) -> Option<u32>
@@ -40,7 +40,24 @@ fn limit_of(number: u64) -> Option<u64>
     }
 }
 
-impl Columns<'_> {
+impl<'a> Columns<'a> {
+    /// The columns that follow a call's host.
+    pub(crate) fn new(
+        parents: &'a [u32],
+        weights: &'a [u64],
+        limits: &'a [u64],
+        demands: &'a [u64],
+    ) -> Columns<'a>
+        ensures { result ≡ record { parents = parents.entry; weights = weights.entry; limits = limits.entry; demands = demands.entry } }
+    {
+        Columns {
+            parents,
+            weights,
+            limits,
+            demands,
+        }
+    }
+
     /// Whether the columns are of one length.
     pub(crate) fn are_even(&self) -> bool
         ensures { result ≡ are_even (table_of self.now) }

@@ -58,17 +58,8 @@ pub extern "C" fn arbiter_limiting(
     if groups.len() != parents.len() {
         return Refusal::WrongLength.number();
     }
-    let host = Host {
-        processors,
-        period_us,
-        slice_us,
-    };
-    let columns = Columns {
-        parents,
-        weights,
-        limits,
-        demands,
-    };
+    let host = Host::new(processors, period_us, slice_us);
+    let columns = Columns::new(parents, weights, limits, demands);
     match limiting_of(alloc, host, &columns) {
         Ok(found) => {
             write_front(groups, found.groups.as_slice());

@@ -67,16 +67,7 @@ pub extern "C" fn arbiter_plan(
     if amounts.len() != parents.len() {
         return Refusal::WrongLength.number();
     }
-    let host = Host {
-        processors,
-        period_us,
-        slice_us,
-    };
-    let columns = Columns {
-        parents,
-        weights,
-        limits,
-        demands,
-    };
+    let host = Host::new(processors, period_us, slice_us);
+    let columns = Columns::new(parents, weights, limits, demands);
     write_plan(alloc, host, &columns, amounts)
 }

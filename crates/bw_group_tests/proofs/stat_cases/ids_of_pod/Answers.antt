@@ -1,6 +1,6 @@
 use Rattle.std.proofs.Common.{refl}
 use Rattle.std.specs.List.{IsDistinct}
-use Rattle.bw_text_tests.proofs.stat_cases.ids_of_pod.Goals as goal
+use Rattle.bw_group_tests.proofs.stat_cases.ids_of_pod.Goals as goal
 
 pub returns : goal.returns
 unfolding IsDistinct
