@@ -271,18 +271,12 @@ module _ {M C R : Type 0} (after : M → ℕ → C → M) (answer : M → ℕ �
       }
 
   idle_is : (p : Option (Phase C)) → is_idle p ≡ true → p ≡ Some Idle
-  idle_is None on = absurd (cc on)
   idle_is (Some Idle) on = refl
-  idle_is (Some (Waiting k c)) on = absurd (cc on)
-  idle_is (Some (Inside c)) on = absurd (cc on)
-  idle_is (Some Done) on = absurd (cc on)
+  idle_is _ on = absurd (cc on)
 
   done_is : (p : Option (Phase C)) → is_done p ≡ true → p ≡ Some Done
-  done_is None on = absurd (cc on)
-  done_is (Some Idle) on = absurd (cc on)
-  done_is (Some (Waiting k c)) on = absurd (cc on)
-  done_is (Some (Inside c)) on = absurd (cc on)
   done_is (Some Done) on = refl
+  done_is _ on = absurd (cc on)
 
   take_step : (ts : List (ℕ × C)) (s : CoreState M C R) (seat : ℕ) (call : C) → Inv ts s → (b : Bool) → is_idle (slice_get s.phases seat) ≡ b
       → Inv (ts ++ cond b ((seat, call) ∷ []) []) (cond b (record s { next = s.next + 1; phases = set s.phases seat (Waiting s.next call) }) s)
@@ -302,19 +296,13 @@ module _ {M C R : Type 0} (after : M → ℕ → C → M) (answer : M → ℕ �
 
   enter_step : (ts : List (ℕ × C)) (s : CoreState M C R) (seat : ℕ) → Inv ts s → (p : Option (Phase C)) → slice_get s.phases seat ≡ p →
       Inv ts (entered s seat p)
-  enter_step ts s seat inv None is = inv
-  enter_step ts s seat inv (Some Idle) is = inv
   enter_step ts s seat inv (Some (Waiting k call)) is = enter_found ts s seat k call inv is (eqb k s.serving) refl
-  enter_step ts s seat inv (Some (Inside call)) is = inv
-  enter_step ts s seat inv (Some Done) is = inv
+  enter_step ts s seat inv _ is = inv
 
   apply_step : (ts : List (ℕ × C)) (s : CoreState M C R) (seat : ℕ) → Inv ts s → (p : Option (Phase C)) → slice_get s.phases seat ≡ p →
       Inv ts (applied after answer s seat p)
-  apply_step ts s seat inv None is = inv
-  apply_step ts s seat inv (Some Idle) is = inv
-  apply_step ts s seat inv (Some (Waiting k call)) is = inv
   apply_step ts s seat inv (Some (Inside call)) is = apply_keeps ts s seat call is inv
-  apply_step ts s seat inv (Some Done) is = inv
+  apply_step ts s seat inv _ is = inv
 
   runs : (events : List (CoreEvent C)) (ts : List (ℕ × C)) (s : CoreState M C R) → Inv ts s →
       Inv (ts ++ takes after answer s events) (run after answer s events)

@@ -5,7 +5,7 @@ use Rattle.std.proofs.Common.{slice_get, slice_set, slice_index, Option, Some, N
 use Rattle.std.specs.List.{list_any}
 use prog.Atomic.{either}
 use Rattle.bw_wake.specs.declared.seats.Phase.{Phase as WaitPhase}
-use Rattle.bw_wake.specs.declared.seats.Phase.TheVariants.{Idle as PIdle, Waiting as PWaiting, Marked as PMarked, Looked as PLooked, Asleep as PAsleep}
+use Rattle.bw_wake.specs.declared.seats.Phase.TheVariants.{Idle as PIdle, Waiting as PWaiting, Looked as PLooked, Asleep as PAsleep}
 use Rattle.bw_wake.specs.declared.seats.Phase.TheVariants.{Inside as PInside, Done as PDone, Served as PServed, Owes as POwes, Found as PFound, Wakes as PWakes}
 use Rattle.bw_wake.specs.declared.seats.Event.TheVariants.{Take, Look, Mark, Apply, Leave, PeekNext, PeekWord, TakeMark}
 use Rattle.bw_wake.specs.Protocol.{WaitState, word_of, mark_at, moved, take_by, look_by, mark_by, apply_by, leave_by, peek_next_by, peek_word_by}
@@ -203,17 +203,7 @@ module _ (M C R : Type 0) where
       → is_some (wake_by s i (Some (PWakes k c)) j o) ≡ true
       → slice_get (or_same s (wake_by s i (Some (PWakes k c)) j o)).phases i ≡ Some (one_less_in k c)
   by_other s i j k c (Some (PAsleep t)) a b e = some_one s i k c j t (word_of s t == word_of s k) (apart s i j k c t a b) a e
-  by_other s i j k c None a b e = no_one s i k c (list_any (sleeps_on (length s.words) (word_of s k)) s.phases) a e
-  by_other s i j k c (Some PIdle) a b e = no_one s i k c (list_any (sleeps_on (length s.words) (word_of s k)) s.phases) a e
-  by_other s i j k c (Some (PWaiting t)) a b e = no_one s i k c (list_any (sleeps_on (length s.words) (word_of s k)) s.phases) a e
-  by_other s i j k c (Some (PMarked t)) a b e = no_one s i k c (list_any (sleeps_on (length s.words) (word_of s k)) s.phases) a e
-  by_other s i j k c (Some (PLooked t)) a b e = no_one s i k c (list_any (sleeps_on (length s.words) (word_of s k)) s.phases) a e
-  by_other s i j k c (Some PInside) a b e = no_one s i k c (list_any (sleeps_on (length s.words) (word_of s k)) s.phases) a e
-  by_other s i j k c (Some PDone) a b e = no_one s i k c (list_any (sleeps_on (length s.words) (word_of s k)) s.phases) a e
-  by_other s i j k c (Some (PServed t)) a b e = no_one s i k c (list_any (sleeps_on (length s.words) (word_of s k)) s.phases) a e
-  by_other s i j k c (Some (POwes t n)) a b e = no_one s i k c (list_any (sleeps_on (length s.words) (word_of s k)) s.phases) a e
-  by_other s i j k c (Some (PFound t n)) a b e = no_one s i k c (list_any (sleeps_on (length s.words) (word_of s k)) s.phases) a e
-  by_other s i j k c (Some (PWakes t n)) a b e = no_one s i k c (list_any (sleeps_on (length s.words) (word_of s k)) s.phases) a e
+  by_other s i j k c _ a b e = no_one s i k c (list_any (sleeps_on (length s.words) (word_of s k)) s.phases) a e
 
   wake : (k c : ℕ) → IsWake {M = M} {C = C} {R = R} (Wakes k c)
   wake k c s i j at possible = let o = slice_get s.phases j in

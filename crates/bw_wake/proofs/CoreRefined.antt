@@ -109,153 +109,56 @@ module _ {M C R : Type 0} (after : M → ℕ → C → M) (answer : M → ℕ �
 
   take_refines : (o : Option Phase) → slice_get s.phases i ≡ o
       → Matches call (or_same s (take_by s i o)) (core_after after answer k (if is_some (take_by s i o) then Some (CoreTake i call) else None))
-  take_refines None at = m
   take_refines (Some Idle) at = taken at
-  take_refines (Some (Waiting t)) at = m
-  take_refines (Some (Marked t)) at = m
-  take_refines (Some (Looked t)) at = m
-  take_refines (Some (Asleep t)) at = m
-  take_refines (Some Inside) at = m
-  take_refines (Some Done) at = m
-  take_refines (Some (Served t)) at = m
-  take_refines (Some (Owes a n)) at = m
-  take_refines (Some (Found a n)) at = m
-  take_refines (Some (Wakes a n)) at = m
+  take_refines _ at = m
 
   look_refines : (o : Option Phase) → slice_get s.phases i ≡ o
       → Matches call (or_same s (look_by s i o)) (core_after after answer k (if is_some (look_by s i o) then Some (CoreEnter i) else None))
-  look_refines None at = m
-  look_refines (Some Idle) at = m
   look_refines (Some (Waiting t)) at = looked (Waiting t) t at refl
   look_refines (Some (Marked t)) at = looked_marked t at
   look_refines (Some (Looked t)) at = looked (Looked t) t at refl
-  look_refines (Some (Asleep t)) at = m
-  look_refines (Some Inside) at = m
-  look_refines (Some Done) at = m
-  look_refines (Some (Served t)) at = m
-  look_refines (Some (Owes a n)) at = m
-  look_refines (Some (Found a n)) at = m
-  look_refines (Some (Wakes a n)) at = m
+  look_refines _ at = m
 
   mark_refines : (o : Option Phase) → slice_get s.phases i ≡ o
       → Matches call (or_same s (mark_by s i o)) (core_after after answer k (if is_some (mark_by s i o) then None else None))
-  mark_refines None at = m
-  mark_refines (Some Idle) at = m
   mark_refines (Some (Waiting t)) at = silent (Waiting t) (Marked t) (slice_set s.words (word_of s t) (t + 1)) at refl
-  mark_refines (Some (Marked t)) at = m
   mark_refines (Some (Looked t)) at = silent (Looked t) (Marked t) (slice_set s.words (word_of s t) (t + 1)) at refl
-  mark_refines (Some (Asleep t)) at = m
-  mark_refines (Some Inside) at = m
-  mark_refines (Some Done) at = m
-  mark_refines (Some (Served t)) at = m
-  mark_refines (Some (Owes a n)) at = m
-  mark_refines (Some (Found a n)) at = m
-  mark_refines (Some (Wakes a n)) at = m
+  mark_refines _ at = m
 
   park_refines : (o : Option Phase) → slice_get s.phases i ≡ o
       → Matches call (or_same s (park_by s i o)) (core_after after answer k (if is_some (park_by s i o) then None else None))
-  park_refines None at = m
-  park_refines (Some Idle) at = m
-  park_refines (Some (Waiting t)) at = m
-  park_refines (Some (Marked t)) at = m
   park_refines (Some (Looked t)) at = if_matches (mark_at s t == t + 1) (moved s i (Asleep t)) s (silent (Looked t) (Asleep t) s.words at refl) m
-  park_refines (Some (Asleep t)) at = m
-  park_refines (Some Inside) at = m
-  park_refines (Some Done) at = m
-  park_refines (Some (Served t)) at = m
-  park_refines (Some (Owes a n)) at = m
-  park_refines (Some (Found a n)) at = m
-  park_refines (Some (Wakes a n)) at = m
+  park_refines _ at = m
 
   spurious_wake_refines : (o : Option Phase) → slice_get s.phases i ≡ o
       → Matches call (or_same s (spurious_wake_by s i o)) (core_after after answer k (if is_some (spurious_wake_by s i o) then None else None))
-  spurious_wake_refines None at = m
-  spurious_wake_refines (Some Idle) at = m
-  spurious_wake_refines (Some (Waiting t)) at = m
-  spurious_wake_refines (Some (Marked t)) at = m
-  spurious_wake_refines (Some (Looked t)) at = m
   spurious_wake_refines (Some (Asleep t)) at = silent (Asleep t) (Looked t) s.words at refl
-  spurious_wake_refines (Some Inside) at = m
-  spurious_wake_refines (Some Done) at = m
-  spurious_wake_refines (Some (Served t)) at = m
-  spurious_wake_refines (Some (Owes a n)) at = m
-  spurious_wake_refines (Some (Found a n)) at = m
-  spurious_wake_refines (Some (Wakes a n)) at = m
+  spurious_wake_refines _ at = m
 
   apply_refines : (o : Option Phase) → slice_get s.phases i ≡ o
       → Matches call (or_same s (apply_by s i o)) (core_after after answer k (if is_some (apply_by s i o) then Some (CoreApply i) else None))
-  apply_refines None at = m
-  apply_refines (Some Idle) at = m
-  apply_refines (Some (Waiting t)) at = m
-  apply_refines (Some (Marked t)) at = m
-  apply_refines (Some (Looked t)) at = m
-  apply_refines (Some (Asleep t)) at = m
   apply_refines (Some Inside) at = applied_core at
-  apply_refines (Some Done) at = m
-  apply_refines (Some (Served t)) at = m
-  apply_refines (Some (Owes a n)) at = m
-  apply_refines (Some (Found a n)) at = m
-  apply_refines (Some (Wakes a n)) at = m
+  apply_refines _ at = m
 
   leave_refines : (o : Option Phase) → slice_get s.phases i ≡ o
       → Matches call (or_same s (leave_by s i o)) (core_after after answer k (if is_some (leave_by s i o) then Some (CoreLeave i) else None))
-  leave_refines None at = m
-  leave_refines (Some Idle) at = m
-  leave_refines (Some (Waiting t)) at = m
-  leave_refines (Some (Marked t)) at = m
-  leave_refines (Some (Looked t)) at = m
-  leave_refines (Some (Asleep t)) at = m
-  leave_refines (Some Inside) at = m
   leave_refines (Some Done) at = left at
-  leave_refines (Some (Served t)) at = m
-  leave_refines (Some (Owes a n)) at = m
-  leave_refines (Some (Found a n)) at = m
-  leave_refines (Some (Wakes a n)) at = m
+  leave_refines _ at = m
 
   peek_next_refines : (o : Option Phase) → slice_get s.phases i ≡ o
       → Matches call (or_same s (peek_next_by s i o)) (core_after after answer k (if is_some (peek_next_by s i o) then None else None))
-  peek_next_refines None at = m
-  peek_next_refines (Some Idle) at = m
-  peek_next_refines (Some (Waiting t)) at = m
-  peek_next_refines (Some (Marked t)) at = m
-  peek_next_refines (Some (Looked t)) at = m
-  peek_next_refines (Some (Asleep t)) at = m
-  peek_next_refines (Some Inside) at = m
-  peek_next_refines (Some Done) at = m
   peek_next_refines (Some (Served t)) at = silent_if (nat_lt (t + 1) s.next) (Served t) (Owes (t + 1) tickets_woken) Idle at refl refl
-  peek_next_refines (Some (Owes a n)) at = m
-  peek_next_refines (Some (Found a n)) at = m
-  peek_next_refines (Some (Wakes a n)) at = m
+  peek_next_refines _ at = m
 
   peek_word_refines : (o : Option Phase) → slice_get s.phases i ≡ o
       → Matches call (or_same s (peek_word_by s i o)) (core_after after answer k (if is_some (peek_word_by s i o) then None else None))
-  peek_word_refines None at = m
-  peek_word_refines (Some Idle) at = m
-  peek_word_refines (Some (Waiting t)) at = m
-  peek_word_refines (Some (Marked t)) at = m
-  peek_word_refines (Some (Looked t)) at = m
-  peek_word_refines (Some (Asleep t)) at = m
-  peek_word_refines (Some Inside) at = m
-  peek_word_refines (Some Done) at = m
-  peek_word_refines (Some (Served t)) at = m
   peek_word_refines (Some (Owes a n)) at = silent_if (mark_at s a == a + 1) (Owes a n) (Found a n) (one_less a n) at refl (less_idle a n)
-  peek_word_refines (Some (Found a n)) at = m
-  peek_word_refines (Some (Wakes a n)) at = m
+  peek_word_refines _ at = m
 
   take_mark_refines : (o : Option Phase) → slice_get s.phases i ≡ o
       → Matches call (or_same s (take_mark_by s i o)) (core_after after answer k (if is_some (take_mark_by s i o) then None else None))
-  take_mark_refines None at = m
-  take_mark_refines (Some Idle) at = m
-  take_mark_refines (Some (Waiting t)) at = m
-  take_mark_refines (Some (Marked t)) at = m
-  take_mark_refines (Some (Looked t)) at = m
-  take_mark_refines (Some (Asleep t)) at = m
-  take_mark_refines (Some Inside) at = m
-  take_mark_refines (Some Done) at = m
-  take_mark_refines (Some (Served t)) at = m
-  take_mark_refines (Some (Owes a n)) at = m
   take_mark_refines (Some (Found a n)) at = silent (Found a n) (Wakes a n) (if mark_at s a == a + 1 then slice_set s.words (word_of s a) 0 else s.words) at refl
-  take_mark_refines (Some (Wakes a n)) at = m
+  take_mark_refines _ at = m
 
   get_elsewhere : (xs : List Phase) (a b : ℕ) (x y : Phase) (q : Phase) → slice_get xs a ≡ Some x → slice_get xs b ≡ Some y
       → phase_in_core call q ≡ phase_in_core call x
@@ -288,34 +191,14 @@ module _ {M C R : Type 0} (after : M → ℕ → C → M) (answer : M → ℕ �
 
   woken_matches : (a n j : ℕ) (q : Option Phase) → slice_get s.phases i ≡ Some (Wakes a n) → slice_get s.phases j ≡ q
       → Matches call (or_same s (woken s i a n j (ticket_asleep q))) k
-  woken_matches a n j None at at_j = nobody a n at (list_any (sleeps_on (length s.words) (word_of s a)) s.phases)
-  woken_matches a n j (Some Idle) at at_j = nobody a n at (list_any (sleeps_on (length s.words) (word_of s a)) s.phases)
-  woken_matches a n j (Some (Waiting t)) at at_j = nobody a n at (list_any (sleeps_on (length s.words) (word_of s a)) s.phases)
-  woken_matches a n j (Some (Marked t)) at at_j = nobody a n at (list_any (sleeps_on (length s.words) (word_of s a)) s.phases)
-  woken_matches a n j (Some (Looked t)) at at_j = nobody a n at (list_any (sleeps_on (length s.words) (word_of s a)) s.phases)
   woken_matches a n j (Some (Asleep t)) at at_j = one a n j t at at_j (word_of s t == word_of s a)
-  woken_matches a n j (Some Inside) at at_j = nobody a n at (list_any (sleeps_on (length s.words) (word_of s a)) s.phases)
-  woken_matches a n j (Some Done) at at_j = nobody a n at (list_any (sleeps_on (length s.words) (word_of s a)) s.phases)
-  woken_matches a n j (Some (Served t)) at at_j = nobody a n at (list_any (sleeps_on (length s.words) (word_of s a)) s.phases)
-  woken_matches a n j (Some (Owes b c)) at at_j = nobody a n at (list_any (sleeps_on (length s.words) (word_of s a)) s.phases)
-  woken_matches a n j (Some (Found b c)) at at_j = nobody a n at (list_any (sleeps_on (length s.words) (word_of s a)) s.phases)
-  woken_matches a n j (Some (Wakes b c)) at at_j = nobody a n at (list_any (sleeps_on (length s.words) (word_of s a)) s.phases)
+  woken_matches a n j _ at at_j = nobody a n at (list_any (sleeps_on (length s.words) (word_of s a)) s.phases)
 
   wake_refines : (j : ℕ) (o q : Option Phase) → slice_get s.phases i ≡ o → slice_get s.phases j ≡ q
       → Matches call (or_same s (wake_by s i o j q)) (core_after after answer k (if is_some (wake_by s i o j q) then None else None))
-  wake_refines j None q at at_j = m
-  wake_refines j (Some Idle) q at at_j = m
-  wake_refines j (Some (Waiting t)) q at at_j = m
-  wake_refines j (Some (Marked t)) q at at_j = m
-  wake_refines j (Some (Looked t)) q at at_j = m
-  wake_refines j (Some (Asleep t)) q at at_j = m
-  wake_refines j (Some Inside) q at at_j = m
-  wake_refines j (Some Done) q at at_j = m
-  wake_refines j (Some (Served t)) q at at_j = m
-  wake_refines j (Some (Owes a n)) q at at_j = m
-  wake_refines j (Some (Found a n)) q at at_j = m
   wake_refines j (Some (Wakes a n)) q at at_j =
       same_core (is_some (woken s i a n j (ticket_asleep q))) (or_same s (woken s i a n j (ticket_asleep q))) (woken_matches a n j q at at_j)
+  wake_refines j _ q at at_j = m
 
 pub refines_the_core : {M C R : Type 0} (after : M → ℕ → C → M) (answer : M → ℕ → C → R) → RefinesTheCore after answer
 refines_the_core after answer = record {

@@ -1,5 +1,5 @@
 -- How a count over the seats changes with one of them.
-use Rattle.std.proofs.Common.{◌≡◌, ℕ, zero, suc, ◌+◌, ◌≤◌, List, [], ◌∷◌, length, set, refl, ap}
+use Rattle.std.proofs.Common.{◌≡◌, ℕ, zero, suc, ◌+◌, ◌≤◌, List, [], ◌∷◌, length, set, ap}
 use Rattle.std.proofs.Common.{arith, slice_get, Some}
 use Rattle.bw_wake.specs.declared.seats.Phase.{Phase}
 use Rattle.bw_wake.specs.Progress.{count}
@@ -8,11 +8,6 @@ pub count_set : (g : Phase → ℕ) (ps : List Phase) (i : ℕ) (p q : Phase) �
 count_set g [] i p q e = absurd (cc e)
 count_set g (x ∷ xs) zero p q e = let s : x ≡ p = cc e in let h = ap g s in omega arith
 count_set g (x ∷ xs) (suc i) p q e = let h = count_set g xs i p q e in omega arith
-
-pub length_kept : (ps : List Phase) (i : ℕ) (q : Phase) → length (set ps i q) ≡ length ps
-length_kept [] i q = refl
-length_kept (x ∷ xs) zero q = refl
-length_kept (x ∷ xs) (suc i) q = ap suc (length_kept xs i q)
 
 pub count-length : (g : Phase → ℕ) (ps : List Phase) → ((p : Phase) → g p ≤ 1) → count g ps ≤ length ps
 count-length g [] h = omega arith

@@ -4,12 +4,13 @@ use Rattle.std.proofs.Common.{ap, inl, inr, ⊎_elim, arith, slice_get, slice_se
 use mathlib.Core.Logic.{dite}
 use native.Mathlib.Decide.{ℕ_discrete}
 use Rattle.std.proofs.lemmas.Bool.{le-leb}
+use Rattle.std.proofs.lemmas.List.{length-set}
 use Rattle.bw_wake.specs.declared.seats.Phase.{Phase}
 use Rattle.bw_wake.specs.declared.seats.Phase.TheVariants.{Done, Served}
 use Rattle.bw_wake.specs.Protocol.{WaitState}
 use Rattle.bw_wake.specs.Progress.{one_if, among, busy, sleeps, will_peek, wakes, count}
 use Rattle.bw_wake.proofs.Sound.{waits, holds, Stands, Sound}
-use Rattle.bw_wake.proofs.Counts.{count_set, length_kept}
+use Rattle.bw_wake.proofs.Counts.{count_set}
 
 among_first : (x n : ℕ) → 0 < n → among x x n ≡ 1
 among_first x n h = let a : nat_le x x ≡ true = le-leb x x (omega arith) in let b : nat_lt x (x + n) ≡ true = le-leb (suc x) (x + n) (omega arith) in
@@ -32,7 +33,7 @@ leave_sound s i at r = let M = λ (g : Phase → ℕ). count_set g s.phases i Do
           (λ (ne : x ≢ s.serving). let w = M (waits x) in let l = r.past x (below ne (omega arith)) in omega arith);
       future = λ x le. let w = M (waits x) in let l = r.future x le in omega arith;
       quiet = λ e. omega arith;
-      words = omega (arith, r.words, length_kept s.phases i (Served s.serving));
+      words = omega (arith, r.words, length-set s.phases i (Served s.serving));
       mark_or_wake = λ x some. let a = M (sleeps x) in let c = M (wakes x) in ⊎_elim (λ (h : Stands s x). inl h)
           (λ (h : 1 ≤ count (wakes x) s.phases). inr (omega arith)) (r.mark_or_wake x (omega arith));
       peek_owed = λ some stands. let p = M (will_peek (s.serving + 1)) in let one = among_first (s.serving + 1) 3 (omega arith) in omega arith;

@@ -3,15 +3,16 @@ use Rattle.std.proofs.Common.{◌≡◌, ◌≢◌, ℕ, ◌+◌, ◌%◌, ◌<�
 use Rattle.std.proofs.Common.{inr, ⊎_elim, arith, eq-eqb, slice_get, slice_set, slice_index, Some}
 use mathlib.Core.Logic.{dite}
 use native.Mathlib.Decide.{ℕ_discrete}
+use Rattle.std.proofs.lemmas.List.{length-set}
 use Rattle.std.proofs.lemmas.Nat.{mod_below}
 use Rattle.bw_wake.specs.declared.seats.Phase.{Phase}
 use Rattle.bw_wake.specs.declared.seats.Phase.TheVariants.{Waiting, Marked, Looked}
 use Rattle.bw_wake.specs.Protocol.{WaitState, word_of}
 use Rattle.bw_wake.specs.Progress.{one_if, busy, sleeps, will_peek, wakes, count}
 use Rattle.bw_wake.proofs.Sound.{waits, holds, may_sleep, Stands, Sound}
-use Rattle.bw_wake.proofs.Counts.{count_set, length_kept, count-le, count_le_at, count_at}
+use Rattle.bw_wake.proofs.Counts.{count_set, count-le, count_le_at, count_at}
 use Rattle.bw_model.proofs.CallerLemmas.{equal_or_not}
-use Rattle.bw_wake.proofs.Words.{index_here, index_else, words_kept}
+use Rattle.bw_wake.proofs.Words.{index_here, index_else}
 use Rattle.bw_wake.proofs.WordsApart.{sleeps-waits, may_sleep-waits, from_serving, to_next, window, words_apart}
 
 -- the event Mark by a seat that waits, is awake and does nothing else
@@ -21,7 +22,7 @@ pub mark_sound : (s : WaitState) (i t : ℕ) (p : Phase) → slice_get s.phases 
     → Sound s → Sound record s { words = slice_set s.words (word_of s t) (t + 1); phases = slice_set s.phases i (Marked t) }
 mark_sound s i t p at is_w is_b is_h is_s is_p is_k r = let M = λ (g : Phase → ℕ). count_set g s.phases i p (Marked t) at in
     let ws : List ℕ = slice_set s.words (word_of s t) (t + 1) in
-    let len : length ws ≡ length s.words = words_kept s.words (word_of s t) (t + 1) in
+    let len : length ws ≡ length s.words = length-set s.words (word_of s t) (t + 1) in
     let mine : 1 ≤ count (waits t) s.phases = (let a = count_at (waits t) s.phases i p at in let b = is_w t in
     let c = ap one_if (eq-eqb t t refl) in omega arith) in
     let some_words : 0 < length s.words = (let a = window s r in let b = from_serving s r t mine in let c = to_next s r t mine in omega arith) in
@@ -35,7 +36,7 @@ mark_sound s i t p at is_w is_b is_h is_s is_p is_k r = let M = λ (g : Phase �
       past = λ x lt. let a = M (waits x) in let c = is_w x in let d = r.past x lt in omega arith;
       future = λ x le. let a = M (waits x) in let c = is_w x in let d = r.future x le in omega arith;
       quiet = λ e. let b = M busy in let d = r.quiet e in omega arith;
-      words = omega (arith, r.words, length_kept s.phases i (Marked t), len);
+      words = omega (arith, r.words, length-set s.phases i (Marked t), len);
       mark_or_wake = λ x some. let a = M (sleeps x) in let b = is_s x in let c = count-le (sleeps x) (waits x) s.phases (sleeps-waits x) in
           let w = M (wakes x) in let v = is_k x in
           dite (ℕ_discrete x t)

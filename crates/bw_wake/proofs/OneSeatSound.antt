@@ -6,15 +6,16 @@ use mathlib.Core.Logic.{dite}
 use native.Mathlib.Decide.{ℕ_discrete, dec_le}
 use Rattle.std.proofs.lemmas.Bool.{le-leb}
 use Rattle.std.proofs.lemmas.Bool.Decides.{leb_tells}
+use Rattle.std.proofs.lemmas.List.{length-set}
 use Rattle.std.proofs.lemmas.Nat.{mod_below}
 use Rattle.bw_wake.specs.declared.seats.Phase.{Phase}
 use Rattle.bw_wake.specs.declared.seats.Phase.TheVariants.{Idle, Marked, Looked, Asleep, Inside, Done, Served, Owes, Found, Wakes}
 use Rattle.bw_wake.specs.Protocol.{WaitState, one_less, word_of, mark_at}
 use Rattle.bw_wake.specs.Progress.{one_if, among, busy, sleeps, will_peek, wakes, count}
 use Rattle.bw_wake.proofs.Sound.{waits, holds, may_sleep, Stands, Sound}
-use Rattle.bw_wake.proofs.Counts.{count_set, length_kept, count-le}
+use Rattle.bw_wake.proofs.Counts.{count_set, count-le}
 use Rattle.bw_model.proofs.CallerLemmas.{equal_or_not}
-use Rattle.bw_wake.proofs.Words.{index_here, index_else, words_kept}
+use Rattle.bw_wake.proofs.Words.{index_here, index_else}
 use Rattle.bw_wake.proofs.WordsApart.{may_sleep-waits, to_next}
 
 -- an event of one seat that changes no ticket, and a wake word at most
@@ -31,7 +32,7 @@ still s i p q ws at len is_w is_b is_h mark_or_wake peek_owed r = let M = λ (g 
   past = λ x lt. let a = M (waits x) in let c = is_w x in let d = r.past x lt in omega arith;
   future = λ x le. let a = M (waits x) in let c = is_w x in let d = r.future x le in omega arith;
   quiet = λ e. let b = M busy in let d = r.quiet e in omega arith;
-  words = omega (arith, r.words, length_kept s.phases i q, len);
+  words = omega (arith, r.words, length-set s.phases i q, len);
   mark_or_wake = mark_or_wake;
   peek_owed = peek_owed;
 }
@@ -157,7 +158,7 @@ pub taken_sound : (s : WaitState) (i k n : ℕ) → slice_get s.phases i ≡ Som
     → Sound record s { words = slice_set s.words (word_of s k) 0; phases = slice_set s.phases i (Wakes k n) }
 taken_sound s i k n at st some_words r =
     let ws : List ℕ = slice_set s.words (word_of s k) 0 in
-    let len : length ws ≡ length s.words = words_kept s.words (word_of s k) 0 in
+    let len : length ws ≡ length s.words = length-set s.words (word_of s k) 0 in
     let here : slice_index ws (word_of s k) ≡ 0 = index_here s.words (word_of s k) 0 (mod_below k (length s.words) some_words) in
     let elsewhere = λ (x : ℕ) (ne : word_of s x ≢ word_of s k). (λ j. slice_index ws (x % len j)) ∙ index_else s.words (word_of s k) (word_of s x) 0 ne in
     let at_one = λ (x : ℕ) (e : word_of s x ≡ word_of s k). (λ j. slice_index ws (x % len j)) ∙ (ap (slice_index ws) e ∙ here) in

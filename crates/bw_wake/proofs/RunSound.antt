@@ -45,153 +45,56 @@ entered : (s : WaitState) (i t : ℕ) (p : Phase) → slice_get s.phases i ≡ S
 entered s i t p at is_w b h sl pe wa e r = enter_sound s i p at (λ x. is_w x ∙ ap (λ y. one_if (y == x)) e) b h sl pe wa r
 
 take_keeps : (s : WaitState) (i : ℕ) (o : Option Phase) → slice_get s.phases i ≡ o → Sound s → Sound (or_same s (take_by s i o))
-take_keeps s i None at r = r
 take_keeps s i (Some Idle) at r = take_sound s i at r
-take_keeps s i (Some (Waiting t)) at r = r
-take_keeps s i (Some (Marked t)) at r = r
-take_keeps s i (Some (Looked t)) at r = r
-take_keeps s i (Some (Asleep t)) at r = r
-take_keeps s i (Some Inside) at r = r
-take_keeps s i (Some Done) at r = r
-take_keeps s i (Some (Served t)) at r = r
-take_keeps s i (Some (Owes k n)) at r = r
-take_keeps s i (Some (Found k n)) at r = r
-take_keeps s i (Some (Wakes k n)) at r = r
+take_keeps s i _ at r = r
 
 look_keeps : (s : WaitState) (i : ℕ) (o : Option Phase) → slice_get s.phases i ≡ o → Sound s → Sound (or_same s (look_by s i o))
-look_keeps s i None at r = r
-look_keeps s i (Some Idle) at r = r
 look_keeps s i (Some (Waiting t)) at r = ifs (t == s.serving) (λ e. entered s i t (Waiting t) at (λ x. refl) refl refl (λ x. refl) (λ x. refl)
     (λ x. refl) (eqb-true t s.serving e) r) (λ e. r)
 look_keeps s i (Some (Marked t)) at r = if_moved s i Inside (Looked t) (t == s.serving) (λ e. entered s i t (Marked t) at (λ x. refl) refl refl
     (λ x. refl) (λ x. refl) (λ x. refl) (eqb-true t s.serving e) r) (λ e. miss_sound s i t at (differ t s.serving e) r)
 look_keeps s i (Some (Looked t)) at r = ifs (t == s.serving) (λ e. entered s i t (Looked t) at (λ x. refl) refl refl (λ x. refl) (λ x. refl)
     (λ x. refl) (eqb-true t s.serving e) r) (λ e. r)
-look_keeps s i (Some (Asleep t)) at r = r
-look_keeps s i (Some Inside) at r = r
-look_keeps s i (Some Done) at r = r
-look_keeps s i (Some (Served t)) at r = r
-look_keeps s i (Some (Owes k n)) at r = r
-look_keeps s i (Some (Found k n)) at r = r
-look_keeps s i (Some (Wakes k n)) at r = r
+look_keeps s i _ at r = r
 
 mark_keeps : (s : WaitState) (i : ℕ) (o : Option Phase) → slice_get s.phases i ≡ o → Sound s → Sound (or_same s (mark_by s i o))
-mark_keeps s i None at r = r
-mark_keeps s i (Some Idle) at r = r
 mark_keeps s i (Some (Waiting t)) at r = mark_waiting s i t at r
-mark_keeps s i (Some (Marked t)) at r = r
 mark_keeps s i (Some (Looked t)) at r = mark_looked s i t at r
-mark_keeps s i (Some (Asleep t)) at r = r
-mark_keeps s i (Some Inside) at r = r
-mark_keeps s i (Some Done) at r = r
-mark_keeps s i (Some (Served t)) at r = r
-mark_keeps s i (Some (Owes k n)) at r = r
-mark_keeps s i (Some (Found k n)) at r = r
-mark_keeps s i (Some (Wakes k n)) at r = r
+mark_keeps s i _ at r = r
 
 park_keeps : (s : WaitState) (i : ℕ) (o : Option Phase) → slice_get s.phases i ≡ o → Sound s → Sound (or_same s (park_by s i o))
-park_keeps s i None at r = r
-park_keeps s i (Some Idle) at r = r
-park_keeps s i (Some (Waiting t)) at r = r
-park_keeps s i (Some (Marked t)) at r = r
 park_keeps s i (Some (Looked t)) at r = ifs (mark_at s t == t + 1) (λ e. park_sound s i t at (eqb-true (mark_at s t) (t + 1) e) r) (λ e. r)
-park_keeps s i (Some (Asleep t)) at r = r
-park_keeps s i (Some Inside) at r = r
-park_keeps s i (Some Done) at r = r
-park_keeps s i (Some (Served t)) at r = r
-park_keeps s i (Some (Owes k n)) at r = r
-park_keeps s i (Some (Found k n)) at r = r
-park_keeps s i (Some (Wakes k n)) at r = r
+park_keeps s i _ at r = r
 
 spurious_wake_keeps : (s : WaitState) (i : ℕ) (o : Option Phase) → slice_get s.phases i ≡ o → Sound s → Sound (or_same s (spurious_wake_by s i o))
-spurious_wake_keeps s i None at r = r
-spurious_wake_keeps s i (Some Idle) at r = r
-spurious_wake_keeps s i (Some (Waiting t)) at r = r
-spurious_wake_keeps s i (Some (Marked t)) at r = r
-spurious_wake_keeps s i (Some (Looked t)) at r = r
 spurious_wake_keeps s i (Some (Asleep t)) at r = spurious_wake_sound s i t at r
-spurious_wake_keeps s i (Some Inside) at r = r
-spurious_wake_keeps s i (Some Done) at r = r
-spurious_wake_keeps s i (Some (Served t)) at r = r
-spurious_wake_keeps s i (Some (Owes k n)) at r = r
-spurious_wake_keeps s i (Some (Found k n)) at r = r
-spurious_wake_keeps s i (Some (Wakes k n)) at r = r
+spurious_wake_keeps s i _ at r = r
 
 apply_keeps : (s : WaitState) (i : ℕ) (o : Option Phase) → slice_get s.phases i ≡ o → Sound s → Sound (or_same s (apply_by s i o))
-apply_keeps s i None at r = r
-apply_keeps s i (Some Idle) at r = r
-apply_keeps s i (Some (Waiting t)) at r = r
-apply_keeps s i (Some (Marked t)) at r = r
-apply_keeps s i (Some (Looked t)) at r = r
-apply_keeps s i (Some (Asleep t)) at r = r
 apply_keeps s i (Some Inside) at r = apply_sound s i at r
-apply_keeps s i (Some Done) at r = r
-apply_keeps s i (Some (Served t)) at r = r
-apply_keeps s i (Some (Owes k n)) at r = r
-apply_keeps s i (Some (Found k n)) at r = r
-apply_keeps s i (Some (Wakes k n)) at r = r
+apply_keeps s i _ at r = r
 
 leave_keeps : (s : WaitState) (i : ℕ) (o : Option Phase) → slice_get s.phases i ≡ o → Sound s → Sound (or_same s (leave_by s i o))
-leave_keeps s i None at r = r
-leave_keeps s i (Some Idle) at r = r
-leave_keeps s i (Some (Waiting t)) at r = r
-leave_keeps s i (Some (Marked t)) at r = r
-leave_keeps s i (Some (Looked t)) at r = r
-leave_keeps s i (Some (Asleep t)) at r = r
-leave_keeps s i (Some Inside) at r = r
 leave_keeps s i (Some Done) at r = leave_sound s i at r
-leave_keeps s i (Some (Served t)) at r = r
-leave_keeps s i (Some (Owes k n)) at r = r
-leave_keeps s i (Some (Found k n)) at r = r
-leave_keeps s i (Some (Wakes k n)) at r = r
+leave_keeps s i _ at r = r
 
 peek_next_keeps : (s : WaitState) (i : ℕ) (o : Option Phase) → slice_get s.phases i ≡ o → Sound s → Sound (or_same s (peek_next_by s i o))
-peek_next_keeps s i None at r = r
-peek_next_keeps s i (Some Idle) at r = r
-peek_next_keeps s i (Some (Waiting t)) at r = r
-peek_next_keeps s i (Some (Marked t)) at r = r
-peek_next_keeps s i (Some (Looked t)) at r = r
-peek_next_keeps s i (Some (Asleep t)) at r = r
-peek_next_keeps s i (Some Inside) at r = r
-peek_next_keeps s i (Some Done) at r = r
 peek_next_keeps s i (Some (Served t)) at r = if_moved s i (Owes (t + 1) tickets_woken) Idle (nat_lt (t + 1) s.next) (λ e. owes_sound s i t at r)
     (λ e. none_next_sound s i t at (ltb-false (t + 1) s.next e) r)
-peek_next_keeps s i (Some (Owes k n)) at r = r
-peek_next_keeps s i (Some (Found k n)) at r = r
-peek_next_keeps s i (Some (Wakes k n)) at r = r
+peek_next_keeps s i _ at r = r
 
 peek_word_keeps : (s : WaitState) (i : ℕ) (o : Option Phase) → slice_get s.phases i ≡ o → Sound s → Sound (or_same s (peek_word_by s i o))
-peek_word_keeps s i None at r = r
-peek_word_keeps s i (Some Idle) at r = r
-peek_word_keeps s i (Some (Waiting t)) at r = r
-peek_word_keeps s i (Some (Marked t)) at r = r
-peek_word_keeps s i (Some (Looked t)) at r = r
-peek_word_keeps s i (Some (Asleep t)) at r = r
-peek_word_keeps s i (Some Inside) at r = r
-peek_word_keeps s i (Some Done) at r = r
-peek_word_keeps s i (Some (Served t)) at r = r
 peek_word_keeps s i (Some (Owes k n)) at r = if_moved s i (Found k n) (one_less k n) (mark_at s k == k + 1) (λ e. found_sound s i k n at r)
     (λ e. not_found_sound s i k n at (differ (mark_at s k) (k + 1) e) r)
-peek_word_keeps s i (Some (Found k n)) at r = r
-peek_word_keeps s i (Some (Wakes k n)) at r = r
+peek_word_keeps s i _ at r = r
 
 take_mark_keeps : (s : WaitState) (i : ℕ) (o : Option Phase) → slice_get s.phases i ≡ o → Sound s → Sound (or_same s (take_mark_by s i o))
-take_mark_keeps s i None at r = r
-take_mark_keeps s i (Some Idle) at r = r
-take_mark_keeps s i (Some (Waiting t)) at r = r
-take_mark_keeps s i (Some (Marked t)) at r = r
-take_mark_keeps s i (Some (Looked t)) at r = r
-take_mark_keeps s i (Some (Asleep t)) at r = r
-take_mark_keeps s i (Some Inside) at r = r
-take_mark_keeps s i (Some Done) at r = r
-take_mark_keeps s i (Some (Served t)) at r = r
-take_mark_keeps s i (Some (Owes k n)) at r = r
 take_mark_keeps s i (Some (Found k n)) at r =
     let few = slice_get_within s.phases i (Found k n) at in
     if_words s (slice_set s.words (word_of s k) 0) s.words (slice_set s.phases i (Wakes k n)) (mark_at s k == k + 1)
     (λ e. taken_sound s i k n at (eqb-true (mark_at s k) (k + 1) e) (omega (arith, few, r.words)) r)
     (λ e. untaken_sound s i k n at (differ (mark_at s k) (k + 1) e) r)
-take_mark_keeps s i (Some (Wakes k n)) at r = r
+take_mark_keeps s i _ at r = r
 
 if_possible : (s : WaitState) {x : WaitState} (b : Bool) → (b ≡ true → Sound x) → Sound s → Sound (or_same s (if b then Some x else None))
 if_possible s true f r = f refl
@@ -207,30 +110,10 @@ nobody_keeps s i k n at r = by_any (list_any (sleeps_on (length s.words) (word_o
 
 wake_keeps : (s : WaitState) (i : ℕ) (o : Option Phase) (j : ℕ) (q : Option Phase) → slice_get s.phases i ≡ o → slice_get s.phases j ≡ q → Sound s
     → Sound (or_same s (wake_by s i o j q))
-wake_keeps s i None j q at at_j r = r
-wake_keeps s i (Some Idle) j q at at_j r = r
-wake_keeps s i (Some (Waiting t)) j q at at_j r = r
-wake_keeps s i (Some (Marked t)) j q at at_j r = r
-wake_keeps s i (Some (Looked t)) j q at at_j r = r
-wake_keeps s i (Some (Asleep t)) j q at at_j r = r
-wake_keeps s i (Some Inside) j q at at_j r = r
-wake_keeps s i (Some Done) j q at at_j r = r
-wake_keeps s i (Some (Served t)) j q at at_j r = r
-wake_keeps s i (Some (Owes k n)) j q at at_j r = r
-wake_keeps s i (Some (Found k n)) j q at at_j r = r
-wake_keeps s i (Some (Wakes k n)) j None at at_j r = nobody_keeps s i k n at r
-wake_keeps s i (Some (Wakes k n)) j (Some Idle) at at_j r = nobody_keeps s i k n at r
-wake_keeps s i (Some (Wakes k n)) j (Some (Waiting t)) at at_j r = nobody_keeps s i k n at r
-wake_keeps s i (Some (Wakes k n)) j (Some (Marked t)) at at_j r = nobody_keeps s i k n at r
-wake_keeps s i (Some (Wakes k n)) j (Some (Looked t)) at at_j r = nobody_keeps s i k n at r
 wake_keeps s i (Some (Wakes k n)) j (Some (Asleep t)) at at_j r = if_possible s (word_of s t == word_of s k)
     (λ e. wake_sound s i j k n t at at_j (eqb-true (word_of s t) (word_of s k) e) r) r
-wake_keeps s i (Some (Wakes k n)) j (Some Inside) at at_j r = nobody_keeps s i k n at r
-wake_keeps s i (Some (Wakes k n)) j (Some Done) at at_j r = nobody_keeps s i k n at r
-wake_keeps s i (Some (Wakes k n)) j (Some (Served t)) at at_j r = nobody_keeps s i k n at r
-wake_keeps s i (Some (Wakes k n)) j (Some (Owes a b)) at at_j r = nobody_keeps s i k n at r
-wake_keeps s i (Some (Wakes k n)) j (Some (Found a b)) at at_j r = nobody_keeps s i k n at r
-wake_keeps s i (Some (Wakes k n)) j (Some (Wakes a b)) at at_j r = nobody_keeps s i k n at r
+wake_keeps s i (Some (Wakes k n)) j _ at at_j r = nobody_keeps s i k n at r
+wake_keeps s i _ j q at at_j r = r
 
 pub happens_sound : (s : WaitState) (e : Event) → Sound s → Sound (happens s e)
 happens_sound s (Take i) r = take_keeps s i (slice_get s.phases i) refl r

@@ -4,12 +4,13 @@ use Rattle.std.proofs.Common.{set, refl, sym, ap, ◌∙◌, inl, inr, ⊎_elim,
 use Rattle.std.specs.List.{list_any}
 use mathlib.Core.Logic.{dite}
 use native.Mathlib.Decide.{ℕ_discrete, dec_le}
+use Rattle.std.proofs.lemmas.List.{length-set}
 use Rattle.bw_wake.specs.declared.seats.Phase.{Phase}
 use Rattle.bw_wake.specs.declared.seats.Phase.TheVariants.{Idle, Waiting, Marked, Looked, Asleep, Inside, Done, Served, Owes, Found, Wakes}
 use Rattle.bw_wake.specs.Protocol.{WaitState, one_less, sleeps_on, start, word_of}
 use Rattle.bw_wake.specs.Progress.{one_if, busy, sleeps, will_peek, wakes, count}
 use Rattle.bw_wake.proofs.Sound.{waits, holds, may_sleep, Stands, Sound}
-use Rattle.bw_wake.proofs.Counts.{count_set, length_kept, count-le, count_at}
+use Rattle.bw_wake.proofs.Counts.{count_set, count-le, count_at}
 use Rattle.bw_model.proofs.CallerLemmas.{equal_or_not}
 use Rattle.bw_wake.proofs.WordsApart.{sleeps-waits, from_serving, to_next, words_apart}
 use Rattle.bw_wake.proofs.OneSeatSound.{one_less_none, one_less-will_peek}
@@ -34,7 +35,7 @@ spurious_wake_sound s i t at r = let M = λ (g : Phase → ℕ). count_set g s.p
   past = λ x lt. let a = M (waits x) in let d = r.past x lt in omega arith;
   future = λ x le. let a = M (waits x) in let d = r.future x le in omega arith;
   quiet = λ e. let b = M busy in let d = r.quiet e in omega arith;
-  words = omega (arith, r.words, length_kept s.phases i (Looked t));
+  words = omega (arith, r.words, length-set s.phases i (Looked t));
   mark_or_wake = λ x some. let a = M (sleeps x) in let c = M (wakes x) in ⊎_elim (λ (h : Stands s x). inl h)
       (λ (h : 1 ≤ count (wakes x) s.phases). inr (omega arith)) (r.mark_or_wake x (omega arith));
   peek_owed = λ some st. let a = M (may_sleep s.serving) in let c = M (will_peek s.serving) in let h = r.peek_owed (omega arith) st in omega arith;
@@ -61,7 +62,7 @@ take_sound s i at r = let M = λ (g : Phase → ℕ). count_set g s.phases i Idl
           (λ (h : (s.next ≡ x) × (one_if (s.next == x) ≡ 1)). absurd (omega arith)) (λ (h : (s.next ≢ x) × (one_if (s.next == x) ≡ 0)).
           let z = h.1 in omega arith) (equal_or_not one_if s.next x);
       quiet = λ e. absurd (omega arith);
-      words = omega (arith, r.words, length_kept s.phases i (Waiting s.next));
+      words = omega (arith, r.words, length-set s.phases i (Waiting s.next));
       mark_or_wake = λ x some. let a = M (sleeps x) in let c = M (wakes x) in ⊎_elim (λ (h : Stands s x). inl h)
           (λ (h : 1 ≤ count (wakes x) s.phases). inr (omega arith)) (r.mark_or_wake x (omega arith));
       peek_owed = λ some st. let a = M (may_sleep s.serving) in let c = M (will_peek s.serving) in let h = r.peek_owed (omega arith) st in omega arith;
@@ -84,7 +85,7 @@ enter_sound s i p at is_w is_b is_h is_s is_p is_k r = let M = λ (g : Phase →
       past = λ x l. let a = M (waits x) in let d = r.past x l in omega arith;
       future = λ x le. let a = M (waits x) in let d = r.future x le in omega arith;
       quiet = λ e. absurd (omega arith);
-      words = omega (arith, r.words, length_kept s.phases i Inside);
+      words = omega (arith, r.words, length-set s.phases i Inside);
       mark_or_wake = λ x some. let a = M (sleeps x) in let c = M (wakes x) in let d = is_s x in
           let e = is_k x in ⊎_elim (λ (h : Stands s x). inl h) (λ (h : 1 ≤ count (wakes x) s.phases). inr (omega arith)) (r.mark_or_wake x (omega arith));
       peek_owed = λ some st. let a = M (may_sleep s.serving) in let c = M (will_peek s.serving) in let d = is_p s.serving in
@@ -119,7 +120,7 @@ wake_sound s i j k n t at at_j same_word r =
       past = λ x lt. let a = A (waits x) in let b = B (waits x) in let c = zero_waits x in let f = r.past x lt in omega arith;
       future = λ x le. let a = A (waits x) in let b = B (waits x) in let c = zero_waits x in let f = r.future x le in omega arith;
       quiet = λ e. let a = A busy in let b = B busy in let f = r.quiet e in omega arith;
-      words = omega (arith, r.words, length_kept s.phases i (one_less k n), length_kept mid j (Looked t));
+      words = omega (arith, r.words, length-set s.phases i (one_less k n), length-set mid j (Looked t));
       mark_or_wake = λ x some. let a = A (sleeps x) in let b = B (sleeps x) in let c = one_less_none (sleeps x) refl (λ a b. refl) k n in
           let d = A (wakes x) in let e = B (wakes x) in let f = one_less_none (wakes x) refl (λ a b. refl) k n in
           let many = count-le (sleeps x) (waits x) s.phases (sleeps-waits x) in let once = waits_once s r x in
@@ -177,7 +178,7 @@ wake_none_sound s i k n at none r = let A = λ (g : Phase → ℕ). count_set g 
       past = λ x lt. let a = A (waits x) in let c = zero_waits x in let f = r.past x lt in omega arith;
       future = λ x le. let a = A (waits x) in let c = zero_waits x in let f = r.future x le in omega arith;
       quiet = λ e. let a = A busy in let f = r.quiet e in omega arith;
-      words = omega (arith, r.words, length_kept s.phases i (one_less k n));
+      words = omega (arith, r.words, length-set s.phases i (one_less k n));
       mark_or_wake = λ x some. let a = A (sleeps x) in let c = one_less_none (sleeps x) refl (λ a b. refl) k n in let d = A (wakes x) in
           let f = one_less_none (wakes x) refl (λ a b. refl) k n in
           ⊎_elim (λ (h : Stands s x). inl h)

@@ -12,8 +12,3 @@ index_else (x ∷ xs) zero zero v ne = absurd (ne refl)
 index_else (x ∷ xs) zero (suc j) v ne = refl
 index_else (x ∷ xs) (suc i) zero v ne = refl
 index_else (x ∷ xs) (suc i) (suc j) v ne = index_else xs i j v (λ e. ne (ap suc e))
-
-pub words_kept : (ws : List ℕ) (i v : ℕ) → length (set ws i v) ≡ length ws
-words_kept [] i v = refl
-words_kept (x ∷ xs) zero v = refl
-words_kept (x ∷ xs) (suc i) v = ap suc (words_kept xs i v)

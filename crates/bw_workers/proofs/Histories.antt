@@ -9,7 +9,7 @@ use Rattle.bw_model.specs.History.{own, own_from, entry_of}
 use Rattle.bw_model.proofs.CallerLemmas.{own_entries}
 use Rattle.bw_ticket.specs.Holder.{fresh_seat, fresh_seats}
 use Rattle.bw_pool.specs.declared.calls.PoolCall.{PoolCall}
-use Rattle.bw_pool.specs.declared.calls.PoolCall.TheVariants.{Draw, GiveBack, Lower, Look}
+use Rattle.bw_pool.specs.declared.calls.PoolCall.TheVariants.{Draw, GiveBack}
 use Rattle.bw_pool.specs.Drained.{PoolEntry, Worker, fresh, is_look, without_looks, MayCall, worker_after, Drains, AreDrained}
 use Rattle.bw_workers.specs.Working.{PoolSeat, calls_of}
 use Rattle.bw_workers.specs.Serving.{IsReady, AreReady, AreBack}
@@ -18,12 +18,7 @@ use Rattle.bw_workers.specs.Serving.{IsReady, AreReady, AreBack}
 no_look : (tree : List Row) (w : Worker) (owes : Option ℕ) (call : PoolCall) → MayCall tree w owes call → is_look call ≡ false
 no_look tree w None (Draw leaf ask) h = refl
 no_look tree w (Some owed) (GiveBack leaf n) h = refl
-no_look tree w None (GiveBack leaf n) h = absurd h
-no_look tree w None (Lower g to) h = absurd h
-no_look tree w None (Look g) h = absurd h
-no_look tree w (Some owed) (Draw leaf ask) h = absurd h
-no_look tree w (Some owed) (Lower g to) h = absurd h
-no_look tree w (Some owed) (Look g) h = absurd h
+no_look tree w _ _ h = absurd h
 
 kept_all : (b : Bool) (e : PoolEntry) (es es' : List PoolEntry) → b ≡ false → es' ≡ es → (if b then es' else (e ∷ es')) ≡ e ∷ es
 kept_all true e es es' h k = absurd (true≢false h)

@@ -64,10 +64,6 @@ goes_last leaf [] row = refl
 goes_last leaf (x ∷ xs) row = past (cond {A = ℕ} (x == row) 1 0) (cond {A = ℕ} (leaf == row) 1 0) (times row xs) (times row (xs ++ leaf ∷ []))
     (goes_last leaf xs row)
 
-pub nothing : (xs : List ℕ) → length xs ≡ 0 → xs ≡ []
-nothing [] h = refl
-nothing (x ∷ xs) h = absurd (omega arith)
-
 -- rows that are left after the leaf went
 abbrev pub Without : ℕ → List ℕ → List ℕ → Type 0
 Without leaf rows rows' = (row : ℕ) → times row rows ≡ times row rows' + cond {A = ℕ} (leaf == row) 1 0

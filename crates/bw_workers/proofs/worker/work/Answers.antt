@@ -2,8 +2,9 @@
 use Rattle.bw_model.specs.Host.{slices_per_processor}
 use Rattle.std.proofs.Common.{rules, arith, ◌≡◌, ℕ, ◌+◌, inl, inr, length, List, [], ◌∷◌, ◌++◌, refl, sym, ap, ◌∙◌, subst}
 use Rattle.std.proofs.lemmas.Bool.{MatchBool-at_true, MatchBool-at_false}
+use Rattle.std.proofs.lemmas.List.{nil_from_length}
 use Rattle.bw_workers.specs.Working.{calls_of, IsLeaves}
-use Rattle.bw_workers.proofs.Turns.{IsWorking, Without, begins, kept_turn, left_turn, reordered, stands, goes, goes_last, nothing, ends}
+use Rattle.bw_workers.proofs.Turns.{IsWorking, Without, begins, kept_turn, left_turn, reordered, stands, goes, goes_last, ends}
 use Rattle.bw_workers.proofs.worker.work.Goals.{then-take_turn, else-take_turn, then-loop-kept-test+else-not-is_empty, else-loop-kept-test}
 use Rattle.bw_workers.proofs.worker.work.Given as given
 use Rattle.bw_workers.proofs.worker.work.Goals as goal
@@ -88,7 +89,7 @@ returns-clause-drained g c = let was = c.loop-kept.invariant in record {
   drained = ends (g.G.Gate.used c.args.gate.now) c.args.instance.now.rows (slices_per_processor c.args.instance.now.shape) (calls_of c.loop-kept.seat)
       c.loop-kept.leaves.items c.loop-kept.kept was.works
       (elim c.loop-kept-test.branch [
-        | then-loop-kept-test+else-not-is_empty w ↦ inr (nothing c.loop-kept.leaves.items (search rules))
+        | then-loop-kept-test+else-not-is_empty w ↦ inr (nil_from_length c.loop-kept.leaves.items (search rules))
         | else-loop-kept-test w ↦ inl (omega (arith, was.kept, was.slices, w.loop-kept-test.false))
       ]);
 }
