@@ -24,9 +24,10 @@ abbrev pub line_bytes : ℕ
 line_bytes = 65536
 
 -- What a line does: nothing at all, or it prints a text and leaves a state, or it prints the total, the plan, the plan's
--- certified text or the counters, or it serves a period.
+-- certified text or the counters, or it serves a period. What `Says` a text takes no memory for it; what `Prints` one may.
 pub data Outcome : Type 0 where
   Silent : Outcome
+  Says : (text : List ℕ) (after : State) → Outcome
   Prints : (text : List ℕ) (after : State) → Outcome
   Total : Outcome
   Plan : Outcome
@@ -34,19 +35,25 @@ pub data Outcome : Type 0 where
   Period : Outcome
   Report : Outcome
 
+-- a refusal takes no memory
 abbrev pub refused : State → ScriptFault → Outcome
-refused s f = Prints (error_line f) s
+refused s f = Says (error_line f) s
 
 -- ---- the commands
-
--- a call on the hierarchy: its refusal, or the text that its value prints and the state that it leaves
-abbrev pub call_outcome : {A : Type 0} → State → (A → List ℕ) → (A → State) → Result A Fault → Outcome
-call_outcome s text after (Ok x) = Prints (text x) (after x)
-call_outcome s text after (Err f) = refused s (fault.Call f)
 
 -- what a change prints
 abbrev pub ok_line : List ℕ
 ok_line = codes "ok" ++ 10 ∷ []
+
+-- a change of the hierarchy that takes no memory: its refusal, or `ok` and the state that it leaves
+abbrev pub change_outcome : {A : Type 0} → State → (A → State) → Result A Fault → Outcome
+change_outcome s after (Ok x) = Says ok_line (after x)
+change_outcome s after (Err f) = refused s (fault.Call f)
+
+-- a call on the hierarchy that takes memory: its refusal, or the text that its value prints and the state that it leaves
+abbrev pub call_outcome : {A : Type 0} → State → (A → List ℕ) → (A → State) → Result A Fault → Outcome
+call_outcome s text after (Ok x) = Prints (text x) (after x)
+call_outcome s text after (Err f) = refused s (fault.Call f)
 
 -- `mkdir P`
 unfoldable pub mkdir_outcome : State → List ℕ → Outcome
@@ -54,12 +61,12 @@ mkdir_outcome s path = call_outcome s (λ made. ok_line) (λ made. with_hierarch
 
 -- `rmdir P`
 unfoldable pub rmdir_outcome : State → List ℕ → Outcome
-rmdir_outcome s path = call_outcome s (λ after. ok_line) (with_hierarchy s) (rmdir_of s.hierarchy path)
+rmdir_outcome s path = change_outcome s (with_hierarchy s) (rmdir_of s.hierarchy path)
 
 -- `demand P N`, where N spells this number
 unfoldable pub demand_outcome : State → List ℕ → Option ℕ → Outcome
 demand_outcome s path None = refused s fault.BadNumber
-demand_outcome s path (Some demand) = call_outcome s (λ after. ok_line) (with_hierarchy s) (demand_set_of s.hierarchy path demand)
+demand_outcome s path (Some demand) = change_outcome s (with_hierarchy s) (demand_set_of s.hierarchy path demand)
 
 -- `read P FILE`
 unfoldable pub read_outcome : State → List ℕ → List ℕ → Outcome
@@ -68,7 +75,7 @@ read_outcome s path file = call_outcome s (λ text. text) (λ text. s) (read_of 
 -- `write P FILE TEXT`
 unfoldable pub write_outcome : State → List ℕ → List ℕ → List ℕ → Outcome
 write_outcome s path file text =
-    call_outcome s (λ tree. ok_line) (λ tree. with_hierarchy s (with_tree s.hierarchy tree)) (write_of s.hierarchy.tree path file text)
+    change_outcome s (λ tree. with_hierarchy s (with_tree s.hierarchy tree)) (write_of s.hierarchy.tree path file text)
 
 -- ---- lines
 
@@ -107,6 +114,7 @@ outcome_of s line = outcome_of_kept s (kept_of line)
 -- From s the outcome is this text, with the state next after it.
 abbrev pub Gives : State → Outcome → List ℕ → State → Type 0
 Gives s Silent text next = (text ≡ []) × (next ≡ s)
+Gives s (Says answer after) text next = (text ≡ answer) × (next ≡ after)
 Gives s (Prints answer after) text next = (text ≡ answer) × (next ≡ after)
 Gives s Total text next = IsTotal s.hierarchy text × (next ≡ s)
 Gives s Plan text next = IsPlanText s.hierarchy text × (next ≡ s)
@@ -114,10 +122,11 @@ Gives s Cert text next = IsCertifiedPlan s.hierarchy text × (next ≡ s)
 Gives s Period text next = IsPeriod s.hierarchy s.uses text next.hierarchy × (next.uses ≡ s.uses)
 Gives s Report text next = IsReport s.hierarchy text × (next ≡ s)
 
--- what may stand in place of an answer: want of memory where anything is printed, and where a period is served a thread
--- that was refused
+-- What may stand in place of an answer: want of memory where memory is taken, and where a period is served a thread that
+-- was refused. A refusal, and what `rmdir`, `demand` and `write` answer, has nothing in its place.
 abbrev pub IsAllowedFailure : Outcome → List ℕ → Type 0
 IsAllowedFailure Silent text = ⊥
+IsAllowedFailure (Says answer after) text = ⊥
 IsAllowedFailure (Prints answer after) text = text ≡ error_line fault.OutOfMemory
 IsAllowedFailure Total text = text ≡ error_line fault.OutOfMemory
 IsAllowedFailure Plan text = text ≡ error_line fault.OutOfMemory

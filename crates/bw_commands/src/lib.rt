@@ -13,4 +13,4 @@ mod word;
 pub use fault::ScriptFault;
 pub use parse::Command;
 pub use perform::Commands;
-pub use put::{REFUSAL_BYTES, put_error, put_refusal};
+pub use put::{REFUSAL_BYTES, put_error, put_number, put_number_line, put_refusal};

@@ -5,7 +5,7 @@ use Rattle.std.proofs.lemmas.Bool.{cases_lt, lt-ltb, le-ltb}
 use Rattle.std.proofs.lemmas.Bool.Decides.{eqb_tells}
 use Rattle.bw_commands.specs.State.{State}
 use Rattle.bw_commands.specs.Script.{Outcome, IsAnswer, IsOutcome, outcome_of_kept, kept_of}
-use Rattle.bw_commands.specs.Script.Outcome.{Silent, Prints, Total, Plan, Cert, Period, Report}
+use Rattle.bw_commands.specs.Script.Outcome.{Silent, Says, Prints, Total, Plan, Cert, Period, Report}
 use Rattle.bw_commands.specs.Fault.{error_line}
 use Rattle.bw_commands.specs.declared.fault.ScriptFault.TheVariants.{OutOfMemory}
 use Rattle.bw_shell.specs.Transcript.{Answers, IsTranscript}
@@ -55,15 +55,16 @@ TakesBytes-line front text a b n h =
     TakesBytes-append front (10 ∷ []) [] text a (record a { kept = kept_after a.kept front }) b (TakesBytes-clean front a n)
     (TakesBytes-one (record a { kept = kept_after a.kept front }) b 10 text (record { newline = λ e. h; other = λ ne. absurd (ne refl) }))
 
--- each line has an answer, since it may always be want of memory where anything is printed
-pub answered : (s : State) (o : Outcome) → (text : List ℕ) × IsOutcome s o text s
-answered s Silent = ([], inl (refl, refl))
-answered s (Prints text after) = (error_line OutOfMemory, inr (refl, refl))
-answered s Total = (error_line OutOfMemory, inr (refl, refl))
-answered s Plan = (error_line OutOfMemory, inr (refl, refl))
-answered s Cert = (error_line OutOfMemory, inr (refl, refl))
-answered s Period = (error_line OutOfMemory, inr (inl refl, refl))
-answered s Report = (error_line OutOfMemory, inr (refl, refl))
+-- each line has an answer, since where it takes memory that may always be wanting
+pub answered : (s : State) (o : Outcome) → (text : List ℕ) × (t : State) × IsOutcome s o text t
+answered s Silent = ([], s, inl (refl, refl))
+answered s (Says text after) = (text, after, inl (refl, refl))
+answered s (Prints text after) = (text, after, inl (refl, refl))
+answered s Total = (error_line OutOfMemory, s, inr (refl, refl))
+answered s Plan = (error_line OutOfMemory, s, inr (refl, refl))
+answered s Cert = (error_line OutOfMemory, s, inr (refl, refl))
+answered s Period = (error_line OutOfMemory, s, inr (inl refl, refl))
+answered s Report = (error_line OutOfMemory, s, inr (refl, refl))
 
 -- so each byte can be taken
 TakesByte-total : (a : Scan) (x : ℕ) → (t : List ℕ) × (b : Scan) × TakesByte a x t b
@@ -72,8 +73,8 @@ TakesByte-total a x =
     elim (eqb_tells x 10) [
       | inl h ↦ (
         o.0,
-        record { state = a.state; kept = Some [] },
-        record { newline = λ e. record { answer = o.1; empty = refl }; other = λ ne. absurd (ne h.1) },
+        record { state = o.1; kept = Some [] },
+        record { newline = λ e. record { answer = o.2; empty = refl }; other = λ ne. absurd (ne h.1) },
       )
       | inr h ↦ ([], record a { kept = kept_with a.kept x }, record { newline = λ e. absurd (h.1 e); other = λ ne. (refl, refl) })
     ]

@@ -11,6 +11,7 @@ use Rattle.bw_cert.specs.Reading.{certified_of}
 use Rattle.bw_cert.specs.Spelling.{Value, IsValue, groups_of, lines_of, spelling}
 use Rattle.bw_cert.specs.declared.fault.CertFault.{CertFault}
 use Rattle.bw_check.specs.Faults.{fault_number, fault_name}
+use Rattle.bw_commands.specs.Fault.{refusal_line}
 use Rattle.bw_check.specs.Verdict.{IsVerdict}
 use Rattle.bw_check.specs.declared.verdict.Verdict.{Verdict}
 use Rattle.bw_check.specs.declared.verdict.Verdict.TheVariants.{Accepted, Refused}
@@ -27,7 +28,7 @@ verdict_line (Refused fault group) =
 
 -- the line of a text that is no certified text
 abbrev pub fault_line : CertFault → List ℕ
-fault_line fault = codes "error " ++ decimal (cert_fault_number fault) ++ codes " " ++ cert_fault_name fault ++ 10 ∷ []
+fault_line fault = refusal_line (cert_fault_number fault) (cert_fault_name fault)
 
 -- the line that is printed
 abbrev pub line_of : Finding → List ℕ

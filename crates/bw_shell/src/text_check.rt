@@ -1,9 +1,8 @@
 //! A certified text is read whole, checked, and answered by one line.
 ghost use Rattle.std.specs.Prelude.{◌≡◌, ◌≢◌, ◌⊎◌, ◌||◌, ◌<◌, ◌≤◌, ◌+◌, ◌-◌, ◌++◌, ◌^◌, ℕ, List, min, length, true, false, OnOk, IfOk, IfErr, IsErrOf};
-ghost use Rattle.std.specs.Prelude.{string_bytes};
 ghost use Rattle.std.specs.Io.KnownBytes.{Appends, Consumes, IsAtEnd, Keeps};
 ghost use Rattle.bw_shell.specs.Stream.{AppendsFront};
-ghost use Rattle.bw_shell.specs.CheckText.{line_of, verdict_line, fault_line, is_accepted, IsFinding, HoldsPlan, Checks, ChecksFront, ReadsTooMuch};
+ghost use Rattle.bw_shell.specs.CheckText.{line_of, verdict_line, is_accepted, IsFinding, HoldsPlan, Checks, ChecksFront, ReadsTooMuch};
 ghost use Rattle.bw_shell.specs.Watched.{inner_of, has_failed, has_stalled, read_calls, is_flushed, IsFresh, HasNoFault};
 
 use crate::script::{READ_CALLS, RunFault, piece_room};
@@ -11,7 +10,7 @@ use crate::send::send_line;
 use crate::watched::Watched;
 use bw_cert::{CertFault, read_certified};
 use bw_check::{CheckFault, Verdict, check};
-use bw_text::push_number;
+use bw_commands::{put_number, put_number_line, put_refusal};
 use std::alloc::{AllocError, Global};
 use std::io::{Read, Write};
 
@@ -118,45 +117,30 @@ fn is_accepted(finding: Finding) -> bool
     matches!(finding, Finding::Checked(Verdict::Accepted))
 }
 
-// The line of a refusal.
-fn push_refusal(out: &mut String, fault: CheckFault, group: u32) -> Result<(), AllocError>
-    ensures { OnOk result (string_bytes out.new ≡ string_bytes out.old ++ verdict_line (Refused fault group)) }
+// Appends the line of a refusal.
+fn put_refused(answer: &mut Vec<u8>, fault: CheckFault, group: u32) -> Result<(), AllocError>
+    ensures { OnOk result (answer.new.items ≡ answer.old.items ++ verdict_line (Refused fault group)) }
 {
-    out.push_str("refused ")?;
-    push_number(out, u64::from(fault.number()))?;
-    out.push_str(" ")?;
-    out.push_str(fault.name())?;
-    out.push_str(" ")?;
-    push_number(out, u64::from(group))?;
-    out.push_str("\n")?;
-    Ok(())
-}
-
-// The line of a text that is no certified text.
-fn push_fault(out: &mut String, fault: CertFault) -> Result<(), AllocError>
-    ensures { OnOk result (string_bytes out.new ≡ string_bytes out.old ++ fault_line fault) }
-{
-    out.push_str("error ")?;
-    push_number(out, u64::from(fault.number()))?;
-    out.push_str(" ")?;
-    out.push_str(fault.name())?;
-    out.push_str("\n")?;
+    put_number(b"refused ", u64::from(fault.number()), answer)?;
+    answer.extend_from_slice(b" ")?;
+    answer.extend_from_slice(fault.name().as_bytes())?;
+    put_number_line(b" ", u64::from(group), answer)?;
     Ok(())
 }
 
 // The line that is printed.
-fn line_of(alloc: Global, finding: Finding) -> Result<String, AllocError>
-    ensures { IfOk result (λ t. string_bytes t ≡ line_of finding) }
+fn line_of(alloc: Global, finding: Finding) -> Result<Vec<u8>, AllocError>
+    ensures { IfOk result (λ line. line.items ≡ line_of finding) }
 {
-    let mut out = String::new(alloc);
+    let mut line = Vec::new(alloc);
     match finding {
-        Finding::Checked(Verdict::Accepted) => out.push_str("accepted\n")?,
-        Finding::Checked(Verdict::Refused { fault, group }) => push_refusal(
-            &mut out, fault, group,
+        Finding::Checked(Verdict::Accepted) => line.extend_from_slice(b"accepted\n")?,
+        Finding::Checked(Verdict::Refused { fault, group }) => put_refused(
+            &mut line, fault, group,
         )?,
-        Finding::Faulty(fault) => push_fault(&mut out, fault)?,
+        Finding::Faulty(fault) => put_refusal(fault.number(), fault.name(), &mut line)?,
     }
-    Ok(out)
+    Ok(line)
 }
 
 // Writes the line of a finding.
@@ -177,7 +161,7 @@ fn answer<W: Write>(
     let Ok(line) = line_of(alloc, finding) else {
         return Err(RunFault::Memory);
     };
-    send_line(writer, line.as_bytes())
+    send_line(writer, line.as_slice())
 }
 
 /// Reads a certified text to its end, checks it, and writes one line: `accepted`, `refused N NAME GROUP` with the row of

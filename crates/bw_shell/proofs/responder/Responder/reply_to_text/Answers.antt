@@ -9,7 +9,7 @@ pub returns-in-Err : goal.returns-in-Err
 returns-in-Err g c =
     let s = responder_state g.G.Gate.used c.args.self.now in
     let any = answered s (outcome_of_text s c.args.text.now) in
-    Writes-none g.W.Write.contents c.args.writer.now c.flush_before.new.writer c.in-Err.fault any.0 (s, any.1) c.in-Err.ensures.writes
+    Writes-none g.W.Write.contents c.args.writer.now c.flush_before.new.writer c.in-Err.fault any.0 (any.1, any.2) c.in-Err.ensures.writes
 
 pub returns : goal.returns
 returns g c =
