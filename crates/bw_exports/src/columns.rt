@@ -84,7 +84,7 @@ impl<'a> Columns<'a> {
         requires { are_even (table_of self.now) ≡ true }
         ensures { IfOk result (λ rows. rows.items ≡ rows_in (table_of self.now)) }
     {
-        let mut rows = Vec::new(alloc);
+        let mut rows = Vec::with_capacity(alloc, self.parents.len())?;
         for g in 0..self.parents.len() {
             rows.push(self.row(g))?;
         }

@@ -8,7 +8,7 @@ use crate::asking::{Host, instance_of};
 use crate::columns::Columns;
 use crate::front::write_front;
 use crate::refusal::Refusal;
-use bw_demand::{Limiting, gather, limiting};
+use bw_demand::{Limiting, gather_rows, limiting};
 use bw_model::limits::MAX_GROUPS;
 use std::alloc::Global;
 
@@ -21,7 +21,7 @@ fn limiting_of(alloc: Global, host: Host, columns: &Columns<'_>) -> Result<Limit
     ensures err { IfErr result (λ e. Answers (asked_number (shape_of host) (table_of columns.now)) (number_of e)) }
 {
     let instance = instance_of(alloc, host, columns)?;
-    let gathered = gather(alloc, &instance)?;
+    let gathered = gather_rows(alloc, &instance)?;
     Ok(limiting(alloc, &instance, &gathered)?)
 }
 
