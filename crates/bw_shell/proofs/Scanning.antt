@@ -157,10 +157,6 @@ kept_of-cut line bytes n e h = elim (cases_lt n (length bytes)) [
   | inr ge ↦ ap (λ l. kept_of (line ++ l)) (take_all n bytes ge) ∙ sym (kept_after-kept_of line bytes)
 ]
 
-pub nil_of_length : (xs : List ℕ) → length xs ≡ 0 → xs ≡ []
-nil_of_length [] e = refl
-nil_of_length (x ∷ xs) e = absurd (let bad : ⊥ = omega (arith, e) in bad)
-
 -- the answer to what is kept ends the line in hand
 pub TakesLine-kept : (s t : State) (whole line after front text : List ℕ) → kept_of whole ≡ kept_after (kept_of line) front → after ≡ []
     → IsAnswer s whole text t

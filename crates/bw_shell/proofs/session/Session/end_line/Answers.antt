@@ -1,8 +1,9 @@
 use Rattle.std.proofs.Common.{rules, ◌≡◌, ◌∙◌, [], Some, ap, sym, subst, refl, length}
+use Rattle.std.proofs.lemmas.List.{nil_from_length}
 use Rattle.bw_commands.specs.Script.{kept_of, IsAnswer}
 use Rattle.bw_shell.specs.Responder.{responder_state}
 use Rattle.bw_shell.specs.Scan.{Scan, kept_after}
-use Rattle.bw_shell.proofs.Scanning.{TakesLine-kept, kept_after-kept_of, nil_of_length}
+use Rattle.bw_shell.proofs.Scanning.{TakesLine-kept, kept_after-kept_of}
 use Rattle.bw_shell.proofs.Writing.{Writes-err, Writes-map}
 use Rattle.bw_shell.proofs.session.Session.end_line.Goals as goal
 
@@ -12,7 +13,7 @@ returns-then-is_empty g c =
     let t = responder_state g.G.Gate.used c.reply.new.self in
     let line = c.args.self.now.line.items in
     let zero : length line ≡ 0 = search rules in
-    let empty = nil_of_length line zero in
+    let empty = nil_from_length line zero in
     let same : kept_of c.args.front.now ≡ kept_after (kept_of line) c.args.front.now = rw empty (sym (kept_after-kept_of [] c.args.front.now)) in
     Writes-map g.W.Write.contents c.args.writer.now c.reply.new.writer c.reply.result
     (λ text p. TakesLine-kept s t c.args.front.now line line c.args.front.now text same empty p)
