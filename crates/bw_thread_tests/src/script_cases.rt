@@ -9,20 +9,27 @@ use std::sync::Wait;
 use std::test::Fail;
 use std::thread::Threads;
 
-const POD_AND_JOB: &str =
-    "mkdir pod\nmkdir pod/x\nmkdir pod/y\nmkdir job\nwrite pod cpu.max 50000\nwrite pod/y cpu.weight 300\ndemand pod/x 20\ndemand pod/y 20\ndemand job 20\n";
+const POD_AND_JOB: &str = "mkdir pod
+mkdir pod/x
+mkdir pod/y
+mkdir job
+write pod cpu.max 50000
+write pod/y cpu.weight 300
+demand pod/x 20
+demand pod/y 20
+demand job 20
+";
 
 const POD_AND_JOB_SAID: &str = "ok\nok\nok\nok\nok\nok\nok\nok\nok\n";
 
-// Runs a script on processors of 20 slices each where memory is there, and asserts what it writes.
+// Runs a script on four processors of 20 slices each where memory is there, and asserts what it writes.
 fn ran<G: Gate, R: AllocGlobal + Threads + Wait + Abort + Sync>(
     rt: &R,
-    processors: u64,
     script: &str,
     gate: &G,
     said: &str,
 ) -> Result<(), AllocError> {
-    let Ok(shape) = HostShape::new(processors, 100000, 5000) else {
+    let Ok(shape) = HostShape::new(4, 100000, 5000) else {
         panic!(rt; "no host")
     };
     let mut out = Vec::new(rt.alloc());
@@ -39,39 +46,28 @@ fn ran<G: Gate, R: AllocGlobal + Threads + Wait + Abort + Sync>(
     Ok(())
 }
 
-const UNUSED_JOB: &str = "mkdir pod
-mkdir pod/x
-mkdir pod/y
-mkdir job
-write pod cpu.max 50000
-write pod/y cpu.weight 300
-demand pod/x 20
-demand pod/y 20
-demand job 20
-total
-plan
-period
-report
-";
+// A text, a line so many times, and another text.
+fn around(
+    alloc: Global,
+    before: &str,
+    line: &str,
+    times: u32,
+    after: &str,
+) -> Result<String, AllocError> {
+    let mut text = String::new(alloc);
+    text.push_str(before)?;
+    for _ in 0..times {
+        text.push_str(line)?;
+    }
+    text.push_str(after)?;
+    Ok(text)
+}
 
-const UNUSED_JOB_SAID: &str = "ok
-ok
-ok
-ok
-ok
-ok
-ok
-ok
-ok
-total 20
-limit 20 .
-demand 0
-20 .
+const UNUSED_JOB_SAID: &str = "30 .
 10 pod
 3 pod/x
 7 pod/y
-10 job
-served 10
+20 job
           usage_usec    periods  throttled       throttled_usec group
                50000          1          0                    0 .
                50000          1          1               150000 pod
@@ -80,11 +76,25 @@ served 10
                    0          1          0                    0 job
 ";
 
-/// A gate that does not use job: the plan is as before, and what is drawn of job is given back.
+// A gate that does not use job: the plan is as ever, and what is drawn of job is given back.
+fn unused_job<R: AllocGlobal + Threads + Wait + Abort + Sync>(rt: &R) -> Result<(), AllocError> {
+    let after = "plan\nreport\n";
+    let script = around(rt.alloc(), POD_AND_JOB, "period\n", 1, after)?;
+    let said = around(
+        rt.alloc(),
+        POD_AND_JOB_SAID,
+        "served 10\n",
+        1,
+        UNUSED_JOB_SAID,
+    )?;
+    // job is row 4
+    ran(rt, script.as_str(), &Without(4), said.as_str())
+}
+
 #[test]
 fn a_leaf_that_is_not_used(rt: HostRuntime) -> Result<(), Fail> {
-    if ran(&rt, 1, UNUSED_JOB, &Without(4), UNUSED_JOB_SAID).is_err() {
-        ran(&rt, 1, UNUSED_JOB, &Without(4), UNUSED_JOB_SAID)?;
+    if unused_job(&rt).is_err() {
+        unused_job(&rt)?;
     }
     Ok(())
 }
@@ -104,31 +114,15 @@ nr_bursts 0
 burst_usec 0
 ";
 
-// A text, a line fifty times, and another text.
-fn around_fifty(
-    alloc: Global,
-    before: &str,
-    line: &str,
-    after: &str,
-) -> Result<String, AllocError> {
-    let mut text = String::new(alloc);
-    text.push_str(before)?;
-    for _ in 0..50u32 {
-        text.push_str(line)?;
-    }
-    text.push_str(after)?;
-    Ok(text)
-}
-
-// Fifty periods of the script of pod and job, on four processors, and the counters after them.
+// Fifty periods of the script of pod and job, and the counters after them.
 fn fifty_periods<G: Gate, R: AllocGlobal + Threads + Wait + Abort + Sync>(
     rt: &R,
     gate: &G,
 ) -> Result<(), AllocError> {
     let after = "report\nread . cpu.stat\nread pod cpu.stat\n";
-    let script = around_fifty(rt.alloc(), POD_AND_JOB, "period\n", after)?;
-    let said = around_fifty(rt.alloc(), POD_AND_JOB_SAID, "served 30\n", FIFTY_SAID)?;
-    ran(rt, 4, script.as_str(), gate, said.as_str())
+    let script = around(rt.alloc(), POD_AND_JOB, "period\n", 50, after)?;
+    let said = around(rt.alloc(), POD_AND_JOB_SAID, "served 30\n", 50, FIFTY_SAID)?;
+    ran(rt, script.as_str(), gate, said.as_str())
 }
 
 // The same, where a worker's first draw waits for one of another.
@@ -140,7 +134,7 @@ fn held_periods<R: AllocGlobal + Threads + Wait + Abort + Sync>(
 ) -> Result<(), AllocError> {
     let gate = held_first(held, other, nth);
     fifty_periods(rt, &gate)?;
-    assert!(rt; gate.came.load());
+    assert!(rt; gate.met.load() == 100);
     Ok(())
 }
 

@@ -7,7 +7,7 @@ use bw_model::{Entry, HostShape, Instance, Row};
 use bw_plan::{Plan, plan};
 use bw_pool::{PoolCall, PoolReply, Short, SlicePool};
 use bw_ticket::{CallsSpent, Closed, Seat, TicketLock, close, open};
-use bw_workers::{Gate, NoGate, ServeFault, Served, serve};
+use bw_workers::{Gate, ServeFault, Served, serve};
 use crossbeam_utils::atomic::AtomicCell;
 use std::alloc::{AllocError, Global};
 use std::process::Abort;
@@ -70,12 +70,11 @@ pub(crate) fn pod_and_job(rt: &impl Abort, alloc: Global) -> Result<(Instance, P
     planned(rt, alloc, 4, &groups)
 }
 
-// Two groups with a demand of 20 each.
+// Two groups of weights 100 and 200 with a demand of 20 each.
 fn two_groups(
     rt: &impl Abort,
     alloc: Global,
     processors: u64,
-    weight: u64,
 ) -> Result<(Instance, Plan), AllocError>
     ensures { IfOk result (λ t. IsPlan t.0 t.1.amounts.items) }
 {
@@ -83,7 +82,7 @@ fn two_groups(
         rt,
         alloc,
         processors,
-        &[group(0, 100, None, 20), group(0, weight, None, 20)],
+        &[group(0, 100, None, 20), group(0, 200, None, 20)],
     )
 }
 
@@ -128,14 +127,27 @@ impl Gate for Without {
     }
 }
 
-// Holds the first draw of one worker until a draw of another is answered.
+// Looks until another worker has come to some point, and says whether it did.
+fn came(point: &AtomicCell<bool>) -> bool {
+    for _ in 0..TURNS {
+        if point.load() {
+            return true;
+        }
+    }
+    false
+}
+
+// Holds the first draw of one worker until a draw of another is answered, and that other worker until the held one's first draw
+// is answered too.
 #[derive(Drop)]
 pub(crate) struct Holds {
     held: u32,
     other: u32,
     nth: u64,
     answered: AtomicCell<bool>,
-    pub(crate) came: AtomicCell<bool>,
+    went_on: AtomicCell<bool>,
+    // how often one waited and the other came
+    pub(crate) met: AtomicCell<u32>,
 }
 
 pub(crate) fn held_first(held: u32, other: u32, nth: u64) -> Holds {
@@ -144,7 +156,8 @@ pub(crate) fn held_first(held: u32, other: u32, nth: u64) -> Holds {
         other,
         nth,
         answered: AtomicCell::new(false),
-        came: AtomicCell::new(false),
+        went_on: AtomicCell::new(false),
+        met: AtomicCell::new(0),
     }
 }
 
@@ -152,19 +165,24 @@ impl Gate for Holds {
     ghost used = { λ gate leaf. true };
 
     fn before(&self, worker: u32, nth: u64) {
-        if worker == self.held && nth == 0 {
-            for _ in 0..TURNS {
-                if self.answered.load() {
-                    self.came.store(true);
-                    return;
-                }
-            }
+        if worker != self.held {
+            return;
+        }
+        if nth == 0 && came(&self.answered) {
+            self.met.fetch_add(1);
+        }
+        // its second draw, so that its first one is answered
+        if nth == 1 {
+            self.went_on.store(true);
         }
     }
 
     fn after(&self, worker: u32, nth: u64) {
         if worker == self.other && nth == self.nth {
             self.answered.store(true);
+            if came(&self.went_on) {
+                self.met.fetch_add(1);
+            }
         }
     }
 
@@ -214,9 +232,6 @@ impl Gate for Meet {
     }
 }
 
-// What is drawn of pod and job on four processors.
-static POD_AND_JOB_DRAWN: [u64; 5] = [30, 10, 3, 7, 20];
-
 // The seat of the first entry.
 fn first_caller(history: &[Entry<PoolCall, PoolReply>]) -> Option<u32> {
     history.first().map(|entry| entry.seat)
@@ -228,122 +243,91 @@ fn serve_one_waits<R: Threads + Wait + Abort + Sync>(
     held: u32,
     other: u32,
 ) -> Result<(), AllocError> {
-    let (instance, plan) = two_groups(rt, alloc, 2, 200)?;
+    let (instance, plan) = two_groups(rt, alloc, 2)?;
     let gate = held_first(held, other, 0);
     let served = served(rt, alloc, &instance, &plan, &gate, &[40, 20, 20])?;
-    assert!(rt; gate.came.load());
+    assert!(rt; gate.met.load() == 2);
     assert!(rt; first_caller(&served.history) == Some(other));
     Ok(())
 }
 
 #[test]
-fn worker_zero_waits(rt: HostRuntime) -> Result<(), Fail> {
+fn one_waits(rt: HostRuntime) -> Result<(), Fail> {
     let alloc = rt.alloc();
-    if serve_one_waits(&rt, alloc, 0, 1).is_err() {
-        serve_one_waits(&rt, alloc, 0, 1)?;
+    for (held, other) in [(0, 1), (1, 0)] {
+        if serve_one_waits(&rt, alloc, held, other).is_err() {
+            serve_one_waits(&rt, alloc, held, other)?;
+        }
     }
     Ok(())
 }
 
-#[test]
-fn worker_one_waits(rt: HostRuntime) -> Result<(), Fail> {
-    let alloc = rt.alloc();
-    if serve_one_waits(&rt, alloc, 1, 0).is_err() {
-        serve_one_waits(&rt, alloc, 1, 0)?;
+// Counts the calls round the draws of worker 0, and sees whether each comes in its turn.
+#[derive(Drop)]
+struct InTurn {
+    calls: AtomicCell<u64>,
+    astray: AtomicCell<bool>,
+}
+
+impl InTurn {
+    // A call before the draw is the first of two, and one after it the second.
+    fn called(&self, worker: u32, nth: u64, second: u64) {
+        let calls = self.calls.fetch_add(1);
+        if worker != 0 || calls / 2 != nth || calls % 2 != second {
+            self.astray.store(true);
+        }
     }
-    Ok(())
 }
 
-fn serve_all_meet<R: Threads + Wait + Abort + Sync>(
-    rt: &R,
-    alloc: Global,
-) -> Result<(), AllocError> {
-    let (instance, plan) = pod_and_job(rt, alloc)?;
-    let gate = meeting();
-    served(rt, alloc, &instance, &plan, &gate, &POD_AND_JOB_DRAWN)?;
-    assert!(rt; gate.met.load() == 4);
-    Ok(())
-}
+impl Gate for InTurn {
+    ghost used = { λ gate leaf. true };
 
-#[test]
-fn all_meet(rt: HostRuntime) -> Result<(), Fail> {
-    let alloc = rt.alloc();
-    if serve_all_meet(&rt, alloc).is_err() {
-        serve_all_meet(&rt, alloc)?;
+    fn before(&self, worker: u32, nth: u64) {
+        self.called(worker, nth, 0);
     }
-    Ok(())
-}
 
-// The same drawn amounts with no gate, and where a worker's first draw waits for one of another.
-fn serve_in_other_orders<R: Threads + Wait + Abort + Sync>(
-    rt: &R,
-    alloc: Global,
-) -> Result<(), AllocError> {
-    let (instance, plan) = pod_and_job(rt, alloc)?;
-    served(rt, alloc, &instance, &plan, &NoGate, &POD_AND_JOB_DRAWN)?;
-    for (held, other, nth) in [(0, 1, 0), (1, 0, 0), (3, 2, 1)] {
-        let gate = held_first(held, other, nth);
-        served(rt, alloc, &instance, &plan, &gate, &POD_AND_JOB_DRAWN)?;
-        assert!(rt; gate.came.load());
+    fn after(&self, worker: u32, nth: u64) {
+        self.called(worker, nth, 1);
     }
-    Ok(())
+
+    fn uses(&self, leaf: u32) -> bool {
+        let _ = leaf;
+        true
+    }
 }
 
-// What is drawn under a gate that does not use job, and of a root with no group below it.
-fn serve_what_is_used<R: Threads + Wait + Abort + Sync>(
-    rt: &R,
-    alloc: Global,
-) -> Result<(), AllocError> {
-    let (instance, plan) = pod_and_job(rt, alloc)?;
-    served(rt, alloc, &instance, &plan, &Without(4), &[10, 10, 3, 7, 0])?;
-    let (alone, nothing) = planned(rt, alloc, 4, &[])?;
-    served(rt, alloc, &alone, &nothing, &NoGate, &[0])?;
-    Ok(())
-}
+// The draws of one worker where leaf 1 has 7 slices and leaf 2 has 13: in row order, round and round. The eighth draw of leaf 1
+// is short, and the last one of it.
+static ROUND_AND_ROUND: [u32; 21] = [
+    1, 2, 1, 2, 1, 2, 1, 2, 1, 2, 1, 2, 1, 2, 1, 2, 2, 2, 2, 2, 2,
+];
 
-// One worker draws in row order, round and round.
 fn serve_in_row_order<R: Threads + Wait + Abort + Sync>(
     rt: &R,
     alloc: Global,
 ) -> Result<(), AllocError> {
-    let (instance, plan) = two_groups(rt, alloc, 1, 100)?;
-    let served = served(rt, alloc, &instance, &plan, &NoGate, &[20, 10, 10])?;
-    assert!(rt; served.history.len() >= 4);
-    for (entry, leaf) in served.history.iter().zip([1, 2, 1, 2]) {
+    let (instance, plan) = two_groups(rt, alloc, 1)?;
+    let gate = InTurn {
+        calls: AtomicCell::new(0),
+        astray: AtomicCell::new(false),
+    };
+    let served = served(rt, alloc, &instance, &plan, &gate, &[20, 7, 13])?;
+    assert!(rt; served.history.len() == 21);
+    for (entry, leaf) in served.history.iter().zip(ROUND_AND_ROUND) {
         assert!(rt; entry.call == PoolCall::Draw { leaf, ask: 1 });
     }
+    // one call of the gate before each draw, and one after it
+    assert!(rt; gate.calls.load() == 42 && !gate.astray.load());
     Ok(())
 }
 
 #[test]
-fn orders(rt: HostRuntime) -> Result<(), Fail> {
+fn row_order(rt: HostRuntime) -> Result<(), Fail> {
     let alloc = rt.alloc();
-    if serve_in_other_orders(&rt, alloc).is_err() {
-        serve_in_other_orders(&rt, alloc)?;
-    }
     if serve_in_row_order(&rt, alloc).is_err() {
         serve_in_row_order(&rt, alloc)?;
     }
     Ok(())
-}
-
-#[test]
-fn leaves_that_are_used(rt: HostRuntime) -> Result<(), Fail> {
-    let alloc = rt.alloc();
-    if serve_what_is_used(&rt, alloc).is_err() {
-        serve_what_is_used(&rt, alloc)?;
-    }
-    Ok(())
-}
-
-#[test]
-fn faults(rt: HostRuntime) {
-    for (fault, number, name) in [
-        (ServeFault::NotStarted, 70, "NotStarted"),
-        (ServeFault::OutOfMemory, 71, "OutOfMemory"),
-    ] {
-        assert!(rt; fault.number() == number && fault.name() == name);
-    }
 }
 
 // A seat asks 2 of the leaf, and gives the reply with the seat.
