@@ -739,6 +739,7 @@ def library_has_the_version(program):
                           ("../tests/lib.sh", "^library_version=(.*)$")):
         same(re.findall(spelled, share(name), re.M), [VERSION], f"the version in {name}")
     same(re.findall(r"^LIBARBITER_(\w+) {$", share("arbiter.map"), re.M), [SONAME.rpartition(".")[2]], "the version of the names")
+    same(re.findall('^SONAME = "(.*)"$', share("../tools/arbiter.py"), re.M), [SONAME], "the name that tools/arbiter.py looks for")
 
 
 def library_shows_its_header(_):

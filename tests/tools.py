@@ -2,13 +2,15 @@
 
     tests/tools.py [PROGRAM]
 
-runs them over PROGRAM (default: the native program, where it is current). The last line is 'N passed, M failed'.
+runs them over PROGRAM (default: the native program, where it is current). What plans are checked by is tried twice: by the
+C library, which ./build --install DIR or ./test made, and by the program. The last line is 'N passed, M failed'.
 """
 import concurrent.futures
 import json
 import os
 import random
 import re
+import shutil
 import stat
 import sys
 import tempfile
@@ -22,15 +24,15 @@ TOOLS = ("explain", "from-cgroup", "picture", "series")
 
 
 class Tools:
-    """Runs tools over one program."""
+    """Runs tools over one program, and one library or `none`."""
 
-    def __init__(self, program):
-        self.program = program
-        self.environment = {**os.environ, "ARBITER": program, "LC_ALL": "C"}
+    def __init__(self, program, library):
+        self.program, self.library, self.folder = program, library, f"{TOP}/tools"
+        self.environment = {**os.environ, "ARBITER": program, "ARBITER_LIBRARY": library, "LC_ALL": "C"}
 
     def run(self, words, given=b"", status=0, cwd=TOP):
         """The standard output and error of a tool that ends with a status."""
-        ended = native.run([f"{TOP}/tools/{words[0]}", *words[1:]], given, SECONDS, env=self.environment, cwd=cwd)
+        ended = native.run([f"{self.folder}/{words[0]}", *words[1:]], given, SECONDS, env=self.environment, cwd=cwd)
         if ended.returncode != status:
             raise AssertionError(f"{words}: status {ended.returncode} and not {status}: {ended.stderr.decode()[:400]}")
         return ended.stdout.decode(), ended.stderr.decode()
@@ -174,6 +176,30 @@ def explain_refused(tools):
          ["line 1: error 81 BadText: \ufffd", f"line 3: error 82 LineTooLong: #{'x' * 65536}"], "a byte and a long comment")
 
 
+def explain_asks_the_library(tools):
+    """The check, and what limits the sum, are the library's where there is one: also one that the system finds, below a folder without a built one."""
+    script = b"mkdir a\nmkdir b\nwrite b cpu.max 10000\ndemand a 2\ndemand b 9\n"
+    _, whole = tools.explained(script.decode())
+    with tempfile.TemporaryDirectory() as folder:
+        no_check = write_file(folder, "no_check", "#!/bin/sh\nif [ \"$1\" = check ]; then echo refused 53 SumDiffers 0; exit 3; fi\nexec \"$REAL\" \"$@\"\n")
+        os.chmod(no_check, 0o755)
+        shutil.copytree(f"{TOP}/tools", f"{folder}/tools")
+        tools.environment["REAL"] = tools.program
+        words = ["explain", "--json", "--program", no_check, "-"]
+        if tools.library == "none":
+            _, err = tools.run(words, script, status=1)
+            holds("was not accepted: refused 53 SumDiffers 0", err, "the program's check")
+        else:
+            same(json.loads(tools.said(words, script)), whole, "by the library that is named")
+            shutil.copy(tools.library, f"{folder}/libarbiter.so.1")
+            del tools.environment["ARBITER_LIBRARY"]
+            tools.folder, tools.environment["LD_LIBRARY_PATH"] = f"{folder}/tools", folder
+            same(json.loads(tools.said(words, script)), whole, "by a library that the system finds")
+        _, err = tools.run([*words, "--library", f"{folder}/none.so"], script, status=1)
+        holds("the C library: ", err, "a library that is not there")
+        same(whole["limiting"], [{"group": "b", "limit": 2}], "what limits")
+
+
 def explain_names(tools):
     """Names are taken as they are: a carriage return, a line separator, a `#`, an umlaut."""
     names = ["a\rb", "x\u2028y", "#c", "\u00fc", "error"]
@@ -268,7 +294,9 @@ def explain_random(tools):
     seen = set()
     for seed in range(30):
         script, children = random_script(seed)
-        groups, _ = tools.explained(script, "--processors", "2")
+        groups, whole = tools.explained(script, "--processors", "2")
+        named = [line.split(" ")[1:] for line in tools.answers(script + "total\n", "--processors", "2").split("\n") if line.startswith("limit ")]
+        same([[str(each["limit"]), each["group"]] for each in whole["limiting"]], named, f"seed {seed}, what limits")
         for path, group in groups.items():
             seen.add(group["reason"])
             if not reason_stands(groups, children, path, group):
@@ -602,26 +630,28 @@ def series_refuses(tools):
         holds("cpu.stat rose by (25000, 0), the plan gives 4 slices", err, "wrong counters")
 
 
-CHECKS = [are_programs, needs_a_program, explain_reasons, explain_limiting, explain_carry, explain_refused, explain_names,
-          explain_compare, explain_believes_nothing, explain_random, systemd_host, kubernetes_node, odd_names, waits_and_refuses,
-          reads_a_real_mount, picture_to_scale, picture_of_odd_trees, series_by_hand, series_picture, series_refuses]
+# by the library and by the program
+OF_PLANS = [explain_reasons, explain_limiting, explain_carry, explain_refused, explain_asks_the_library, explain_names, explain_compare,
+            explain_believes_nothing, explain_random, picture_to_scale, picture_of_odd_trees, series_by_hand, series_picture, series_refuses]
+OTHERS = [are_programs, needs_a_program, systemd_host, kubernetes_node, odd_names, waits_and_refuses, reads_a_real_mount]
 
 
 def checked(check, tools):
     try:
         check(tools)
     except (AssertionError, OSError, ValueError, KeyError, IndexError, native.subprocess.SubprocessError) as error:
-        return f"{check.__name__}: {error or type(error).__name__}"
+        return f"{check.__name__}, library {tools.library}: {error or type(error).__name__}"
     return None
 
 
 def main():
-    program = native.program(sys.argv[1:])
+    program, library = native.program(sys.argv[1:]), f"{native.library()}.so"
+    checks = [*((check, library) for check in OF_PLANS), *((check, "none") for check in [*OF_PLANS, *OTHERS])]
     with concurrent.futures.ThreadPoolExecutor(4) as pool:
-        wrong = [each for each in pool.map(lambda check: checked(check, Tools(program)), CHECKS) if each]
+        wrong = [each for each in pool.map(lambda check: checked(check[0], Tools(program, check[1])), checks) if each]
     for each in wrong:
         print(f"FAILED: {each}")
-    print(f"{len(CHECKS) - len(wrong)} passed, {len(wrong)} failed")
+    print(f"{len(checks) - len(wrong)} passed, {len(wrong)} failed")
     return 1 if wrong else 0
 
 

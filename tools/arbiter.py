@@ -16,6 +16,7 @@ import os
 
 TOP = os.path.dirname(os.path.dirname(os.path.abspath(__file__)))
 BUILT = f"{TOP}/crates/bw_exports/out/libarbiter.so"
+SONAME = "libarbiter.so.1"
 NO_PARENT, NO_LIMIT = 2**32 - 1, 2**64 - 1
 U8, U32, U64, SIZE = ctypes.c_uint8, ctypes.c_uint32, ctypes.c_uint64, ctypes.c_size_t
 NAME_ROOM = 17
@@ -80,11 +81,12 @@ def given(*columns):
 
 
 class Library:
-    """The calls of one shared library: at a path, else at $ARBITER_LIBRARY, else the one that this repository has built."""
+    """The calls of one shared library: at a path, else at $ARBITER_LIBRARY, else the one that this repository has built,
+    else an installed one. A name without a slash is looked for where the system looks for libraries."""
 
     def __init__(self, path=None):
-        path = path or os.environ.get("ARBITER_LIBRARY") or BUILT
-        self.calls = ctypes.CDLL(os.path.abspath(path))
+        path = path or os.environ.get("ARBITER_LIBRARY") or (BUILT if os.path.exists(BUILT) else SONAME)
+        self.calls = ctypes.CDLL(os.path.abspath(path) if "/" in path else path)
         for name in ("plan", "certify", "check", "check_text", "limiting", "name"):
             getattr(self.calls, f"arbiter_{name}").restype = U32
 

@@ -1,12 +1,15 @@
-"""Shared by the tools: scripts, the program, and the plan that it certifies.
+"""Shared by the tools: scripts, the program, the plan that it certifies, and what checks that.
 
-Nothing here is proved. What the tools say of a plan is read from its certified text, after `arbiter check` accepted it.
+Nothing here is proved. What the tools say of a plan is read from its certified text, after the proved check accepted it,
+and what limits the sum is what the C library or the program says.
 """
 import os
 import subprocess
 import sys
 import tempfile
 import threading
+
+import arbiter
 
 TOP = os.path.dirname(os.path.dirname(os.path.abspath(__file__)))
 WRAPPER, NATIVE = f"{TOP}/arbiter", f"{TOP}/crates/arbiter/out/arbiter"
@@ -23,6 +26,9 @@ def program_options(parser):
     """The options that all tools have: the program, and the host."""
     found = os.environ.get("ARBITER") or WRAPPER
     parser.add_argument("--program", default=found, metavar="PATH", help="the program to run (default: $ARBITER, else ./arbiter of this repository)")
+    parser.add_argument("--library", default=os.environ.get("ARBITER_LIBRARY"), metavar="PATH",
+                        help="the C library, libarbiter.so, that checks the plan and names what limits it (default: $ARBITER_LIBRARY, else the one that "
+                        "was built here where it is current, else one that the system finds); where none is found, and for `none`, the program does so")
     host_options(parser)
 
 
@@ -150,7 +156,8 @@ class Plan:
         self.processors, self.period, self.slice = int(head[2]), int(head[3]), int(head[4])
         self.capacity = self.processors * (self.period // self.slice)
         self.groups = [Group(row, path, line.split(" ")) for row, (path, line) in enumerate(zip(paths, certified[1:]))]
-        self.refused = []
+        # the lines of the script that were refused, and the groups that hold the sum down
+        self.refused, self.limiting = [], []
         for group in self.groups[1:]:
             self.groups[group.parent].children.append(group)
         for group in reversed(self.groups):
@@ -166,16 +173,76 @@ class Plan:
         """What a slice is, in thousandths of a CPU."""
         return f"{self.slice * 1000 / self.period:g}m"
 
-    def limiting(self):
-        """The groups that hold the sum down: the topmost ones whose limit is below their want."""
-        found, under = [], set()
-        for group in self.groups:
-            if group.parent in under:
-                under.add(group.row)
-            elif self.limit(group) is not None and self.limit(group) < group.want:
-                found.append(group)
-                under.add(group.row)
-        return found
+
+class ByLibrary:
+    """The C library's check, and what it names as limiting."""
+
+    # it needs no further line of a script
+    asked = ()
+
+    def __init__(self, library):
+        self.library = library
+
+    def refusal(self, certified):
+        """Why a certified text does not hold together, as the program says it; None where it does."""
+        try:
+            self.library.check_text(certified)
+        except arbiter.Refused as refused:
+            return f"{'error' if refused.row is None else 'refused'} {refused}"
+        return None
+
+    def limiting(self, plan, _):
+        """The groups that hold the sum down: their limits, and what is wanted outside them, are all that can be served."""
+        host = arbiter.Host(plan.processors, plan.period, plan.slice)
+        rows = [arbiter.Row(group.parent, group.weight, group.limit, group.demand) for group in plan.groups]
+        try:
+            groups, _ = self.library.limiting(host, rows)
+        except arbiter.Refused as refused:
+            raise ToolFault(f"what limits the sum: error {refused}") from refused
+        return [plan.groups[row] for row in groups]
+
+
+class ByProgram:
+    """The program's check, and the groups that `total` names."""
+
+    asked = (b"total",)
+
+    def __init__(self, program):
+        self.program = program
+
+    def refusal(self, certified):
+        ended = run_program(self.program, ["check"], certified)
+        verdict = ended.stdout.decode().strip()
+        if ended.returncode == 0 and verdict == "accepted":
+            return None
+        return verdict or ended.stderr.decode(errors="replace").strip()
+
+    def limiting(self, plan, said):
+        total = said[0]
+        if total[0].startswith("error "):
+            raise ToolFault(f"what limits the sum: {total[0]}")
+        by_path = {group.path: group for group in plan.groups}
+        return [by_path[line.split(" ", 2)[2]] for line in total if line.startswith("limit ")]
+
+
+def current_library():
+    """The C library that was built here; None where it is not current, as ./arbiter runs no stale program."""
+    asked = ". tests/lib.sh && of_library && is_current"
+    if not os.path.exists(arbiter.BUILT) or subprocess.run(["bash", "-c", asked], cwd=TOP, stdin=subprocess.DEVNULL, check=False).returncode != 0:
+        return None
+    return arbiter.BUILT
+
+
+def checker(options):
+    """What checks plans here: the C library where it is found, else the program."""
+    if options.library == "none":
+        return ByProgram(options.program)
+    try:
+        return ByLibrary(arbiter.Library(options.library or current_library() or arbiter.SONAME))
+    except (OSError, AttributeError) as error:
+        if options.library:
+            raise ToolFault(f"the C library: {error}") from error
+        return ByProgram(options.program)
 
 
 def cause(plan, group):
@@ -220,30 +287,29 @@ def is_throttled_elsewhere(group):
     return is_throttled(group) and group.gets < group.limit
 
 
-def checked_plan(program, words, lines):
-    """The plan after a script, certified by the program and accepted by its check."""
-    asked = [(number, line) for number, line in enumerate(lines, 1) if not prints_nothing(line)]
-    said = answers(program, words, [*(line for _, line in asked), b"plan", b"cert"])
-    planned, certified = said[-2], said[-1]
+def checked_plan(options, path):
+    """The plan after a script, certified by the program and accepted by the check, with what limits it."""
+    by = checker(options)
+    asked = [(number, line) for number, line in enumerate(script_lines(path), 1) if not prints_nothing(line)]
+    said = answers(options.program, host_words(options), [*(line for _, line in asked), b"plan", b"cert", *by.asked])
+    planned, certified, *more = said[len(asked):]
     if planned[0].startswith("error ") or certified[0].startswith("error "):
         raise ToolFault(f"no plan: {planned[0]}")
-    return plan_of(program, planned, certified, [
-        (number, line.decode(errors="replace"), answer[0])
-        for (number, line), answer in zip(asked, said) if answer[0].startswith("error ")
-    ])
+    plan = plan_of(by, planned, certified)
+    plan.refused = [(number, line.decode(errors="replace"), answer[0]) for (number, line), answer in zip(asked, said) if answer[0].startswith("error ")]
+    plan.limiting = by.limiting(plan, more)
+    return plan
 
 
-def plan_of(program, planned, certified, refused):
+def plan_of(by, planned, certified):
     """The plan of a certified text and of the answer to `plan` beside it, after the check accepted the text."""
-    ended = run_program(program, ["check"], "".join(f"{line}\n" for line in certified).encode())
-    verdict = ended.stdout.decode().strip()
-    if ended.returncode != 0 or verdict != "accepted":
-        raise ToolFault(f"the certified text of the plan was not accepted: {verdict or ended.stderr.decode(errors='replace').strip()}")
+    why = by.refusal("".join(f"{line}\n" for line in certified).encode())
+    if why is not None:
+        raise ToolFault(f"the certified text of the plan was not accepted: {why}")
     rows = [line.split(" ", 1) for line in planned]
     plan = Plan(certified, [path for _, path in rows])
     if len(rows) != len(certified) - 1 or any(int(row[0]) != group.gets for row, group in zip(rows, plan.groups)):
         raise ToolFault("`plan` and `cert` do not agree")
-    plan.refused = refused
     return plan
 
 
