@@ -6,5 +6,6 @@ pub mod Scan
 pub mod Stream
 pub mod Responder
 pub mod Session
+pub mod Runs
 pub mod Writes
 pub mod CheckText

@@ -1,11 +1,11 @@
 //! A whole script.
-ghost use Rattle.std.specs.Prelude.{◌≡◌, ◌≢◌, ◌||◌, ◌⊎◌, ◌<◌, ◌≤◌, ◌+◌, ◌-◌, ◌^◌, ℕ, List, min, length, true, false, OnOk, IfOk, IfErr, IsErrOf, vec_len};
+ghost use Rattle.std.specs.Prelude.{◌≡◌, ◌≢◌, ◌||◌, ◌<◌, ◌+◌, ◌-◌, ◌^◌, ℕ, List, min, length, true, false, OnOk, IfOk, IfErr, IsErrOf, vec_len};
 ghost use Rattle.std.specs.Io.KnownBytes.{Appends, Consumes, IsAtEnd, Keeps};
 ghost use Rattle.bw_commands.specs.State.{start};
-ghost use Rattle.bw_shell.specs.Lines.{lines_of, whole_lines_of};
 ghost use Rattle.bw_shell.specs.Scan.{Scan, TakesBytes};
 ghost use Rattle.bw_shell.specs.Session.{scan_of};
-ghost use Rattle.bw_shell.specs.Stream.{AppendsFront, Transcribes, TranscribesFront};
+ghost use Rattle.bw_shell.specs.Runs.{Runs};
+ghost use Rattle.bw_shell.specs.Stream.{AppendsFront};
 ghost use Rattle.bw_shell.specs.Watched.{inner_of, has_failed, has_stalled, read_calls, is_flushed, IsFresh, HasNoFault};
 
 use crate::session::Session;
@@ -84,6 +84,9 @@ fn read_some<H: Threads + Wait + Sync, G: Gate, R: Read, W: Write>(
 
 /// Reads a script to its end, and writes the answer to each line; the workers of each `period` draw under the gate. All
 /// room is taken before the first read.
+///
+/// An `Err` is `Read` after a read that failed or `READ_CALLS` reads, `Write` after a write or flush that failed or a
+/// write that took no bytes, and `Memory` where nothing was read.
 pub fn run_gated<H: AllocGlobal + Threads + Wait + Sync, G: Gate, R: Read, W: Write>(
     rt: &H,
     reader: &mut Watched<R>,
@@ -93,39 +96,7 @@ pub fn run_gated<H: AllocGlobal + Threads + Wait + Sync, G: Gate, R: Read, W: Wr
 ) -> Result<(), RunFault>
     requires reader { IsFresh reader.old }
     requires writer { IsFresh writer.old }
-
-    // All that the reader held was read, and what was written is the transcript of its lines.
-    ensures ok { OnOk result (Transcribes (start shape (G.used gate.now)) lines_of
-        (R.remaining (inner_of reader.old)) (R.remaining (inner_of reader.new))
-        (W.contents (inner_of writer.old)) (W.contents (inner_of writer.new))) }
-    ensures end { OnOk result (IsAtEnd (R.remaining (inner_of reader.new))) }
-    ensures reader_quiet { OnOk result (HasNoFault reader.new) }
-    ensures writer_quiet { OnOk result (HasNoFault writer.new) }
-
-    // There are so many read calls at most, and no answer waits in the writer at the end or at a read that fails.
-    ensures calls { read_calls reader.new ≤ READ_CALLS }
-    ensures flushed { OnOk result (is_flushed writer.new ≡ true) }
-    ensures read_flushed { IsErrOf result RunFault.Read → is_flushed writer.new ≡ true }
-
-    // After a read fault it is the transcript of the whole lines read.
-    ensures read { IsErrOf result RunFault.Read → Transcribes (start shape (G.used gate.now)) whole_lines_of
-        (R.remaining (inner_of reader.old)) (R.remaining (inner_of reader.new))
-        (W.contents (inner_of writer.old)) (W.contents (inner_of writer.new)) }
-    ensures read_when { IsErrOf result RunFault.Read → (has_failed reader.new ≡ true) ⊎ (read_calls reader.new ≡ READ_CALLS) }
-
-    // After a write fault it is a front of that, or at the end a front of the transcript of all lines.
-    ensures write { IsErrOf result RunFault.Write →
-        (TranscribesFront (start shape (G.used gate.now)) whole_lines_of
-        (R.remaining (inner_of reader.old)) (R.remaining (inner_of reader.new))
-        (W.contents (inner_of writer.old)) (W.contents (inner_of writer.new)))
-        ⊎ ((TranscribesFront (start shape (G.used gate.now)) lines_of
-        (R.remaining (inner_of reader.old)) (R.remaining (inner_of reader.new))
-        (W.contents (inner_of writer.old)) (W.contents (inner_of writer.new)))
-        × IsAtEnd (R.remaining (inner_of reader.new))) }
-    ensures write_when { IsErrOf result RunFault.Write → (has_failed writer.new || has_stalled writer.new) ≡ true }
-
-    // Memory is wanted before the first read alone.
-    ensures memory { IsErrOf result RunFault.Memory → (reader.new ≡ reader.old) × (writer.new ≡ writer.old) }
+    ensures { Runs R.remaining W.contents (start shape (G.used gate.now)) reader.old reader.new writer.old writer.new result }
 {
     let Ok(mut session) = Session::new(rt.alloc(), shape, gate) else {
         return Err(RunFault::Memory);
@@ -144,7 +115,7 @@ pub fn run_gated<H: AllocGlobal + Threads + Wait + Sync, G: Gate, R: Read, W: Wr
 }
 
 /// Reads a script to its end, and writes the answer to each line; every leaf uses what its workers draw. All room is
-/// taken before the first read.
+/// taken before the first read. An `Err` is that of `run_gated`.
 pub fn run<H: AllocGlobal + Threads + Wait + Sync, R: Read, W: Write>(
     rt: &H,
     reader: &mut Watched<R>,
@@ -153,39 +124,7 @@ pub fn run<H: AllocGlobal + Threads + Wait + Sync, R: Read, W: Write>(
 ) -> Result<(), RunFault>
     requires reader { IsFresh reader.old }
     requires writer { IsFresh writer.old }
-
-    // All that the reader held was read, and what was written is the transcript of its lines.
-    ensures ok { OnOk result (Transcribes (start shape (λ leaf. true)) lines_of
-        (R.remaining (inner_of reader.old)) (R.remaining (inner_of reader.new))
-        (W.contents (inner_of writer.old)) (W.contents (inner_of writer.new))) }
-    ensures end { OnOk result (IsAtEnd (R.remaining (inner_of reader.new))) }
-    ensures reader_quiet { OnOk result (HasNoFault reader.new) }
-    ensures writer_quiet { OnOk result (HasNoFault writer.new) }
-
-    // There are so many read calls at most, and no answer waits in the writer at the end or at a read that fails.
-    ensures calls { read_calls reader.new ≤ READ_CALLS }
-    ensures flushed { OnOk result (is_flushed writer.new ≡ true) }
-    ensures read_flushed { IsErrOf result RunFault.Read → is_flushed writer.new ≡ true }
-
-    // After a read fault it is the transcript of the whole lines read.
-    ensures read { IsErrOf result RunFault.Read → Transcribes (start shape (λ leaf. true)) whole_lines_of
-        (R.remaining (inner_of reader.old)) (R.remaining (inner_of reader.new))
-        (W.contents (inner_of writer.old)) (W.contents (inner_of writer.new)) }
-    ensures read_when { IsErrOf result RunFault.Read → (has_failed reader.new ≡ true) ⊎ (read_calls reader.new ≡ READ_CALLS) }
-
-    // After a write fault it is a front of that, or at the end a front of the transcript of all lines.
-    ensures write { IsErrOf result RunFault.Write →
-        (TranscribesFront (start shape (λ leaf. true)) whole_lines_of
-        (R.remaining (inner_of reader.old)) (R.remaining (inner_of reader.new))
-        (W.contents (inner_of writer.old)) (W.contents (inner_of writer.new)))
-        ⊎ ((TranscribesFront (start shape (λ leaf. true)) lines_of
-        (R.remaining (inner_of reader.old)) (R.remaining (inner_of reader.new))
-        (W.contents (inner_of writer.old)) (W.contents (inner_of writer.new)))
-        × IsAtEnd (R.remaining (inner_of reader.new))) }
-    ensures write_when { IsErrOf result RunFault.Write → (has_failed writer.new || has_stalled writer.new) ≡ true }
-
-    // Memory is wanted before the first read alone.
-    ensures memory { IsErrOf result RunFault.Memory → (reader.new ≡ reader.old) × (writer.new ≡ writer.old) }
+    ensures { Runs R.remaining W.contents (start shape (λ leaf. true)) reader.old reader.new writer.old writer.new result }
 {
     run_gated(rt, reader, writer, shape, &NoGate)
 }

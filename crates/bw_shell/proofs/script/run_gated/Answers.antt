@@ -1,5 +1,6 @@
-use Rattle.std.proofs.Common.{[], sym, subst, inl, inr, arith, Bool}
-use Rattle.bw_shell.specs.declared.script.RunFault.TheVariants.{Read, Write}
+use Rattle.std.proofs.Common.{◌≡◌, ◌∙◌, [], sym, subst, inl, inr, arith, Bool, Result, Ok, Err, IfErr, IsErrOf}
+use Rattle.bw_shell.specs.declared.script.RunFault.{RunFault}
+use Rattle.bw_shell.specs.declared.script.RunFault.TheVariants.{Read, Write, Memory}
 use Rattle.bw_commands.specs.State.{start}
 use Rattle.bw_shell.specs.Scan.{TakesBytes, begin}
 use Rattle.bw_shell.proofs.Known.{Appends-nil, Consumes-nil, OnOk-map, moves_err}
@@ -31,30 +32,70 @@ loop-turn-preserved g c = record {
   calls = omega (arith, c.in-Ok-true.ensures.reads);
 }
 
-pub returns-in-Ok-false-clause-ok : goal.returns-in-Ok-false-clause-ok
-returns-in-Ok-false-clause-ok g c =
+-- a call that blames the writer alone blames nothing else
+only_write : {T : Type 0} (r : Result T RunFault) (f : RunFault) → IfErr r (λ g. g ≡ Write) → IsErrOf r f → f ≡ Write
+only_write (Ok v) f w h = absurd (cc)
+only_write (Err g) f w h = let e : g ≡ f = cc in sym e ∙ w
+
+pub returns-in-Ok-false : goal.returns-in-Ok-false
+returns-in-Ok-false g c =
+    let s = start c.args.shape (g.G.Gate.used c.args.gate.now) in
     let taken = takes_more _ _ _ _ _ _ _ _ _ c.loop-turn.invariant.taken c.in-Ok-false.ensures.ok in
-    OnOk-map c.finish.result (λ f. all_of_takes (start c.args.shape (g.G.Gate.used c.args.gate.now)) _ _ _ _ _ _ taken f) c.finish.ensures.writes.ok
+    let done = c.finish.ensures.flushed in
+    let writes = c.finish.ensures.writes in
+    record {
+      ok = OnOk-map c.finish.result (λ f. all_of_takes s _ _ _ _ _ _ taken f) writes.ok;
+      end = OnOk-map c.finish.result (λ f. c.in-Ok-false.ensures.end c.in-Ok-false.field-0-test) done;
+      reader_quiet = OnOk-map c.finish.result (λ f. c.in-Ok-false.ensures.reader_quiet) done;
+      writer_quiet = writes.quiet;
+      calls = omega (arith, c.in-Ok-false.ensures.reads);
+      flushed = done;
+      read_flushed = λ h. absurd (let bad : Read ≡ Write = only_write c.finish.result Read writes.fault h in cc);
+      read = λ h. absurd (let bad : Read ≡ Write = only_write c.finish.result Read writes.fault h in cc);
+      read_when = λ h. absurd (let bad : Read ≡ Write = only_write c.finish.result Read writes.fault h in cc);
+      write = λ h. inr (front_of_all s _ _ _ _ _ _ taken (rw h at writes.err), c.in-Ok-false.ensures.end c.in-Ok-false.field-0-test);
+      write_when = λ h. rw h at writes.blame;
+      memory = λ h. absurd (let bad : Memory ≡ Write = only_write c.finish.result Memory writes.fault h in cc);
+    }
 
-pub returns-in-Ok-false-clause-write : goal.returns-in-Ok-false-clause-write
-returns-in-Ok-false-clause-write g c =
-    let taken = takes_more _ _ _ _ _ _ _ _ _ c.loop-turn.invariant.taken c.in-Ok-false.ensures.ok in
-    λ h. inr (
-      front_of_all (start c.args.shape (g.G.Gate.used c.args.gate.now)) _ _ _ _ _ _ taken (rw h at c.finish.ensures.writes.err),
-      c.in-Ok-false.ensures.end c.in-Ok-false.field-0-test,
-    )
+pub returns-in-Err : goal.returns-in-Err
+returns-in-Err g c =
+    let s = start c.args.shape (g.G.Gate.used c.args.gate.now) in
+    record {
+      ok = tt;
+      end = tt;
+      reader_quiet = tt;
+      writer_quiet = tt;
+      calls = omega (arith, c.in-Err.ensures.reads);
+      flushed = tt;
+      read_flushed = λ h.
+          rw (c.in-Err.ensures.read_writes (moves_err {T = Unit {0}} {U = Bool} c.in-Err.fault Read h)) c.loop-turn.invariant.writer_flushed;
+      read = λ h.
+          let e = moves_err {T = Unit {0}} {U = Bool} c.in-Err.fault Read h in
+          rw (c.in-Err.ensures.read_writes e)
+          (whole_of_takes s _ _ _ _ _ (takes_kept _ _ _ _ _ _ _ c.loop-turn.invariant.taken (c.in-Err.ensures.read e)));
+      read_when = λ h. inl (c.in-Err.ensures.read_when (moves_err {T = Unit {0}} {U = Bool} c.in-Err.fault Read h));
+      write = λ h.
+          inl (front_of_whole s _ _ _ _ _ _ _ c.loop-turn.invariant.taken
+          (c.in-Err.ensures.write (moves_err {T = Unit {0}} {U = Bool} c.in-Err.fault Write h)));
+      write_when = λ h. c.in-Err.ensures.write_when (moves_err {T = Unit {0}} {U = Bool} c.in-Err.fault Write h);
+      memory = λ h. let e : c.in-Err.fault ≡ Memory = cc in absurd (c.in-Err.ensures.memory e);
+    }
 
-pub returns-in-Err-clause-read : goal.returns-in-Err-clause-read
-returns-in-Err-clause-read g c = λ h.
-    let e = moves_err {T = Unit {0}} {U = Bool} c.in-Err.fault Read h in
-    rw (c.in-Err.ensures.read_writes e)
-    (whole_of_takes (start c.args.shape (g.G.Gate.used c.args.gate.now)) _ _ _ _ _
-    (takes_kept _ _ _ _ _ _ _ c.loop-turn.invariant.taken (c.in-Err.ensures.read e)))
-
-pub returns-in-Err-clause-write : goal.returns-in-Err-clause-write
-returns-in-Err-clause-write g c = λ h.
-    inl (front_of_whole (start c.args.shape (g.G.Gate.used c.args.gate.now)) _ _ _ _ _ _ _ c.loop-turn.invariant.taken
-    (c.in-Err.ensures.write (moves_err {T = Unit {0}} {U = Bool} c.in-Err.fault Write h)))
-
-pub returns-clause-read : goal.returns-clause-read
-returns-clause-read g c = λ h. whole_of_takes (start c.args.shape (g.G.Gate.used c.args.gate.now)) _ _ _ _ _ c.loop-turn.invariant.taken
+pub returns : goal.returns
+returns g c =
+    let s = start c.args.shape (g.G.Gate.used c.args.gate.now) in
+    record {
+      ok = tt;
+      end = tt;
+      reader_quiet = tt;
+      writer_quiet = tt;
+      calls = omega (arith, c.loop-turn.invariant.calls);
+      flushed = tt;
+      read_flushed = λ h. c.loop-turn.invariant.writer_flushed;
+      read = λ h. whole_of_takes s _ _ _ _ _ c.loop-turn.invariant.taken;
+      read_when = λ h. inr (omega (arith, c.loop-turn.invariant.calls));
+      write = λ h. absurd (let bad : Read ≡ Write = cc in cc);
+      write_when = λ h. absurd (let bad : Read ≡ Write = cc in cc);
+      memory = λ h. absurd (let bad : Read ≡ Memory = cc in cc);
+    }
