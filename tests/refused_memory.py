@@ -145,6 +145,39 @@ def plan_in_pieces_swept(library):
     return None
 
 
+# Every command but the one that starts threads, and lines that take no memory: changes, and refusals of each kind of line.
+WITHOUT_PERIODS = b"".join(line for line in EVERY_COMMAND if line != b"period\n")
+NO_MEMORY_LINES = b"""write pod cpu.weight 50
+write pod cpu.max 40000
+write pod cpu.max.burst 1000
+write pod cpu.max max
+demand pod/x 3
+demand job 0
+rmdir job
+rmdir job
+demand none 1
+demand pod 1
+write pod cpu.weight 0
+write pod cpu.stat 1
+mkdir pod
+mkdir none/x
+read none cpu.max
+read pod cpu.idle
+frob
+demand pod/x x
+"""
+
+
+def takes_none(library):
+    """A script asks for memory as often with these lines at its end as without them."""
+    words = ["run", "--processors", "4"]
+    counts = {refused_run(library, words, given, TELL_ALL=1)[1].count(b"m") for given in (WITHOUT_PERIODS, WITHOUT_PERIODS + NO_MEMORY_LINES)}
+    more = refused_run(library, words, WITHOUT_PERIODS + b"mkdir more\n", TELL_ALL=1)[1].count(b"m")
+    if len(counts) > 1 or more <= max(counts):
+        return f"{sorted(counts)} allocations, {more} with a mkdir more"
+    return None
+
+
 def answer_swept(name, job, library, words, given, ended):
     """A run that writes one answer and ends with this status, each of its allocations refused."""
     answer = ran(words, given)
@@ -165,6 +198,7 @@ def main():
             ("run, 64 processors", ["run", "--processors", "64"], script("counters.script")),
         ]:
             cases.case(name, run_swept, name, library, words, lines)
+        cases.case("lines that take no memory", takes_none, library)
         cases.case("a plan in pieces", plan_in_pieces_swept, library)
         pod = CERTIFIED["a pod and a job"]
         texts = [(f"check, {name}", text, 0) for name, text in CERTIFIED.items()]

@@ -13,7 +13,8 @@ import subprocess
 import sys
 import tempfile
 
-from cases import CERTIFIED, PROGRAM, READ_FAULT, SECONDS, TOP, WRITE_FAULT, Cases, each, ran, script, transcript
+from cases import (CERTIFIED, PROGRAM, READ_FAULT, SECONDS, TOP, WRITE_FAULT, Cases, each, ran, refused_run, refusing_library, script,
+                   transcript)
 
 SCRIPT = b"".join(script("counters.script"))
 TWO_CERTIFIED = CERTIFIED["two groups"]
@@ -165,6 +166,15 @@ def writer_would_wait(words, given):
     return differs((status, b"", err), write_failed(WOULD_WAIT))
 
 
+def failed_once(library, words, given, name, nth, wanted):
+    """A read or a write that fails once is not made again: it ends the run, though the stream would go on."""
+    (status, out, err), told = refused_run(library, words, given, **{name: nth})
+    fault = READ_FAULT if name == "REFUSE_READ" else WRITE_FAULT
+    if (status, out) != (1, wanted) or not err.startswith(fault) or told != b"f":
+        return f"status {status}, {out[-200:]!r}, {err!r}, calls {told!r}"
+    return None
+
+
 def opened(path, flags, words, wanted):
     """The program with a file as standard input."""
     file = os.open(path, flags)
@@ -210,6 +220,12 @@ def main():
     cases.case("a refused option, closed error", closed, ["run", "--frob"], "2>&-", b"", (2, b"", b""))
     cases.case("a refused host, full error", closed, ["run", "--processors", "0"], "2>/dev/full", b"", (2, b"", b""))
     cases.case("no answers, closed output", closed, ["run"], ">&-", b"# nothing\n\n", (0, b"", b""))
+    with tempfile.TemporaryDirectory() as folder:
+        library = refusing_library(folder)
+        answers = transcript(["run"], [SCRIPT])
+        for words, given, read in [(["run"], SCRIPT, answers), (["check"], TWO_CERTIFIED, b"")]:
+            for name, nth, wanted in [("REFUSE_READ", 1, b""), ("REFUSE_READ", 2, read), ("REFUSE_WRITE", 1, b"")]:
+                cases.case(f"{words[0]}, {name} {nth}", failed_once, library, words, given, name, nth, wanted)
     cases.case("run, a reader that goes away", reader_goes_away)
     cases.case("run, a reader that fails", reader_fails)
     cases.case("check, a reader that fails", check_reader_fails)

@@ -117,28 +117,48 @@ def full_line(file, byte, wanted):
     return written([], b"mkdir a\n" + head + byte * (LINE_BYTES - len(head)) + b"\n", b"ok\n" + wanted)
 
 
-# Large trees on 64 processors of 1000 slices: groups below the root, whether each has one child, and how many of them get
-# how much, the others one less.
+# Large trees on 64 processors of 1000 slices: groups below the root, whether each has one child, what each leaf wants, and how
+# many of them get how much, the others one less. The greatest demands add up to 16383000000; an idle tree gets nothing.
 LARGE_HOST = ["--processors", "64", "--period", "1000000", "--slice", "1000"]
-LARGE = [(4095, False, 2575, 16), (16383, False, 14851, 4), (2047, True, 543, 32), (8191, True, 6663, 8)]
+LARGE = [(4095, False, 20, 2575, 16), (16383, False, 20, 14851, 4), (2047, True, 40, 543, 32), (8191, True, 40, 6663, 8),
+         (16383, False, 1000000, 14851, 4), (16383, False, 0, 16383, 0), (8191, True, 0, 8191, 0)]
 
 
-def large_tree(groups, in_pairs, first, most):
-    """The plan, and the certified text of the plan is accepted."""
+def large_tree(groups, in_pairs, demand, first, most):
+    """The plan; the certified text of the plan is accepted; and with a slice more for the last group it is refused at that
+    group's parent, or where the group is idle at the group."""
     names = [f"g{number}" for number in range(groups)]
     leaves = [f"{name}/c" for name in names] if in_pairs else names
     below = leaves if in_pairs else []
-    given = "".join([*(f"mkdir {name}\n" for name in names + below), *(f"demand {leaf} {40 if in_pairs else 20}\n" for leaf in leaves), "plan\n"])
+    given = "".join([*(f"mkdir {name}\n" for name in names + below), *(f"demand {leaf} {demand}\n" for leaf in leaves), "plan\n"])
     amounts = [most if place < first else most - 1 for place in range(groups)]
     plan = "".join(f"{amount} {name}\n" for paths in ([names, below] if in_pairs else [names]) for name, amount in zip(paths, amounts))
     answers = "ok\n" * given.count("\n")
-    wanted = (answers[3:] + "64000 .\n" + plan).encode()
+    wanted = (answers[3:] + f"{sum(amounts)} .\n" + plan).encode()
     wrong = written(LARGE_HOST, given.encode(), wanted)
     if wrong:
         return wrong
     text = ran(["run", *LARGE_HOST], given.replace("plan\n", "cert\n").encode())[1].replace(b"ok\n", b"")
     answer = ran(["check"], text)
-    return None if answer == (0, b"accepted\n", b"") else f"{answer}"
+    if answer != (0, b"accepted\n", b""):
+        return f"{answer}"
+    lines = text.split(b"\n")
+    words = lines[-2].split(b" ")
+    words[4] = b"%d" % (int(words[4]) + 1)
+    lines[-2] = b" ".join(words)
+    if demand == 0:
+        refused = f"refused 52 OverDemand {len(lines) - 3}"
+    else:
+        refused = f"refused 53 SumDiffers {groups if in_pairs else 0}"
+    return judged(b"\n".join(lines), refused)
+
+
+def limited_tree(groups):
+    """Each group's limit is below what it wants, and together they leave a part of the capacity: each is a limiting group."""
+    names = [f"g{number}" for number in range(groups)]
+    given = "".join([*(f"mkdir {name}\nwrite {name} cpu.max 2000 1000000\ndemand {name} 5\n" for name in names), "total\n"])
+    wanted = "ok\n" * (3 * groups) + f"total {2 * groups}\n" + "".join(f"limit 2 {name}\n" for name in names) + "demand 0\n"
+    return written(LARGE_HOST, given.encode(), wanted.encode())
 
 
 def chain(depth, words):
@@ -326,6 +346,8 @@ def main():
         cases.case(f"a full line, {each[:2]}", full_line, *each)
     for each in LARGE:
         cases.case(f"large tree {each}", large_tree, *each)
+    for groups in (2, 16383):
+        cases.case(f"{groups} limiting groups", limited_tree, groups)
     for depth in (32, 64):
         for words in ([], LARGE_HOST):
             cases.case(f"chain of {depth} on {words}", chain, depth, words)
