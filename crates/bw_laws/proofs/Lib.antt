@@ -1,3 +1,5 @@
 -- The files of lemmas.
+mod Bounded
 mod CertAccepted
 mod GivenIds
+mod GivenOnce

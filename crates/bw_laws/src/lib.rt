@@ -1,11 +1,17 @@
 //! Laws that join the layers, each the contract of a function that does nothing.
 #![tactic(auto)]
 
+mod best_split;
+mod bounded;
 mod counted;
+mod given;
 mod joined;
 mod numbers;
 
+pub use best_split::{level_shows_best, marks_agree};
+pub use bounded::bounds_cover_mosts;
 pub use counted::new_groups_count_nothing;
+pub use given::ids_are_given_once;
 pub use joined::cert_is_accepted;
 pub use numbers::{
     group_numbers, host_numbers, lock_numbers, script_numbers, split_numbers, tree_numbers,

@@ -3,10 +3,10 @@ pub use Rattle.bw_model.proofs.Basics.{sum_below, sum-cons, sum_below-front, sum
 pub use Rattle.bw_model.proofs.Basics.{sum_below-change, sum_below-term, and_no, passed, goes_on, no_parent, cancel_le, strong, from_the_last, list_any-range}
 pub use Rattle.bw_model.proofs.Basics.{some_in_range, any-filter, same_map, range_more, listed, zeros, sum_zeros, sum_none, get_or_within, bytes_eq-true}
 pub use Rattle.bw_model.proofs.Basics.{bytes_eq-self, inside, equal_or_not}
-pub use Rattle.bw_model.proofs.Exchange.{level-IsBestSplit}
+pub use Rattle.bw_model.proofs.Exchange.{level-IsBestSplit, IsBestSplit-unique}
 pub use Rattle.bw_model.proofs.Under.{parent_lt, path_up-top, path_up-step, is_under-top, is_under-step, is_under-self}
 pub use Rattle.bw_model.proofs.Totals.{parent_from_is_child, is_child_from_parent, is_child_no, sum_by-children, leaf_no_child, inner_has_child, total-inner}
-pub use Rattle.bw_model.proofs.Bounds.{total-le_bound, bounds-unique}
+pub use Rattle.bw_model.proofs.Bounds.{total-le_bound, bounds-unique, children-le}
 pub use Rattle.bw_model.proofs.Places.{child_at}
 pub use Rattle.bw_model.proofs.Optimum.{get_or-map, IsNoWorse-same, no_children, certified-IsPlan}
 pub use Rattle.bw_model.proofs.Unique.{listed_child, IsPlan-unique}

@@ -1,0 +1,10 @@
+-- `best_split::level_shows_best`: the goals that the search leaves open.
+use Rattle.bw_model.proofs.CallerLemmas.{level-IsBestSplit, IsBestSplit-unique}
+use Rattle.bw_laws.proofs.best_split.level_shows_best.Goals as goal
+
+pub returns-clause-level : goal.returns-clause-level
+returns-clause-level c = λ level weights most parts amount den_pos same positive at_level split.
+    level-IsBestSplit level weights most parts den_pos same positive at_level amount split
+
+pub returns-clause-one : goal.returns-clause-one
+returns-clause-one c = IsBestSplit-unique

@@ -1,0 +1,6 @@
+-- `best_split::marks_agree`: the goals that the search leaves open.
+use Rattle.bw_check.proofs.CallerLemmas.{is_lt-IsBelow, is_le-IsAtMost}
+use Rattle.bw_laws.proofs.best_split.marks_agree.Goals as goal
+
+pub returns : goal.returns
+returns c = record { below = is_lt-IsBelow; at_most = is_le-IsAtMost }

@@ -1,0 +1,6 @@
+-- `bounded::bounds_cover_mosts`: the goals that the search leaves open.
+use Rattle.bw_laws.proofs.Bounded.{bounds_cover}
+use Rattle.bw_laws.proofs.bounded.bounds_cover_mosts.Goals as goal
+
+pub returns : goal.returns
+returns c = bounds_cover

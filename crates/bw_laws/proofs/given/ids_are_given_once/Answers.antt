@@ -1,0 +1,6 @@
+-- `given::ids_are_given_once`: the goals that the search leaves open.
+use Rattle.bw_laws.proofs.GivenOnce.{given_once}
+use Rattle.bw_laws.proofs.given.ids_are_given_once.Goals as goal
+
+pub returns : goal.returns
+returns c = given_once
