@@ -5,6 +5,8 @@ The library is the one that ./build --install DIR or ./test made. The first word
 ./build made. It ends with 'N passed, M failed'; what the machine cannot try is told as left out, and is in neither number.
 """
 import ctypes
+import dataclasses
+import glob
 import os
 import random
 import re
@@ -16,12 +18,16 @@ import tempfile
 
 import documents
 import native
+from worked import scripts_in
 
 sys.path.insert(0, f"{native.TOP}/tools")
 import arbiter  # noqa: E402
 
 SECONDS = 120
 SEED = 20260730
+# what answers_in reads
+ASKED = "plan\ntotal\ncert\n"
+ASKING = {line.encode() for line in ASKED.split("\n") if line}
 HOST_OF_ONE = arbiter.Host(1, 100000, 5000)
 LEVEL = re.compile(r"(\d+)/(\d+)@(\d+)\Z")
 # the numbers that share/arbiter.h lists, with the names of docs/NUMBERS.md
@@ -79,7 +85,7 @@ def number_of(call, *words):
 
 
 def script_of(host, rows):
-    """A script that makes these rows, in their order, and asks for all that is compared."""
+    """A script that makes these rows, in their order, and asks for what is compared."""
     paths, lines = ["."], []
     for g, row in enumerate(rows[1:], 1):
         above = paths[row.parent]
@@ -88,45 +94,70 @@ def script_of(host, rows):
         if row.limit is not None:
             lines.append(f"write {paths[g]} cpu.max {row.limit * host.slice_us} {host.period_us}")
     lines += [f"demand {paths[g]} {row.demand}" for g, row in enumerate(rows) if row.demand]
-    return "\n".join(lines + ["plan", "total", "cert"]) + "\n", paths
+    return "".join(f"{line}\n" for line in lines) + ASKED
+
+
+@dataclasses.dataclass
+class Answers:
+    """What the program says of one tree: the certified text, the limiting rows, the demands outside them, the total."""
+
+    text: str
+    limiting: list
+    rest: int
+    total: int
+
+
+def answers_in(lines):
+    """What `plan`, `total` and `cert` answer, at the front of these lines, and how many lines that is."""
+    count = next(at for at, line in enumerate(lines) if line.startswith("total "))
+    head = next(at for at, line in enumerate(lines) if line.startswith("bw 1 "))
+    end = head + 1 + count
+    amounts, paths = zip(*[line.split(" ") for line in lines[:count]])
+    row_of = {path: g for g, path in enumerate(paths)}
+    limits = [line.split(" ") for line in lines[count + 1:head - 1]]
+    total, rest = int(lines[count].split(" ")[1]), int(lines[head - 1].split(" ")[1])
+    same([words[0] for words in limits] + [lines[head - 1].split(" ")[0]], ["limit"] * len(limits) + ["demand"], "the lines below a total")
+    same(sum(int(words[1]) for words in limits) + rest, total, "the limits and the rest")
+    same([line.split(" ")[4] for line in lines[head + 1:end]], list(amounts), "the amounts of plan and cert")
+    return Answers("".join(f"{line}\n" for line in lines[head:end]), [row_of[words[2]] for words in limits], rest, total), end
 
 
 def by_program(program, host, rows):
-    """The program's amounts, limiting rows with the rest, and certified text."""
-    script, paths = script_of(host, rows)
+    """What the program says of these rows."""
     words = [program, "run", "--processors", str(host.processors), "--period", str(host.period_us), "--slice", str(host.slice_us)]
-    ran = native.run(words, script.encode(), SECONDS)
+    ran = native.run(words, script_of(host, rows).encode(), SECONDS)
     out = ran.stdout.decode()
     if ran.returncode or "error" in out:
         raise AssertionError(f"the program: {ran.returncode} {ran.stderr[:100]} {[each for each in out.splitlines() if 'error' in each][:1]}")
-    lines = [line for line in out.splitlines() if line != "ok"]
-    total = next(at for at, line in enumerate(lines) if line.startswith("total "))
-    head = next(at for at, line in enumerate(lines) if line.startswith("bw 1 "))
-    text = "".join(f"{line}\n" for line in lines[head:head + 1 + len(rows)])
-    limits = [line.split(" ") for line in lines[total + 1:head] if line.startswith("limit ")]
-    rest = [int(line.split(" ")[1]) for line in lines[total + 1:head] if line.startswith("demand ")]
-    limiting = [paths.index(next(word for word in words[1:] if word in set(paths))) for words in limits]
-    return text, limiting, rest[0], int(lines[total].split(" ")[1])
+    return answers_in([line for line in out.splitlines() if line != "ok"])[0]
 
 
 def certified_in(text):
-    """The amounts and the certificate of a certified text."""
-    words = [line.split(" ") for line in text.splitlines()[1:]]
+    """The host, the rows, the amounts and the certificate of a certified text."""
+    words = [line.split(" ") for line in text.splitlines()]
+    host, words = arbiter.Host(*map(int, words[0][2:5])), words[1:]
     levels = [None if each[6] == "-" else tuple(int(n) for n in LEVEL.match(each[6]).groups()) for each in words]
-    return [int(each[4]) for each in words], arbiter.Certificate([each[5] == "1" for each in words], levels)
+    rows = [arbiter.Row(None if each[0] == "-" else int(each[0]), int(each[1]), None if each[2] == "max" else int(each[2]), int(each[3])) for each in words]
+    return host, rows, [int(each[4]) for each in words], arbiter.Certificate([each[5] == "1" for each in words], levels)
 
 
-def agree(library, program, host, rows, what):
-    """All calls on one tree, against the program."""
-    text, limiting, rest, total = by_program(program, host, rows)
-    amounts, certificate = certified_in(text)
+def agree(library, found, what):
+    """All calls on the tree that the program tells, against what it says of that tree."""
+    host, rows, amounts, certificate = certified_in(found.text)
     same(library.plan(host, rows), amounts, f"{what}: plan")
     same(library.certify(host, rows), (amounts, certificate), f"{what}: certify")
-    same(library.limiting(host, rows), (limiting, rest), f"{what}: limiting")
-    same(amounts[0], total, f"{what}: total")
+    same(library.limiting(host, rows), (found.limiting, found.rest), f"{what}: limiting")
+    same(amounts[0], found.total, f"{what}: total")
     library.check(host, rows, amounts, certificate)
-    library.check_text(text.encode())
-    return text
+    library.check_text(found.text.encode())
+
+
+def agree_on(library, program, host, rows, what):
+    """The same on rows that are given, which the program has to tell as they are."""
+    found = by_program(program, host, rows)
+    same(certified_in(found.text)[:2], (host, rows), f"{what}: host and rows")
+    agree(library, found, what)
+    return found
 
 
 def random_tree(random_numbers):
@@ -147,7 +178,7 @@ def random_trees(library, program):
     numbers = random.Random(SEED)
     for turn in range(60):
         host, rows = random_tree(numbers)
-        agree(library, program, host, rows, f"tree {turn}")
+        agree_on(library, program, host, rows, f"tree {turn}")
 
 
 def worked(library, program):
@@ -155,7 +186,31 @@ def worked(library, program):
         same(library.plan(host, rows_of(tuples)), amounts, what)
         # a script has no limit of 0 slices that is no quota of less than 1 ms
         if all(limit != 0 for _, _, limit, _ in tuples):
-            agree(library, program, host, rows_of(tuples), what)
+            agree_on(library, program, host, rows_of(tuples), what)
+
+
+def worked_rows(library, program):
+    """The tree that stands at each line of tests/worked that asks for a plan, a total or a certificate, as `cert` tells it
+    there: with the limits of that period, where a group has a burst or a period of its own."""
+    count = 0
+    for path in sorted(glob.glob(f"{native.TOP}/tests/worked/*.txt")):
+        for script in scripts_in(path):
+            given = b"".join(line + b"\n" + (ASKED.encode() if line in ASKING else b"") for line, _ in script.lines)
+            what = f"{os.path.basename(path)}, {script.name}"
+            ran = native.run([program, "run", *script.words], given, SECONDS)
+            same((ran.returncode, ran.stderr), (0, b""), what)
+            lines = ran.stdout.decode().split("\n")
+            for line, answer in script.lines:
+                wanted = answer.decode().split("\n")[:-1]
+                same(lines[:len(wanted)], wanted, f"{what}, {line}")
+                del lines[:len(wanted)]
+                if line in ASKING:
+                    found, length = answers_in(lines)
+                    agree(library, found, f"{what}, {line}")
+                    del lines[:length]
+                    count += 1
+            same(lines, [""], f"{what}: what is left")
+    same(count > 100, True, "lines that ask")
 
 
 def refused(library, _):
@@ -221,7 +276,7 @@ def wrong_claims(library, program):
     host, tuples, amounts = WORKED["a pod and a job"]
     rows = rows_of(tuples)
     _, good = library.certify(host, rows)
-    text = by_program(program, host, rows)[0]
+    text = by_program(program, host, rows).text
     flags, levels = good.flags, good.levels
     changed = [
         (50, 0, amounts[:-1], flags, levels), (50, 0, amounts, flags + [False], levels), (50, 0, amounts, flags, levels[:-1]),
@@ -246,7 +301,7 @@ def wrong_claims(library, program):
 def texts(library, program):
     """Texts cut and changed at each byte, as the program answers them."""
     host, tuples, _ = WORKED["two processors"]
-    text = by_program(program, host, rows_of(tuples))[0].encode()
+    text = by_program(program, host, rows_of(tuples)).text.encode()
     others = [text[:end] for end in range(0, len(text), 7)] + [text + b"x", b"", b"\n", b"bw 1 1 100000 5000 0\n", b"bw 2 1 100000 5000 0\n"]
     others += [text[:at] + b"9" + text[at + 1:] for at in range(0, len(text), 5)]
     for each in others:
@@ -431,7 +486,7 @@ def example_in_rust(_, __):
 
 
 CHECKS = [shows_its_header, from_c, from_rust, example_in_c, example_in_python, example_in_rust, worked, refused, wrong_lengths, uneven_levels,
-          keeps_on_refusal, wrong_claims, texts, names, random_trees, greatest_tree, out_of_range]
+          keeps_on_refusal, wrong_claims, texts, names, worked_rows, random_trees, greatest_tree, out_of_range]
 
 
 def checked(check, library, program):
