@@ -327,16 +327,13 @@ def names(library, _):
 
 
 def greatest_tree(library, program):
-    """16384 groups, 64 levels deep at the first of them."""
-    rows = [arbiter.Row()] + [arbiter.Row(g, 100, None, 0) for g in range(63)]
-    rows += [arbiter.Row(g % 64, 1 + g % 10000, None if g % 3 else 1 + g % 50, g % 7) for g in range(16384 - len(rows))]
+    """16384 groups, 64 levels deep at the first of them: limited by groups of several depths, and by the host."""
     host = arbiter.Host(64, 1000000, 1000)
-    amounts, certificate = library.certify(host, rows)
-    same(library.plan(host, rows), amounts, "plan and certify")
-    library.check(host, rows, amounts, certificate)
-    groups, rest = library.limiting(host, rows)
-    same(sum(rows[g].limit for g in groups) + rest, amounts[0], "the limits and the rest")
-    agree(library, program, host, rows[:2048], "its first 2048 rows")
+    for most, limit, by_host in [(7, 500, False), (23, 1000, True)]:
+        rows = [arbiter.Row()] + [arbiter.Row(g, 100, limit * (63 - g) if g % 8 == 4 else None, 0) for g in range(63)]
+        rows += [arbiter.Row(g % 64, 1 + g % 10000, None if g % 3 else 1 + g % 50, g % most) for g in range(16384 - len(rows))]
+        found = agree_on(library, program, host, rows, f"demands below {most}")
+        same(found.limiting == [0], by_host, f"demands below {most}: limited by the host")
 
 
 def out_of_range(library, _):
