@@ -233,21 +233,24 @@ def wrong_lengths(library, _):
     """One entry too few or too many, in each column in turn: 50, and nothing is written."""
     rows = rows_of(WORKED["two groups"][1])
     host = [arbiter.U64(n) for n in (1, 100000, 5000)]
-    kinds = {"plan": [arbiter.U64], "limiting": [arbiter.U32], "certify": [arbiter.U64, arbiter.U8, arbiter.U64, arbiter.U64, arbiter.U32]}
-    for name, outs in kinds.items():
-        for at in range(4 + len(outs)):
+    certified = [arbiter.U64, arbiter.U8, arbiter.U64, arbiter.U64, arbiter.U32]
+    # columns behind the rows, what else is written, and how many columns are told wrongly: of a check, wrong_claims and
+    # uneven_levels have the others
+    kinds = {"plan": ([arbiter.U64], [], 5), "limiting": ([arbiter.U32], [arbiter.U32, arbiter.U64], 5), "certify": (certified, [], 9),
+             "check": (certified, [arbiter.U32], 4)}
+    for name, (behind, others, wrong) in kinds.items():
+        for at in range(wrong):
             for by in (-1, 1):
-                columns = raw_columns(rows) + [(kind * 4)(*[7] * 4) for kind in outs]
+                columns = raw_columns(rows) + [(kind * 4)(*[7] * 4) for kind in behind]
                 lengths = [3] * len(columns)
                 lengths[at] += by
                 # each column has room for one more, so that what is told is there
                 columns = [(type(each)._type_ * 4)(*(list(each) + [7])[:4]) for each in columns]
                 words = [word for each, length in zip(columns, lengths) for word in (each, arbiter.SIZE(length))]
-                count, rest = arbiter.U32(7), arbiter.U64(7)
-                words += [ctypes.byref(count), ctypes.byref(rest)] if name == "limiting" else []
-                same(getattr(library.calls, f"arbiter_{name}")(*host, *words), 50, f"{name}, column {at} by {by}")
-                same([list(each) for each in columns[4:]], [[7] * 4] * len(outs), f"{name}, column {at} by {by}: what is written")
-                same((count.value, rest.value), (7, 7), f"{name}, column {at} by {by}: count and rest")
+                written = [kind(7) for kind in others]
+                same(getattr(library.calls, f"arbiter_{name}")(*host, *words, *map(ctypes.byref, written)), 50, f"{name}, column {at} by {by}")
+                same([list(each) for each in columns[4:]], [[7] * 4] * len(behind), f"{name}, column {at} by {by}: what is written")
+                same([each.value for each in written], [7] * len(others), f"{name}, column {at} by {by}: what else is written")
 
 
 def uneven_levels(library, _):
