@@ -349,26 +349,84 @@ def out_of_range(library, _):
         raise AssertionError(f"{row} was taken")
 
 
-def kit_clang():
-    """The clang of the Rattle kit."""
+C_WORDS = ["-std=c11", "-Wall", "-Wextra", "-Wpedantic", "-Werror"]
+# writes behind a block of memory where it is called with a word
+FAULTY = """#include <stddef.h>
+void *malloc(size_t size);
+void free(void *block);
+
+int main(int words, char **text)
+{
+    char *block = malloc(1);
+    block[words - 1] = text[0][0];
+    free(block);
+    return 0;
+}
+"""
+
+
+def kit_folder():
+    """The folder of the Rattle kit."""
     if not shutil.which("rt"):
         raise FileNotFoundError("the command rt of the Rattle kit is not on the PATH")
-    return os.path.join(os.path.dirname(os.path.realpath(shutil.which("rt"))), "../toolchain/bin/clang")
+    return os.path.dirname(os.path.dirname(os.path.realpath(shutil.which("rt"))))
+
+
+def kit_clang(folder):
+    """The clang of the Rattle kit, which has no headers of its own: those that are needed go into the folder."""
+    with open(f"{folder}/stddef.h", "w", encoding="ascii") as file:
+        file.write("typedef __SIZE_TYPE__ size_t;\n")
+    with open(f"{folder}/stdint.h", "w", encoding="ascii") as file:
+        for bits in (8, 32, 64):
+            file.write(f"typedef __UINT{bits}_TYPE__ uint{bits}_t;\n#define UINT{bits}_MAX __UINT{bits}_MAX__\n")
+    return [f"{kit_folder()}/toolchain/bin/clang", *C_WORDS, "-fuse-ld=lld", f"-I{folder}"]
+
+
+def programs_in_c(folder, words, behind):
+    """The C programs of tests/ with the header, linked to the static library."""
+    for name, wrapped in [("library", []), ("library_memory", ["malloc", "realloc", "free"])]:
+        made = ["-o", f"{folder}/{name}", f"{native.TOP}/tests/{name}.c", f"{native.library()}.a", *[f"-Wl,--wrap={each}" for each in wrapped]]
+        subprocess.run([*words, *made, *behind], check=True, timeout=SECONDS)
+        same(subprocess.run([f"{folder}/{name}"], check=False, timeout=SECONDS).returncode, 0, f"{name}.c by {words[0]}, by the number of its test")
 
 
 def from_c(_, __):
-    """The C programs with the header, linked to the static library by the kit's clang, which has no headers of its own."""
+    """The C programs by the kit's clang."""
     with tempfile.TemporaryDirectory() as folder:
-        with open(f"{folder}/stddef.h", "w", encoding="ascii") as file:
-            file.write("typedef __SIZE_TYPE__ size_t;\n")
-        with open(f"{folder}/stdint.h", "w", encoding="ascii") as file:
-            for bits in (8, 32, 64):
-                file.write(f"typedef __UINT{bits}_TYPE__ uint{bits}_t;\n#define UINT{bits}_MAX __UINT{bits}_MAX__\n")
-        words = [kit_clang(), "-std=c11", "-Wall", "-Wextra", "-Wpedantic", "-Werror", "-fuse-ld=lld", f"-I{folder}"]
-        for name, wrapped in [("library", []), ("library_memory", ["malloc", "realloc", "free"])]:
-            made = ["-o", f"{folder}/{name}", f"{native.TOP}/tests/{name}.c", f"{native.library()}.a", *[f"-Wl,--wrap={each}" for each in wrapped]]
-            subprocess.run([*words, *made], check=True, timeout=SECONDS)
-            same(subprocess.run([f"{folder}/{name}"], check=False, timeout=SECONDS).returncode, 0, f"{name}.c, by the number of its test")
+        programs_in_c(folder, kit_clang(folder), [])
+
+
+def sanitizers(folder):
+    """Compilers with sanitizers, each with its words before and behind the files: the kit's with the runtime for addresses
+    that the kit has, so that what is undefined is a trap, and the system's."""
+    runtime = f"{kit_folder()}/c/asan.a"
+    if os.path.exists(runtime):
+        words = ["-fsanitize=address,undefined", "-fsanitize-trap=undefined", "-fno-sanitize-link-runtime"]
+        yield [*kit_clang(folder), *words], ["-Wl,--whole-archive", runtime, "-Wl,--no-whole-archive", "-lm"]
+    found = [shutil.which(each) for each in ("cc", "gcc", "clang") if shutil.which(each)]
+    for compiler in {os.path.realpath(path): path for path in found}.values():
+        yield [compiler, *C_WORDS, "-fsanitize=address,undefined", "-fno-sanitize-recover=all"], []
+
+
+def sees_faults(folder, words, behind):
+    """Whether a program links with the sanitizers, runs, and is stopped at a fault."""
+    with open(f"{folder}/faulty.c", "w", encoding="ascii") as file:
+        file.write(FAULTY)
+    if native.run([*words, "-o", f"{folder}/faulty", f"{folder}/faulty.c", *behind], b"", SECONDS).returncode:
+        return False
+    good, bad = [native.run([f"{folder}/faulty", *given], b"", SECONDS) for given in ([], ["x"])]
+    return good.returncode == 0 and bad.returncode != 0 and b"AddressSanitizer" in bad.stderr
+
+
+def from_c_sanitized(_, __):
+    """The C programs by each compiler whose sanitizers run here. They watch these programs, and each block of memory that the
+    library takes, gives back or keeps; the library's own reads and writes are as they were compiled."""
+    with tempfile.TemporaryDirectory() as folder:
+        able = [each for each in sanitizers(folder) if sees_faults(folder, *each)]
+        if not able:
+            raise LeftOut("no compiler with sanitizers that link and run here")
+        for each in able:
+            programs_in_c(folder, *each)
 
 
 RUST_PRINTS = "[20, 7, 13]\nlimited by rows [0], 0 slices outside them\nrefused 57 LastMarkAbove 1\n"
@@ -485,8 +543,8 @@ def example_in_rust(_, __):
     example("rust", "cargo", "rustc", "pkg-config")
 
 
-CHECKS = [shows_its_header, from_c, from_rust, example_in_c, example_in_python, example_in_rust, worked, refused, wrong_lengths, uneven_levels,
-          keeps_on_refusal, wrong_claims, texts, names, worked_rows, random_trees, greatest_tree, out_of_range]
+CHECKS = [shows_its_header, from_c, from_c_sanitized, from_rust, example_in_c, example_in_python, example_in_rust, worked, refused, wrong_lengths,
+          uneven_levels, keeps_on_refusal, wrong_claims, texts, names, worked_rows, random_trees, greatest_tree, out_of_range]
 
 
 def checked(check, library, program):
