@@ -5,6 +5,8 @@ The library is the one that ./build --install DIR or ./test made. The first word
 ./build made. It ends with 'N passed, M failed'; what the machine cannot try is told as left out, and is in neither number.
 """
 import ctypes
+import dataclasses
+import glob
 import os
 import random
 import re
@@ -16,12 +18,16 @@ import tempfile
 
 import documents
 import native
+from worked import scripts_in
 
 sys.path.insert(0, f"{native.TOP}/tools")
 import arbiter  # noqa: E402
 
 SECONDS = 120
 SEED = 20260730
+# what answers_in reads
+ASKED = "plan\ntotal\ncert\n"
+ASKING = {line.encode() for line in ASKED.split("\n") if line}
 HOST_OF_ONE = arbiter.Host(1, 100000, 5000)
 LEVEL = re.compile(r"(\d+)/(\d+)@(\d+)\Z")
 # the numbers that share/arbiter.h lists, with the names of docs/NUMBERS.md
@@ -79,7 +85,7 @@ def number_of(call, *words):
 
 
 def script_of(host, rows):
-    """A script that makes these rows, in their order, and asks for all that is compared."""
+    """A script that makes these rows, in their order, and asks for what is compared."""
     paths, lines = ["."], []
     for g, row in enumerate(rows[1:], 1):
         above = paths[row.parent]
@@ -88,45 +94,70 @@ def script_of(host, rows):
         if row.limit is not None:
             lines.append(f"write {paths[g]} cpu.max {row.limit * host.slice_us} {host.period_us}")
     lines += [f"demand {paths[g]} {row.demand}" for g, row in enumerate(rows) if row.demand]
-    return "\n".join(lines + ["plan", "total", "cert"]) + "\n", paths
+    return "".join(f"{line}\n" for line in lines) + ASKED
+
+
+@dataclasses.dataclass
+class Answers:
+    """What the program says of one tree: the certified text, the limiting rows, the demands outside them, the total."""
+
+    text: str
+    limiting: list
+    rest: int
+    total: int
+
+
+def answers_in(lines):
+    """What `plan`, `total` and `cert` answer, at the front of these lines, and how many lines that is."""
+    count = next(at for at, line in enumerate(lines) if line.startswith("total "))
+    head = next(at for at, line in enumerate(lines) if line.startswith("bw 1 "))
+    end = head + 1 + count
+    amounts, paths = zip(*[line.split(" ") for line in lines[:count]])
+    row_of = {path: g for g, path in enumerate(paths)}
+    limits = [line.split(" ") for line in lines[count + 1:head - 1]]
+    total, rest = int(lines[count].split(" ")[1]), int(lines[head - 1].split(" ")[1])
+    same([words[0] for words in limits] + [lines[head - 1].split(" ")[0]], ["limit"] * len(limits) + ["demand"], "the lines below a total")
+    same(sum(int(words[1]) for words in limits) + rest, total, "the limits and the rest")
+    same([line.split(" ")[4] for line in lines[head + 1:end]], list(amounts), "the amounts of plan and cert")
+    return Answers("".join(f"{line}\n" for line in lines[head:end]), [row_of[words[2]] for words in limits], rest, total), end
 
 
 def by_program(program, host, rows):
-    """The program's amounts, limiting rows with the rest, and certified text."""
-    script, paths = script_of(host, rows)
+    """What the program says of these rows."""
     words = [program, "run", "--processors", str(host.processors), "--period", str(host.period_us), "--slice", str(host.slice_us)]
-    ran = native.run(words, script.encode(), SECONDS)
+    ran = native.run(words, script_of(host, rows).encode(), SECONDS)
     out = ran.stdout.decode()
     if ran.returncode or "error" in out:
         raise AssertionError(f"the program: {ran.returncode} {ran.stderr[:100]} {[each for each in out.splitlines() if 'error' in each][:1]}")
-    lines = [line for line in out.splitlines() if line != "ok"]
-    total = next(at for at, line in enumerate(lines) if line.startswith("total "))
-    head = next(at for at, line in enumerate(lines) if line.startswith("bw 1 "))
-    text = "".join(f"{line}\n" for line in lines[head:head + 1 + len(rows)])
-    limits = [line.split(" ") for line in lines[total + 1:head] if line.startswith("limit ")]
-    rest = [int(line.split(" ")[1]) for line in lines[total + 1:head] if line.startswith("demand ")]
-    limiting = [paths.index(next(word for word in words[1:] if word in set(paths))) for words in limits]
-    return text, limiting, rest[0], int(lines[total].split(" ")[1])
+    return answers_in([line for line in out.splitlines() if line != "ok"])[0]
 
 
 def certified_in(text):
-    """The amounts and the certificate of a certified text."""
-    words = [line.split(" ") for line in text.splitlines()[1:]]
+    """The host, the rows, the amounts and the certificate of a certified text."""
+    words = [line.split(" ") for line in text.splitlines()]
+    host, words = arbiter.Host(*map(int, words[0][2:5])), words[1:]
     levels = [None if each[6] == "-" else tuple(int(n) for n in LEVEL.match(each[6]).groups()) for each in words]
-    return [int(each[4]) for each in words], arbiter.Certificate([each[5] == "1" for each in words], levels)
+    rows = [arbiter.Row(None if each[0] == "-" else int(each[0]), int(each[1]), None if each[2] == "max" else int(each[2]), int(each[3])) for each in words]
+    return host, rows, [int(each[4]) for each in words], arbiter.Certificate([each[5] == "1" for each in words], levels)
 
 
-def agree(library, program, host, rows, what):
-    """All calls on one tree, against the program."""
-    text, limiting, rest, total = by_program(program, host, rows)
-    amounts, certificate = certified_in(text)
+def agree(library, found, what):
+    """All calls on the tree that the program tells, against what it says of that tree."""
+    host, rows, amounts, certificate = certified_in(found.text)
     same(library.plan(host, rows), amounts, f"{what}: plan")
     same(library.certify(host, rows), (amounts, certificate), f"{what}: certify")
-    same(library.limiting(host, rows), (limiting, rest), f"{what}: limiting")
-    same(amounts[0], total, f"{what}: total")
+    same(library.limiting(host, rows), (found.limiting, found.rest), f"{what}: limiting")
+    same(amounts[0], found.total, f"{what}: total")
     library.check(host, rows, amounts, certificate)
-    library.check_text(text.encode())
-    return text
+    library.check_text(found.text.encode())
+
+
+def agree_on(library, program, host, rows, what):
+    """The same on rows that are given, which the program has to tell as they are."""
+    found = by_program(program, host, rows)
+    same(certified_in(found.text)[:2], (host, rows), f"{what}: host and rows")
+    agree(library, found, what)
+    return found
 
 
 def random_tree(random_numbers):
@@ -147,7 +178,7 @@ def random_trees(library, program):
     numbers = random.Random(SEED)
     for turn in range(60):
         host, rows = random_tree(numbers)
-        agree(library, program, host, rows, f"tree {turn}")
+        agree_on(library, program, host, rows, f"tree {turn}")
 
 
 def worked(library, program):
@@ -155,7 +186,31 @@ def worked(library, program):
         same(library.plan(host, rows_of(tuples)), amounts, what)
         # a script has no limit of 0 slices that is no quota of less than 1 ms
         if all(limit != 0 for _, _, limit, _ in tuples):
-            agree(library, program, host, rows_of(tuples), what)
+            agree_on(library, program, host, rows_of(tuples), what)
+
+
+def worked_rows(library, program):
+    """The tree that stands at each line of tests/worked that asks for a plan, a total or a certificate, as `cert` tells it
+    there: with the limits of that period, where a group has a burst or a period of its own."""
+    count = 0
+    for path in sorted(glob.glob(f"{native.TOP}/tests/worked/*.txt")):
+        for script in scripts_in(path):
+            given = b"".join(line + b"\n" + (ASKED.encode() if line in ASKING else b"") for line, _ in script.lines)
+            what = f"{os.path.basename(path)}, {script.name}"
+            ran = native.run([program, "run", *script.words], given, SECONDS)
+            same((ran.returncode, ran.stderr), (0, b""), what)
+            lines = ran.stdout.decode().split("\n")
+            for line, answer in script.lines:
+                wanted = answer.decode().split("\n")[:-1]
+                same(lines[:len(wanted)], wanted, f"{what}, {line}")
+                del lines[:len(wanted)]
+                if line in ASKING:
+                    found, length = answers_in(lines)
+                    agree(library, found, f"{what}, {line}")
+                    del lines[:length]
+                    count += 1
+            same(lines, [""], f"{what}: what is left")
+    same(count > 100, True, "lines that ask")
 
 
 def refused(library, _):
@@ -178,21 +233,24 @@ def wrong_lengths(library, _):
     """One entry too few or too many, in each column in turn: 50, and nothing is written."""
     rows = rows_of(WORKED["two groups"][1])
     host = [arbiter.U64(n) for n in (1, 100000, 5000)]
-    kinds = {"plan": [arbiter.U64], "limiting": [arbiter.U32], "certify": [arbiter.U64, arbiter.U8, arbiter.U64, arbiter.U64, arbiter.U32]}
-    for name, outs in kinds.items():
-        for at in range(4 + len(outs)):
+    certified = [arbiter.U64, arbiter.U8, arbiter.U64, arbiter.U64, arbiter.U32]
+    # columns behind the rows, what else is written, and how many columns are told wrongly: of a check, wrong_claims and
+    # uneven_levels have the others
+    kinds = {"plan": ([arbiter.U64], [], 5), "limiting": ([arbiter.U32], [arbiter.U32, arbiter.U64], 5), "certify": (certified, [], 9),
+             "check": (certified, [arbiter.U32], 4)}
+    for name, (behind, others, wrong) in kinds.items():
+        for at in range(wrong):
             for by in (-1, 1):
-                columns = raw_columns(rows) + [(kind * 4)(*[7] * 4) for kind in outs]
+                columns = raw_columns(rows) + [(kind * 4)(*[7] * 4) for kind in behind]
                 lengths = [3] * len(columns)
                 lengths[at] += by
                 # each column has room for one more, so that what is told is there
                 columns = [(type(each)._type_ * 4)(*(list(each) + [7])[:4]) for each in columns]
                 words = [word for each, length in zip(columns, lengths) for word in (each, arbiter.SIZE(length))]
-                count, rest = arbiter.U32(7), arbiter.U64(7)
-                words += [ctypes.byref(count), ctypes.byref(rest)] if name == "limiting" else []
-                same(getattr(library.calls, f"arbiter_{name}")(*host, *words), 50, f"{name}, column {at} by {by}")
-                same([list(each) for each in columns[4:]], [[7] * 4] * len(outs), f"{name}, column {at} by {by}: what is written")
-                same((count.value, rest.value), (7, 7), f"{name}, column {at} by {by}: count and rest")
+                written = [kind(7) for kind in others]
+                same(getattr(library.calls, f"arbiter_{name}")(*host, *words, *map(ctypes.byref, written)), 50, f"{name}, column {at} by {by}")
+                same([list(each) for each in columns[4:]], [[7] * 4] * len(behind), f"{name}, column {at} by {by}: what is written")
+                same([each.value for each in written], [7] * len(others), f"{name}, column {at} by {by}: what else is written")
 
 
 def uneven_levels(library, _):
@@ -221,7 +279,7 @@ def wrong_claims(library, program):
     host, tuples, amounts = WORKED["a pod and a job"]
     rows = rows_of(tuples)
     _, good = library.certify(host, rows)
-    text = by_program(program, host, rows)[0]
+    text = by_program(program, host, rows).text
     flags, levels = good.flags, good.levels
     changed = [
         (50, 0, amounts[:-1], flags, levels), (50, 0, amounts, flags + [False], levels), (50, 0, amounts, flags, levels[:-1]),
@@ -246,7 +304,7 @@ def wrong_claims(library, program):
 def texts(library, program):
     """Texts cut and changed at each byte, as the program answers them."""
     host, tuples, _ = WORKED["two processors"]
-    text = by_program(program, host, rows_of(tuples))[0].encode()
+    text = by_program(program, host, rows_of(tuples)).text.encode()
     others = [text[:end] for end in range(0, len(text), 7)] + [text + b"x", b"", b"\n", b"bw 1 1 100000 5000 0\n", b"bw 2 1 100000 5000 0\n"]
     others += [text[:at] + b"9" + text[at + 1:] for at in range(0, len(text), 5)]
     for each in others:
@@ -272,16 +330,13 @@ def names(library, _):
 
 
 def greatest_tree(library, program):
-    """16384 groups, 64 levels deep at the first of them."""
-    rows = [arbiter.Row()] + [arbiter.Row(g, 100, None, 0) for g in range(63)]
-    rows += [arbiter.Row(g % 64, 1 + g % 10000, None if g % 3 else 1 + g % 50, g % 7) for g in range(16384 - len(rows))]
+    """16384 groups, 64 levels deep at the first of them: limited by groups of several depths, and by the host."""
     host = arbiter.Host(64, 1000000, 1000)
-    amounts, certificate = library.certify(host, rows)
-    same(library.plan(host, rows), amounts, "plan and certify")
-    library.check(host, rows, amounts, certificate)
-    groups, rest = library.limiting(host, rows)
-    same(sum(rows[g].limit for g in groups) + rest, amounts[0], "the limits and the rest")
-    agree(library, program, host, rows[:2048], "its first 2048 rows")
+    for most, limit, by_host in [(7, 500, False), (23, 1000, True)]:
+        rows = [arbiter.Row()] + [arbiter.Row(g, 100, limit * (63 - g) if g % 8 == 4 else None, 0) for g in range(63)]
+        rows += [arbiter.Row(g % 64, 1 + g % 10000, None if g % 3 else 1 + g % 50, g % most) for g in range(16384 - len(rows))]
+        found = agree_on(library, program, host, rows, f"demands below {most}")
+        same(found.limiting == [0], by_host, f"demands below {most}: limited by the host")
 
 
 def out_of_range(library, _):
@@ -294,26 +349,84 @@ def out_of_range(library, _):
         raise AssertionError(f"{row} was taken")
 
 
-def kit_clang():
-    """The clang of the Rattle kit."""
+C_WORDS = ["-std=c11", "-Wall", "-Wextra", "-Wpedantic", "-Werror"]
+# writes behind a block of memory where it is called with a word
+FAULTY = """#include <stddef.h>
+void *malloc(size_t size);
+void free(void *block);
+
+int main(int words, char **text)
+{
+    char *block = malloc(1);
+    block[words - 1] = text[0][0];
+    free(block);
+    return 0;
+}
+"""
+
+
+def kit_folder():
+    """The folder of the Rattle kit."""
     if not shutil.which("rt"):
         raise FileNotFoundError("the command rt of the Rattle kit is not on the PATH")
-    return os.path.join(os.path.dirname(os.path.realpath(shutil.which("rt"))), "../toolchain/bin/clang")
+    return os.path.dirname(os.path.dirname(os.path.realpath(shutil.which("rt"))))
+
+
+def kit_clang(folder):
+    """The clang of the Rattle kit, which has no headers of its own: those that are needed go into the folder."""
+    with open(f"{folder}/stddef.h", "w", encoding="ascii") as file:
+        file.write("typedef __SIZE_TYPE__ size_t;\n")
+    with open(f"{folder}/stdint.h", "w", encoding="ascii") as file:
+        for bits in (8, 32, 64):
+            file.write(f"typedef __UINT{bits}_TYPE__ uint{bits}_t;\n#define UINT{bits}_MAX __UINT{bits}_MAX__\n")
+    return [f"{kit_folder()}/toolchain/bin/clang", *C_WORDS, "-fuse-ld=lld", f"-I{folder}"]
+
+
+def programs_in_c(folder, words, behind):
+    """The C programs of tests/ with the header, linked to the static library."""
+    for name, wrapped in [("library", []), ("library_memory", ["malloc", "realloc", "free"])]:
+        made = ["-o", f"{folder}/{name}", f"{native.TOP}/tests/{name}.c", f"{native.library()}.a", *[f"-Wl,--wrap={each}" for each in wrapped]]
+        subprocess.run([*words, *made, *behind], check=True, timeout=SECONDS)
+        same(subprocess.run([f"{folder}/{name}"], check=False, timeout=SECONDS).returncode, 0, f"{name}.c by {words[0]}, by the number of its test")
 
 
 def from_c(_, __):
-    """The C programs with the header, linked to the static library by the kit's clang, which has no headers of its own."""
+    """The C programs by the kit's clang."""
     with tempfile.TemporaryDirectory() as folder:
-        with open(f"{folder}/stddef.h", "w", encoding="ascii") as file:
-            file.write("typedef __SIZE_TYPE__ size_t;\n")
-        with open(f"{folder}/stdint.h", "w", encoding="ascii") as file:
-            for bits in (8, 32, 64):
-                file.write(f"typedef __UINT{bits}_TYPE__ uint{bits}_t;\n#define UINT{bits}_MAX __UINT{bits}_MAX__\n")
-        words = [kit_clang(), "-std=c11", "-Wall", "-Wextra", "-Wpedantic", "-Werror", "-fuse-ld=lld", f"-I{folder}"]
-        for name, wrapped in [("library", []), ("library_memory", ["malloc", "realloc", "free"])]:
-            made = ["-o", f"{folder}/{name}", f"{native.TOP}/tests/{name}.c", f"{native.library()}.a", *[f"-Wl,--wrap={each}" for each in wrapped]]
-            subprocess.run([*words, *made], check=True, timeout=SECONDS)
-            same(subprocess.run([f"{folder}/{name}"], check=False, timeout=SECONDS).returncode, 0, f"{name}.c, by the number of its test")
+        programs_in_c(folder, kit_clang(folder), [])
+
+
+def sanitizers(folder):
+    """Compilers with sanitizers, each with its words before and behind the files: the kit's with the runtime for addresses
+    that the kit has, so that what is undefined is a trap, and the system's."""
+    runtime = f"{kit_folder()}/c/asan.a"
+    if os.path.exists(runtime):
+        words = ["-fsanitize=address,undefined", "-fsanitize-trap=undefined", "-fno-sanitize-link-runtime"]
+        yield [*kit_clang(folder), *words], ["-Wl,--whole-archive", runtime, "-Wl,--no-whole-archive", "-lm"]
+    found = [shutil.which(each) for each in ("cc", "gcc", "clang") if shutil.which(each)]
+    for compiler in {os.path.realpath(path): path for path in found}.values():
+        yield [compiler, *C_WORDS, "-fsanitize=address,undefined", "-fno-sanitize-recover=all"], []
+
+
+def sees_faults(folder, words, behind):
+    """Whether a program links with the sanitizers, runs, and is stopped at a fault."""
+    with open(f"{folder}/faulty.c", "w", encoding="ascii") as file:
+        file.write(FAULTY)
+    if native.run([*words, "-o", f"{folder}/faulty", f"{folder}/faulty.c", *behind], b"", SECONDS).returncode:
+        return False
+    good, bad = [native.run([f"{folder}/faulty", *given], b"", SECONDS) for given in ([], ["x"])]
+    return good.returncode == 0 and bad.returncode != 0 and b"AddressSanitizer" in bad.stderr
+
+
+def from_c_sanitized(_, __):
+    """The C programs by each compiler whose sanitizers run here. They watch these programs, and each block of memory that the
+    library takes, gives back or keeps; the library's own reads and writes are as they were compiled."""
+    with tempfile.TemporaryDirectory() as folder:
+        able = [each for each in sanitizers(folder) if sees_faults(folder, *each)]
+        if not able:
+            raise LeftOut("no compiler with sanitizers that link and run here")
+        for each in able:
+            programs_in_c(folder, *each)
 
 
 RUST_PRINTS = "[20, 7, 13]\nlimited by rows [0], 0 slices outside them\nrefused 57 LastMarkAbove 1\n"
@@ -430,8 +543,8 @@ def example_in_rust(_, __):
     example("rust", "cargo", "rustc", "pkg-config")
 
 
-CHECKS = [shows_its_header, from_c, from_rust, example_in_c, example_in_python, example_in_rust, worked, refused, wrong_lengths, uneven_levels,
-          keeps_on_refusal, wrong_claims, texts, names, random_trees, greatest_tree, out_of_range]
+CHECKS = [shows_its_header, from_c, from_c_sanitized, from_rust, example_in_c, example_in_python, example_in_rust, worked, refused, wrong_lengths,
+          uneven_levels, keeps_on_refusal, wrong_claims, texts, names, worked_rows, random_trees, greatest_tree, out_of_range]
 
 
 def checked(check, library, program):
