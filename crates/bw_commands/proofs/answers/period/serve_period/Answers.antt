@@ -1,3 +1,4 @@
+-- The goals of `serve_period` that are answered by hand.
 use Rattle.std.proofs.Common.{sym, subst}
 use Rattle.bw_model.specs.Groups.{IsInstance}
 use Rattle.bw_tree.specs.Snapshot.{IsDrawnWithin}

@@ -1,3 +1,4 @@
+-- The goals of `Session::finish` that are answered by hand.
 use Rattle.bw_shell.proofs.Writing.{Writes-last}
 use Rattle.bw_shell.proofs.session.Session.finish.Goals as goal
 
