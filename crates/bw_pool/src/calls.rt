@@ -16,7 +16,9 @@ pub enum PoolCall {
 /// What kept a draw below what was asked: the group nearest the leaf that had exactly as much left as was got, else the processor.
 #[derive(Clone, Copy, Debug, PartialEq)]
 pub enum Short {
+    /// The group of this row.
     Group(u32),
+    /// No group: the seat's processor had no more slices left in the period.
     Processor,
 }
 
@@ -36,10 +38,16 @@ pub enum Refusal {
 /// The reply to a call, in slices. A refused call and `NotHeld` change nothing.
 #[derive(Clone, Copy, Debug, PartialEq)]
 pub enum PoolReply {
+    /// To `Draw`: how many slices were got, from 0 to what was asked, and what kept them below that, `None` where all were got.
     Granted { got: u64, short: Option<Short> },
+    /// To `GiveBack`: all n slices were given back.
     Returned,
+    /// To `GiveBack` of more slices than the seat holds of the leaf: it holds so many, and none was given back.
     NotHeld { held: u64 },
+    /// To `Lower`: the group's ceiling from now on, which is `to`, but no less than what is drawn and no more than it was.
     Lowered { ceiling: u64 },
+    /// To `Look`: the n slices drawn by the group, with those of the groups below it, and its ceiling.
     Drawn { n: u64, ceiling: u64 },
+    /// To any call: the first reason to refuse it.
     Refused(Refusal),
 }

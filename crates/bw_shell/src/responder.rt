@@ -109,7 +109,8 @@ impl<'a, G: Gate> Responder<'a, G> {
     ) -> Result<(), RunFault>
         requires { HasNoFault writer.old }
         ensures { Writes W.contents writer.old writer.new result
-            (λ answer. IsOutcome (responder_state G.used self.old) (outcome_of_text (responder_state G.used self.old) text.now) answer (responder_state G.used self.new))
+            (λ answer. IsOutcome (responder_state G.used self.old) (outcome_of_text (responder_state G.used self.old) text.now)
+            answer (responder_state G.used self.new))
             (λ answer. (t : State) × IsOutcome (responder_state G.used self.old) (outcome_of_text (responder_state G.used self.old) text.now) answer t) }
     {
         match flush_before(text, writer) {

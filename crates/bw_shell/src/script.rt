@@ -24,12 +24,16 @@ pub const READ_CALLS: u64 = 4294967296;
 // How many bytes one read asks for.
 pub(crate) const PIECE_BYTES: usize = 65536;
 
+/// Why a run over a script, or the check of a certified text, ended early.
 #[derive(Clone, Copy, Debug, PartialEq, Eq, Error)]
 pub enum RunFault {
+    /// A read failed, `READ_CALLS` reads did not reach the end, or a certified text has more than 4 MiB.
     #[error("read fault")]
     Read,
+    /// A write or a flush failed, or a write took no bytes. What was written is a front of the answers.
     #[error("write fault")]
     Write,
+    /// Memory was refused, before the first read of a script, or before anything was written of a certified text.
     #[error("out of memory")]
     Memory,
 }

@@ -21,6 +21,7 @@ pub struct Watched<T> {
 impl<T> Watched<T> {
     ghost use Rattle.bw_shell.specs.Watched.{inner_of, first_error, has_failed, has_stalled, read_calls, is_flushed, IsFresh};
 
+    /// A reader or a writer that is watched from here on: no fault and no read so far, and nothing to flush.
     pub fn new(inner: T) -> Watched<T>
         ensures inner { inner_of result ≡ inner }
         ensures fresh { IsFresh result }

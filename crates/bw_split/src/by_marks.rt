@@ -31,6 +31,7 @@ pub fn split_by_marks(
     }
     let mut parts = vec![in alloc; 0u64; weights.len()]?;
     for _slice in 0..amount {
+        // The least mark: of those of the same cost the one with the least place, so a tie goes to the earlier sibling.
         match heap.pop() {
             Some(Reverse(mark)) => {
                 let i = mark.place as usize;

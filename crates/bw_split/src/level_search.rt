@@ -266,6 +266,8 @@ pub fn split_counted(
     let found = find_level(amount, weights, most, work);
     let mut rest = found.rest;
     let mut parts = Vec::with_capacity(alloc, weights.len())?;
+    // The rest goes, one slice each, to the first children in order that take one more a step above the level. Their next
+    // marks are all equal in cost, so a tie goes to the earlier sibling.
     for i in 0..weights.len() {
         let part = takes(found.level, weights[i], most[i]);
         if rest > 0 && takes(found.level + 1, weights[i], most[i]) > part {

@@ -12,16 +12,19 @@ pub struct Add(pub u16);
 #[derive(Clone, Copy, Debug, PartialEq, Eq)]
 pub struct Total(pub u64);
 
+/// The sum of all numbers that were added. It goes round at 2^64.
 #[derive(Drop)]
 pub struct Counter {
     total: u64,
 }
 
 impl Counter {
+    /// A sum of 0.
     pub fn new() -> Counter {
         Counter { total: 0 }
     }
 
+    /// The sum so far.
     pub fn total(&self) -> u64 {
         self.total
     }

@@ -11,6 +11,7 @@ pub enum ServeFault {
     /// A thread was refused. The others ran to their end.
     #[error("NotStarted")]
     NotStarted,
+    /// Memory was refused, before, between or after the starts of the threads. Those that were started ran to their end.
     #[error("OutOfMemory")]
     OutOfMemory,
 }

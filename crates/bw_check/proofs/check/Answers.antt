@@ -1,3 +1,4 @@
+-- The goals of `check` that are answered by hand.
 use Rattle.std.proofs.Common.{◌≡◌, true, false, refl, sym, ◌∙◌, arith}
 use Rattle.bw_model.specs.Certificate.{certified_of, IsAccepted}
 use Rattle.bw_check.proofs.Verdicts.{refused-not-accepted}

@@ -1,3 +1,4 @@
+-- What stands at each turn of the loop in `check`.
 use Rattle.std.proofs.Common.{ℕ, ◌+◌, ◌<◌, length}
 use Rattle.bw_check.specs.declared.fault.CheckFault.{CheckFault}
 use Rattle.bw_model.specs.Certificate.{certified_of}

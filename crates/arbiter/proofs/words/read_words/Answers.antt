@@ -1,3 +1,4 @@
+-- The goals of `read_words` that are answered by hand.
 use Rattle.std.proofs.Common.{◌≡◌, ◌∙◌, ap, subst, sym, map, string_bytes, []}
 use Rattle.clap.specs.Words.{App, is_simple, subcommand_of, subcommand_rows_of}
 use Rattle.clap.specs.Faults.{fault_of, is_simple_and_free}

@@ -1,3 +1,4 @@
+-- The goals of `certify_gathered` that are answered by hand.
 use Rattle.std.proofs.Common.{◌≡◌, None, length, get_or, ap, arith}
 use Rattle.bw_model.specs.declared.row.Row.{Row}
 use Rattle.bw_cert.specs.Levels.{IsLevelAt}

@@ -1,3 +1,4 @@
+-- What stands at each turn of the loop in `certify_gathered`.
 use Rattle.std.proofs.Common.{◌≡◌, ◌<◌, ℕ, None, length, get_or}
 use Rattle.bw_cert.specs.Levels.{IsLevelAt}
 use Rattle.bw_cert.proofs.certifying.certify_gathered.Given as goal

@@ -1,3 +1,4 @@
+-- The goals of `level_at` that are answered by hand.
 use Rattle.std.proofs.Common.{◌≡◌, ◌<◌, ◌≤◌, ℕ, length, ap, sym, ◌∙◌, arith}
 use Rattle.std.specs.Prelude.{map, slice_index}
 use Rattle.std.proofs.lemmas.List.{length-map}

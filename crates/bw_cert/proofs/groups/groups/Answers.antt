@@ -1,3 +1,4 @@
+-- The goals of `groups` that are answered by hand.
 use Rattle.std.proofs.Common.{map, sym}
 use Rattle.std.specs.Option.{option_map}
 use Rattle.std.proofs.lemmas.Result.{err_from_is_err_and}

@@ -1,3 +1,4 @@
+-- What stands at each turn of the loop in `groups`.
 use Rattle.std.proofs.Common.{◌≡◌, ◌-◌, map}
 use Rattle.std.specs.Option.{option_map}
 use Rattle.bw_model.specs.Marks.{price_of}

@@ -1,3 +1,4 @@
+-- The goals of `spelled_is_read` that are answered by hand.
 use Rattle.bw_cert.proofs.AllAgain.{certified_again, one_value}
 use Rattle.bw_cert.proofs.laws.spelled_is_read.Goals as goal
 

@@ -1,3 +1,4 @@
+-- The goals of `certified` that are answered by hand.
 use Rattle.std.proofs.Common.{◌≡◌, None, sym, rules}
 use Rattle.bw_cert.specs.Spelling.{lines_of}
 use Rattle.bw_cert.specs.Reading.{columns_view}

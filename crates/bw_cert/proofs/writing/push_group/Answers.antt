@@ -1,3 +1,4 @@
+-- The goals of `push_group` that are answered by hand.
 use Rattle.std.specs.Prelude.{string_bytes}
 use Rattle.std.specs.Fmt.{decimal}
 use Rattle.std.specs.Option.{option_map}

@@ -1,3 +1,4 @@
+-- What stands at each turn of the loop in `write_certified`.
 use Rattle.std.proofs.Common.{◌≡◌, ◌++◌}
 use Rattle.std.specs.Prelude.{string_bytes}
 use Rattle.bw_cert.specs.Spelling.{certified_value, spelling}

@@ -1,3 +1,4 @@
+-- The goals of `first_group` that are answered by hand.
 use Rattle.std.proofs.Common.{◌≡◌, true, false, sym, ◌∙◌, arith}
 use Rattle.bw_check.proofs.conditions.first_group.Goals as goal
 

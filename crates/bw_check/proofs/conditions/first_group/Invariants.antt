@@ -1,3 +1,4 @@
+-- What stands at each turn of the loop in `first_group`.
 use Rattle.std.proofs.Common.{ℕ, ◌<◌}
 use Rattle.bw_model.specs.Certificate.{certified_of}
 use Rattle.bw_check.specs.Verdict.{IsFree}

@@ -1,3 +1,4 @@
+-- The goals of `is_children_sum` that are answered by hand.
 use Rattle.std.proofs.Common.{◌≡◌, false, get_or, sym, ◌∙◌}
 use Rattle.std.specs.Prelude.{slice_index}
 use Rattle.std.proofs.lemmas.Bool.{eqb-true, eq-eqb}

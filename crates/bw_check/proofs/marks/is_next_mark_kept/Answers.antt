@@ -1,3 +1,4 @@
+-- The goals of `is_next_mark_kept` that are answered by hand.
 use Rattle.std.proofs.Common.{◌≡◌, ℕ, ◌<◌, get_or, subst, ap, sym, ◌∙◌, arith}
 use Rattle.bw_model.specs.declared.mark.Mark.{Mark}
 use Rattle.bw_model.specs.Groups.{weight_of}

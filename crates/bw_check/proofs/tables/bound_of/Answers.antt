@@ -1,3 +1,4 @@
+-- The goals of `bound_of` that are answered by hand.
 use Rattle.std.proofs.Common.{◌≡◌, ℕ, ◌<◌, Bool, true, false, cond, Option, None, length, refl, ap, sym, ◌∙◌, arith}
 use Rattle.std.proofs.lemmas.List.{get_or_default}
 use Rattle.bw_model.specs.declared.row.Row.{Row}

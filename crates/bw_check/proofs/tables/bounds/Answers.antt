@@ -1,3 +1,4 @@
+-- The goals of `bounds` that are answered by hand.
 use Rattle.std.proofs.Common.{◌≡◌, ℕ, suc, ◌+◌, ◌-◌, ◌<◌, length, get_or, replicate, ap, subst, sym, ◌∙◌, arith, rules}
 use Rattle.std.proofs.lemmas.Grind.{get_or_default_zero}
 use Rattle.bw_model.specs.Certificate.{certified_of}

@@ -1,3 +1,4 @@
+-- What stands at each turn of the loop in `bounds`.
 use Rattle.bw_model.specs.Certificate.{certified_of}
 use Rattle.bw_check.proofs.Bounding.{AreMadeFrom, IsSmall}
 use Rattle.bw_check.proofs.tables.bounds.Given as goal

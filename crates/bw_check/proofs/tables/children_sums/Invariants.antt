@@ -1,3 +1,4 @@
+-- What stands at each turn of the loop in `children_sums`.
 use Rattle.std.proofs.Common.{slice_index}
 use Rattle.bw_check.specs.Counts.{AreGathered}
 use Rattle.bw_check.proofs.tables.children_sums.Given as goal

@@ -1,3 +1,4 @@
+-- What stands at each turn of the loop in `places`.
 use Rattle.bw_check.specs.Counts.{AreGathered, ArePlaces}
 use Rattle.bw_check.proofs.tables.places.Given as goal
 

@@ -1,3 +1,4 @@
+-- The goals of `blank_len` that are answered by hand.
 use Rattle.std.proofs.Common.{◌≡◌, ◌∙◌, sym, subst, ap, length, not}
 use Rattle.std.specs.Prelude.{position, unwrap_or}
 use Rattle.std.specs.Str.{IsCharBoundary}

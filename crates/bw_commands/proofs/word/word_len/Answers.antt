@@ -1,3 +1,4 @@
+-- The goals of `word_len` that are answered by hand.
 use Rattle.std.proofs.Common.{◌≡◌, ◌∙◌, sym, subst, ap, length}
 use Rattle.std.specs.Prelude.{position, unwrap_or}
 use Rattle.std.specs.Str.{IsCharBoundary}

@@ -1,3 +1,4 @@
+-- The goals of `gather_levels` that are answered by hand.
 use Rattle.std.proofs.Common.{◌≡◌, ◌<◌, ◌≤◌, ◌+◌, ◌-◌, ◌*◌, ℕ, Some, length, get_or, refl, ap, ◌∙◌, arith, rules}
 use Rattle.std.proofs.lemmas.Option.{slice_get_read}
 use Rattle.bw_model.specs.declared.row.Row.{Row}

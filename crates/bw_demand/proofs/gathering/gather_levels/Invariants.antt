@@ -1,3 +1,4 @@
+-- What stands at each turn of the loops in `gather_levels`.
 use Rattle.std.proofs.Common.{◌≡◌}
 use Rattle.bw_demand.specs.Levels.{level_of}
 use Rattle.bw_demand.proofs.WantsGathered.{IsGathering}

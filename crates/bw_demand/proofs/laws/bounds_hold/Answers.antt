@@ -1,3 +1,4 @@
+-- The goals of `bounds_hold` that are answered by hand.
 use Rattle.bw_model.proofs.CallerLemmas.{total-le_bound}
 use Rattle.bw_demand.proofs.laws.bounds_hold.Goals as goal
 

@@ -1,3 +1,4 @@
+-- The goals of `most_is_the_want_cut` that are answered by hand.
 use Rattle.std.proofs.Common.{sym, ◌∙◌}
 use Rattle.bw_model.specs.Groups.{limit_of}
 use Rattle.bw_model.specs.Demand.{want_of}

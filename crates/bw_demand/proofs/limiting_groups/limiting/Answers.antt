@@ -1,3 +1,4 @@
+-- The goals of `limiting` that are answered by hand.
 use Rattle.std.proofs.Common.{◌≡◌, ◌<◌, ◌≤◌, ◌+◌, ◌*◌, ℕ, Bool, false, [], ◌∷◌, ◌++◌, cond, append-nil, Vec, ◌&&◌, ◌||◌, not, Some, length, refl, ap, sym, ◌∙◌}
 use Rattle.std.proofs.Common.{arith, rules}
 use Rattle.std.specs.declared.alloc.Global.{Global}

@@ -1,3 +1,4 @@
+-- What stands at each turn of the loop in `limiting`.
 use Rattle.bw_demand.specs.Demands.{demands_of}
 use Rattle.bw_demand.proofs.LimitingListed.{IsListing}
 use Rattle.bw_demand.proofs.limiting_groups.limiting.Given as goal

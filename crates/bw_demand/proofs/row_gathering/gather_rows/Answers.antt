@@ -1,3 +1,4 @@
+-- The goals of `gather_rows` that are answered by hand.
 use Rattle.bw_model.specs.declared.limits.TheConstants.{MAX_DEMAND, MAX_GROUPS}
 use Rattle.std.proofs.Common.{◌*◌, ◌≡◌, ◌<◌, ◌≤◌, ◌+◌, ◌-◌, ℕ, Some, length, get_or, refl, ap, ◌∙◌, subst, arith, rules}
 use Rattle.bw_model.specs.declared.row.Row.{Row}

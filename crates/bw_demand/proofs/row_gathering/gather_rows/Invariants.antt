@@ -1,3 +1,4 @@
+-- What stands at each turn of the loop in `gather_rows`.
 use Rattle.bw_demand.proofs.WantsGathered.{IsGathering}
 use Rattle.bw_demand.proofs.Seen.{rows_from}
 use Rattle.bw_demand.proofs.row_gathering.gather_rows.Given as goal

@@ -1,3 +1,4 @@
+-- The goals of `instance_of` that are answered by hand.
 use Rattle.std.proofs.Common.{rules, ◌≡◌, true, false, List, sym, subst, inl}
 use Rattle.bw_model.specs.declared.row.Row.{Row}
 use Rattle.bw_model.specs.Host.{Shape, IsHost}

@@ -1,3 +1,4 @@
+-- The goals of `found_in` that are answered by hand.
 use Rattle.std.proofs.Common.{◌≡◌, ℕ, List, Bool, Option, length, map, ap, ◌∙◌, subst}
 use Rattle.bw_model.specs.declared.mark.Mark.{Mark}
 use Rattle.bw_model.specs.Groups.{Groups}

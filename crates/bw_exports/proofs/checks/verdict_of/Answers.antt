@@ -1,3 +1,4 @@
+-- The goals of `verdict_of` that are answered by hand.
 use Rattle.std.proofs.Common.{rules, ◌≡◌, ℕ, true, false, sym, ◌∙◌, subst, inl}
 use Rattle.bw_exports.specs.Asked.{shape_of, table_of, Answers}
 use Rattle.bw_exports.specs.Checked.{claimed_of, claimed_number, are_levels_even}

@@ -1,3 +1,4 @@
+-- The goals of `limiting_of` that are answered by hand.
 use Rattle.std.proofs.Common.{arith, ◌≤◌, length}
 use Rattle.bw_model.specs.declared.limits.TheConstants.{MAX_GROUPS}
 use Rattle.bw_exports.specs.Asked.{shape_of, table_of}

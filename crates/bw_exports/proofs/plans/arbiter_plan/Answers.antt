@@ -1,3 +1,4 @@
+-- The goals of `arbiter_plan` that are answered by hand.
 use Rattle.std.proofs.Common.{rules, ◌≡◌, length, sym, ◌∙◌, subst, inl}
 use Rattle.bw_model.specs.Host.{Shape}
 use Rattle.bw_exports.specs.Asked.{Table, Answers}

@@ -1,3 +1,4 @@
+-- The goals of `write_plan` that are answered by hand.
 use Rattle.std.proofs.Common.{rules, ◌≡◌, length}
 use Rattle.bw_exports.specs.Asked.{shape_of, table_of}
 use Rattle.bw_exports.proofs.Asked.{planned_length}

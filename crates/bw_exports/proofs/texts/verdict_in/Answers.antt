@@ -1,3 +1,4 @@
+-- The goals of `verdict_in` that are answered by hand.
 use Rattle.std.proofs.Common.{refl}
 use Rattle.bw_model.specs.Certificate.{certified_of}
 use Rattle.bw_exports.proofs.texts.verdict_in.Goals as goal

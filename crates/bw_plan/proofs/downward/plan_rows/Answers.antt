@@ -1,3 +1,4 @@
+-- The goals of `plan_rows` that are answered by hand.
 use Rattle.std.proofs.Common.{◌≡◌, ◌<◌, ◌+◌, ℕ, suc, List, length, get_or, replicate, set, ap, subst, ◌∙◌, arith, rules}
 use Rattle.std.proofs.lemmas.Bool.{lt-ltb, le-ltb}
 use Rattle.bw_model.specs.declared.row.Row.{Row}

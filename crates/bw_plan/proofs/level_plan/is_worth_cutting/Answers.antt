@@ -1,3 +1,4 @@
+-- The goals of `is_worth_cutting` that are answered by hand.
 use Rattle.std.proofs.lemmas.List.{get_or_default}
 use Rattle.bw_demand.proofs.CallerLemmas.{level_within}
 use Rattle.bw_plan.proofs.level_plan.is_worth_cutting.Goals as goal

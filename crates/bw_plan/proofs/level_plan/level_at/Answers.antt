@@ -1,3 +1,4 @@
+-- The goals of `level_at` that are answered by hand.
 use Rattle.std.proofs.Common.{length, refl}
 use Rattle.std.proofs.lemmas.Option.{slice_get_read}
 use Rattle.bw_demand.proofs.CallerLemmas.{level_is}

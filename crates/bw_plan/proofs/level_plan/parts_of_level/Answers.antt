@@ -1,3 +1,4 @@
+-- The goals of `parts_of_level` that are answered by hand.
 use Rattle.std.proofs.Common.{◌∙◌}
 use Rattle.bw_plan.specs.Shared.{AreParts}
 use Rattle.bw_plan.proofs.Collected.{collected}

@@ -1,3 +1,4 @@
+-- The goals of `plan_each_level` that are answered by hand.
 use Rattle.std.proofs.Common.{◌≡◌, ◌+◌, ◌-◌, ℕ, List, length, get_or, replicate, set, ap, refl, subst, arith, rules}
 use Rattle.bw_model.specs.declared.row.Row.{Row}
 use Rattle.bw_model.specs.Demand.{AreMaxTotals}

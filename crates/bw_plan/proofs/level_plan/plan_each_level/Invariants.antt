@@ -1,3 +1,4 @@
+-- What stands at each turn of the loop in `plan_each_level`.
 use Rattle.std.proofs.Common.{◌-◌}
 use Rattle.bw_plan.specs.Shared.{IsPlanning, is_above}
 use Rattle.bw_plan.proofs.level_plan.plan_each_level.Given as goal

@@ -1,3 +1,4 @@
+-- What stands at each turn of the loop in `share_in_pieces`.
 use Rattle.std.proofs.Common.{◌≡◌, ◌<◌, ℕ, length, get_or}
 use Rattle.bw_plan.specs.Shared.{IsPlanning}
 use Rattle.bw_plan.proofs.Done.{done_at}

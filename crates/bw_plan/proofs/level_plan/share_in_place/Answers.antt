@@ -1,3 +1,4 @@
+-- The goals of `share_in_place` that are answered by hand.
 use Rattle.std.proofs.Common.{◌≡◌, ◌<◌, ◌≤◌, ◌+◌, ℕ, List, length, get_or, ap, ◌∙◌, arith}
 use Rattle.bw_model.specs.Groups.{depth_of}
 use Rattle.bw_model.proofs.CallerLemmas.{AreMaxTotals-capped}

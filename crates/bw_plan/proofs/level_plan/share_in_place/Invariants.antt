@@ -1,3 +1,4 @@
+-- What stands at each turn of the loop in `share_in_place`.
 use Rattle.bw_plan.specs.Shared.{IsPlanning}
 use Rattle.bw_plan.proofs.Done.{done_at}
 use Rattle.bw_plan.proofs.level_plan.share_in_place.Given as goal

@@ -1,3 +1,4 @@
+-- The goals of `give` that are answered by hand.
 use Rattle.std.proofs.Common.{◌≡◌, ◌<◌, ℕ, false, List, length, get_or, ap, sym, ◌∙◌, arith}
 use Rattle.std.specs.Prelude.{map, slice_index}
 use Rattle.std.proofs.lemmas.Bool.{both_ways}

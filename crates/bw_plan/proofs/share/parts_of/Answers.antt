@@ -1,3 +1,4 @@
+-- The goals of `parts_of` that are answered by hand.
 use Rattle.std.proofs.Common.{◌<◌, ℕ, length, ap, sym, ◌∙◌, arith}
 use Rattle.std.proofs.lemmas.Bool.{ne_eqb}
 use Rattle.bw_model.specs.Groups.{children_of}

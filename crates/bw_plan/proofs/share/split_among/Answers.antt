@@ -1,3 +1,4 @@
+-- The goals of `split_among` that are answered by hand.
 use Rattle.std.proofs.Common.{get_or, ◌∙◌}
 use Rattle.bw_plan.proofs.Shares.{children-CanSplit}
 use Rattle.bw_plan.proofs.share.split_among.Goals as goal

@@ -1,3 +1,4 @@
+-- What stands at each turn of the loop in `write_parts`.
 use Rattle.std.proofs.Common.{◌≡◌, ◌<◌, ℕ, length, get_or}
 use Rattle.bw_plan.proofs.share.write_parts.Given as goal
 

@@ -1,3 +1,4 @@
+-- The goals of `child_weights` that are answered by hand.
 use Rattle.std.proofs.Common.{length}
 use Rattle.bw_plan.proofs.Shares.{all_below, children_within}
 use Rattle.bw_plan.proofs.siblings.child_weights.Goals as goal

@@ -1,3 +1,4 @@
+-- The goals of `text_of` that are answered by hand.
 use Rattle.std.proofs.Common.{◌∙◌, ap, sym, arith}
 use Rattle.bw_commands.specs.Script.{outcome_of_kept, outcome_of_text}
 use Rattle.bw_shell.proofs.Kept.{outcome_of_kept-text, outcome_of_kept-bad, outcome_of_kept-long}

@@ -1,3 +1,4 @@
+-- The goals of `read_some` that are answered by hand.
 use Rattle.std.proofs.Common.{[]}
 use Rattle.bw_shell.proofs.Known.{Appends-nil}
 use Rattle.bw_shell.proofs.Scanning.{TakesBytes-nil}

@@ -1,3 +1,4 @@
+-- The goals of `run_gated` that are answered by hand.
 use Rattle.std.proofs.Common.{◌≡◌, ◌∙◌, [], sym, subst, inl, inr, arith, Bool, Result, Ok, Err, IfErr, IsErrOf}
 use Rattle.bw_shell.specs.declared.script.RunFault.{RunFault}
 use Rattle.bw_shell.specs.declared.script.RunFault.TheVariants.{Read, Write, Memory}

@@ -1,3 +1,4 @@
+-- What stands at each turn of the loop in `run_gated`.
 use Rattle.std.proofs.Common.{◌≡◌, ℕ, List, true}
 use Rattle.std.specs.Io.KnownBytes.{Appends, Consumes}
 use Rattle.bw_commands.specs.State.{start}

@@ -1,3 +1,4 @@
+-- The goals of `send` that are answered by hand.
 use Rattle.bw_shell.proofs.Known.{sends_more}
 use Rattle.bw_shell.proofs.Quiet.{quiet_write}
 use Rattle.bw_shell.proofs.send.send.Goals as goal

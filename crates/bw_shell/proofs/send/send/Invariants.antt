@@ -1,3 +1,4 @@
+-- What stands at each turn of the loop in `send`, and what falls.
 use Rattle.std.proofs.Common.{◌≡◌, ◌++◌, ℕ, List, length}
 use Rattle.std.specs.Io.KnownBytes.{Appends}
 use Rattle.bw_shell.specs.Watched.{inner_of, HasNoFault}

@@ -1,3 +1,4 @@
+-- The goals of `send_line` that are answered by hand.
 use Rattle.bw_shell.proofs.Writing.{Writes-last}
 use Rattle.bw_shell.proofs.send.send_line.Goals as goal
 

@@ -1,3 +1,4 @@
+-- The goals of `answer` that are answered by hand.
 use Rattle.std.proofs.Common.{rules, ◌≡◌, ◌∙◌, subst}
 use Rattle.std.specs.Io.KnownBytes.{Appends}
 use Rattle.bw_shell.specs.CheckText.{line_of}

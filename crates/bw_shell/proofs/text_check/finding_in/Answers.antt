@@ -1,3 +1,4 @@
+-- The goals of `finding_in` that are answered by hand.
 use Rattle.std.proofs.Common.{refl}
 use Rattle.bw_model.specs.Certificate.{certified_of}
 use Rattle.bw_shell.proofs.text_check.finding_in.Goals as goal

@@ -1,3 +1,4 @@
+-- The goals of `read_text` that are answered by hand.
 use Rattle.std.proofs.Common.{◌⊎◌, ◌<◌, ◌+◌, ◌++◌, ℕ, List, Bool, Option, length, length-append, inl, inr, arith}
 use Rattle.std.specs.Io.KnownBytes.{Consumes}
 use Rattle.bw_shell.specs.CheckText.{ReadsTooMuch}

@@ -1,3 +1,4 @@
+-- What stands at each turn of the loop in `read_text`.
 use Rattle.std.proofs.Common.{◌≡◌, ◌≤◌, length}
 use Rattle.std.specs.Io.KnownBytes.{Consumes}
 use Rattle.bw_shell.specs.Watched.{inner_of, read_calls, HasNoFault}

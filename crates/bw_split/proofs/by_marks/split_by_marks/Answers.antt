@@ -1,3 +1,4 @@
+-- The goals of `split_by_marks` that are answered by hand.
 use Rattle.std.proofs.Common.{◌≡◌, ◌<◌, ◌≤◌, ◌+◌, ℕ, suc, replicate, length, get_or, set, refl, sym, ◌∙◌, subst, arith, rules}
 use Rattle.std.specs.Prelude.{sum}
 use Rattle.std.specs.BinaryHeap.{heap_items}

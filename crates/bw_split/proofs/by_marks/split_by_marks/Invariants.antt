@@ -1,3 +1,4 @@
+-- What stands at each turn of the loops in `split_by_marks`.
 use Rattle.std.proofs.Common.{replicate, length}
 use Rattle.std.specs.BinaryHeap.{IsHeap, heap_items}
 use Rattle.bw_split.proofs.Filling.{IsFilled}

@@ -1,3 +1,4 @@
+-- What stands at each turn of the loop in `can_split`.
 use Rattle.std.proofs.Common.{ℕ, ◌<◌, ◌≤◌, get_or}
 use Rattle.bw_split.proofs.conditions.can_split.Given as goal
 use Rattle.bw_model.specs.declared.limits.TheConstants.{MIN_WEIGHT, MAX_WEIGHT}

@@ -1,3 +1,4 @@
+-- The goals of `fits_in` that are answered by hand.
 use Rattle.std.proofs.Common.{◌≡◌, ap, arith, rules}
 use Rattle.std.specs.Prelude.{sum, take}
 use Rattle.std.proofs.lemmas.List.{take_all}

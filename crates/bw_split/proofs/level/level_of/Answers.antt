@@ -1,3 +1,4 @@
+-- The goals of `level_of` that are answered by hand.
 use Rattle.std.proofs.Common.{◌<◌, ◌+◌, ℕ, get_or, arith}
 use Rattle.bw_split.proofs.LastMarks.{LastOf, last_kept, last_first, last_taken, last_stays}
 use Rattle.bw_split.proofs.level.level_of.Goals as goal

@@ -1,3 +1,4 @@
+-- What stands at each turn of the loop in `level_of`.
 use Rattle.bw_split.proofs.LastMarks.{LastOf}
 use Rattle.bw_split.proofs.level.level_of.Given as goal
 

@@ -1,3 +1,4 @@
+-- The goals of `fill` that are answered by hand.
 use Rattle.std.proofs.Common.{◌≡◌, ◌≤◌, ℕ, length, get_or, arith, ap}
 use Rattle.bw_model.proofs.CallerLemmas.{sum_below}
 use Rattle.bw_split.proofs.Takes.{each_takes, by_all-is}

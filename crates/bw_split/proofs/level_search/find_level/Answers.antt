@@ -1,3 +1,4 @@
+-- The goals of `find_level` that are answered by hand.
 use Rattle.std.proofs.Common.{◌≡◌, ◌≤◌, ◌<◌, ◌+◌, ℕ, List, arith, refl, ◌∙◌, inl, inr}
 use Rattle.std.proofs.lemmas.Bool.{cases_lt}
 use Rattle.bw_model.specs.declared.limits.TheConstants.{MAX_CAPACITY}

@@ -1,3 +1,4 @@
+-- What stands at each turn of the loop in `find_level`.
 use Rattle.std.proofs.Common.{◌≡◌, ◌+◌, ◌-◌, ◌^◌, ◌<◌, ◌≤◌}
 use Rattle.bw_split.specs.Levels.{taken_by_all}
 use Rattle.bw_split.proofs.level_search.find_level.Given as goal

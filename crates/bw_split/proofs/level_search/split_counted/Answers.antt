@@ -1,3 +1,4 @@
+-- The goals of `split_counted` that are answered by hand.
 use Rattle.std.proofs.Common.{◌≡◌, ◌≤◌, ◌-◌, ℕ, [], ◌∷◌, length, arith, inl, inr, subst, ◌∙◌, rules}
 use Rattle.std.specs.Prelude.{sum, IfOk}
 use Rattle.std.proofs.lemmas.Result.{IfOk-weaker}

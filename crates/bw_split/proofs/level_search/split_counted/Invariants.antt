@@ -1,3 +1,4 @@
+-- What stands at each turn of the loop in `split_counted`.
 use Rattle.std.proofs.Common.{◌≡◌, ◌+◌, ◌≤◌}
 use Rattle.bw_split.specs.Conditions.{NeedsNoSearch}
 use Rattle.bw_split.proofs.Picks.{IsGiven}

@@ -1,3 +1,4 @@
+-- The goals of `takes` that are answered by hand.
 use Rattle.std.proofs.Common.{rules}
 use Rattle.bw_split.specs.Levels.{taken}
 use Rattle.bw_split.proofs.level_search.takes.Goals as goal

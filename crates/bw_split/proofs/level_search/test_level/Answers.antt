@@ -1,3 +1,4 @@
+-- The goals of `test_level` that are answered by hand.
 use Rattle.std.proofs.Common.{◌≡◌, length, arith, ap, sym, ◌∙◌}
 use Rattle.bw_model.proofs.CallerLemmas.{sum_below}
 use Rattle.bw_split.proofs.Takes.{each_takes, by_all-is}

@@ -1,3 +1,4 @@
+-- The goals of `upper_level` that are answered by hand.
 use Rattle.bw_split.proofs.Takes.{by_all-top}
 use Rattle.bw_split.proofs.level_search.upper_level.Goals as goal
 

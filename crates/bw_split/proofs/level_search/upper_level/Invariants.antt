@@ -1,3 +1,4 @@
+-- What stands at each turn of the loops in `upper_level`.
 use Rattle.std.proofs.Common.{◌*◌, ◌+◌, ◌≤◌}
 use Rattle.bw_split.proofs.level_search.upper_level.Given as goal
 use Rattle.bw_model.specs.declared.limits.TheConstants.{MAX_WEIGHT}

@@ -1,3 +1,4 @@
+-- The goals of `counters_are_sums` that are answered by hand.
 use Rattle.bw_stat.proofs.SumLemmas.{are_sums}
 use Rattle.bw_stat.proofs.laws.counters_are_sums.Goals as goal
 

@@ -1,3 +1,4 @@
+-- The goals of `has_one_each` that are answered by hand.
 use Rattle.bw_stat.proofs.BookLemmas.{one_each}
 use Rattle.bw_stat.proofs.laws.has_one_each.Goals as goal
 

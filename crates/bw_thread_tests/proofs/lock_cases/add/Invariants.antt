@@ -1,3 +1,4 @@
+-- What stands at each turn of the loop in `add`.
 use Rattle.std.proofs.Common.{◌≡◌, None}
 use Rattle.bw_thread_tests.proofs.lock_cases.add.Given as goal
 

@@ -1,3 +1,4 @@
+-- What stands at each turn of the loop in `add_in_turn`.
 use Rattle.std.proofs.Common.{◌≡◌, None}
 use Rattle.std.specs.List.{All}
 use Rattle.bw_thread_tests.proofs.lock_cases.add_in_turn.Given as goal

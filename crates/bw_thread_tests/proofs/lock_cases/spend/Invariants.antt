@@ -1,3 +1,4 @@
+-- What stands at each turn of the loop in `spend`.
 use Rattle.std.proofs.Common.{◌≡◌, None}
 use Rattle.bw_thread_tests.proofs.lock_cases.spend.Given as goal
 

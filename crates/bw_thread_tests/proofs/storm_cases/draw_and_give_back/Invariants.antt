@@ -1,3 +1,4 @@
+-- What stands at each turn of the loop in `draw_and_give_back`.
 use Rattle.std.proofs.Common.{◌≡◌, None}
 use Rattle.bw_thread_tests.proofs.storm_cases.draw_and_give_back.Given as goal
 

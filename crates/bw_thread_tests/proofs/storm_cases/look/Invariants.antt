@@ -1,3 +1,4 @@
+-- What stands at each turn of the loop in `look`.
 use Rattle.std.proofs.Common.{◌≡◌, None}
 use Rattle.bw_thread_tests.proofs.storm_cases.look.Given as goal
 

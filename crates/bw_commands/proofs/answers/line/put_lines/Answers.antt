@@ -1,3 +1,4 @@
+-- The goals of `put_lines` that are answered by hand.
 use Rattle.std.proofs.Common.{◌≡◌, ◌<◌, ◌++◌, [], length, take, get_or, arith, sym, ap, ◌∙◌, append_assoc}
 use Rattle.std.specs.List.{range_with_len}
 use Rattle.std.proofs.lemmas.List.{take_more, length-take-le}

@@ -1,3 +1,4 @@
+-- What stands at each turn of the loop in `put_lines`.
 use Rattle.std.proofs.Common.{◌≡◌, ◌≤◌, ◌++◌, take}
 use Rattle.std.specs.List.{range_with_len}
 use Rattle.std.specs.Vec.{vec_capacity}

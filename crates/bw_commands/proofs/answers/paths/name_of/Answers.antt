@@ -1,3 +1,4 @@
+-- The goals of `name_of` that are answered by hand.
 use Rattle.std.proofs.Common.{◌≡◌, ◌<◌, get_or, length, true, arith, ap, ◌∙◌}
 use Rattle.std.specs.Map.{keys_of}
 use Rattle.bw_tree.specs.Groups.{group_at, has_group}

@@ -1,3 +1,4 @@
+-- The goals of `put_path` that are answered by hand.
 use Rattle.std.proofs.Common.{◌<◌, length, subst}
 use Rattle.std.specs.Prelude.{IfSome}
 use Rattle.bw_commands.proofs.PathLists.{within_at}

@@ -1,3 +1,4 @@
+-- The goals of `serve_period` that are answered by hand.
 use Rattle.std.proofs.Common.{sym, subst}
 use Rattle.bw_model.specs.Groups.{IsInstance}
 use Rattle.bw_tree.specs.Snapshot.{IsDrawnWithin}
@@ -8,4 +9,5 @@ pub book-requires-clause-within : goal.book-requires-clause-within
 book-requires-clause-within g c =
     let known : IsInstance c.in_ok-instance.instance = subst IsInstance (sym c.in_ok-instance.ensures.rows) c.in_ok-instance.ensures.valid in
     subst (IsDrawnWithin c.in_ok-instance.instance.rows) (sym c.deref-3.ensures.value)
-    (drawn_within c.in_ok-instance.instance c.in_ok-plan.plan.amounts.items known c.in_ok-plan.ensures _ c.in_ok-served.served.drawn.items c.in_ok-served.ensures.drawn)
+    (drawn_within c.in_ok-instance.instance c.in_ok-plan.plan.amounts.items known c.in_ok-plan.ensures _
+    c.in_ok-served.served.drawn.items c.in_ok-served.ensures.drawn)

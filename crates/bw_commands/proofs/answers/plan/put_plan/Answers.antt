@@ -1,3 +1,4 @@
+-- The goals of `put_plan` that are answered by hand.
 use Rattle.std.proofs.Common.{◌≡◌, ◌∙◌, length, ap, arith}
 use Rattle.std.proofs.lemmas.List.FromFn.{length-map-range_with_len}
 use Rattle.bw_model.specs.Allocation.{total}

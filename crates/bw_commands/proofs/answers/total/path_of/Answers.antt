@@ -1,3 +1,4 @@
+-- The goals of `path_of` that are answered by hand.
 use Rattle.std.proofs.Common.{◌≡◌, ◌<◌, true, cond, not, get_or, length, Some, None, arith, ap, ◌∙◌}
 use Rattle.std.specs.Map.{keys_of}
 use Rattle.bw_tree.specs.Groups.{has_group}

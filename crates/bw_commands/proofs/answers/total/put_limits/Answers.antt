@@ -1,3 +1,4 @@
+-- The goals of `put_limits` that are answered by hand.
 use Rattle.std.proofs.Common.{◌∙◌, ◌<◌, ◌++◌, [], ◌∷◌, length, take, get_or, arith, sym, ap, append-nil, append_assoc}
 use Rattle.std.proofs.lemmas.List.{take_more}
 use Rattle.bw_commands.specs.Total.{limit_line, limit_lines}

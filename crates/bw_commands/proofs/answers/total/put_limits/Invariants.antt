@@ -1,3 +1,4 @@
+-- What stands at each turn of the loop in `put_limits`.
 use Rattle.std.proofs.Common.{◌≡◌, ◌≤◌, ◌++◌, ℕ, List, take}
 use Rattle.std.specs.Vec.{vec_capacity}
 use Rattle.bw_commands.specs.GroupLines.{ArePathsOf}

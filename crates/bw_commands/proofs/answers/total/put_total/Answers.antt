@@ -1,3 +1,4 @@
+-- The goals of `put_total` that are answered by hand.
 use Rattle.std.proofs.Common.{◌≡◌, ◌∙◌, ◌<◌, ℕ, length, get_or, sym, subst}
 use Rattle.bw_model.specs.Demand.{limiting_groups}
 use Rattle.bw_commands.proofs.Totals.{limiting_groups-lt}

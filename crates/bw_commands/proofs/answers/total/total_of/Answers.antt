@@ -1,3 +1,4 @@
+-- The goals of `total_of` that are answered by hand.
 use Rattle.std.proofs.Common.{◌∙◌, ◌<◌, length, arith, sym}
 use Rattle.bw_model.proofs.CallerLemmas.{get_or_within, limited_total-is, AreMaxTotals-capped}
 use Rattle.bw_commands.proofs.answers.total.total_of.Goals as goal

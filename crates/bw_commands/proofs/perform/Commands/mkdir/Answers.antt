@@ -1,3 +1,4 @@
+-- The goals of `Commands::mkdir` that are answered by hand.
 use Rattle.std.proofs.Common.{ap}
 use Rattle.std.proofs.lemmas.Result.{err_from_is_err_and}
 use Rattle.bw_hierarchy.specs.State.{with_tree}

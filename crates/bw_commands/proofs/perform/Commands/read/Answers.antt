@@ -1,3 +1,4 @@
+-- The goals of `Commands::read` that are answered by hand.
 use Rattle.std.proofs.Common.{refl}
 use Rattle.std.proofs.lemmas.Result.{err_from_is_err_and}
 use Rattle.bw_hierarchy.specs.Files.{read_of}

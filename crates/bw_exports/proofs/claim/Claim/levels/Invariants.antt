@@ -1,3 +1,4 @@
+-- What stands at each turn of the loop in `Claim::levels`.
 use Rattle.bw_exports.specs.Checked.{claimed_of, AreLevels}
 use Rattle.bw_exports.proofs.claim.Claim.levels.Given as goal
 

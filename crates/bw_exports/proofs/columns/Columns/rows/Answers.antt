@@ -1,3 +1,4 @@
+-- The goals of `Columns::rows` that are answered by hand.
 use Rattle.std.proofs.Common.{rules, arith}
 use Rattle.std.proofs.lemmas.List.FromFn.{map-range_with_len_more}
 use Rattle.bw_exports.specs.Asked.{row_in, table_of}

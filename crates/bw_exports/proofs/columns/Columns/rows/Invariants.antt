@@ -1,3 +1,4 @@
+-- What stands at each turn of the loop in `Columns::rows`.
 use Rattle.std.proofs.Common.{◌≡◌, map}
 use Rattle.std.specs.List.{range_with_len}
 use Rattle.bw_exports.specs.Asked.{row_in, table_of}

@@ -1,3 +1,4 @@
+-- The goals of `Instance::of_valid` that are answered by hand.
 use Rattle.std.proofs.Common.{rules}
 use Rattle.bw_model.proofs.instance.Instance.of_valid.Goals as goal
 

@@ -1,3 +1,4 @@
+-- The goals of `Instance::parent` that are answered by hand.
 use Rattle.std.proofs.Common.{◌≡◌, ℕ, ◌<◌, List, Option, None, Some, ap, sym}
 use Rattle.std.specs.Option.{IfSome}
 use Rattle.bw_model.specs.declared.row.Row.{Row}

@@ -1,3 +1,4 @@
+-- The goals of `Responder::reply` that are answered by hand.
 use Rattle.std.proofs.Common.{sym, subst, inl, refl}
 use Rattle.bw_commands.specs.Fault.{error_line}
 use Rattle.bw_commands.specs.Script.{IsOutcome, IsAnswer}

@@ -1,3 +1,4 @@
+-- The goals of `Session::end_line` that are answered by hand.
 use Rattle.std.proofs.Common.{rules, ◌≡◌, ◌∙◌, [], Some, ap, sym, subst, refl, length}
 use Rattle.std.proofs.lemmas.List.{nil_from_length}
 use Rattle.bw_commands.specs.Script.{kept_of, IsAnswer}

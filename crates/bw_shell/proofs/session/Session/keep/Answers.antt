@@ -1,3 +1,4 @@
+-- The goals of `Session::keep` that are answered by hand.
 use Rattle.std.proofs.Common.{rules, ◌≡◌, ◌≤◌, ◌-◌, ◌++◌, min, ◌∙◌, ap, take, length}
 use Rattle.bw_commands.specs.Script.{kept_of}
 use Rattle.bw_shell.specs.Responder.{responder_state}

@@ -1,3 +1,4 @@
+-- The goals of `Session::take_bytes` that are answered by hand.
 use Rattle.std.proofs.Common.{◌≡◌, ◌++◌, ◌∙◌, ℕ, List, [], ◌∷◌, take, drop, ap, sym, subst, append_assoc, append-nil, refl, rules}
 use Rattle.std.proofs.lemmas.List.{take-append-drop}
 use Rattle.bw_shell.specs.Scan.{Scan, TakesBytes, TakesLine}

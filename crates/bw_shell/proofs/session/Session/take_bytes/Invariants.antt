@@ -1,3 +1,4 @@
+-- What stands at each turn of the loop in `Session::take_bytes`, and what falls.
 use Rattle.std.proofs.Common.{◌≡◌, ◌++◌, ℕ, List, length}
 use Rattle.std.specs.Io.KnownBytes.{Appends}
 use Rattle.bw_shell.specs.Session.{scan_of}

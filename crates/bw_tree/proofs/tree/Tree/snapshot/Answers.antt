@@ -10,7 +10,8 @@ pub of_valid-requires : goal.of_valid-requires
 of_valid-requires c =
     let t : TreeState = record { groups = c.self.inside.groups.entries; next = c.self.inside.next_id } in
     let shape = c.args.shape in
-    let same : rows_of t.groups shape ≡ c.in_ok-rows.rows.items = ap (λ (s : TreeState). rows_of s.groups shape) c.self.view_is ∙ sym c.in_ok-rows.ensures.rows in
+    let same : rows_of t.groups shape ≡ c.in_ok-rows.rows.items =
+    ap (λ (s : TreeState). rows_of s.groups shape) c.self.view_is ∙ sym c.in_ok-rows.ensures.rows in
     subst (λ rows. IsInstance (record { shape = shape; rows = rows })) same
     (snapshot_IsInstance t c.self.invariant.tree shape c.slice_us-slice_us.ensures.valid)
 

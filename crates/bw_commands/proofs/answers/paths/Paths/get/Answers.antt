@@ -1,3 +1,4 @@
+-- The goals of `Paths::get` that are answered by hand.
 use Rattle.std.proofs.Common.{◌≡◌, ◌<◌, ℕ, List, length, get_or, arith, ap}
 use Rattle.std.proofs.lemmas.List.{length-map}
 use Rattle.bw_commands.specs.PathList.{cut}

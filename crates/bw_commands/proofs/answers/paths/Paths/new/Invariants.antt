@@ -1,3 +1,4 @@
+-- What stands at each turn of the loop in `Paths::new`.
 use Rattle.std.proofs.Common.{◌≡◌, ◌<◌, ℕ, [], Some, length, get_or}
 use Rattle.bw_tree.specs.Paths.{path_at}
 use Rattle.bw_commands.specs.GroupLines.{IsPathOf}
