@@ -84,7 +84,8 @@ made_below : (r : Result ℕ Fault) (t u : TreeState) (name : List ℕ) (id : �
 made_below (Err fault) t u name id e = cc
 made_below (Ok parent) t u name id e = made (mkdir_refusal t parent name) t u parent name id e
 
-pub made_at : (t u : TreeState) (o : Option (List ℕ × List ℕ)) (path : List ℕ) (id : ℕ) → mkdir_split t o path ≡ Ok (id, u) → (t.next ≡ id) × (t.next + 1 ≡ u.next)
+pub made_at : (t u : TreeState) (o : Option (List ℕ × List ℕ)) (path : List ℕ) (id : ℕ) → mkdir_split t o path ≡ Ok (id, u)
+    → (t.next ≡ id) × (t.next + 1 ≡ u.next)
 made_at t u None path id e = made (mkdir_refusal t 0 path) t u 0 path id e
 made_at t u (Some parts) path id e = made_below (found_at t parts.0) t u parts.1 id e
 

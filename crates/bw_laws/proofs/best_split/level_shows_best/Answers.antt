@@ -1,4 +1,4 @@
--- `best_split::level_shows_best`: the goals that the search leaves open.
+-- The goals of `level_shows_best` that are answered by hand.
 use Rattle.bw_model.proofs.CallerLemmas.{level-IsBestSplit, IsBestSplit-unique}
 use Rattle.bw_laws.proofs.best_split.level_shows_best.Goals as goal
 

@@ -1,4 +1,4 @@
--- `best_split::marks_agree`: the goals that the search leaves open.
+-- The goals of `marks_agree` that are answered by hand.
 use Rattle.bw_check.proofs.CallerLemmas.{is_lt-IsBelow, is_le-IsAtMost}
 use Rattle.bw_laws.proofs.best_split.marks_agree.Goals as goal
 

@@ -1,4 +1,4 @@
--- `bounded::bounds_cover_mosts`: the goals that the search leaves open.
+-- The goals of `bounds_cover_mosts` that are answered by hand.
 use Rattle.bw_laws.proofs.Bounded.{bounds_cover}
 use Rattle.bw_laws.proofs.bounded.bounds_cover_mosts.Goals as goal
 

@@ -1,4 +1,4 @@
--- `given::ids_are_given_once`: the goals that the search leaves open.
+-- The goals of `ids_are_given_once` that are answered by hand.
 use Rattle.bw_laws.proofs.GivenOnce.{given_once}
 use Rattle.bw_laws.proofs.given.ids_are_given_once.Goals as goal
 
