@@ -2,15 +2,15 @@
 #![tactic(auto)]
 
 mod best_split;
-mod bounded;
 mod counted;
+mod flagged;
 mod given;
 mod joined;
 mod numbers;
 
 pub use best_split::{level_shows_best, marks_agree};
-pub use bounded::bounds_cover_mosts;
 pub use counted::new_groups_count_nothing;
+pub use flagged::bounds_cover_mosts;
 pub use given::ids_are_given_once;
 pub use joined::cert_is_accepted;
 pub use numbers::{
