@@ -19,7 +19,7 @@ WORDS_REFUSED = MEMORY
 ENDED = "ended for want of memory"
 
 # A sweep that refuses fewer allocations than this has fallen to nothing.
-LEAST_REFUSED = {"run": 150, "check": 40, "words": 20}
+LEAST_REFUSED = {"run": 100, "check": 30, "words": 20}
 
 # The commands that take memory. `rmdir`, `demand` and `write` take none, and so are never refused for it.
 TAKE_MEMORY = ["mkdir", "read", "total", "plan", "cert", "period", "report"]

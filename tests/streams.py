@@ -166,11 +166,16 @@ def writer_would_wait(words, given):
     return differs((status, b"", err), write_failed(WOULD_WAIT))
 
 
-def failed_once(library, words, given, name, nth, wanted):
-    """A read or a write that fails once is not made again: it ends the run, though the stream would go on."""
+def failed_once(library, words, given, name, nth, answers):
+    """A read or a write that fails once ends the run with its fault, though the stream would go on: no read comes after it, and
+    no answer that was not formed before it. What waits in the buffer of standard output is tried once more when that is
+    dropped, so a front of the answers may be written."""
     (status, out, err), told = refused_run(library, words, given, **{name: nth})
-    fault = READ_FAULT if name == "REFUSE_READ" else WRITE_FAULT
-    if (status, out) != (1, wanted) or not err.startswith(fault) or told != b"f":
+    calls = told.replace(b"s", b"")
+    reads = name == "REFUSE_READ"
+    fault = READ_FAULT if reads else WRITE_FAULT
+    ended = out == answers and calls == b"f" if reads else answers.startswith(out) and out != answers and calls in (b"f", b"fg")
+    if status != 1 or not err.startswith(fault) or not ended:
         return f"status {status}, {out[-200:]!r}, {err!r}, calls {told!r}"
     return None
 
@@ -223,9 +228,10 @@ def main():
     with tempfile.TemporaryDirectory() as folder:
         library = refusing_library(folder)
         answers = transcript(["run"], [SCRIPT])
-        for words, given, read in [(["run"], SCRIPT, answers), (["check"], TWO_CERTIFIED, b"")]:
-            for name, nth, wanted in [("REFUSE_READ", 1, b""), ("REFUSE_READ", 2, read), ("REFUSE_WRITE", 1, b"")]:
-                cases.case(f"{words[0]}, {name} {nth}", failed_once, library, words, given, name, nth, wanted)
+        for name, nth, wanted in [("REFUSE_READ", 1, b""), ("REFUSE_READ", 2, answers), ("REFUSE_WRITE", 1, answers)]:
+            cases.case(f"run, {name} {nth}", failed_once, library, ["run"], SCRIPT, name, nth, wanted)
+        for nth in (1, 2):
+            cases.case(f"check, REFUSE_READ {nth}", failed_once, library, ["check"], TWO_CERTIFIED, "REFUSE_READ", nth, b"")
     cases.case("run, a reader that goes away", reader_goes_away)
     cases.case("run, a reader that fails", reader_fails)
     cases.case("check, a reader that fails", check_reader_fails)
