@@ -39,6 +39,11 @@ impl ServeFault {
 }
 
 impl From<AllocError> for ServeFault {
+    ghost use Rattle.std.specs.Prelude.{◌≡◌};
+    ghost use Rattle.bw_workers.specs.declared.fault.ServeFault.TheVariants.{OutOfMemory};
+
+    ghost from_gives = { λ _ e. e ≡ OutOfMemory };
+
     fn from(_refused: AllocError) -> ServeFault {
         ServeFault::OutOfMemory
     }
