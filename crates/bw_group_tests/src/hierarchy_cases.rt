@@ -94,7 +94,7 @@ fn assert_builds(rt: &impl Abort, hierarchy: &mut Hierarchy, steps: &[Build]) {
 }
 
 // A static table costs its readers no proof; each entry of a local one is a step of it.
-static BUILDERS: [Build; 19] = [
+static BUILDERS: [Build; 22] = [
     Build::Makes("p/q", Some(300), Some(50_000), Some(100_000), 0),
     Build::Reads("p", "cpu.weight", 0, "100\n"),
     Build::Reads("p", "cpu.max", 0, "max 100000\n"),
@@ -110,6 +110,16 @@ static BUILDERS: [Build; 19] = [
     Build::Makes(".", Some(5), None, None, 26),
     Build::Makes("./x/y", None, None, None, 20),
     Build::Makes("t//u", None, None, None, 22),
+    Build::Makes("t/u", None, Some(999), None, 13),
+    Build::Makes("t/u", None, Some(1_000_000_000_000_001), None, 14),
+    // a group on the 65th level
+    Build::Makes(
+        "d/d/d/d/d/d/d/d/d/d/d/d/d/d/d/d/d/d/d/d/d/d/d/d/d/d/d/d/d/d/d/d/d/d/d/d/d/d/d/d/d/d/d/d/d/d/d/d/d/d/d/d/d/d/d/d/d/d/d/d/d/d/d/d/d",
+        None,
+        None,
+        None,
+        7,
+    ),
     Build::Reads("t", "cpu.weight", 20, ""),
     Build::Makes("p/q", None, Some(-1), None, 0),
     Build::Reads("p/q", "cpu.weight", 0, "300\n"),
