@@ -15,7 +15,7 @@ returns-clause-text c =
       c.in_ok-push_str-2.ensures.bytes,
       c.in_ok-push_flag.ensures,
       c.in_ok-push_str.ensures.bytes,
-      c.in_ok-push_number.ensures,
+      c.in_ok-push_number.ensures.bytes,
       c.in_ok-push_row.ensures,
     )
     (group_text (string_bytes c.args.out.now) (parent_word c.args.row.parent) (decimal c.args.row.weight) (limit_word c.args.row.limit)

@@ -8,13 +8,13 @@ pub returns : goal.returns
 returns c =
     rw (
       c.in_ok-push_str-5.ensures.bytes,
-      c.in_ok-push_number-4.ensures,
+      c.in_ok-push_number-4.ensures.bytes,
       c.in_ok-push_str-4.ensures.bytes,
-      c.in_ok-push_number-3.ensures,
+      c.in_ok-push_number-3.ensures.bytes,
       c.in_ok-push_str-3.ensures.bytes,
-      c.in_ok-push_number-2.ensures,
+      c.in_ok-push_number-2.ensures.bytes,
       c.in_ok-push_str-2.ensures.bytes,
-      c.in_ok-push_number.ensures,
+      c.in_ok-push_number.ensures.bytes,
       c.in_ok-push_str.ensures.bytes,
     )
     (rw (c.processors.ensures.value, c.period_us.ensures.value, c.slice_us.ensures.value)
