@@ -9,23 +9,23 @@ use bw_text::push_number;
 use std::alloc::{AllocError, Global};
 
 /// The text of `cpu.weight`, refused for memory alone.
-pub fn write_weight(alloc: Global, n: u64) -> Result<String, AllocError>
-    requires { (MIN_WEIGHT ≤ n) × (n ≤ MAX_WEIGHT) }
-    ensures { IfOk result (λ t. string_bytes t ≡ weight_text n) }
+pub fn write_weight(alloc: Global, weight: u64) -> Result<String, AllocError>
+    requires { (MIN_WEIGHT ≤ weight) × (weight ≤ MAX_WEIGHT) }
+    ensures { IfOk result (λ t. string_bytes t ≡ weight_text weight) }
 {
     let mut out = String::new(alloc);
-    push_number(&mut out, n)?;
+    push_number(&mut out, weight)?;
     out.push_str("\n")?;
     Ok(out)
 }
 
 /// The text of `cpu.max.burst`, in microseconds, refused for memory alone.
-pub fn write_burst(alloc: Global, n: u64) -> Result<String, AllocError>
-    requires { n ≤ MAX_BURST_US }
-    ensures { IfOk result (λ t. string_bytes t ≡ burst_text n) }
+pub fn write_burst(alloc: Global, burst: u64) -> Result<String, AllocError>
+    requires { burst ≤ MAX_BURST_US }
+    ensures { IfOk result (λ t. string_bytes t ≡ burst_text burst) }
 {
     let mut out = String::new(alloc);
-    push_number(&mut out, n)?;
+    push_number(&mut out, burst)?;
     out.push_str("\n")?;
     Ok(out)
 }
