@@ -43,6 +43,11 @@ taken-zero : (weight most : ℕ) → taken 0 weight most ≡ 0
 unfolding taken
 taken-zero weight most = omega arith
 
+-- half a slice's cost is above the first level
+taken-one : (weight most : ℕ) → weight ≤ MAX_WEIGHT → taken 1 weight most ≡ 0
+unfolding taken
+taken-one weight most h = omega (arith, h)
+
 -- what each child takes at a level
 abbrev pub each_takes : ℕ → List ℕ → List ℕ → ℕ → ℕ
 each_takes level weights most k = taken level (get_or weights k 0) (get_or most k 0)
@@ -60,6 +65,11 @@ by_all-mono s t weights most h = rw (by_all-is s weights most, by_all-is t weigh
 pub by_all-zero : (weights most : List ℕ) → taken_by_all 0 weights most ≡ 0
 by_all-zero weights most = by_all-is 0 weights most ∙
     sum_below-zero (length weights) (each_takes 0 weights most) (λ k _. taken-zero (get_or weights k 0) (get_or most k 0))
+
+-- no child takes a slice at level 1
+pub by_all-one : (weights most : List ℕ) → ((k : ℕ) → k < length weights → get_or weights k 0 ≤ MAX_WEIGHT) → taken_by_all 1 weights most ≡ 0
+by_all-one weights most light = by_all-is 1 weights most ∙
+    sum_below-zero (length weights) (each_takes 1 weights most) (λ k below. taken-one (get_or weights k 0) (get_or most k 0) (light k below))
 
 pub sum_below-more : (n : ℕ) (f : ℕ → ℕ) → sum_below (n + 1) f ≡ sum_below n f + f n
 sum_below-more n f = rw add-one refl

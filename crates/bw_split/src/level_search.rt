@@ -194,6 +194,7 @@ fn find_level(amount: u64, weights: &[u64], most: &[u64], work: &mut Work) -> Fo
     ensures picks { work.new.picks ≡ work.old.picks }
     ensures counted { work.old.rounds ≤ work.new.rounds }
     ensures no_search { amount ≡ 0 → work.new.rounds ≡ work.old.rounds }
+    ensures searched { 0 < amount → work.old.rounds < work.new.rounds }
 {
     let mut level = 0;
     let mut rest = amount;
@@ -242,7 +243,7 @@ fn halved_where(stayed: bool, distance: u64) -> u64
 
 /// What [`split`] answers, with a count of its work: a round for each level that was tested on all children, at most
 /// [`MAX_ROUNDS`] of them, and a pick for each slice that was given after the search, at most one a child. An amount
-/// of 0, an only child, and an amount equal to the sum of the maxima cost no round.
+/// of 0, an only child, and an amount equal to the sum of the maxima cost no round, and all else at least one.
 pub fn split_counted(
     alloc: Global,
     amount: u64,
@@ -256,6 +257,7 @@ pub fn split_counted(
     ensures picks { work.new.picks ≤ work.old.picks + length weights.now }
     ensures counted { (work.old.rounds ≤ work.new.rounds) × (work.old.picks ≤ work.new.picks) }
     ensures no_search { NeedsNoSearch amount weights.now most.now → work.new.rounds ≡ work.old.rounds }
+    ensures searched { (NeedsNoSearch amount weights.now most.now → ⊥) → work.old.rounds < work.new.rounds }
 {
     if fits_in(most, amount) {
         return most.to_vec(alloc);

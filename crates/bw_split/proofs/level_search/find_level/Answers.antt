@@ -1,9 +1,9 @@
 -- The goals of `find_level` that are answered by hand.
-use Rattle.std.proofs.Common.{◌≡◌, ◌≤◌, ◌<◌, ◌+◌, ℕ, List, arith, refl, ◌∙◌, inl, inr}
+use Rattle.std.proofs.Common.{◌≡◌, ◌≤◌, ◌<◌, ◌+◌, ℕ, List, length, get_or, arith, refl, ◌∙◌, inl, inr}
 use Rattle.std.proofs.lemmas.Bool.{cases_lt}
-use Rattle.bw_model.specs.declared.limits.TheConstants.{MAX_CAPACITY}
+use Rattle.bw_model.specs.declared.limits.TheConstants.{MAX_CAPACITY, MAX_WEIGHT}
 use Rattle.bw_split.specs.Levels.{taken_by_all}
-use Rattle.bw_split.proofs.Takes.{by_all-zero, by_all-mono}
+use Rattle.bw_split.proofs.Takes.{by_all-zero, by_all-one, by_all-mono}
 use Rattle.bw_split.proofs.Search.{next_reach}
 use Rattle.bw_split.proofs.level_search.find_level.Goals as goal
 use Rattle.bw_split.proofs.level_search.find_level.Goals.{then-total-amount, else-total-amount, then-above-level-eq1-via-then-above-level-eq1}
@@ -27,6 +27,7 @@ loop-round-preserved c =
         near = omega (arith, w.halved_where-short_by.ensures, inv.near);
         rounds = omega (arith, c.test_level-total.ensures.rounds, inv.rounds);
         picks = c.test_level-total.ensures.picks ∙ inv.picks;
+        first = λ none. absurd (omega (arith, none));
       })
       | else-total-amount w ↦ rw (w.level-is, w.rest-is, w.above-is, w.short_by-is) (record {
         apart = omega (arith, c.trial-middle.ensures.inside);
@@ -39,6 +40,7 @@ loop-round-preserved c =
         near = omega (arith, small, inv.rest_is);
         rounds = omega (arith, c.test_level-total.ensures.rounds, inv.rounds);
         picks = c.test_level-total.ensures.picks ∙ inv.picks;
+        first = λ none. absurd (omega (arith, none));
       })
     ]
 
@@ -62,6 +64,15 @@ starts amount level weights most some enough = elim (cases_lt 0 level) [
       omega (arith, up, some, enough, by_all-zero weights most))
 ]
 
+-- some amount isn't taken at level 1
+above_one : (amount level : ℕ) (weights most : List ℕ) → ((k : ℕ) → k < length weights → get_or weights k 0 ≤ MAX_WEIGHT) →
+    (amount ≡ 0 → ⊥) → amount ≤ taken_by_all level weights most → 1 < level
+above_one amount level weights most light some enough = elim (cases_lt 1 level) [
+  | inl h ↦ h
+  | inr h ↦ absurd (let up : taken_by_all level weights most ≤ taken_by_all 1 weights most = by_all-mono level 1 weights most h in
+      omega (arith, up, some, enough, by_all-one weights most light))
+]
+
 pub loop-round-init : goal.loop-round-init
 loop-round-init c = record {
   apart = starts c.args.amount c.upper_level-above.result c.args.weights.now c.args.most.now c.if-rest-eq0.false c.upper_level-above.ensures.enough;
@@ -74,6 +85,11 @@ loop-round-init c = record {
   near = c.requires.small;
   rounds = omega arith;
   picks = omega arith;
+  first = λ _. (
+    above_one c.args.amount c.upper_level-above.result c.args.weights.now c.args.most.now
+        (λ k below. (c.requires.weights_in_range k below).1) c.if-rest-eq0.false c.upper_level-above.ensures.enough,
+    omega (arith, c.if-rest-eq0.false),
+  );
 }
 
 pub returns-then-above-level-eq1-clause-enough : goal.returns-then-above-level-eq1-clause-enough

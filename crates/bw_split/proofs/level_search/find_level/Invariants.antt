@@ -17,4 +17,5 @@ invariant-loop-round l = record {
   near : l.short_by ≤ MAX_CAPACITY;
   rounds : l.work.rounds ≡ l.fn.work.rounds + l.round;
   picks : l.work.picks ≡ l.fn.work.picks;
+  first : l.round ≡ 0 → (l.level + 1 < l.above) × (0 < l.rest);
 }

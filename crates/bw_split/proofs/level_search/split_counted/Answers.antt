@@ -1,28 +1,39 @@
 -- The goals of `split_counted` that are answered by hand.
-use Rattle.std.proofs.Common.{◌≡◌, ◌≤◌, ◌-◌, ℕ, [], ◌∷◌, length, arith, inl, inr, subst, ◌∙◌, rules}
+use Rattle.std.proofs.Common.{◌≡◌, ◌<◌, ◌≤◌, ◌-◌, ℕ, List, [], ◌∷◌, length, arith, inl, inr, subst, ◌∙◌, rules}
 use Rattle.std.specs.Prelude.{sum, IfOk}
 use Rattle.std.proofs.lemmas.Result.{IfOk-weaker}
+use Rattle.std.proofs.lemmas.Bool.{cases_lt}
 use Rattle.bw_model.specs.Split.{IsBestSplit}
+use Rattle.bw_split.specs.Conditions.{NeedsNoSearch}
 use Rattle.bw_split.proofs.Picks.{IsGiven, given-none, given-kept, given-pick, given-IsBestSplit}
 use Rattle.bw_split.proofs.Search.{all-IsBestSplit, one-IsBestSplit}
 use Rattle.bw_split.proofs.level_search.split_counted.Goals as goal
 use Rattle.bw_split.proofs.level_search.split_counted.Goals.{then-rest-gt0+then-takes-part+in_ok-push, else-rest-gt0+in_ok-push-2}
 use Rattle.bw_split.proofs.level_search.split_counted.Goals.{else-rest-gt0-via-then-rest-gt0+else-takes-part, else-rest-gt0-via-else-rest-gt0}
 
+-- a search is needed for some amount alone
+amount_left : (amount : ℕ) (weights most : List ℕ) → (NeedsNoSearch amount weights most → ⊥) → 0 < amount
+amount_left amount weights most wanted = elim (cases_lt 0 amount) [
+  | inl h ↦ h
+  | inr h ↦ absurd (wanted (inl (omega (arith, h))))
+]
+
 pub loop-i-init : goal.loop-i-init
 loop-i-init c = record {
   given = rw c.in_ok-parts.ensures.items
       (given-none c.find_level-found.result.level c.find_level-found.result.rest c.args.weights.now c.args.most.now);
-  rounds = c.find_level-found.ensures.rounds;
+  rounds = omega (arith, c.find_level-found.ensures.rounds);
   picks = omega (arith, c.find_level-found.ensures.picks);
+  searched = λ wanted. let some = amount_left c.args.amount c.args.weights.now c.args.most.now wanted in
+      omega (arith, c.find_level-found.ensures.searched some);
   no_search = λ plain. elim plain [
-    | inl none ↦ c.find_level-found.ensures.no_search none
+    | inl none ↦ omega (arith, c.find_level-found.ensures.no_search none)
     | inr other ↦ absurd (elim other [
       | inl all ↦ let fits = c.if-fits_in.ensures.1 (omega (arith, all)) in let wrong : ⊥ = cc in wrong
       | inr one ↦ c.if-weights-eq1.false one
     ])
   ];
-  counted = (c.find_level-found.ensures.counted, omega (arith, c.find_level-found.ensures.picks));
+  counted = (omega (arith, c.find_level-found.ensures.counted), omega (arith, c.find_level-found.ensures.picks));
 }
 
 pub loop-i-preserved : goal.loop-i-preserved
@@ -37,6 +48,7 @@ loop-i-preserved c =
             (omega (arith, c.takes-part.ensures.taken, w.takes.ensures.taken, w.if-takes-part.true));
         rounds = omega (arith, w.with_one_more.ensures.rounds, inv.rounds);
         picks = omega (arith, w.with_one_more.ensures.picks, inv.picks);
+        searched = λ wanted. omega (arith, w.with_one_more.ensures.rounds, inv.searched wanted);
         no_search = λ plain. w.with_one_more.ensures.rounds ∙ inv.no_search plain;
         counted = (omega (arith, w.with_one_more.ensures.rounds, inv.counted.0), omega (arith, w.with_one_more.ensures.picks, inv.counted.1));
       })
@@ -49,6 +61,7 @@ loop-i-preserved c =
             ]);
         rounds = inv.rounds;
         picks = omega (arith, inv.picks);
+        searched = inv.searched;
         no_search = inv.no_search;
         counted = inv.counted;
       })

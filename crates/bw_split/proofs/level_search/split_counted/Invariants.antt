@@ -1,5 +1,5 @@
 -- What stands at each turn of the loop in `split_counted`.
-use Rattle.std.proofs.Common.{◌≡◌, ◌+◌, ◌≤◌}
+use Rattle.std.proofs.Common.{◌≡◌, ◌+◌, ◌<◌, ◌≤◌}
 use Rattle.bw_split.specs.Conditions.{NeedsNoSearch}
 use Rattle.bw_split.proofs.Picks.{IsGiven}
 use Rattle.bw_split.proofs.level_search.split_counted.Given as goal
@@ -10,6 +10,7 @@ invariant-loop-i l = record {
   given : IsGiven l.found.level l.found.rest l.rest l.i l.weights l.most l.parts.items;
   rounds : l.work.rounds ≤ l.fn.work.rounds + MAX_ROUNDS;
   picks : l.work.picks ≤ l.fn.work.picks + l.i;
+  searched : (NeedsNoSearch l.amount l.weights l.most → ⊥) → l.fn.work.rounds < l.work.rounds;
   no_search : NeedsNoSearch l.amount l.weights l.most → l.work.rounds ≡ l.fn.work.rounds;
   counted : (l.fn.work.rounds ≤ l.work.rounds) × (l.fn.work.picks ≤ l.work.picks);
 }
