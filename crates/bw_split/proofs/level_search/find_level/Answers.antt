@@ -64,11 +64,11 @@ starts amount level weights most some enough = elim (cases_lt 0 level) [
 
 pub loop-round-init : goal.loop-round-init
 loop-round-init c = record {
-  apart = starts c.args.amount c.upper_level-above.result c.args.weights.now c.args.most.now c.if-rest-eq0.false c.upper_level-above.ensures.enough;
-  in_range = c.upper_level-above.ensures.in_range;
+  apart = starts c.args.amount c.upper_level-upper.result.level c.args.weights.now c.args.most.now c.if-rest-eq0.false c.upper_level-upper.ensures.enough;
+  in_range = c.upper_level-upper.ensures.in_range;
   rest_is = omega (arith, by_all-zero c.args.weights.now c.args.most.now);
-  enough = c.upper_level-above.ensures.enough;
-  width = omega (arith, c.upper_level-above.ensures.in_range);
+  enough = c.upper_level-upper.ensures.enough;
+  width = omega (arith, c.upper_level-upper.ensures.in_range);
   reach = refl;
   narrow = omega arith;
   near = c.requires.small;
