@@ -240,10 +240,15 @@ fn guess_by_mark(
     }
 }
 
-fn halved_where(stayed: bool, distance: u64) -> u64
+/// The distance from the amount that an end has in the next guess: where it stayed twice, less by what the other end's fell.
+fn weakened_where(stayed: bool, distance: u64, before: u64, now: u64) -> u64
     ensures { result ≤ distance }
 {
-    if stayed { distance / 2 } else { distance }
+    if stayed {
+        (distance.saturating_mul(before) / before.saturating_add(now).max(1)).min(distance)
+    } else {
+        distance
+    }
 }
 
 /// One more in a row, or none.
@@ -254,8 +259,8 @@ fn counted_on(repeats: u64, again: bool) -> u64 {
 /// A level at which the children take at most the amount, and one step above which the amount or more.
 ///
 /// Each trial is a guess by the two ends, taken as far as halving would still end within the rounds that are left. Where
-/// an end stays twice, its distance from the amount is halved in the next guess, so that it moves too (the false
-/// position in its Illinois form). Where a test finds a total that an end had already, the next guess goes to a mark.
+/// an end stays twice, its distance from the amount is taken as less in the next guess, so that it moves too (the false
+/// position in its Pegasus form). Where a test finds a total that an end had already, the next guess goes to a mark.
 fn find_level(amount: u64, weights: &[u64], most: &[u64], work: &mut Work) -> Found
     requires { CanSplit amount weights.now most.now }
     ensures in_range { result.level < GREATEST_LEVEL }
@@ -295,15 +300,15 @@ fn find_level(amount: u64, weights: &[u64], most: &[u64], work: &mut Work) -> Fo
             repeats = counted_on(repeats, total - amount == over);
             above = middle;
             over = total - amount;
+            short_by = weakened_where(!level_moved, short_by, over_by, over);
             over_by = over;
-            short_by = halved_where(!level_moved, short_by);
             level_moved = false;
         } else {
             repeats = counted_on(repeats, amount - total == rest);
             level = middle;
             rest = amount - total;
+            over_by = weakened_where(level_moved, over_by, short_by, rest);
             short_by = rest;
-            over_by = halved_where(level_moved, over_by);
             level_moved = true;
         }
     }

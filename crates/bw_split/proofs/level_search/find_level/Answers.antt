@@ -24,7 +24,7 @@ loop-round-preserved c =
         width = omega (arith, c.trial-middle.ensures.from_level, half);
         reach = half;
         narrow = omega (arith, inv.narrow);
-        near = omega (arith, w.halved_where-short_by.ensures, inv.near);
+        near = omega (arith, w.weakened_where-short_by.ensures, inv.near);
         rounds = omega (arith, c.test_level-total.ensures.rounds, inv.rounds);
         picks = c.test_level-total.ensures.picks ∙ inv.picks;
       })
