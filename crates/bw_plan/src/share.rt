@@ -1,11 +1,14 @@
 //! One group's amount among its children.
 ghost use Rattle.std.specs.Prelude.{◌≡◌, ◌≢◌, ℕ, ◌<◌, ◌≤◌, List, false, length, slice_index, EachIndex, IfOk, OnOk};
 ghost use Rattle.bw_model.specs.Groups.{children_of, is_leaf};
+ghost use Rattle.bw_model.specs.Plan.{child_weights};
+ghost use Rattle.bw_model.specs.Split.{IsBestSplit};
+ghost use Rattle.bw_split.specs.Conditions.{CanSplit};
 ghost use Rattle.bw_plan.specs.Shared.{CanShare, AreBestParts, AreParts, IsGiven};
 
 use crate::siblings::{child_values, child_weights};
 use bw_model::Instance;
-use bw_split::split;
+use bw_split::{fits_in, split};
 use std::alloc::{AllocError, Global};
 
 fn write_parts(amounts: &mut Vec<u64>, places: &[u32], parts: &[u64])
@@ -20,6 +23,22 @@ fn write_parts(amounts: &mut Vec<u64>, places: &[u32], parts: &[u64])
     for k in 0..places.len() {
         amounts[places[k] as usize] = parts[k];
     }
+}
+
+// The best split of an amount among the children of a group, of the most that each can be given.
+fn split_between(
+    alloc: Global,
+    instance: &Instance,
+    g: u32,
+    amount: u64,
+    mosts: &[u64],
+) -> Result<Vec<u64>, AllocError>
+    requires row { g < length instance.now.rows }
+    requires can_split { CanSplit amount (child_weights instance.now.rows g) mosts.now }
+    ensures { IfOk result (λ parts. IsBestSplit amount (child_weights instance.now.rows g) mosts.now parts.items) }
+{
+    let weights = child_weights(alloc, instance, g)?;
+    split(alloc, amount, weights.as_slice(), mosts)
 }
 
 // The best split of what a group has among its children.
@@ -38,10 +57,8 @@ fn split_among(
 {
     // its contract says that the weights are in range
     let _rows = instance.rows();
-    let weights = child_weights(alloc, instance, g)?;
     let mosts = child_values(alloc, instance, most, g)?;
-    let amount = amounts[g as usize];
-    split(alloc, amount, weights.as_slice(), mosts.as_slice())
+    split_between(alloc, instance, g, amounts[g as usize], mosts.as_slice())
 }
 
 /// The parts of what a group has among its children, where it has something and more than one child; else nothing, which
@@ -83,7 +100,8 @@ pub fn give(instance: &Instance, g: u32, parts: &[u64], amounts: &mut Vec<u64>)
     }
 }
 
-// Splits what a group has among its children, and writes the parts.
+// Splits what a group has among its children, and writes the parts. Where they can be given no more than that, as on a host
+// with time to spare, nothing is to be split.
 #[inline(never)]
 fn share_among(
     alloc: Global,
@@ -99,7 +117,15 @@ fn share_among(
     ensures { OnOk result ((parts : List ℕ) × AreParts instance.now most.now amounts.old.items g parts
         × IsGiven instance.now.rows g parts amounts.old.items amounts.new.items) }
 {
-    let parts = split_among(alloc, instance, most, amounts.as_slice(), g)?;
+    // its contract says that the weights are in range
+    let _rows = instance.rows();
+    let mosts = child_values(alloc, instance, most, g)?;
+    let amount = amounts[g as usize];
+    if fits_in(mosts.as_slice(), amount) {
+        give(instance, g, mosts.as_slice(), amounts);
+        return Ok(());
+    }
+    let parts = split_between(alloc, instance, g, amount, mosts.as_slice())?;
     give(instance, g, parts.as_slice(), amounts);
     Ok(())
 }

@@ -4,9 +4,13 @@ ghost use Rattle.bw_model.specs.Groups.{children_of, weight_of};
 ghost use Rattle.bw_model.specs.Plan.{child_weights};
 
 use bw_model::{Instance, Row};
+use smallvec::SmallVec;
 use std::alloc::{AllocError, Global};
 
-fn weights_of(alloc: Global, rows: &[Row], places: &[u32]) -> Result<Vec<u64>, AllocError>
+/// One number for each child of a group. Most groups have few children, whose numbers take no memory.
+pub type ChildValues = SmallVec<u64, 8>;
+
+fn weights_of(alloc: Global, rows: &[Row], places: &[u32]) -> Result<ChildValues, AllocError>
     requires { All (λ place. place < length rows.now) places.now }
     ensures { IfOk result (λ weights. weights.items ≡ map (weight_of rows.now) places.now) }
 {
@@ -16,7 +20,7 @@ fn weights_of(alloc: Global, rows: &[Row], places: &[u32]) -> Result<Vec<u64>, A
         .collect(alloc)
 }
 
-fn values_at(alloc: Global, values: &[u64], places: &[u32]) -> Result<Vec<u64>, AllocError>
+fn values_at(alloc: Global, values: &[u64], places: &[u32]) -> Result<ChildValues, AllocError>
     requires { All (λ place. place < length values.now) places.now }
     ensures { IfOk result (λ picked. picked.items ≡ map (slice_index values.now) places.now) }
 {
@@ -27,7 +31,7 @@ fn values_at(alloc: Global, values: &[u64], places: &[u32]) -> Result<Vec<u64>, 
 }
 
 /// The weights of the children of a group.
-pub fn child_weights(alloc: Global, instance: &Instance, g: u32) -> Result<Vec<u64>, AllocError>
+pub fn child_weights(alloc: Global, instance: &Instance, g: u32) -> Result<ChildValues, AllocError>
     requires { g < length instance.now.rows }
     ensures { IfOk result (λ weights. weights.items ≡ child_weights instance.now.rows g) }
 {
@@ -40,7 +44,7 @@ pub fn child_values(
     instance: &Instance,
     values: &[u64],
     g: u32,
-) -> Result<Vec<u64>, AllocError>
+) -> Result<ChildValues, AllocError>
     requires row { g < length instance.now.rows }
     requires one_each { length values.now ≡ length instance.now.rows }
     ensures { IfOk result (λ picked. picked.items ≡ map (slice_index values.now) (children_of instance.now.rows g)) }

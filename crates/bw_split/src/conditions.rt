@@ -6,7 +6,7 @@ use crate::limits::MAX_CHILDREN;
 use bw_model::limits::{MAX_CAPACITY, MAX_WEIGHT, MIN_WEIGHT};
 
 /// Whether the numbers sum up to no more than the bound. The sum itself may pass 64 bits.
-pub(crate) fn fits_in(numbers: &[u64], bound: u64) -> bool
+pub fn fits_in(numbers: &[u64], bound: u64) -> bool
     ensures { IsTrue result ↔ sum numbers.now ≤ bound }
 {
     let mut left = bound;

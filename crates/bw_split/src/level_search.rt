@@ -1,5 +1,5 @@
 //! The split by a level of cost: a search for the level in rounds, then what is left, one slice each.
-ghost use Rattle.std.specs.Prelude.{◌≡◌, ◌+◌, ◌*◌, ◌<◌, ◌≤◌, ℕ, length, slice_index, sum, EachIndex, IfOk};
+ghost use Rattle.std.specs.Prelude.{◌≡◌, ◌+◌, ◌*◌, ◌<◌, ◌≤◌, ℕ, length, slice_index, sum, EachIndex, IfOk, IfSome};
 ghost use Rattle.bw_model.specs.Split.{IsBestSplit};
 ghost use Rattle.bw_split.specs.Conditions.{CanSplit, NeedsNoSearch};
 ghost use Rattle.bw_split.specs.Levels.{taken, taken_by_all};
@@ -7,8 +7,8 @@ ghost use Rattle.bw_split.specs.Levels.{taken, taken_by_all};
 use crate::Work;
 use crate::conditions::fits_in;
 use crate::limits::{
-    EVEN_ROUNDS, FILLINGS, GREATEST_LEVEL, GREATEST_RATIO, MAX_CHILDREN, MAX_ROUNDS, MOST_TAKEN,
-    RATIO_UNITS, STEPS, WIDEST,
+    FILLINGS, GREATEST_LEVEL, GREATEST_RATIO, MAX_CHILDREN, MAX_ROUNDS, MOST_TAKEN, RATIO_UNITS,
+    STEPS, WIDEST,
 };
 use bw_model::limits::{MAX_CAPACITY, MAX_WEIGHT, MIN_WEIGHT};
 use std::alloc::{AllocError, Global};
@@ -95,21 +95,30 @@ fn fill(ratio: u64, amount: u64, weights: &[u64], most: &[u64]) -> Filling
     Filling { level, sum, open }
 }
 
-/// Three times what an amount is to a weight, in units of 1 / 65536.
+/// One and a half times what an amount is to a weight, in units of 1 / 65536.
 fn ratio_of(amount: u64, weight: u64) -> u64
     requires { amount ≤ MAX_CAPACITY }
     ensures { result ≤ GREATEST_RATIO }
 {
-    3 * amount * RATIO_UNITS / weight.max(1)
+    3 * amount * (RATIO_UNITS / 2) / weight.max(1)
 }
 
-/// A level that the amount does not pass: of the children filled up to three times their shares; where they do not make up
-/// the amount, because some have reached their maxima, the others once more with what is wanting; else the greatest level.
-fn upper_level(amount: u64, weights: &[u64], most: &[u64]) -> u64
+/// An upper end for a search.
+#[derive(Clone, Copy)]
+struct Upper {
+    level: u64,
+    /// About how far what the children take there is above the amount.
+    over: u64,
+}
+
+/// A level that the amount does not pass: of the children filled up to one and a half times their shares; where they do not
+/// make up the amount, because some have reached their maxima, the others once more with what is wanting; else the greatest
+/// level.
+fn upper_level(amount: u64, weights: &[u64], most: &[u64]) -> Upper
     requires can { CanSplit amount weights.now most.now }
     requires some { 0 < amount }
-    ensures in_range { result ≤ GREATEST_LEVEL }
-    ensures enough { amount ≤ taken_by_all result weights.now most.now }
+    ensures in_range { result.level ≤ GREATEST_LEVEL }
+    ensures enough { amount ≤ taken_by_all result.level weights.now most.now }
 {
     let mut whole: u64 = 0;
     for weight in weights {
@@ -119,11 +128,17 @@ fn upper_level(amount: u64, weights: &[u64], most: &[u64]) -> u64
     for _filling in 0..FILLINGS {
         let filling = fill(ratio, amount, weights, most);
         if filling.sum >= amount {
-            return filling.level;
+            return Upper {
+                level: filling.level,
+                over: filling.sum - amount,
+            };
         }
         ratio += ratio_of(amount - filling.sum, filling.open);
     }
-    GREATEST_LEVEL
+    Upper {
+        level: GREATEST_LEVEL,
+        over: amount,
+    }
 }
 
 /// A level, and what is left of the amount above what the children take there.
@@ -159,16 +174,15 @@ fn even_guess(level: u64, above: u64, short_by: u64, over_by: u64) -> u64
     (level + (above - level) * short_by / share).min(above)
 }
 
-/// A mark between two levels of a child with this weight: the last one up to the guess, or else the next; where there is
-/// none, the step below the upper level. Children of one weight have their marks together, so between two of these no
-/// guess finds anything.
-fn mark_near(guess: u64, level: u64, above: u64, weight: u64) -> u64
+/// A mark of a child between two levels: its last one up to the guess, or else its next; where neither is between them, the
+/// step below the upper level.
+fn mark_near(guess: u64, level: u64, above: u64, weight: u64, most: u64) -> u64
     requires guess { guess ≤ GREATEST_LEVEL }
     requires above { 0 < above }
     requires weight_in_range { (MIN_WEIGHT ≤ weight) × (weight ≤ MAX_WEIGHT) }
     ensures { result < above }
 {
-    let taken = takes(guess, weight, u64::MAX);
+    let taken = takes(guess, weight, most);
     let last = ((2 * taken).saturating_sub(1) * STEPS).div_ceil(weight);
     let next = ((2 * taken + 1) * STEPS).div_ceil(weight);
     if level < last && last < above {
@@ -180,11 +194,73 @@ fn mark_near(guess: u64, level: u64, above: u64, weight: u64) -> u64
     }
 }
 
+/// The first child that takes more one step below the upper level than at the lower one, so that it has a mark between them.
+fn undecided(level: u64, above: u64, weights: &[u64], most: &[u64]) -> Option<usize>
+    requires apart { level < above }
+    requires in_range { above ≤ GREATEST_LEVEL }
+    requires one_each { length most.now ≡ length weights.now }
+    requires weights_in_range { EachIndex weights.now (λ k. (MIN_WEIGHT ≤ slice_index weights.now k) × (slice_index weights.now k ≤ MAX_WEIGHT)) }
+    ensures { IfSome result (λ child. child < length weights.now) }
+{
+    for i in 0..weights.len() {
+        if takes(above - 1, weights[i], most[i]) > takes(level, weights[i], most[i]) {
+            return Some(i);
+        }
+    }
+    None
+}
+
+/// A guess where so many even guesses in a row told nothing new: children of one weight, as all have that nobody sets, have
+/// their marks together, and no even guess finds the place between two of these. So it goes to a mark of some child, then
+/// to one of a child that is not decided, and where all are, to the step below the upper level.
+fn guess_by_mark(
+    guess: u64,
+    level: u64,
+    above: u64,
+    weights: &[u64],
+    most: &[u64],
+    round: u64,
+    repeats: u64,
+) -> u64
+    requires guess { guess ≤ above }
+    requires apart { level < above }
+    requires in_range { above ≤ GREATEST_LEVEL }
+    requires one_each { length most.now ≡ length weights.now }
+    requires weights_in_range { EachIndex weights.now (λ k. (MIN_WEIGHT ≤ slice_index weights.now k) × (slice_index weights.now k ≤ MAX_WEIGHT)) }
+    ensures { result < above }
+{
+    let child = if repeats > 1 {
+        undecided(level, above, weights, most)
+    } else {
+        (round as usize).checked_rem(weights.len())
+    };
+    match child {
+        Some(i) => mark_near(guess, level, above, weights[i], most[i]),
+        None => above - 1,
+    }
+}
+
+/// The distance from the amount that an end has in the next guess: where it stayed twice, less by what the other end's fell.
+fn weakened_where(stayed: bool, distance: u64, before: u64, now: u64) -> u64
+    ensures { result ≤ distance }
+{
+    if stayed {
+        (distance.saturating_mul(before) / before.saturating_add(now).max(1)).min(distance)
+    } else {
+        distance
+    }
+}
+
+/// One more in a row, or none.
+fn counted_on(repeats: u64, again: bool) -> u64 {
+    if again { repeats.saturating_add(1) } else { 0 }
+}
+
 /// A level at which the children take at most the amount, and one step above which the amount or more.
 ///
 /// Each trial is a guess by the two ends, taken as far as halving would still end within the rounds that are left. Where
-/// an end stays twice, its distance from the amount is halved in the next guess, so that it moves too (the false
-/// position in its Illinois form). After some rounds every second guess goes to a mark of one child or another.
+/// an end stays twice, its distance from the amount is taken as less in the next guess, so that it moves too (the false
+/// position in its Pegasus form). Where a test finds a total that an end had already, the next guess goes to a mark.
 fn find_level(amount: u64, weights: &[u64], most: &[u64], work: &mut Work) -> Found
     requires { CanSplit amount weights.now most.now }
     ensures in_range { result.level < GREATEST_LEVEL }
@@ -201,11 +277,14 @@ fn find_level(amount: u64, weights: &[u64], most: &[u64], work: &mut Work) -> Fo
     if rest == 0 {
         return Found { level, rest };
     }
-    let mut above = upper_level(amount, weights, most);
-    // at three times their shares the children take about three times the amount
-    let mut over_by = 2 * amount;
-    let mut short_by = amount;
+    let upper = upper_level(amount, weights, most);
+    let mut above = upper.level;
+    let mut over = upper.over;
+    // how far the ends are from the amount in the next guess
+    let mut over_by = over;
+    let mut short_by = rest;
     let mut level_moved = false;
+    let mut repeats = 0;
     let mut reach = WIDEST;
     for round in 0..MAX_ROUNDS {
         if above - level == 1 || rest == 0 {
@@ -213,32 +292,28 @@ fn find_level(amount: u64, weights: &[u64], most: &[u64], work: &mut Work) -> Fo
         }
         reach /= 2;
         let mut guess = even_guess(level, above, short_by, over_by);
-        if round >= EVEN_ROUNDS && round % 2 == 0 {
-            let weight = weights[round as usize % weights.len()];
-            guess = mark_near(guess, level, above, weight);
+        if repeats > 0 {
+            guess = guess_by_mark(guess, level, above, weights, most, round, repeats);
         }
         let middle = trial(level, above, reach, guess);
         let total = test_level(middle, weights, most, work);
         if total > amount {
+            repeats = counted_on(repeats, total - amount == over);
             above = middle;
-            over_by = total - amount;
-            short_by = halved_where(!level_moved, short_by);
+            over = total - amount;
+            short_by = weakened_where(!level_moved, short_by, over_by, over);
+            over_by = over;
             level_moved = false;
         } else {
+            repeats = counted_on(repeats, amount - total == rest);
             level = middle;
             rest = amount - total;
+            over_by = weakened_where(level_moved, over_by, short_by, rest);
             short_by = rest;
-            over_by = halved_where(level_moved, over_by);
             level_moved = true;
         }
     }
     Found { level, rest }
-}
-
-fn halved_where(stayed: bool, distance: u64) -> u64
-    ensures { result ≤ distance }
-{
-    if stayed { distance / 2 } else { distance }
 }
 
 /// What [`split`] answers, with a count of its work: a round for each level that was tested on all children, at most

@@ -10,17 +10,14 @@ pub const MAX_ROUNDS: u64 = 44;
 /// The steps that [`MAX_ROUNDS`] halvings bring down to one.
 pub const WIDEST: u64 = 1 << MAX_ROUNDS;
 
-/// The rounds of the search before its guesses go to marks, too. What is best was measured.
-pub const EVEN_ROUNDS: u64 = 6;
-
 /// How often the children are filled up for an upper end of the search, before it is the greatest level.
 pub const FILLINGS: u64 = 3;
 
 /// The units of a ratio of slices to weight in one.
 pub const RATIO_UNITS: u64 = 65536;
 
-/// Three times the greatest amount to the least weight.
-pub const GREATEST_RATIO: u64 = 3 * MAX_CAPACITY * RATIO_UNITS;
+/// One and a half times the greatest amount to the least weight.
+pub const GREATEST_RATIO: u64 = 3 * MAX_CAPACITY * (RATIO_UNITS / 2);
 
 /// The steps of a level in a cost of one: two costs that differ are at least one step apart.
 pub const STEPS: u64 = MAX_WEIGHT * MAX_WEIGHT;

@@ -24,7 +24,7 @@ loop-round-preserved c =
         width = omega (arith, c.trial-middle.ensures.from_level, half);
         reach = half;
         narrow = omega (arith, inv.narrow);
-        near = omega (arith, w.halved_where-short_by.ensures, inv.near);
+        near = omega (arith, w.weakened_where-short_by.ensures, inv.near);
         rounds = omega (arith, c.test_level-total.ensures.rounds, inv.rounds);
         picks = c.test_level-total.ensures.picks ∙ inv.picks;
         first = λ none. absurd (omega (arith, none));
@@ -75,19 +75,19 @@ above_one amount level weights most light some enough = elim (cases_lt 1 level) 
 
 pub loop-round-init : goal.loop-round-init
 loop-round-init c = record {
-  apart = starts c.args.amount c.upper_level-above.result c.args.weights.now c.args.most.now c.if-rest-eq0.false c.upper_level-above.ensures.enough;
-  in_range = c.upper_level-above.ensures.in_range;
+  apart = starts c.args.amount c.upper_level-upper.result.level c.args.weights.now c.args.most.now c.if-rest-eq0.false c.upper_level-upper.ensures.enough;
+  in_range = c.upper_level-upper.ensures.in_range;
   rest_is = omega (arith, by_all-zero c.args.weights.now c.args.most.now);
-  enough = c.upper_level-above.ensures.enough;
-  width = omega (arith, c.upper_level-above.ensures.in_range);
+  enough = c.upper_level-upper.ensures.enough;
+  width = omega (arith, c.upper_level-upper.ensures.in_range);
   reach = refl;
   narrow = omega arith;
   near = c.requires.small;
   rounds = omega arith;
   picks = omega arith;
   first = λ _. (
-    above_one c.args.amount c.upper_level-above.result c.args.weights.now c.args.most.now
-        (λ k below. (c.requires.weights_in_range k below).1) c.if-rest-eq0.false c.upper_level-above.ensures.enough,
+    above_one c.args.amount c.upper_level-upper.result.level c.args.weights.now c.args.most.now
+        (λ k below. (c.requires.weights_in_range k below).1) c.if-rest-eq0.false c.upper_level-upper.ensures.enough,
     omega (arith, c.if-rest-eq0.false),
   );
 }
