@@ -1,4 +1,4 @@
-//! Scripts whose periods are served under gates. Where memory was wanting a case is run once more.
+//! Scripts whose periods are served under gates. Where memory or a thread was refused a case is run once more.
 use crate::workers_cases::{Without, held_first, meeting};
 use bw_model::HostShape;
 use bw_shell::{RunFault, Watched, run_gated};
@@ -22,7 +22,14 @@ demand job 20
 
 const POD_AND_JOB_SAID: &str = "ok\nok\nok\nok\nok\nok\nok\nok\nok\n";
 
-// Runs a script on four processors of 20 slices each where memory is there, and asserts what it writes.
+// Whether memory or a thread was refused to a line of a script.
+fn is_refused(said: &[u8]) -> bool {
+    str::from_utf8(said).is_ok_and(|text| {
+        text.contains("error 71 OutOfMemory\n") || text.contains("error 70 NotStarted\n")
+    })
+}
+
+// Runs a script on four processors of 20 slices each where memory and threads are there, and asserts what it writes.
 fn ran<G: Gate, R: AllocGlobal + Threads + Wait + Abort + Sync>(
     rt: &R,
     script: &str,
@@ -36,9 +43,7 @@ fn ran<G: Gate, R: AllocGlobal + Threads + Wait + Abort + Sync>(
     let mut reader = Watched::new(script.as_bytes());
     let mut writer = Watched::new(&mut out);
     let run = run_gated(rt, &mut reader, &mut writer, shape, gate);
-    if run == Err(RunFault::Memory)
-        || str::from_utf8(&out).is_ok_and(|text| text.contains("error 71 OutOfMemory\n"))
-    {
+    if run == Err(RunFault::Memory) || is_refused(&out) {
         return Err(AllocError);
     }
     assert!(rt; run.is_ok());

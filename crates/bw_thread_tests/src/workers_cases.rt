@@ -1,5 +1,5 @@
 //! Workers in threads of their own under gates, and the slice pool behind a lock.
-//! Where one allocation is refused a case is run once more, so that each holds with any one of its allocations failing.
+//! Where one allocation or one thread is refused a case is run once more, so that each holds with any one of these failing.
 ghost use Rattle.std.specs.Prelude.{◌≡◌, ℕ, ◌==◌, not, true, All, None, IfOk};
 ghost use Rattle.bw_model.specs.Plan.{IsPlan};
 
@@ -102,8 +102,8 @@ fn served<G: Gate, R: Threads + Wait + Abort + Sync>(
             assert!(rt; served.drawn.as_slice() == drawn);
             Ok(served)
         }
-        Err(ServeFault::OutOfMemory) => Err(AllocError),
-        Err(ServeFault::NotStarted) => panic!(rt; "a thread was refused"),
+        // A refused thread is no wrong answer.
+        Err(ServeFault::OutOfMemory | ServeFault::NotStarted) => Err(AllocError),
     }
 }
 
