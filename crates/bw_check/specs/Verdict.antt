@@ -10,7 +10,7 @@ use Rattle.bw_check.specs.declared.verdict.Verdict.TheVariants.{Accepted, Refuse
 use Rattle.bw_model.specs.Groups.{Groups, sum_of_children, parent_of, is_leaf, weight_of, demand_of, limit_of}
 use Rattle.bw_model.specs.Marks.{price_of, last_mark, next_mark, IsBelow, IsAtMost}
 use Rattle.bw_model.specs.Certificate.{Certified, AreBounds, IsAccepted, is_flagged, level_at, sibling_place}
-use Rattle.bw_check.specs.Faults.{fault_number}
+use Rattle.bw_check.specs.Faults.{check_fault_number}
 
 -- one amount, flag and level for each row
 abbrev pub AreOnePerRow : Groups → List ℕ → Certified → Type 0
@@ -69,7 +69,8 @@ IsFree groups amounts certificate bounds NextMarkNotAbove c = IsNextMarkKept gro
 pub record IsFirstFault (groups : Groups) (amounts : List ℕ) (certificate : Certified) (bounds : List ℕ) (fault : CheckFault) (group : ℕ) : Type 0 where
   pub within : group < length groups.rows
   pub found : ¬ IsFree groups amounts certificate bounds fault group
-  pub no_lower : (f : CheckFault) (g : ℕ) → fault_number f < fault_number fault → g < length groups.rows → IsFree groups amounts certificate bounds f g
+  pub no_lower : (f : CheckFault) (g : ℕ) → check_fault_number f < check_fault_number fault → g < length groups.rows
+      → IsFree groups amounts certificate bounds f g
   pub no_earlier : (g : ℕ) → g < group → IsFree groups amounts certificate bounds fault g
 
 -- the first fault, under the bounds that the flags give

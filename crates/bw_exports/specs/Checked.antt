@@ -6,7 +6,7 @@ use Rattle.bw_model.specs.Host.{Shape}
 use Rattle.bw_model.specs.Groups.{Groups}
 use Rattle.bw_model.specs.Certificate.{Certified}
 use Rattle.bw_check.specs.Verdict.{IsVerdict}
-use Rattle.bw_check.specs.Faults.{fault_number}
+use Rattle.bw_check.specs.Faults.{check_fault_number}
 use Rattle.bw_check.specs.declared.verdict.Verdict.{Verdict}
 use Rattle.bw_check.specs.declared.verdict.Verdict.TheVariants.{Accepted, Refused}
 use Rattle.bw_exports.specs.declared.claim.Claim.{Claim}
@@ -56,7 +56,7 @@ claimed_number shape table claimed = if are_levels_even claimed then asked_numbe
 -- the number of a verdict
 abbrev pub verdict_number : Verdict → ℕ
 verdict_number Accepted = 0
-verdict_number (Refused fault group) = fault_number fault
+verdict_number (Refused fault group) = check_fault_number fault
 
 -- the row of a verdict, else as it was
 abbrev pub verdict_row : ℕ → Verdict → ℕ

@@ -10,8 +10,8 @@ use Rattle.bw_cert.specs.Faults.{cert_fault_number, cert_fault_name}
 use Rattle.bw_cert.specs.Reading.{certified_of}
 use Rattle.bw_cert.specs.Spelling.{Value, IsValue, groups_of, lines_of, spelling}
 use Rattle.bw_cert.specs.declared.fault.CertFault.{CertFault}
-use Rattle.bw_check.specs.Faults.{fault_number, fault_name}
-use Rattle.bw_commands.specs.Fault.{refusal_line}
+use Rattle.bw_check.specs.Faults.{check_fault_number, check_fault_name}
+use Rattle.bw_commands.specs.Faults.{refusal_line}
 use Rattle.bw_check.specs.Verdict.{IsVerdict}
 use Rattle.bw_check.specs.declared.verdict.Verdict.{Verdict}
 use Rattle.bw_check.specs.declared.verdict.Verdict.TheVariants.{Accepted, Refused}
@@ -24,7 +24,7 @@ use Rattle.bw_shell.specs.declared.text_check.TheConstants.{TEXT_BYTES}
 abbrev pub verdict_line : Verdict → List ℕ
 verdict_line Accepted = codes "accepted" ++ 10 ∷ []
 verdict_line (Refused fault group) =
-    codes "refused " ++ decimal (fault_number fault) ++ codes " " ++ fault_name fault ++ codes " " ++ decimal group ++ 10 ∷ []
+    codes "refused " ++ decimal (check_fault_number fault) ++ codes " " ++ check_fault_name fault ++ codes " " ++ decimal group ++ 10 ∷ []
 
 -- the line of a text that is no certified text
 abbrev pub fault_line : CertFault → List ℕ
