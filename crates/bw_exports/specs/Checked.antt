@@ -44,7 +44,7 @@ pub record IsSpelled (claimed : Claimed) (certificate : Certified) : Type 0 wher
   pub levels : AreLevels claimed (length claimed.nums) certificate.levels
 
 -- a verdict on the amounts by the certificate of the columns
-pub record IsVerdictOn (groups : Groups) (amounts : List ℕ) (claimed : Claimed) (verdict : Verdict) : Type 0 where
+pub record IsVerdictOnClaim (groups : Groups) (amounts : List ℕ) (claimed : Claimed) (verdict : Verdict) : Type 0 where
   pub certificate : Certified
   pub spelled : IsSpelled claimed certificate
   pub held : IsVerdict groups amounts certificate verdict
@@ -67,7 +67,7 @@ verdict_row before (Refused fault group) = group
 pub record IsFound (refused : ℕ) (groups : Groups) (amounts : List ℕ) (claimed : Claimed) (before after number : ℕ) : Type 0 where
   pub allowed : refused ≡ 0
   pub verdict : Verdict
-  pub held : IsVerdictOn groups amounts claimed verdict
+  pub held : IsVerdictOnClaim groups amounts claimed verdict
   pub number_is : number ≡ verdict_number verdict
   pub row_is : after ≡ verdict_row before verdict
 

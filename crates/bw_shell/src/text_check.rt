@@ -2,7 +2,8 @@
 ghost use Rattle.std.specs.Prelude.{◌≡◌, ◌≢◌, ◌⊎◌, ◌||◌, ◌<◌, ◌≤◌, ◌+◌, ◌-◌, ◌++◌, ◌^◌, ℕ, List, min, length, true, false, OnOk, IfOk, IfErr, IsErrOf};
 ghost use Rattle.std.specs.Io.KnownBytes.{Appends, Consumes, IsAtEnd, Keeps};
 ghost use Rattle.bw_shell.specs.Stream.{AppendsFront};
-ghost use Rattle.bw_shell.specs.CheckText.{line_of, verdict_line, is_accepted, IsFinding, HoldsPlan, Checks, ChecksFront, ReadsTooMuch};
+ghost use Rattle.bw_cert.specs.Spelling.{HoldsPlan};
+ghost use Rattle.bw_shell.specs.CheckText.{line_of, verdict_line, is_accepted, IsFinding, Checks, ChecksFront, ReadsTooMuch};
 ghost use Rattle.bw_shell.specs.Watched.{inner_of, has_failed, has_stalled, read_calls, is_flushed, IsFresh, HasNoFault};
 
 use crate::script::{READ_CALLS, RunFault, piece_room};
