@@ -57,10 +57,8 @@ fn take_piece<R: Read>(
             if n > TEXT_BYTES - text.len() {
                 return Err(RunFault::Read);
             }
-            match text.extend_from_slice(piece.split_at(n).0) {
-                Ok(()) => Ok(true),
-                Err(_) => Err(RunFault::Memory),
-            }
+            text.extend_from_slice(piece.split_at(n).0)?;
+            Ok(true)
         }
     }
 }
@@ -77,9 +75,7 @@ fn read_text<R: Read>(alloc: Global, reader: &mut Watched<R>) -> Result<Vec<u8>,
     ensures write { IfErr result (λ f. f ≢ RunFault.Write) }
     ensures calls { read_calls reader.new ≤ READ_CALLS }
 {
-    let Ok(mut piece) = piece_room(alloc) else {
-        return Err(RunFault::Memory);
-    };
+    let mut piece = piece_room(alloc)?;
     let mut text = Vec::new(alloc);
     for turn in 0..READ_CALLS {
         match take_piece(&mut text, &mut piece, reader) {
@@ -159,9 +155,7 @@ fn answer<W: Write>(
     ensures read { IfErr result (λ f. f ≢ RunFault.Read) }
     ensures flushed { OnOk result (is_flushed writer.new ≡ true) }
 {
-    let Ok(line) = line_of(alloc, finding) else {
-        return Err(RunFault::Memory);
-    };
+    let line = line_of(alloc, finding)?;
     send_line(writer, line.as_slice())
 }
 
@@ -205,15 +199,8 @@ pub fn check_text<R: Read, W: Write>(
     // For want of memory nothing is.
     ensures memory { IsErrOf result RunFault.Memory → writer.new ≡ writer.old }
 {
-    let text = match read_text(alloc, reader) {
-        Ok(text) => text,
-        Err(fault) => return Err(fault),
-    };
-    let Ok(finding) = finding_in(alloc, text.as_slice()) else {
-        return Err(RunFault::Memory);
-    };
-    match answer(alloc, finding, writer) {
-        Ok(()) => Ok(is_accepted(finding)),
-        Err(fault) => Err(fault),
-    }
+    let text = read_text(alloc, reader)?;
+    let finding = finding_in(alloc, text.as_slice())?;
+    answer(alloc, finding, writer)?;
+    Ok(is_accepted(finding))
 }
