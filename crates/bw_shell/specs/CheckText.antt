@@ -1,5 +1,5 @@
 -- What the check of a certified text answers: the line that it prints, and whether the text is accepted.
-use Rattle.std.specs.Prelude.{ℕ, ◌≡◌, ◌≤◌, ◌<◌, List, [], ◌∷◌, ◌++◌, Bool, true, false, Option, Result, Ok, Err, codes, length}
+use Rattle.std.specs.Prelude.{ℕ, ◌≡◌, ◌≤◌, List, [], ◌∷◌, ◌++◌, Bool, true, false, Option, Result, Ok, Err, codes, length}
 use Rattle.std.specs.Fmt.{decimal}
 use Rattle.std.specs.Io.KnownBytes.{Appends, Consumes}
 use Rattle.bw_cert.specs.Faults.{cert_fault_number, cert_fault_name}
@@ -67,10 +67,6 @@ pub record ChecksFront (left_old left_new held_old held_new : Option (List ℕ))
   pub small : length text ≤ TEXT_BYTES
   pub found : IsFinding text finding
   pub written : AppendsFront held_old held_new (line_of finding)
-
--- more bytes were read than a text may have
-abbrev pub ReadsTooMuch : Option (List ℕ) → Option (List ℕ) → Type 0
-ReadsTooMuch left_old left_new = (text : List ℕ) × Consumes left_old left_new text × (TEXT_BYTES < length text)
 
 -- the exit number of a check
 abbrev pub check_status : {E : Type 0} → Result Bool E → ℕ
