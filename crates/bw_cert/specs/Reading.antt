@@ -33,12 +33,7 @@ seen view (Err e) = Err e
 -- What a function returned, seen by view, is what reading gives, unless memory ran out.
 abbrev pub Fails : {Y : Type 0} → CertFault → Result Y CertFault → Type 0
 Fails faults.OutOfMemory read = Unit {0}
-Fails (faults.Host f) read = read ≡ Err (faults.Host f)
-Fails (faults.Instance f) read = read ≡ Err (faults.Instance f)
-Fails faults.BadLine read = read ≡ Err faults.BadLine
-Fails faults.BadField read = read ≡ Err faults.BadField
-Fails faults.CutShort read = read ≡ Err faults.CutShort
-Fails faults.Trailing read = read ≡ Err faults.Trailing
+Fails fault read = read ≡ Err fault
 
 abbrev pub ReadsAs : {X Y : Type 0} → (X → Y) → Result X CertFault → Result Y CertFault → Type 0
 ReadsAs view (Ok x) read = read ≡ Ok (view x)

@@ -6,6 +6,7 @@ use Rattle.bw_model.specs.Host.{Shape}
 use Rattle.bw_model.specs.Groups.{Groups, IsInstance}
 use Rattle.bw_model.specs.declared.row.Row.{Row}
 use Rattle.bw_model.specs.Marks.{MarkValue, price_of}
+use Rattle.bw_model.specs.Plan.{IsPlan}
 use Rattle.bw_model.specs.declared.certificate.Certificate.{Certificate}
 use Rattle.std.specs.Option.{option_map}
 
@@ -110,3 +111,10 @@ pub record IsValue (v : Value) : Type 0 where
   pub small_rows : All IsSmallRow v.groups.rows
   pub small_amounts : All (λ n. n < 2 ^ 64) v.groups.amounts
   pub small_levels : All (λ o. IfSome o IsSmallLevel) v.groups.levels
+
+-- a text that certifies the plan of its instance
+pub record HoldsPlan (text : List ℕ) : Type 0 where
+  pub value : Value
+  pub valid : IsValue value
+  pub spelled : text ≡ spelling value
+  pub plan : IsPlan (groups_of value) value.groups.amounts

@@ -1,6 +1,6 @@
 -- What each fault rules out, and what the check answers.
-use Rattle.std.specs.Prelude.{◌≡◌, ℕ, ◌<◌, ◌≤◌, List, false, Some, length, slice_index, IsTrue}
-use Rattle.std.specs.Option.{IsSome}
+use Rattle.std.specs.Prelude.{◌≡◌, ℕ, ◌<◌, ◌≤◌, Bool, List, false, Option, Some, length, map, slice_index, IsTrue}
+use Rattle.std.specs.Option.{IsSome, option_map}
 use Rattle.bw_model.specs.declared.mark.Mark.{Mark}
 use Rattle.bw_check.specs.declared.fault.CheckFault.{CheckFault}
 use Rattle.bw_check.specs.declared.fault.CheckFault.TheVariants.{WrongLength, OverLimit, OverDemand, SumDiffers, FlagWithoutLimit, NotGreatest, LevelMissing}
@@ -8,9 +8,9 @@ use Rattle.bw_check.specs.declared.fault.CheckFault.TheVariants.{LastMarkAbove, 
 use Rattle.bw_check.specs.declared.verdict.Verdict.{Verdict}
 use Rattle.bw_check.specs.declared.verdict.Verdict.TheVariants.{Accepted, Refused}
 use Rattle.bw_model.specs.Groups.{Groups, sum_of_children, parent_of, is_leaf, weight_of, demand_of, limit_of}
-use Rattle.bw_model.specs.Marks.{price_of, last_mark, next_mark, IsBelow, IsAtMost}
+use Rattle.bw_model.specs.Marks.{MarkValue, price_of, last_mark, next_mark, IsBelow, IsAtMost}
 use Rattle.bw_model.specs.Certificate.{Certified, AreBounds, IsAccepted, is_flagged, level_at, sibling_place}
-use Rattle.bw_check.specs.Faults.{fault_number}
+use Rattle.bw_check.specs.Faults.{check_fault_number}
 
 -- one amount, flag and level for each row
 abbrev pub AreOnePerRow : Groups → List ℕ → Certified → Type 0
@@ -69,7 +69,8 @@ IsFree groups amounts certificate bounds NextMarkNotAbove c = IsNextMarkKept gro
 pub record IsFirstFault (groups : Groups) (amounts : List ℕ) (certificate : Certified) (bounds : List ℕ) (fault : CheckFault) (group : ℕ) : Type 0 where
   pub within : group < length groups.rows
   pub found : ¬ IsFree groups amounts certificate bounds fault group
-  pub no_lower : (f : CheckFault) (g : ℕ) → fault_number f < fault_number fault → g < length groups.rows → IsFree groups amounts certificate bounds f g
+  pub no_lower : (f : CheckFault) (g : ℕ) → check_fault_number f < check_fault_number fault → g < length groups.rows
+      → IsFree groups amounts certificate bounds f g
   pub no_earlier : (g : ℕ) → g < group → IsFree groups amounts certificate bounds fault g
 
 -- the first fault, under the bounds that the flags give
@@ -82,3 +83,10 @@ pub record IsRefused (groups : Groups) (amounts : List ℕ) (certificate : Certi
 abbrev pub IsVerdict : Groups → List ℕ → Certified → Verdict → Type 0
 IsVerdict groups amounts certificate Accepted = IsAccepted groups amounts certificate
 IsVerdict groups amounts certificate (Refused fault group) = IsRefused groups amounts certificate fault group
+
+-- the verdict on columns of amounts, flags and levels: on a certificate that says just these
+pub record IsVerdictOn (groups : Groups) (amounts : List ℕ) (tight : List Bool) (values : List (Option MarkValue)) (verdict : Verdict) : Type 0 where
+  pub certificate : Certified
+  pub flags : certificate.tight ≡ tight
+  pub levels : map (option_map price_of) certificate.levels ≡ values
+  pub given : IsVerdict groups amounts certificate verdict

@@ -4,7 +4,7 @@ ghost use Rattle.bw_model.specs.Certificate.{certified_of};
 ghost use Rattle.bw_model.specs.Groups.{IsInstance};
 ghost use Rattle.bw_check.specs.declared.fault.CheckFault.TheVariants.{LastMarkAbove};
 ghost use Rattle.bw_check.specs.Counts.{AreGathered};
-ghost use Rattle.bw_check.specs.Faults.{fault_number};
+ghost use Rattle.bw_check.specs.Faults.{check_fault_number};
 ghost use Rattle.bw_check.specs.Levels.{AreSmall, IsFirst};
 ghost use Rattle.bw_check.specs.Tables.{AreTables};
 ghost use Rattle.bw_check.specs.Verdict.{AreOnePerRow, IsWithinLimit, IsWithinDemand, IsChildrenSum, IsFlagLimited, HasLevel, IsFree};
@@ -90,7 +90,7 @@ fn is_free(
     g: u32,
 ) -> bool
     requires tables { AreTables instance.now amounts.now (certified_of certificate.now) tables.now }
-    requires small { fault_number LastMarkAbove ≤ fault_number fault → AreSmall amounts.now }
+    requires small { check_fault_number LastMarkAbove ≤ check_fault_number fault → AreSmall amounts.now }
     requires within { g < length instance.now.rows }
     ensures { IsTrue result ↔ IsFree instance.now amounts.now (certified_of certificate.now) tables.now.bounds.items fault g }
 {
@@ -127,7 +127,7 @@ pub fn first_group(
     fault: CheckFault,
 ) -> Option<u32>
     requires tables { AreTables instance.now amounts.now (certified_of certificate.now) tables.now }
-    requires small { fault_number LastMarkAbove ≤ fault_number fault → AreSmall amounts.now }
+    requires small { check_fault_number LastMarkAbove ≤ check_fault_number fault → AreSmall amounts.now }
     ensures { IsFirst (IsFree instance.now amounts.now (certified_of certificate.now) tables.now.bounds.items fault) (length instance.now.rows) result }
 {
     for g in 0..instance.group_count() {

@@ -1,6 +1,6 @@
 //! Why amounts and their certificate are refused.
 ghost use Rattle.std.specs.Prelude.{◌≡◌};
-ghost use Rattle.bw_check.specs.Faults.{fault_number, fault_name};
+ghost use Rattle.bw_check.specs.Faults.{check_fault_number, check_fault_name};
 
 use thiserror::Error;
 
@@ -39,7 +39,7 @@ pub enum CheckFault {
 impl CheckFault {
     /// The number that is printed.
     pub fn number(self) -> u8
-        ensures { result ≡ fault_number self }
+        ensures { result ≡ check_fault_number self }
     {
         match self {
             CheckFault::WrongLength => 50,
@@ -56,7 +56,7 @@ impl CheckFault {
 
     /// The name that is printed.
     pub fn name(self) -> &'static str
-        ensures { result.now ≡ fault_name self }
+        ensures { result.now ≡ check_fault_name self }
     {
         match self {
             CheckFault::WrongLength => "WrongLength",

@@ -4,56 +4,56 @@ use Rattle.bw_tree.specs.declared.fault.TreeFault.TheVariants.{NotFound, Exists,
 use Rattle.bw_tree.specs.declared.fault.TreeFault.TheVariants.{IdsSpent, TooDeep, InnerDemand, DemandTooLarge, OutOfMemory}
 use Rattle.bw_files.specs.declared.fault.FileFault.TheVariants.{BadNumber, WeightOutOfRange, QuotaTooSmall, QuotaTooLarge, PeriodOutOfRange, TooManyWords}
 use Rattle.bw_files.specs.declared.fault.FileFault.TheVariants.{Empty}
-use Rattle.bw_hierarchy.specs.Faults.{fault_number, fault_name}
+use Rattle.bw_hierarchy.specs.Faults.{hierarchy_fault_number, hierarchy_fault_name}
 use Rattle.bw_hierarchy.specs.declared.fault.Fault.{Fault}
 use Rattle.bw_hierarchy.specs.declared.fault.Fault.TheVariants.{Tree, File, NoSuchFile, ReadOnly, BurstAboveQuota}
 
-pub fault_number-lt : (fault : Fault) → fault_number fault < 100
-fault_number-lt (Tree NotFound) = omega arith
-fault_number-lt (Tree Exists) = omega arith
-fault_number-lt (Tree BadName) = omega arith
-fault_number-lt (Tree HasChildren) = omega arith
-fault_number-lt (Tree HasDemand) = omega arith
-fault_number-lt (Tree ParentHasDemand) = omega arith
-fault_number-lt (Tree RootFixed) = omega arith
-fault_number-lt (Tree TreeFull) = omega arith
-fault_number-lt (Tree IdsSpent) = omega arith
-fault_number-lt (Tree TooDeep) = omega arith
-fault_number-lt (Tree InnerDemand) = omega arith
-fault_number-lt (Tree DemandTooLarge) = omega arith
-fault_number-lt (Tree OutOfMemory) = omega arith
-fault_number-lt (File BadNumber) = omega arith
-fault_number-lt (File WeightOutOfRange) = omega arith
-fault_number-lt (File QuotaTooSmall) = omega arith
-fault_number-lt (File QuotaTooLarge) = omega arith
-fault_number-lt (File PeriodOutOfRange) = omega arith
-fault_number-lt (File TooManyWords) = omega arith
-fault_number-lt (File Empty) = omega arith
-fault_number-lt NoSuchFile = omega arith
-fault_number-lt ReadOnly = omega arith
-fault_number-lt BurstAboveQuota = omega arith
+pub hierarchy_fault_number-lt : (fault : Fault) → hierarchy_fault_number fault < 100
+hierarchy_fault_number-lt (Tree NotFound) = omega arith
+hierarchy_fault_number-lt (Tree Exists) = omega arith
+hierarchy_fault_number-lt (Tree BadName) = omega arith
+hierarchy_fault_number-lt (Tree HasChildren) = omega arith
+hierarchy_fault_number-lt (Tree HasDemand) = omega arith
+hierarchy_fault_number-lt (Tree ParentHasDemand) = omega arith
+hierarchy_fault_number-lt (Tree RootFixed) = omega arith
+hierarchy_fault_number-lt (Tree TreeFull) = omega arith
+hierarchy_fault_number-lt (Tree IdsSpent) = omega arith
+hierarchy_fault_number-lt (Tree TooDeep) = omega arith
+hierarchy_fault_number-lt (Tree InnerDemand) = omega arith
+hierarchy_fault_number-lt (Tree DemandTooLarge) = omega arith
+hierarchy_fault_number-lt (Tree OutOfMemory) = omega arith
+hierarchy_fault_number-lt (File BadNumber) = omega arith
+hierarchy_fault_number-lt (File WeightOutOfRange) = omega arith
+hierarchy_fault_number-lt (File QuotaTooSmall) = omega arith
+hierarchy_fault_number-lt (File QuotaTooLarge) = omega arith
+hierarchy_fault_number-lt (File PeriodOutOfRange) = omega arith
+hierarchy_fault_number-lt (File TooManyWords) = omega arith
+hierarchy_fault_number-lt (File Empty) = omega arith
+hierarchy_fault_number-lt NoSuchFile = omega arith
+hierarchy_fault_number-lt ReadOnly = omega arith
+hierarchy_fault_number-lt BurstAboveQuota = omega arith
 
-pub length-fault_name-le : (fault : Fault) → length (fault_name fault) ≤ 20
-length-fault_name-le (Tree NotFound) = omega arith
-length-fault_name-le (Tree Exists) = omega arith
-length-fault_name-le (Tree BadName) = omega arith
-length-fault_name-le (Tree HasChildren) = omega arith
-length-fault_name-le (Tree HasDemand) = omega arith
-length-fault_name-le (Tree ParentHasDemand) = omega arith
-length-fault_name-le (Tree RootFixed) = omega arith
-length-fault_name-le (Tree TreeFull) = omega arith
-length-fault_name-le (Tree IdsSpent) = omega arith
-length-fault_name-le (Tree TooDeep) = omega arith
-length-fault_name-le (Tree InnerDemand) = omega arith
-length-fault_name-le (Tree DemandTooLarge) = omega arith
-length-fault_name-le (Tree OutOfMemory) = omega arith
-length-fault_name-le (File BadNumber) = omega arith
-length-fault_name-le (File WeightOutOfRange) = omega arith
-length-fault_name-le (File QuotaTooSmall) = omega arith
-length-fault_name-le (File QuotaTooLarge) = omega arith
-length-fault_name-le (File PeriodOutOfRange) = omega arith
-length-fault_name-le (File TooManyWords) = omega arith
-length-fault_name-le (File Empty) = omega arith
-length-fault_name-le NoSuchFile = omega arith
-length-fault_name-le ReadOnly = omega arith
-length-fault_name-le BurstAboveQuota = omega arith
+pub length-hierarchy_fault_name-le : (fault : Fault) → length (hierarchy_fault_name fault) ≤ 20
+length-hierarchy_fault_name-le (Tree NotFound) = omega arith
+length-hierarchy_fault_name-le (Tree Exists) = omega arith
+length-hierarchy_fault_name-le (Tree BadName) = omega arith
+length-hierarchy_fault_name-le (Tree HasChildren) = omega arith
+length-hierarchy_fault_name-le (Tree HasDemand) = omega arith
+length-hierarchy_fault_name-le (Tree ParentHasDemand) = omega arith
+length-hierarchy_fault_name-le (Tree RootFixed) = omega arith
+length-hierarchy_fault_name-le (Tree TreeFull) = omega arith
+length-hierarchy_fault_name-le (Tree IdsSpent) = omega arith
+length-hierarchy_fault_name-le (Tree TooDeep) = omega arith
+length-hierarchy_fault_name-le (Tree InnerDemand) = omega arith
+length-hierarchy_fault_name-le (Tree DemandTooLarge) = omega arith
+length-hierarchy_fault_name-le (Tree OutOfMemory) = omega arith
+length-hierarchy_fault_name-le (File BadNumber) = omega arith
+length-hierarchy_fault_name-le (File WeightOutOfRange) = omega arith
+length-hierarchy_fault_name-le (File QuotaTooSmall) = omega arith
+length-hierarchy_fault_name-le (File QuotaTooLarge) = omega arith
+length-hierarchy_fault_name-le (File PeriodOutOfRange) = omega arith
+length-hierarchy_fault_name-le (File TooManyWords) = omega arith
+length-hierarchy_fault_name-le (File Empty) = omega arith
+length-hierarchy_fault_name-le NoSuchFile = omega arith
+length-hierarchy_fault_name-le ReadOnly = omega arith
+length-hierarchy_fault_name-le BurstAboveQuota = omega arith

@@ -8,7 +8,7 @@ use Rattle.bw_hierarchy.specs.Faults.{IsRefusal, IsMemoryLast}
 use Rattle.bw_hierarchy.specs.declared.fault.Fault.{Fault}
 use Rattle.bw_hierarchy.specs.declared.fault.Fault.TheVariants.{Tree, File, NoSuchFile, ReadOnly, BurstAboveQuota}
 use Rattle.bw_commands.specs.State.{State}
-use Rattle.bw_commands.specs.Fault.{error_line}
+use Rattle.bw_commands.specs.Faults.{error_line}
 use Rattle.bw_commands.specs.Script.{IsOutcome, call_outcome}
 use Rattle.bw_commands.specs.declared.fault.ScriptFault.TheVariants as fault
 

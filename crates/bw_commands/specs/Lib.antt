@@ -1,6 +1,6 @@
 -- The files of definitions.
 pub mod State
-pub mod Fault
+pub mod Faults
 pub mod Word
 pub mod Command
 pub mod Parsed

@@ -15,7 +15,7 @@ use Rattle.bw_commands.specs.Period.{IsPeriod}
 use Rattle.bw_commands.specs.Reported.{IsReport}
 use Rattle.bw_commands.specs.Command.{Command, command_of_line}
 use Rattle.bw_commands.specs.Command as command
-use Rattle.bw_commands.specs.Fault.{error_line}
+use Rattle.bw_commands.specs.Faults.{error_line}
 use Rattle.bw_commands.specs.declared.fault.ScriptFault.{ScriptFault}
 use Rattle.bw_commands.specs.declared.fault.ScriptFault.TheVariants as fault
 

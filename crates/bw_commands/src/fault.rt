@@ -1,6 +1,6 @@
 //! Why a line of a script is refused.
 ghost use Rattle.std.specs.Prelude.{◌≡◌, ◌≤◌, ◌<◌, length};
-ghost use Rattle.bw_commands.specs.Fault.{number_of, name_of};
+ghost use Rattle.bw_commands.specs.Faults.{script_fault_number, script_fault_name};
 
 use bw_hierarchy::Fault;
 use bw_workers::ServeFault;
@@ -57,7 +57,7 @@ impl From<AllocError> for ScriptFault {
 
 impl From<ServeFault> for ScriptFault {
     ghost use Rattle.std.specs.Prelude.{◌≡◌};
-    ghost use Rattle.bw_commands.specs.Fault.{of_serve_fault};
+    ghost use Rattle.bw_commands.specs.Faults.{of_serve_fault};
 
     ghost from_gives = { λ fault e. e ≡ of_serve_fault fault };
 
@@ -72,7 +72,7 @@ impl From<ServeFault> for ScriptFault {
 impl ScriptFault {
     /// The number that is printed.
     pub fn number(self) -> u8
-        ensures value { result ≡ number_of self }
+        ensures value { result ≡ script_fault_number self }
         ensures small { result < 100 }
     {
         match self {
@@ -88,7 +88,7 @@ impl ScriptFault {
 
     /// The name that is printed.
     pub fn name(self) -> &'static str
-        ensures value { result.now ≡ name_of self }
+        ensures value { result.now ≡ script_fault_name self }
         ensures short { length result.now ≤ 20 }
     {
         match self {

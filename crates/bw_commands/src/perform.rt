@@ -106,7 +106,7 @@ impl<'a, G: Gate> Commands<'a, G> {
     }
 
     // Forms the whole answer to a command in an empty buffer, and then makes its change.
-    #[tactic(auto, unfolding(crate::specs::Fault::error_line))]
+    #[tactic(auto, unfolding(crate::specs::Faults::error_line))]
     fn perform<H: Threads + Wait + Sync>(
         &mut self,
         rt: &H,

@@ -2,7 +2,7 @@
 ghost use Rattle.std.specs.Prelude.{◌≡◌, ◌≤◌, ◌<◌, ◌+◌, ◌++◌, [], ◌∷◌, codes, length, vec_len, OnOk, OnErr};
 ghost use Rattle.std.specs.Vec.{vec_capacity};
 ghost use Rattle.std.specs.Fmt.{decimal};
-ghost use Rattle.bw_commands.specs.Fault.{refusal_line, error_line};
+ghost use Rattle.bw_commands.specs.Faults.{refusal_line, error_line};
 ghost use Rattle.bw_commands.specs.Total.{number_line};
 
 use crate::fault::ScriptFault;
@@ -71,7 +71,7 @@ pub fn put_refusal(number: u8, name: &str, answer: &mut Vec<u8>) -> Result<(), A
 }
 
 /// Puts the line of a refusal in an empty buffer. It takes no memory.
-#[tactic(auto, unfolding(crate::specs::Fault::error_line))]
+#[tactic(auto, unfolding(crate::specs::Faults::error_line))]
 pub fn put_error(answer: &mut Vec<u8>, fault: ScriptFault)
     requires empty { answer.old.items ≡ [] }
     requires room { REFUSAL_BYTES ≤ vec_capacity answer.old }

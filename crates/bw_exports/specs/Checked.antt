@@ -6,7 +6,7 @@ use Rattle.bw_model.specs.Host.{Shape}
 use Rattle.bw_model.specs.Groups.{Groups}
 use Rattle.bw_model.specs.Certificate.{Certified}
 use Rattle.bw_check.specs.Verdict.{IsVerdict}
-use Rattle.bw_check.specs.Faults.{fault_number}
+use Rattle.bw_check.specs.Faults.{check_fault_number}
 use Rattle.bw_check.specs.declared.verdict.Verdict.{Verdict}
 use Rattle.bw_check.specs.declared.verdict.Verdict.TheVariants.{Accepted, Refused}
 use Rattle.bw_exports.specs.declared.claim.Claim.{Claim}
@@ -44,7 +44,7 @@ pub record IsSpelled (claimed : Claimed) (certificate : Certified) : Type 0 wher
   pub levels : AreLevels claimed (length claimed.nums) certificate.levels
 
 -- a verdict on the amounts by the certificate of the columns
-pub record IsVerdictOn (groups : Groups) (amounts : List ℕ) (claimed : Claimed) (verdict : Verdict) : Type 0 where
+pub record IsVerdictOnClaim (groups : Groups) (amounts : List ℕ) (claimed : Claimed) (verdict : Verdict) : Type 0 where
   pub certificate : Certified
   pub spelled : IsSpelled claimed certificate
   pub held : IsVerdict groups amounts certificate verdict
@@ -56,7 +56,7 @@ claimed_number shape table claimed = if are_levels_even claimed then asked_numbe
 -- the number of a verdict
 abbrev pub verdict_number : Verdict → ℕ
 verdict_number Accepted = 0
-verdict_number (Refused fault group) = fault_number fault
+verdict_number (Refused fault group) = check_fault_number fault
 
 -- the row of a verdict, else as it was
 abbrev pub verdict_row : ℕ → Verdict → ℕ
@@ -67,7 +67,7 @@ verdict_row before (Refused fault group) = group
 pub record IsFound (refused : ℕ) (groups : Groups) (amounts : List ℕ) (claimed : Claimed) (before after number : ℕ) : Type 0 where
   pub allowed : refused ≡ 0
   pub verdict : Verdict
-  pub held : IsVerdictOn groups amounts claimed verdict
+  pub held : IsVerdictOnClaim groups amounts claimed verdict
   pub number_is : number ≡ verdict_number verdict
   pub row_is : after ≡ verdict_row before verdict
 

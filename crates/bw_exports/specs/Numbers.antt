@@ -5,7 +5,7 @@ use Rattle.bw_exports.specs.declared.refusal.Refusal.{Refusal}
 use Rattle.bw_exports.specs.declared.refusal.Refusal.TheVariants.{WrongLength, Host, Instance}
 
 -- the number of a refusal
-abbrev pub number_of : Refusal → ℕ
-number_of WrongLength = 50
-number_of (Host fault) = host_fault_number fault
-number_of (Instance fault) = instance_fault_number fault
+abbrev pub number_of_refusal : Refusal → ℕ
+number_of_refusal WrongLength = 50
+number_of_refusal (Host fault) = host_fault_number fault
+number_of_refusal (Instance fault) = instance_fault_number fault

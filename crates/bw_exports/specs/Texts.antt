@@ -1,35 +1,17 @@
 -- What the check of a certified text answers.
-use Rattle.std.specs.Prelude.{◌≡◌, ◌⊎◌, ℕ, List, Result, Ok, Err, map}
-use Rattle.std.specs.Option.{option_map}
-use Rattle.bw_model.specs.Certificate.{Certified}
-use Rattle.bw_model.specs.Marks.{price_of}
-use Rattle.bw_model.specs.Plan.{IsPlan}
+use Rattle.std.specs.Prelude.{◌≡◌, ◌⊎◌, ℕ, Result, Ok, Err}
 use Rattle.bw_cert.specs.Faults.{cert_fault_number}
 use Rattle.bw_cert.specs.Reading.{Fails}
-use Rattle.bw_cert.specs.Spelling.{Value, IsValue, groups_of, spelling}
+use Rattle.bw_cert.specs.Spelling.{Value, groups_of}
 use Rattle.bw_cert.specs.declared.fault.CertFault.{CertFault}
-use Rattle.bw_check.specs.Verdict.{IsVerdict}
+use Rattle.bw_check.specs.Verdict.{IsVerdictOn}
 use Rattle.bw_check.specs.declared.verdict.Verdict.{Verdict}
 use Rattle.bw_exports.specs.Checked.{verdict_number, verdict_row}
 
--- the verdict on the instance, the amounts, the flags and the levels that a text tells of
-pub record IsVerdictOf (value : Value) (verdict : Verdict) : Type 0 where
-  pub certificate : Certified
-  pub flags : certificate.tight ≡ value.groups.flags
-  pub levels : map (option_map price_of) certificate.levels ≡ value.groups.levels
-  pub given : IsVerdict (groups_of value) value.groups.amounts certificate verdict
-
--- the same, of what is read in a text
+-- the verdict on the instance, the amounts, the flags and the levels that are read in a text
 abbrev pub IsVerdictIn : Result Value CertFault → Verdict → Type 0
-IsVerdictIn (Ok value) verdict = IsVerdictOf value verdict
+IsVerdictIn (Ok value) verdict = IsVerdictOn (groups_of value) value.groups.amounts value.groups.flags value.groups.levels verdict
 IsVerdictIn (Err fault) verdict = ⊥
-
--- a text that certifies the plan of its instance
-pub record HoldsPlan (text : List ℕ) : Type 0 where
-  pub value : Value
-  pub valid : IsValue value
-  pub spelled : text ≡ spelling value
-  pub plan : IsPlan (groups_of value) value.groups.amounts
 
 -- the number and the row of the verdict
 pub record IsVerdictTold (read : Result Value CertFault) (before after number : ℕ) : Type 0 where

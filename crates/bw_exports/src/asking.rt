@@ -2,7 +2,7 @@
 ghost use Rattle.std.specs.Prelude.{◌≡◌, true, IfOk, IfErr, OnOk};
 ghost use Rattle.bw_model.specs.Groups.{IsInstance};
 ghost use Rattle.bw_exports.specs.Asked.{shape_of, table_of, groups_in, asked_number, Answers};
-ghost use Rattle.bw_exports.specs.Numbers.{number_of};
+ghost use Rattle.bw_exports.specs.Numbers.{number_of_refusal};
 
 use crate::columns::Columns;
 use crate::refusal::Refusal;
@@ -39,7 +39,7 @@ pub(crate) fn instance_of(
     ensures groups { IfOk result (λ i. i ≡ groups_in (shape_of host) (table_of columns.now)) }
     ensures valid { IfOk result IsInstance }
     ensures none { OnOk result (asked_number (shape_of host) (table_of columns.now) ≡ 0) }
-    ensures err { IfErr result (λ e. Answers (asked_number (shape_of host) (table_of columns.now)) (number_of e)) }
+    ensures err { IfErr result (λ e. Answers (asked_number (shape_of host) (table_of columns.now)) (number_of_refusal e)) }
 {
     if !columns.are_even() {
         return Err(Refusal::WrongLength);

@@ -2,7 +2,7 @@
 ghost use Rattle.std.specs.Prelude.{◌≡◌, ◌<◌, ◌∷◌, [], true, length, IfOk, IfErr, OnOk};
 ghost use Rattle.bw_exports.specs.Asked.{shape_of, table_of, groups_in, asked_number, are_of_length, Answers};
 ghost use Rattle.bw_exports.specs.Certified.{IsCertifiedPlan, claimed_in, AreLong, asked_number_where};
-ghost use Rattle.bw_exports.specs.Numbers.{number_of};
+ghost use Rattle.bw_exports.specs.Numbers.{number_of_refusal};
 
 use crate::asking::{Host, instance_of};
 use crate::columns::Columns;
@@ -27,7 +27,7 @@ fn found_in(alloc: Global, host: Host, columns: &Columns<'_>) -> Result<Found, R
     ensures held { IfOk result (λ f. IsCertifiedPlan (groups_in (shape_of host) (table_of columns.now)) f.amounts.items (claimed_in f)) }
     ensures long { IfOk result (λ f. AreLong f (length columns.now.parents.now)) }
     ensures none { OnOk result (asked_number (shape_of host) (table_of columns.now) ≡ 0) }
-    ensures err { IfErr result (λ e. Answers (asked_number (shape_of host) (table_of columns.now)) (number_of e)) }
+    ensures err { IfErr result (λ e. Answers (asked_number (shape_of host) (table_of columns.now)) (number_of_refusal e)) }
 {
     let instance = instance_of(alloc, host, columns)?;
     let plan = plan(alloc, &instance)?;

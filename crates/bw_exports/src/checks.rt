@@ -3,8 +3,8 @@ ghost use Rattle.std.specs.Prelude.{◌≡◌, IfOk, IfErr, OnOk};
 ghost use Rattle.bw_model.specs.Plan.{IsPlan};
 ghost use Rattle.bw_check.specs.declared.verdict.Verdict.TheVariants.{Accepted};
 ghost use Rattle.bw_exports.specs.Asked.{shape_of, table_of, groups_in, Answers};
-ghost use Rattle.bw_exports.specs.Checked.{claimed_of, claimed_number, IsVerdictOn, IsOutcome};
-ghost use Rattle.bw_exports.specs.Numbers.{number_of};
+ghost use Rattle.bw_exports.specs.Checked.{claimed_of, claimed_number, IsVerdictOnClaim, IsOutcome};
+ghost use Rattle.bw_exports.specs.Numbers.{number_of_refusal};
 
 use crate::asking::{Host, instance_of};
 use crate::claim::Claim;
@@ -21,10 +21,10 @@ fn verdict_of(
     amounts: &[u64],
     claim: &Claim<'_>,
 ) -> Result<Verdict, Refusal>
-    ensures verdict { IfOk result (IsVerdictOn (groups_in (shape_of host) (table_of columns.now)) amounts.now (claimed_of claim.now)) }
+    ensures verdict { IfOk result (IsVerdictOnClaim (groups_in (shape_of host) (table_of columns.now)) amounts.now (claimed_of claim.now)) }
     ensures plan { IfOk result (λ v. v ≡ Accepted → IsPlan (groups_in (shape_of host) (table_of columns.now)) amounts.now) }
     ensures none { OnOk result (claimed_number (shape_of host) (table_of columns.now) (claimed_of claim.now) ≡ 0) }
-    ensures err { IfErr result (λ e. Answers (claimed_number (shape_of host) (table_of columns.now) (claimed_of claim.now)) (number_of e)) }
+    ensures err { IfErr result (λ e. Answers (claimed_number (shape_of host) (table_of columns.now) (claimed_of claim.now)) (number_of_refusal e)) }
 {
     if !claim.is_even() {
         return Err(Refusal::WrongLength);

@@ -2,7 +2,7 @@
 ghost use Rattle.std.specs.Prelude.{◌≡◌, ◌<◌, ◌≤◌, length, IfOk, IfErr, OnOk};
 ghost use Rattle.bw_exports.specs.Asked.{shape_of, table_of, groups_in, asked_number, asked_number_with, Answers};
 ghost use Rattle.bw_exports.specs.Limited.{IsLimiting, IsListed};
-ghost use Rattle.bw_exports.specs.Numbers.{number_of};
+ghost use Rattle.bw_exports.specs.Numbers.{number_of_refusal};
 
 use crate::asking::{Host, instance_of};
 use crate::columns::Columns;
@@ -18,7 +18,7 @@ fn limiting_of(alloc: Global, host: Host, columns: &Columns<'_>) -> Result<Limit
     ensures short { IfOk result (λ l. length l.groups.items ≤ length columns.now.parents.now) }
     ensures few { IfOk result (λ l. length l.groups.items ≤ MAX_GROUPS) }
     ensures none { OnOk result (asked_number (shape_of host) (table_of columns.now) ≡ 0) }
-    ensures err { IfErr result (λ e. Answers (asked_number (shape_of host) (table_of columns.now)) (number_of e)) }
+    ensures err { IfErr result (λ e. Answers (asked_number (shape_of host) (table_of columns.now)) (number_of_refusal e)) }
 {
     let instance = instance_of(alloc, host, columns)?;
     let gathered = gather_rows(alloc, &instance)?;

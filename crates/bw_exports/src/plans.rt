@@ -2,7 +2,7 @@
 ghost use Rattle.std.specs.Prelude.{◌≡◌, ◌<◌, length, IfOk, IfErr, OnOk};
 ghost use Rattle.bw_model.specs.Plan.{IsPlan};
 ghost use Rattle.bw_exports.specs.Asked.{shape_of, table_of, groups_in, asked_number, asked_number_with, Answers};
-ghost use Rattle.bw_exports.specs.Numbers.{number_of};
+ghost use Rattle.bw_exports.specs.Numbers.{number_of_refusal};
 
 use crate::asking::{Host, instance_of};
 use crate::columns::Columns;
@@ -14,7 +14,7 @@ use std::alloc::Global;
 fn plan_of(alloc: Global, host: Host, columns: &Columns<'_>) -> Result<Plan, Refusal>
     ensures plan { IfOk result (λ p. IsPlan (groups_in (shape_of host) (table_of columns.now)) p.amounts.items) }
     ensures none { OnOk result (asked_number (shape_of host) (table_of columns.now) ≡ 0) }
-    ensures err { IfErr result (λ e. Answers (asked_number (shape_of host) (table_of columns.now)) (number_of e)) }
+    ensures err { IfErr result (λ e. Answers (asked_number (shape_of host) (table_of columns.now)) (number_of_refusal e)) }
 {
     let instance = instance_of(alloc, host, columns)?;
     Ok(plan(alloc, &instance)?)

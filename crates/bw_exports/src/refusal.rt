@@ -1,6 +1,6 @@
 //! Why what a caller asks is refused, and its number.
 ghost use Rattle.std.specs.Prelude.{◌≡◌};
-ghost use Rattle.bw_exports.specs.Numbers.{number_of};
+ghost use Rattle.bw_exports.specs.Numbers.{number_of_refusal};
 
 use bw_model::{HostFault, InstanceFault};
 use std::alloc::AllocError;
@@ -19,7 +19,7 @@ pub(crate) enum Refusal {
 impl Refusal {
     /// The number that is answered, above 0.
     pub(crate) fn number(self) -> u32
-        ensures { result ≡ number_of self }
+        ensures { result ≡ number_of_refusal self }
     {
         match self {
             Refusal::WrongLength => 50,

@@ -3,8 +3,8 @@ ghost use Rattle.std.specs.Prelude.{◌≡◌, IfOk, IfErr};
 ghost use Rattle.bw_check.specs.declared.verdict.Verdict.TheVariants.{Accepted};
 ghost use Rattle.bw_cert.specs.Faults.{cert_fault_number};
 ghost use Rattle.bw_cert.specs.Reading.{Fails, certified_of};
-ghost use Rattle.bw_cert.specs.Spelling.{lines_of};
-ghost use Rattle.bw_exports.specs.Texts.{IsVerdictIn, HoldsPlan, IsTextOutcome};
+ghost use Rattle.bw_cert.specs.Spelling.{lines_of, HoldsPlan};
+ghost use Rattle.bw_exports.specs.Texts.{IsVerdictIn, IsTextOutcome};
 
 use bw_cert::{CertFault, read_certified};
 use bw_check::{Verdict, check};

@@ -1,26 +1,26 @@
 -- The numbers and names of the refusals.
 use Rattle.std.specs.Prelude.{◌≡◌, ◌≢◌, ℕ, List, codes, Result, Err, IfErr}
 use Rattle.bw_tree.specs.declared.fault.TreeFault.TheVariants.{OutOfMemory}
-use Rattle.bw_tree.specs.Faults.{number_of as tree_number, name_of as tree_name}
+use Rattle.bw_tree.specs.Faults.{tree_fault_number, tree_fault_name}
 use Rattle.bw_files.specs.Faults.{file_fault_number, file_fault_name}
 use Rattle.bw_hierarchy.specs.declared.fault.Fault.{Fault}
 use Rattle.bw_hierarchy.specs.declared.fault.Fault.TheVariants.{Tree, File, NoSuchFile, ReadOnly, BurstAboveQuota}
 
 -- the number that is printed
-abbrev pub fault_number : Fault → ℕ
-fault_number (Tree fault) = tree_number fault
-fault_number (File fault) = file_fault_number fault
-fault_number NoSuchFile = 30
-fault_number ReadOnly = 31
-fault_number BurstAboveQuota = 33
+abbrev pub hierarchy_fault_number : Fault → ℕ
+hierarchy_fault_number (Tree fault) = tree_fault_number fault
+hierarchy_fault_number (File fault) = file_fault_number fault
+hierarchy_fault_number NoSuchFile = 30
+hierarchy_fault_number ReadOnly = 31
+hierarchy_fault_number BurstAboveQuota = 33
 
 -- the name that is printed
-abbrev pub fault_name : Fault → List ℕ
-fault_name (Tree fault) = tree_name fault
-fault_name (File fault) = file_fault_name fault
-fault_name NoSuchFile = codes "NoSuchFile"
-fault_name ReadOnly = codes "ReadOnly"
-fault_name BurstAboveQuota = codes "BurstAboveQuota"
+abbrev pub hierarchy_fault_name : Fault → List ℕ
+hierarchy_fault_name (Tree fault) = tree_fault_name fault
+hierarchy_fault_name (File fault) = file_fault_name fault
+hierarchy_fault_name NoSuchFile = codes "NoSuchFile"
+hierarchy_fault_name ReadOnly = codes "ReadOnly"
+hierarchy_fault_name BurstAboveQuota = codes "BurstAboveQuota"
 
 -- a call that grows something answers its refusal, or want of memory in place of any answer
 abbrev pub IsRefusal : {A : Type 0} → Result A Fault → Fault → Type 0

@@ -1,6 +1,6 @@
 //! Why a call is refused.
 ghost use Rattle.std.specs.Prelude.{◌≡◌};
-ghost use Rattle.bw_hierarchy.specs.Faults.{fault_number, fault_name};
+ghost use Rattle.bw_hierarchy.specs.Faults.{hierarchy_fault_number, hierarchy_fault_name};
 
 use bw_files::FileFault;
 use bw_tree::TreeFault;
@@ -64,7 +64,7 @@ impl From<AllocError> for Fault {
 impl Fault {
     /// The number that is printed.
     pub fn number(self) -> u8
-        ensures { result ≡ fault_number self }
+        ensures { result ≡ hierarchy_fault_number self }
     {
         match self {
             Fault::Tree(fault) => fault.number(),
@@ -77,7 +77,7 @@ impl Fault {
 
     /// The name that is printed.
     pub fn name(self) -> &'static str
-        ensures { result.now ≡ fault_name self }
+        ensures { result.now ≡ hierarchy_fault_name self }
     {
         match self {
             Fault::Tree(fault) => fault.name(),

@@ -16,8 +16,7 @@ use Rattle.bw_check.specs.declared.verdict.Verdict.TheVariants.{Accepted, Refuse
 use Rattle.bw_tree.specs.Snapshot.{instance_of}
 use Rattle.bw_hierarchy.specs.State.{HierarchyState}
 use Rattle.bw_commands.specs.CertifiedPlan.{IsCertifiedPlan, value_with}
-use Rattle.bw_shell.specs.CheckText.{IsVerdictOn}
-use Rattle.bw_laws.specs.Joined.{IsAcceptedText}
+use Rattle.bw_laws.specs.Joined.{IsVerdictOf, IsAcceptedText}
 
 -- marks of the same three numbers are one
 same_mark : (a b : Mark) → price_of a ≡ price_of b → a ≡ b
@@ -60,7 +59,7 @@ module _ (h : HierarchyState) (text : List ℕ) (p : IsCertifiedPlan h text) whe
   read_again : certified_of (lines_of text) ≡ Ok value
   read_again = ap (λ t. certified_of (lines_of t)) p.is ∙ certified_again value p.valid
 
-  only_verdict : (verdict : Verdict) → IsVerdictOn value verdict → verdict ≡ Accepted
+  only_verdict : (verdict : Verdict) → IsVerdictOf value verdict → verdict ≡ Accepted
   only_verdict Accepted on = refl
   only_verdict (Refused fault group) on =
       let same : p.certificate ≡ on.certificate = same_certificate p.certificate on.certificate (sym on.flags)

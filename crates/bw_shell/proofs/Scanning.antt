@@ -6,7 +6,7 @@ use Rattle.std.proofs.lemmas.Bool.Decides.{eqb_tells}
 use Rattle.bw_commands.specs.State.{State}
 use Rattle.bw_commands.specs.Script.{Outcome, IsAnswer, IsOutcome, outcome_of_kept, kept_of}
 use Rattle.bw_commands.specs.Script.Outcome.{Silent, Says, Prints, Total, Plan, Cert, Period, Report}
-use Rattle.bw_commands.specs.Fault.{error_line}
+use Rattle.bw_commands.specs.Faults.{error_line}
 use Rattle.bw_commands.specs.declared.fault.ScriptFault.TheVariants.{OutOfMemory}
 use Rattle.bw_shell.specs.Transcript.{Answers, IsTranscript}
 use Rattle.bw_shell.specs.Lines.{lines_of, whole_lines_of}

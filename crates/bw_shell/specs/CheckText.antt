@@ -1,18 +1,14 @@
 -- What the check of a certified text answers: the line that it prints, and whether the text is accepted.
-use Rattle.std.specs.Prelude.{ℕ, ◌≡◌, ◌≤◌, ◌<◌, List, [], ◌∷◌, ◌++◌, Bool, true, false, Option, Result, Ok, Err, codes, length, map}
-use Rattle.std.specs.Option.{option_map}
+use Rattle.std.specs.Prelude.{ℕ, ◌≡◌, ◌≤◌, List, [], ◌∷◌, ◌++◌, Bool, true, false, Option, Result, Ok, Err, codes, length}
 use Rattle.std.specs.Fmt.{decimal}
 use Rattle.std.specs.Io.KnownBytes.{Appends, Consumes}
-use Rattle.bw_model.specs.Certificate.{Certified}
-use Rattle.bw_model.specs.Marks.{price_of}
-use Rattle.bw_model.specs.Plan.{IsPlan}
 use Rattle.bw_cert.specs.Faults.{cert_fault_number, cert_fault_name}
 use Rattle.bw_cert.specs.Reading.{certified_of}
-use Rattle.bw_cert.specs.Spelling.{Value, IsValue, groups_of, lines_of, spelling}
+use Rattle.bw_cert.specs.Spelling.{Value, HoldsPlan, groups_of, lines_of}
 use Rattle.bw_cert.specs.declared.fault.CertFault.{CertFault}
-use Rattle.bw_check.specs.Faults.{fault_number, fault_name}
-use Rattle.bw_commands.specs.Fault.{refusal_line}
-use Rattle.bw_check.specs.Verdict.{IsVerdict}
+use Rattle.bw_check.specs.Faults.{check_fault_number, check_fault_name}
+use Rattle.bw_commands.specs.Faults.{refusal_line}
+use Rattle.bw_check.specs.Verdict.{IsVerdictOn}
 use Rattle.bw_check.specs.declared.verdict.Verdict.{Verdict}
 use Rattle.bw_check.specs.declared.verdict.Verdict.TheVariants.{Accepted, Refused}
 use Rattle.bw_shell.specs.Stream.{AppendsFront}
@@ -24,7 +20,7 @@ use Rattle.bw_shell.specs.declared.text_check.TheConstants.{TEXT_BYTES}
 abbrev pub verdict_line : Verdict → List ℕ
 verdict_line Accepted = codes "accepted" ++ 10 ∷ []
 verdict_line (Refused fault group) =
-    codes "refused " ++ decimal (fault_number fault) ++ codes " " ++ fault_name fault ++ codes " " ++ decimal group ++ 10 ∷ []
+    codes "refused " ++ decimal (check_fault_number fault) ++ codes " " ++ check_fault_name fault ++ codes " " ++ decimal group ++ 10 ∷ []
 
 -- the line of a text that is no certified text
 abbrev pub fault_line : CertFault → List ℕ
@@ -41,16 +37,9 @@ is_accepted (Checked Accepted) = true
 is_accepted (Checked (Refused fault group)) = false
 is_accepted (Faulty fault) = false
 
--- the verdict on the instance, the amounts, the flags and the levels that a text tells of
-pub record IsVerdictOn (value : Value) (verdict : Verdict) : Type 0 where
-  pub certificate : Certified
-  pub flags : certificate.tight ≡ value.groups.flags
-  pub levels : map (option_map price_of) certificate.levels ≡ value.groups.levels
-  pub given : IsVerdict (groups_of value) value.groups.amounts certificate verdict
-
--- from what a text certifies, or its first fault: that fault, or the verdict
+-- from what a text certifies, or its first fault: that fault, or the verdict on the instance, the amounts, the flags and the levels
 abbrev pub IsFindingOf : Result Value CertFault → Finding → Type 0
-IsFindingOf (Ok value) (Checked verdict) = IsVerdictOn value verdict
+IsFindingOf (Ok value) (Checked verdict) = IsVerdictOn (groups_of value) value.groups.amounts value.groups.flags value.groups.levels verdict
 IsFindingOf (Ok value) (Faulty fault) = ⊥
 IsFindingOf (Err fault) (Checked verdict) = ⊥
 IsFindingOf (Err fault) (Faulty found) = found ≡ fault
@@ -58,13 +47,6 @@ IsFindingOf (Err fault) (Faulty found) = found ≡ fault
 -- what is found in a text
 abbrev pub IsFinding : List ℕ → Finding → Type 0
 IsFinding text finding = IsFindingOf (certified_of (lines_of text)) finding
-
--- a text that certifies the plan of its instance
-pub record HoldsPlan (text : List ℕ) : Type 0 where
-  pub value : Value
-  pub valid : IsValue value
-  pub spelled : text ≡ spelling value
-  pub plan : IsPlan (groups_of value) value.groups.amounts
 
 -- A text was read whose line was written, and the answer is whether that line is `accepted`.
 pub record Checks (left_old left_new held_old held_new : Option (List ℕ)) (accepted : Bool) : Type 0 where
@@ -85,10 +67,6 @@ pub record ChecksFront (left_old left_new held_old held_new : Option (List ℕ))
   pub small : length text ≤ TEXT_BYTES
   pub found : IsFinding text finding
   pub written : AppendsFront held_old held_new (line_of finding)
-
--- more bytes were read than a text may have
-abbrev pub ReadsTooMuch : Option (List ℕ) → Option (List ℕ) → Type 0
-ReadsTooMuch left_old left_new = (text : List ℕ) × Consumes left_old left_new text × (TEXT_BYTES < length text)
 
 -- the exit number of a check
 abbrev pub check_status : {E : Type 0} → Result Bool E → ℕ

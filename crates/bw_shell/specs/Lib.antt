@@ -8,4 +8,6 @@ pub mod Responder
 pub mod Session
 pub mod Runs
 pub mod Writes
+pub mod Reads
+pub mod Prints
 pub mod CheckText

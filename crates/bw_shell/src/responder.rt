@@ -64,7 +64,7 @@ pub struct Responder<'a, G> {
 impl<'a, G: Gate> Responder<'a, G> {
     ghost use Rattle.std.specs.Prelude.{◌≡◌, [], List, ℕ, true, IfOk, Some};
     ghost use Rattle.bw_commands.specs.Command.{command_of_line, Period};
-    ghost use Rattle.bw_commands.specs.Fault.{error_line};
+    ghost use Rattle.bw_commands.specs.Faults.{error_line};
     ghost use Rattle.bw_commands.specs.Script.{outcome_of_text, IsAnswer, IsOutcome};
     ghost use Rattle.bw_commands.specs.State.{State, start};
     ghost use Rattle.bw_shell.specs.Responder.{responder_state};

@@ -38,6 +38,17 @@ pub enum RunFault {
     Memory,
 }
 
+impl From<AllocError> for RunFault {
+    ghost use Rattle.std.specs.Prelude.{◌≡◌};
+    ghost use Rattle.bw_shell.specs.declared.script.RunFault.TheVariants.{Memory};
+
+    ghost from_gives = { λ _ e. e ≡ Memory };
+
+    fn from(_: AllocError) -> RunFault {
+        RunFault::Memory
+    }
+}
+
 // The room for one read.
 pub(crate) fn piece_room(alloc: Global) -> Result<Vec<u8>, AllocError>
     ensures { IfOk result (λ v. vec_len v ≡ PIECE_BYTES) }
@@ -102,12 +113,8 @@ pub fn run_gated<H: AllocGlobal + Threads + Wait + Sync, G: Gate, R: Read, W: Wr
     requires writer { IsFresh writer.old }
     ensures { Runs R.remaining W.contents (start shape (G.used gate.now)) reader.old reader.new writer.old writer.new result }
 {
-    let Ok(mut session) = Session::new(rt.alloc(), shape, gate) else {
-        return Err(RunFault::Memory);
-    };
-    let Ok(mut piece) = piece_room(rt.alloc()) else {
-        return Err(RunFault::Memory);
-    };
+    let mut session = Session::new(rt.alloc(), shape, gate)?;
+    let mut piece = piece_room(rt.alloc())?;
     for turn in 0..READ_CALLS {
         match read_some(rt, &mut session, &mut piece, reader, writer) {
             Ok(true) => {}

@@ -1,9 +1,12 @@
 //! A certified text is read whole, checked, and answered by one line.
-ghost use Rattle.std.specs.Prelude.{◌≡◌, ◌≢◌, ◌⊎◌, ◌||◌, ◌<◌, ◌≤◌, ◌+◌, ◌-◌, ◌++◌, ◌^◌, ℕ, List, min, length, true, false, OnOk, IfOk, IfErr, IsErrOf};
+ghost use Rattle.std.specs.Prelude.{◌≡◌, ◌≢◌, ◌⊎◌, ◌<◌, ◌≤◌, ◌+◌, ◌-◌, ◌++◌, ◌^◌, ℕ, List, min, length, true, false, OnOk, IfOk, IfErr, IsErrOf};
 ghost use Rattle.std.specs.Io.KnownBytes.{Appends, Consumes, IsAtEnd, Keeps};
 ghost use Rattle.bw_shell.specs.Stream.{AppendsFront};
-ghost use Rattle.bw_shell.specs.CheckText.{line_of, verdict_line, is_accepted, IsFinding, HoldsPlan, Checks, ChecksFront, ReadsTooMuch};
-ghost use Rattle.bw_shell.specs.Watched.{inner_of, has_failed, has_stalled, read_calls, is_flushed, IsFresh, HasNoFault};
+ghost use Rattle.bw_cert.specs.Spelling.{HoldsPlan};
+ghost use Rattle.bw_shell.specs.CheckText.{line_of, verdict_line, is_accepted, IsFinding, Checks, ChecksFront};
+ghost use Rattle.bw_shell.specs.Prints.{Prints};
+ghost use Rattle.bw_shell.specs.Reads.{Reads};
+ghost use Rattle.bw_shell.specs.Watched.{inner_of, has_failed, read_calls, IsFresh, HasNoFault};
 
 use crate::script::{READ_CALLS, RunFault, piece_room};
 use crate::send::send_line;
@@ -56,10 +59,8 @@ fn take_piece<R: Read>(
             if n > TEXT_BYTES - text.len() {
                 return Err(RunFault::Read);
             }
-            match text.extend_from_slice(piece.split_at(n).0) {
-                Ok(()) => Ok(true),
-                Err(_) => Err(RunFault::Memory),
-            }
+            text.extend_from_slice(piece.split_at(n).0)?;
+            Ok(true)
         }
     }
 }
@@ -69,16 +70,10 @@ fn read_text<R: Read>(alloc: Global, reader: &mut Watched<R>) -> Result<Vec<u8>,
     requires { IsFresh reader.old }
     ensures ok { IfOk result (λ v. Consumes (R.remaining (inner_of reader.old)) (R.remaining (inner_of reader.new)) v.items) }
     ensures small { IfOk result (λ v. length v.items ≤ TEXT_BYTES) }
-    ensures end { OnOk result (IsAtEnd (R.remaining (inner_of reader.new))) }
-    ensures quiet { OnOk result (HasNoFault reader.new) }
-    ensures read_when { IsErrOf result RunFault.Read → (has_failed reader.new ≡ true) ⊎ (read_calls reader.new ≡ READ_CALLS)
-        ⊎ ReadsTooMuch (R.remaining (inner_of reader.old)) (R.remaining (inner_of reader.new)) }
+    ensures reads { Reads R.remaining reader.old reader.new result }
     ensures write { IfErr result (λ f. f ≢ RunFault.Write) }
-    ensures calls { read_calls reader.new ≤ READ_CALLS }
 {
-    let Ok(mut piece) = piece_room(alloc) else {
-        return Err(RunFault::Memory);
-    };
+    let mut piece = piece_room(alloc)?;
     let mut text = Vec::new(alloc);
     for turn in 0..READ_CALLS {
         match take_piece(&mut text, &mut piece, reader) {
@@ -151,16 +146,11 @@ fn answer<W: Write>(
 ) -> Result<(), RunFault>
     requires { HasNoFault writer.old }
     ensures ok { OnOk result (Appends (W.contents (inner_of writer.old)) (W.contents (inner_of writer.new)) (line_of finding)) }
-    ensures quiet { OnOk result (HasNoFault writer.new) }
+    ensures prints { Prints writer.old writer.new result }
     ensures write { IsErrOf result RunFault.Write → AppendsFront (W.contents (inner_of writer.old)) (W.contents (inner_of writer.new)) (line_of finding) }
-    ensures write_when { IsErrOf result RunFault.Write → (has_failed writer.new || has_stalled writer.new) ≡ true }
-    ensures memory { IsErrOf result RunFault.Memory → writer.new ≡ writer.old }
     ensures read { IfErr result (λ f. f ≢ RunFault.Read) }
-    ensures flushed { OnOk result (is_flushed writer.new ≡ true) }
 {
-    let Ok(line) = line_of(alloc, finding) else {
-        return Err(RunFault::Memory);
-    };
+    let line = line_of(alloc, finding)?;
     send_line(writer, line.as_slice())
 }
 
@@ -181,38 +171,20 @@ pub fn check_text<R: Read, W: Write>(
     ensures ok { IfOk result (Checks
         (R.remaining (inner_of reader.old)) (R.remaining (inner_of reader.new))
         (W.contents (inner_of writer.old)) (W.contents (inner_of writer.new))) }
-    ensures end { OnOk result (IsAtEnd (R.remaining (inner_of reader.new))) }
-    ensures reader_quiet { OnOk result (HasNoFault reader.new) }
-    ensures writer_quiet { OnOk result (HasNoFault writer.new) }
-
-    // There are so many read calls at most, and the line does not wait in the writer.
-    ensures calls { read_calls reader.new ≤ READ_CALLS }
-    ensures flushed { OnOk result (is_flushed writer.new ≡ true) }
+    ensures reads { Reads R.remaining reader.old reader.new result }
+    ensures prints { Prints writer.old writer.new result }
 
     // After a read fault nothing is written.
     ensures read { IsErrOf result RunFault.Read → writer.new ≡ writer.old }
-    ensures read_when { IsErrOf result RunFault.Read → (has_failed reader.new ≡ true) ⊎ (read_calls reader.new ≡ READ_CALLS)
-        ⊎ ReadsTooMuch (R.remaining (inner_of reader.old)) (R.remaining (inner_of reader.new)) }
 
     // After a write fault a front of the line for the whole text is.
     ensures write { IsErrOf result RunFault.Write → ChecksFront
         (R.remaining (inner_of reader.old)) (R.remaining (inner_of reader.new))
         (W.contents (inner_of writer.old)) (W.contents (inner_of writer.new)) }
     ensures write_end { IsErrOf result RunFault.Write → IsAtEnd (R.remaining (inner_of reader.new)) }
-    ensures write_when { IsErrOf result RunFault.Write → (has_failed writer.new || has_stalled writer.new) ≡ true }
-
-    // For want of memory nothing is.
-    ensures memory { IsErrOf result RunFault.Memory → writer.new ≡ writer.old }
 {
-    let text = match read_text(alloc, reader) {
-        Ok(text) => text,
-        Err(fault) => return Err(fault),
-    };
-    let Ok(finding) = finding_in(alloc, text.as_slice()) else {
-        return Err(RunFault::Memory);
-    };
-    match answer(alloc, finding, writer) {
-        Ok(()) => Ok(is_accepted(finding)),
-        Err(fault) => Err(fault),
-    }
+    let text = read_text(alloc, reader)?;
+    let finding = finding_in(alloc, text.as_slice())?;
+    answer(alloc, finding, writer)?;
+    Ok(is_accepted(finding))
 }

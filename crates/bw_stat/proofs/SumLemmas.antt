@@ -3,7 +3,7 @@ use Rattle.std.proofs.Common.{◌≡◌, ℕ, suc, zero, ◌+◌, ◌<◌, false
 use Rattle.std.proofs.Common.{ap, ◌∙◌, arith, eqb}
 use Rattle.std.proofs.lemmas.Bool.{ne_eqb, eq-eqb}
 use Rattle.bw_model.specs.declared.stat.Stat.{Stat}
-use Rattle.bw_stat.specs.Books.{Share, added, or_zeros, stat_at, cut, one_if, booked, forgotten}
+use Rattle.bw_stat.specs.Books.{Share, added, or_zeros, stat_at, cut, periods_if, booked, forgotten}
 use Rattle.bw_stat.specs.Counters.{Call, after_calls, share_in, onto, shares_for, AreCalls, counters_of, IsForgotten, CountersAreSums}
 use Rattle.bw_stat.specs.Counters.Call.{Book, Forget}
 use Rattle.bw_stat.proofs.BookLemmas.{AreApart, cond_none, stat_remove, remove_AreApart, then_share, booked_at, booked_AreApart}
@@ -21,20 +21,20 @@ cut_cut a x = omega arith
 
 added_six : (u p t w b x : ℕ) (s : Share)
     → added (six (cut u) (cut p) (cut t) (cut w) (cut b) (cut x)) s
-    ≡ six (cut (u + s.usage_usec)) (cut (p + 1)) (cut (t + one_if s.is_throttled)) (cut (w + s.withheld_usec)) (cut (b + one_if s.is_burst))
+    ≡ six (cut (u + s.usage_usec)) (cut (p + 1)) (cut (t + periods_if s.is_throttled)) (cut (w + s.withheld_usec)) (cut (b + periods_if s.is_burst))
     (cut (x + s.burst_usec))
 added_six u p t w b x s =
-    ap (λ n. six n (cut (cut p + 1)) (cut (cut t + one_if s.is_throttled)) (cut (cut w + s.withheld_usec)) (cut (cut b + one_if s.is_burst))
+    ap (λ n. six n (cut (cut p + 1)) (cut (cut t + periods_if s.is_throttled)) (cut (cut w + s.withheld_usec)) (cut (cut b + periods_if s.is_burst))
     (cut (cut x + s.burst_usec))) (cut_cut u s.usage_usec)
-    ∙ ap (λ n. six (cut (u + s.usage_usec)) n (cut (cut t + one_if s.is_throttled)) (cut (cut w + s.withheld_usec)) (cut (cut b + one_if s.is_burst))
+    ∙ ap (λ n. six (cut (u + s.usage_usec)) n (cut (cut t + periods_if s.is_throttled)) (cut (cut w + s.withheld_usec)) (cut (cut b + periods_if s.is_burst))
     (cut (cut x + s.burst_usec))) (cut_cut p 1)
-    ∙ ap (λ n. six (cut (u + s.usage_usec)) (cut (p + 1)) n (cut (cut w + s.withheld_usec)) (cut (cut b + one_if s.is_burst)) (cut (cut x + s.burst_usec)))
-    (cut_cut t (one_if s.is_throttled))
-    ∙ ap (λ n. six (cut (u + s.usage_usec)) (cut (p + 1)) (cut (t + one_if s.is_throttled)) n (cut (cut b + one_if s.is_burst))
+    ∙ ap (λ n. six (cut (u + s.usage_usec)) (cut (p + 1)) n (cut (cut w + s.withheld_usec)) (cut (cut b + periods_if s.is_burst)) (cut (cut x + s.burst_usec)))
+    (cut_cut t (periods_if s.is_throttled))
+    ∙ ap (λ n. six (cut (u + s.usage_usec)) (cut (p + 1)) (cut (t + periods_if s.is_throttled)) n (cut (cut b + periods_if s.is_burst))
     (cut (cut x + s.burst_usec))) (cut_cut w s.withheld_usec)
-    ∙ ap (λ n. six (cut (u + s.usage_usec)) (cut (p + 1)) (cut (t + one_if s.is_throttled)) (cut (w + s.withheld_usec)) n (cut (cut x + s.burst_usec)))
-    (cut_cut b (one_if s.is_burst))
-    ∙ ap (λ n. six (cut (u + s.usage_usec)) (cut (p + 1)) (cut (t + one_if s.is_throttled)) (cut (w + s.withheld_usec)) (cut (b + one_if s.is_burst)) n)
+    ∙ ap (λ n. six (cut (u + s.usage_usec)) (cut (p + 1)) (cut (t + periods_if s.is_throttled)) (cut (w + s.withheld_usec)) n (cut (cut x + s.burst_usec)))
+    (cut_cut b (periods_if s.is_burst))
+    ∙ ap (λ n. six (cut (u + s.usage_usec)) (cut (p + 1)) (cut (t + periods_if s.is_throttled)) (cut (w + s.withheld_usec)) (cut (b + periods_if s.is_burst)) n)
     (cut_cut x s.burst_usec)
 
 counted_six : (ss : List Share) (u p t w b x : ℕ) → counted (Some (six (cut u) (cut p) (cut t) (cut w) (cut b) (cut x))) ss

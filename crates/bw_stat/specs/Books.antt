@@ -58,16 +58,17 @@ or_zeros (Some s) = s
 abbrev pub cut : ℕ → ℕ
 cut n = min n (2 ^ 64 - 1)
 
-abbrev pub one_if : Bool → ℕ
-one_if b = if b then 1 else 0
+-- one period where it holds, and else none
+abbrev pub periods_if : Bool → ℕ
+periods_if b = if b then 1 else 0
 
 abbrev pub added : Stat → Share → Stat
 added s share = record {
   usage_usec = cut (s.usage_usec + share.usage_usec);
   nr_periods = cut (s.nr_periods + 1);
-  nr_throttled = cut (s.nr_throttled + one_if share.is_throttled);
+  nr_throttled = cut (s.nr_throttled + periods_if share.is_throttled);
   throttled_usec = cut (s.throttled_usec + share.withheld_usec);
-  nr_bursts = cut (s.nr_bursts + one_if share.is_burst);
+  nr_bursts = cut (s.nr_bursts + periods_if share.is_burst);
   burst_usec = cut (s.burst_usec + share.burst_usec);
 }
 

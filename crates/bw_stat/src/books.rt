@@ -3,7 +3,7 @@ ghost use Rattle.std.specs.Prelude.{◌≡◌, ◌+◌, ◌*◌, ◌<◌, ◌≤
 ghost use Rattle.std.specs.Option.{option_copied};
 ghost use Rattle.std.specs.List.{IsDistinct};
 ghost use Rattle.indexmap.specs.IndexMap.{spare};
-ghost use Rattle.bw_stat.specs.Books.{withheld_slices, burst, cut, one_if, added, share_of, shares_of, stat_at, or_zeros, with_share, booked, forgotten};
+ghost use Rattle.bw_stat.specs.Books.{withheld_slices, burst, cut, periods_if, added, share_of, shares_of, stat_at, or_zeros, with_share, booked, forgotten};
 
 use bw_demand::Gathered;
 use bw_model::{Instance, Row, Stat};

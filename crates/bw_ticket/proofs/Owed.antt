@@ -12,7 +12,8 @@ use Rattle.bw_wake.proofs.CallerLemmas.{among_none, among_rest, one_less-will_pe
 use Rattle.bw_ticket.specs.declared.board.SeatView.{SeatView}
 use Rattle.bw_ticket.specs.declared.board.Phase.{Phase}
 use Rattle.bw_ticket.specs.declared.board.Phase.TheVariants.{Idle, Waiting, Marked, Looked, Inside, Done, Served, Owes, Found, Wakes}
-use Rattle.bw_ticket.specs.Rule.{one_if, weigh_all, waits, may_sleep, will_peek, wake_word, IsOwed}
+use Rattle.bw_wake.specs.Progress.{one_if}
+use Rattle.bw_ticket.specs.Rule.{weigh_all, waits, may_sleep, will_peek, wake_word, IsOwed}
 use Rattle.bw_ticket.specs.Plays.{placed, missed, marked, MayMark, saw_next, one_less, saw_word, took, woke}
 use Rattle.bw_ticket.proofs.Views.{weigh_set, weigh_le_at, weigh_all-le, same_one}
 use Rattle.bw_ticket.proofs.Owing.{owed_still, read_stands, other_stands, waits-no_peek}

@@ -9,7 +9,7 @@ use Rattle.bw_wake.specs.declared.seats.Phase.TheVariants.{Idle as PIdle, Waitin
 use Rattle.bw_wake.specs.declared.seats.Phase.TheVariants.{Inside as PInside, Done as PDone, Served as PServed, Owes as POwes, Found as PFound, Wakes as PWakes}
 use Rattle.bw_wake.specs.Protocol.{WaitState}
 use Rattle.bw_wake.specs.Progress.{count, sleeps, busy}
-use Rattle.bw_wake.specs.Progress.{one_if as one_if_there, will_peek as will_peek_there}
+use Rattle.bw_wake.specs.Progress.{one_if, will_peek as will_peek_there}
 use Rattle.bw_wake.proofs.CallerLemmas.{Sound, wake_under_way, goes_on, not_stuck, happens_sound}
 use Rattle.bw_wake.proofs.CallerLemmas.{waits as waits_there, holds as holds_there, may_sleep as may_sleep_there}
 use Rattle.bw_ticket.specs.declared.board.SlotValue.{SlotValue}
@@ -18,7 +18,7 @@ use Rattle.bw_ticket.specs.declared.board.About.{About}
 use Rattle.bw_ticket.specs.declared.board.Phase.{Phase}
 use Rattle.bw_ticket.specs.declared.board.Phase.TheVariants.{Idle, Waiting, Marked, Looked, Inside, Done, Served, Owes, Found, Wakes}
 use Rattle.bw_ticket.specs.declared.limits.TheConstants.{MAX_SEATS}
-use Rattle.bw_ticket.specs.Rule.{one_if, weigh, weigh_all, waits, is_inside, is_done, holds, may_sleep, will_peek, wake_word, Ruled}
+use Rattle.bw_ticket.specs.Rule.{weigh, weigh_all, waits, is_inside, is_done, holds, may_sleep, will_peek, wake_word, Ruled}
 use Rattle.bw_ticket.specs.Follows.{in_protocol}
 use Rattle.bw_ticket.specs.UnderWay.{phases_of, phases_in, state_with, IsThere, AreThere, SleepersAreSeen, asleep_if_marked, NoWakeIsLostIn}
 use Rattle.bw_ticket.specs.UnderWay.{NoWakeIsLostInLock}
@@ -49,10 +49,6 @@ count-map : (g : WaitPhase → ℕ) (f : WaitPhase → WaitPhase) (ps : List Wai
 count-map g f [] = refl
 count-map g f (p ∷ ps) = let h = count-map g f ps in omega arith
 
-same_test : (b : Bool) → one_if_there b ≡ one_if b
-same_test true = refl
-same_test false = refl
-
 -- the seats that have their mark standing may all sleep
 asleep_or_not : (t : ℕ) (b : Bool) → IsThere (PLooked t) (if b then PAsleep t else PLooked t)
 asleep_or_not t true = inr (t, refl, refl)
@@ -76,7 +72,7 @@ all_marked_there ws [] = tt
 all_marked_there ws (p ∷ ps) = (marked_there ws p, all_marked_there ws ps)
 
 other_awake : (t x : ℕ) (b : Bool) → t ≢ x → sleeps x (if b then PAsleep t else PLooked t) ≡ 0
-other_awake t x true ne = ap one_if_there (ne_eqb t x ne)
+other_awake t x true ne = ap one_if (ne_eqb t x ne)
 other_awake t x false ne = refl
 
 unmarked_awake : (ws : List ℕ) (x t : ℕ) → slice_index ws (x % length ws) ≢ x + 1
@@ -108,9 +104,9 @@ module _ {M C R : Type 0} where
   -- the counts of the protocol are the sums of the rule
   waits_in : (x : ℕ) (f : Phase M C R) → waits_there x (in_protocol f) ≡ waits x f
   waits_in x Idle = refl
-  waits_in x (Waiting t) = same_test (t == x)
-  waits_in x (Marked t) = same_test (t == x)
-  waits_in x (Looked t) = same_test (t == x)
+  waits_in x (Waiting t) = refl
+  waits_in x (Marked t) = refl
+  waits_in x (Looked t) = refl
   waits_in x (Inside t y) = refl
   waits_in x (Done t) = refl
   waits_in x (Served t) = refl
@@ -146,7 +142,7 @@ module _ {M C R : Type 0} where
   may_sleep_in x Idle = refl
   may_sleep_in x (Waiting t) = refl
   may_sleep_in x (Marked t) = refl
-  may_sleep_in x (Looked t) = same_test (t == x)
+  may_sleep_in x (Looked t) = refl
   may_sleep_in x (Inside t y) = refl
   may_sleep_in x (Done t) = refl
   may_sleep_in x (Served t) = refl

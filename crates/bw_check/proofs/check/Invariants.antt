@@ -2,10 +2,10 @@
 use Rattle.std.proofs.Common.{ℕ, ◌+◌, ◌<◌, length}
 use Rattle.bw_check.specs.declared.fault.CheckFault.{CheckFault}
 use Rattle.bw_model.specs.Certificate.{certified_of}
-use Rattle.bw_check.specs.Faults.{fault_number}
+use Rattle.bw_check.specs.Faults.{check_fault_number}
 use Rattle.bw_check.specs.Verdict.{IsFree}
 use Rattle.bw_check.proofs.check.Given as goal
 
 abbrev pub invariant-loop-fault : goal.invariant-loop-fault
-invariant-loop-fault l = (f : CheckFault) (g : ℕ) → fault_number f < 51 + l.fault-index → g < length l.instance.rows →
+invariant-loop-fault l = (f : CheckFault) (g : ℕ) → check_fault_number f < 51 + l.fault-index → g < length l.instance.rows →
     IsFree l.instance l.amounts (certified_of l.certificate) l.tables.bounds.items f g

@@ -1,7 +1,7 @@
 //! One period, and the answer to `period`.
 ghost use Rattle.std.specs.Prelude.{◌≡◌, ◌≤◌, ◌++◌, ℕ, List, OnOk, OnErr, IfErr};
 ghost use Rattle.std.specs.Vec.{vec_capacity};
-ghost use Rattle.bw_commands.specs.Fault.{error_line};
+ghost use Rattle.bw_commands.specs.Faults.{error_line};
 ghost use Rattle.bw_commands.specs.Period.{IsPeriod};
 ghost use Rattle.bw_commands.specs.Script.{Period, IsAllowedFailure};
 
@@ -17,7 +17,7 @@ use std::thread::Threads;
 
 /// Serves one period, appends the answer, the slices that its workers drew at the root, and then counts the period for
 /// each group and notes what it left of its limit. An `Err` changes neither.
-#[tactic(auto, unfolding(crate::specs::Fault::error_line))]
+#[tactic(auto, unfolding(crate::specs::Faults::error_line))]
 pub fn serve_period<G: Gate, H: Threads + Wait + Sync>(
     rt: &H,
     alloc: Global,

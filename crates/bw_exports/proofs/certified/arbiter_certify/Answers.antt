@@ -2,7 +2,7 @@
 use Rattle.std.proofs.Common.{rules, ◌≡◌, ℕ, Bool, true, false, ◌∷◌, [], length, sym, ◌∙◌, subst, inl}
 use Rattle.bw_model.specs.Host.{Shape}
 use Rattle.bw_exports.specs.Asked.{Table, are_of_length, Answers}
-use Rattle.bw_exports.specs.Numbers.{number_of}
+use Rattle.bw_exports.specs.Numbers.{number_of_refusal}
 use Rattle.bw_exports.proofs.Asked.{asked_by}
 use Rattle.bw_exports.proofs.Fit.{where_unfit, where_fit}
 use Rattle.bw_exports.proofs.certified.arbiter_certify.Goals as goal
@@ -33,5 +33,5 @@ returns-in-Err-clause-number c =
     (c.args.amounts.now ∷ c.args.flags.now ∷ c.args.nums.now ∷ c.args.dens.now ∷ c.args.places.now ∷ []) in
     let e : fit ≡ true = search rules in
     rw c.number-in-Err.ensures
-    (subst (λ (n : ℕ). Answers n (number_of c.in-Err.refusal))
+    (subst (λ (n : ℕ). Answers n (number_of_refusal c.in-Err.refusal))
     (asked_by c.new-host.ensures c.new-columns.ensures ∙ sym (where_fit fit shape table e)) c.in-Err.ensures.err)

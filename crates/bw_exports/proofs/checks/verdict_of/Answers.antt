@@ -2,7 +2,7 @@
 use Rattle.std.proofs.Common.{rules, ◌≡◌, ℕ, true, false, sym, ◌∙◌, subst, inl}
 use Rattle.bw_exports.specs.Asked.{shape_of, table_of, Answers}
 use Rattle.bw_exports.specs.Checked.{claimed_of, claimed_number, are_levels_even}
-use Rattle.bw_exports.specs.Numbers.{number_of}
+use Rattle.bw_exports.specs.Numbers.{number_of_refusal}
 use Rattle.bw_exports.proofs.Claimed.{claimed_uneven, claimed_even}
 use Rattle.bw_exports.proofs.checks.verdict_of.Goals as goal
 
@@ -15,8 +15,8 @@ pub returns-in_err-instance-clause-err : goal.returns-in_err-instance-clause-err
 returns-in_err-instance-clause-err c =
     let e : are_levels_even (claimed_of c.args.claim.now) ≡ true = search rules in
     let known : Answers (claimed_number (shape_of c.args.host) (table_of c.args.columns.now) (claimed_of c.args.claim.now))
-    (number_of c.in_err-instance.field-0.0) =
-    subst (λ (n : ℕ). Answers n (number_of c.in_err-instance.field-0.0))
+    (number_of_refusal c.in_err-instance.field-0.0) =
+    subst (λ (n : ℕ). Answers n (number_of_refusal c.in_err-instance.field-0.0))
     (sym (claimed_even (shape_of c.args.host) (table_of c.args.columns.now) (claimed_of c.args.claim.now) e)) c.in_err-instance.ensures.err in
     search (known, rules)
 

@@ -2,7 +2,7 @@
 use Rattle.std.proofs.Common.{rules, ◌≡◌, ℕ, length, sym, ◌∙◌, subst, inl}
 use Rattle.bw_model.specs.Host.{Shape}
 use Rattle.bw_exports.specs.Asked.{Table, Answers}
-use Rattle.bw_exports.specs.Numbers.{number_of}
+use Rattle.bw_exports.specs.Numbers.{number_of_refusal}
 use Rattle.bw_exports.proofs.Asked.{asked_by, asked_short, asked_long}
 use Rattle.bw_exports.proofs.limited.arbiter_limiting.Goals as goal
 
@@ -26,5 +26,5 @@ returns-in-Err-clause-number c =
     let table : Table = record { parents = c.args.parents.now; weights = c.args.weights.now; limits = c.args.limits.now; demands = c.args.demands.now } in
     let same : length c.args.groups.now ≡ length c.args.parents.now = search rules in
     rw c.number-in-Err.ensures
-    (subst (λ (n : ℕ). Answers n (number_of c.in-Err.refusal))
+    (subst (λ (n : ℕ). Answers n (number_of_refusal c.in-Err.refusal))
     (asked_by c.new-host.ensures c.new-columns.ensures ∙ sym (asked_long (length c.args.groups.now) shape table same)) c.in-Err.ensures.err)

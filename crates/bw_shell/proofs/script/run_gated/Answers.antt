@@ -1,5 +1,5 @@
 -- The goals of `run_gated` that are answered by hand.
-use Rattle.std.proofs.Common.{◌≡◌, ◌∙◌, [], sym, subst, inl, inr, arith, Bool, Result, Ok, Err, IfErr, IsErrOf}
+use Rattle.std.proofs.Common.{◌≡◌, ◌∙◌, [], refl, sym, subst, inl, inr, arith, rules, Bool, Result, Ok, Err, IfErr, IsErrOf}
 use Rattle.bw_shell.specs.declared.script.RunFault.{RunFault}
 use Rattle.bw_shell.specs.declared.script.RunFault.TheVariants.{Read, Write, Memory}
 use Rattle.bw_commands.specs.State.{start}
@@ -14,7 +14,7 @@ loop-turn-init g c = record {
   taken = (
     [],
     [],
-    subst (λ m. TakesBytes (begin (start c.args.shape (g.G.Gate.used c.args.gate.now))) [] [] m) (sym c.in-Ok.ensures) (TakesBytes-nil _),
+    subst (λ m. TakesBytes (begin (start c.args.shape (g.G.Gate.used c.args.gate.now))) [] [] m) (sym c.in_ok-session.ensures) (TakesBytes-nil _),
     Consumes-nil _,
     Appends-nil _,
   );
@@ -32,6 +32,25 @@ loop-turn-preserved g c = record {
   writer_flushed = c.in-Ok-true.ensures.writer_flushed;
   calls = omega (arith, c.in-Ok-true.ensures.reads);
 }
+
+pub returns-in_err-piece : goal.returns-in_err-piece
+returns-in_err-piece g c =
+    let e : c.from_residual-in_err-piece.result ≡ Err Memory = search rules in
+    rw e
+    (record {
+      ok = tt;
+      end = tt;
+      reader_quiet = tt;
+      writer_quiet = tt;
+      calls = omega (arith, c.requires.reader.no_reads);
+      flushed = tt;
+      read_flushed = λ h. absurd (let bad : Memory ≡ Read = cc in cc);
+      read = λ h. absurd (let bad : Memory ≡ Read = cc in cc);
+      read_when = λ h. absurd (let bad : Memory ≡ Read = cc in cc);
+      write = λ h. absurd (let bad : Memory ≡ Write = cc in cc);
+      write_when = λ h. absurd (let bad : Memory ≡ Write = cc in cc);
+      memory = λ h. (refl, refl);
+    })
 
 -- a call that blames the writer alone blames nothing else
 only_write : {T : Type 0} (r : Result T RunFault) (f : RunFault) → IfErr r (λ g. g ≡ Write) → IsErrOf r f → f ≡ Write

@@ -1,7 +1,7 @@
 -- The goals of `read_text` that are answered by hand.
 use Rattle.std.proofs.Common.{◌⊎◌, ◌<◌, ◌+◌, ◌++◌, ℕ, List, Bool, Option, length, length-append, inl, inr, arith}
 use Rattle.std.specs.Io.KnownBytes.{Consumes}
-use Rattle.bw_shell.specs.CheckText.{ReadsTooMuch}
+use Rattle.bw_shell.specs.Reads.{ReadsTooMuch}
 use Rattle.bw_shell.specs.declared.script.RunFault.TheVariants.{Read}
 use Rattle.bw_shell.specs.declared.text_check.TheConstants.{TEXT_BYTES}
 use Rattle.bw_shell.proofs.Known.{Consumes-trans, moves_err}
@@ -19,7 +19,12 @@ third : {A B C D : Type 0} → (C → D) → A ⊎ C → A ⊎ B ⊎ D
 third f (inl a) = inl a
 third f (inr d) = inr (inr (f d))
 
-pub returns-in-Err-clause-read_when : goal.returns-in-Err-clause-read_when
-returns-in-Err-clause-read_when g c = λ h.
-    third (λ q. reads_too_much _ _ _ c.loop-turn.text.items c.loop-turn.invariant.read q)
-    (c.in-Err.ensures.read_when (moves_err {U = Bool} c.in-Err.fault Read h))
+pub returns-in-Err-clause-reads : goal.returns-in-Err-clause-reads
+returns-in-Err-clause-reads g c = record {
+  end = tt;
+  quiet = tt;
+  calls = omega (arith, c.loop-turn.invariant.calls, c.in-Err.ensures.reads);
+  when = λ h.
+      third (λ q. reads_too_much _ _ _ c.loop-turn.text.items c.loop-turn.invariant.read q)
+      (c.in-Err.ensures.read_when (moves_err {U = Bool} c.in-Err.fault Read h));
+}

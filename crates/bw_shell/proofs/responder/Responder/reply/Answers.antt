@@ -1,6 +1,6 @@
 -- The goals of `Responder::reply` that are answered by hand.
 use Rattle.std.proofs.Common.{sym, subst, inl, refl}
-use Rattle.bw_commands.specs.Fault.{error_line}
+use Rattle.bw_commands.specs.Faults.{error_line}
 use Rattle.bw_commands.specs.Script.{IsOutcome, IsAnswer}
 use Rattle.bw_shell.specs.Responder.{responder_state}
 use Rattle.bw_shell.proofs.Writing.{Writes-map}

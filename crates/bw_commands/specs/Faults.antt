@@ -1,29 +1,29 @@
 -- The numbers and names of the refusals of a line, and the line that prints one.
 use Rattle.std.specs.Prelude.{ℕ, List, [], ◌∷◌, ◌++◌, codes}
 use Rattle.std.specs.Fmt.{decimal}
-use Rattle.bw_hierarchy.specs.Faults.{fault_number, fault_name}
+use Rattle.bw_hierarchy.specs.Faults.{hierarchy_fault_number, hierarchy_fault_name}
 use Rattle.bw_workers.specs.declared.fault.ServeFault.{ServeFault}
 use Rattle.bw_workers.specs.declared.fault.ServeFault.TheVariants as serve
 use Rattle.bw_commands.specs.declared.fault.ScriptFault.{ScriptFault}
 use Rattle.bw_commands.specs.declared.fault.ScriptFault.TheVariants.{BadNumber, Call, NotStarted, OutOfMemory, BadCommand, BadText, LineTooLong}
 
-abbrev pub number_of : ScriptFault → ℕ
-number_of BadNumber = 11
-number_of (Call fault) = fault_number fault
-number_of NotStarted = 70
-number_of OutOfMemory = 71
-number_of BadCommand = 80
-number_of BadText = 81
-number_of LineTooLong = 82
+abbrev pub script_fault_number : ScriptFault → ℕ
+script_fault_number BadNumber = 11
+script_fault_number (Call fault) = hierarchy_fault_number fault
+script_fault_number NotStarted = 70
+script_fault_number OutOfMemory = 71
+script_fault_number BadCommand = 80
+script_fault_number BadText = 81
+script_fault_number LineTooLong = 82
 
-abbrev pub name_of : ScriptFault → List ℕ
-name_of BadNumber = codes "BadNumber"
-name_of (Call fault) = fault_name fault
-name_of NotStarted = codes "NotStarted"
-name_of OutOfMemory = codes "OutOfMemory"
-name_of BadCommand = codes "BadCommand"
-name_of BadText = codes "BadText"
-name_of LineTooLong = codes "LineTooLong"
+abbrev pub script_fault_name : ScriptFault → List ℕ
+script_fault_name BadNumber = codes "BadNumber"
+script_fault_name (Call fault) = hierarchy_fault_name fault
+script_fault_name NotStarted = codes "NotStarted"
+script_fault_name OutOfMemory = codes "OutOfMemory"
+script_fault_name BadCommand = codes "BadCommand"
+script_fault_name BadText = codes "BadText"
+script_fault_name LineTooLong = codes "LineTooLong"
 
 -- why a period is not served, as a refusal of its line
 abbrev pub of_serve_fault : ServeFault → ScriptFault
@@ -36,4 +36,4 @@ refusal_line number name = codes "error " ++ decimal number ++ codes " " ++ name
 
 -- the line that the refusal of a line prints
 unfoldable pub error_line : ScriptFault → List ℕ
-error_line fault = refusal_line (number_of fault) (name_of fault)
+error_line fault = refusal_line (script_fault_number fault) (script_fault_name fault)
