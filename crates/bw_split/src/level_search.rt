@@ -210,29 +210,29 @@ fn undecided(level: u64, above: u64, weights: &[u64], most: &[u64]) -> Option<us
     None
 }
 
-/// A guess where so many even guesses in a row told nothing new: children of one weight, as all have that nobody sets, have
-/// their marks together, and no even guess finds the place between two of these. So it goes to a mark of some child, then
-/// to one of a child that is not decided, and where all are, to the step below the upper level.
-fn guess_by_mark(
+/// The guess after so many tests in a row that told nothing new, the even one after none. Children of one weight, as all have
+/// that nobody sets, have their marks together, and no even guess finds the place between two of these. So it goes to a mark
+/// of some child, then to one of a child that is not decided, and where all are, to the step below the upper level.
+fn guess_after(
+    repeats: u64,
     guess: u64,
     level: u64,
     above: u64,
     weights: &[u64],
     most: &[u64],
     round: u64,
-    repeats: u64,
 ) -> u64
     requires guess { guess ≤ above }
     requires apart { level < above }
     requires in_range { above ≤ GREATEST_LEVEL }
     requires one_each { length most.now ≡ length weights.now }
     requires weights_in_range { EachIndex weights.now (λ k. (MIN_WEIGHT ≤ slice_index weights.now k) × (slice_index weights.now k ≤ MAX_WEIGHT)) }
-    ensures { result < above }
+    ensures { result ≤ above }
 {
-    let child = if repeats > 1 {
-        undecided(level, above, weights, most)
-    } else {
-        (round as usize).checked_rem(weights.len())
+    let child = match repeats {
+        0 => return guess,
+        1 => (round as usize).checked_rem(weights.len()),
+        _ => undecided(level, above, weights, most),
     };
     match child {
         Some(i) => mark_near(guess, level, above, weights[i], most[i]),
@@ -258,7 +258,7 @@ fn counted_on(repeats: u64, again: bool) -> u64 {
 
 /// A level at which the children take at most the amount, and one step above which the amount or more.
 ///
-/// Each trial is a guess by the two ends, taken as far as halving would still end within the rounds that are left. Where
+/// Each trial is a guess by how far the two ends are off, taken as far as halving would still end within the rounds left. Where
 /// an end stays twice, its distance from the amount is taken as less in the next guess, so that it moves too (the false
 /// position in its Pegasus form). Where a test finds a total that an end had already, the next guess goes to a mark.
 fn find_level(amount: u64, weights: &[u64], most: &[u64], work: &mut Work) -> Found
@@ -280,7 +280,6 @@ fn find_level(amount: u64, weights: &[u64], most: &[u64], work: &mut Work) -> Fo
     let upper = upper_level(amount, weights, most);
     let mut above = upper.level;
     let mut over = upper.over;
-    // how far the ends are from the amount in the next guess
     let mut over_by = over;
     let mut short_by = rest;
     let mut level_moved = false;
@@ -291,10 +290,8 @@ fn find_level(amount: u64, weights: &[u64], most: &[u64], work: &mut Work) -> Fo
             return Found { level, rest };
         }
         reach /= 2;
-        let mut guess = even_guess(level, above, short_by, over_by);
-        if repeats > 0 {
-            guess = guess_by_mark(guess, level, above, weights, most, round, repeats);
-        }
+        let even = even_guess(level, above, short_by, over_by);
+        let guess = guess_after(repeats, even, level, above, weights, most, round);
         let middle = trial(level, above, reach, guess);
         let total = test_level(middle, weights, most, work);
         if total > amount {
