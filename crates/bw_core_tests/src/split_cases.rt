@@ -46,28 +46,28 @@ fn refused(rt: HostRuntime) {
     assert!(rt; level_of(&[0, 0], &[1, 1]).is_none());
 }
 
-static WEIGHTS: [u64; 4095] = [100; 4095];
+static WEIGHTS: [u64; 16383] = [100; 16383];
 
-static MOST: [u64; 4095] = [20; 4095];
+static MOST: [u64; 16383] = [20; 16383];
 
-static SIXTEENS: [u64; 2575] = [16; 2575];
+static FOURS: [u64; 14851] = [4; 14851];
 
-static FIFTEENS: [u64; 1520] = [15; 1520];
+static THREES: [u64; 1532] = [3; 1532];
 
-/// 64000 slices among 4095 children of one weight: the first 2575 get 16, the others 15.
-fn assert_sixteens(rt: &impl Abort, parts: &[u64]) {
-    assert!(rt; parts.len() == 4095);
-    let (first, last) = parts.split_at(2575);
-    assert!(rt; first == SIXTEENS.as_slice());
-    assert!(rt; last == FIFTEENS.as_slice());
+/// 64000 slices among the most children, all of one weight: the first 14851 get 4, the others 3.
+fn assert_fours(rt: &impl Abort, parts: &[u64]) {
+    assert!(rt; parts.len() == 16383);
+    let (first, last) = parts.split_at(14851);
+    assert!(rt; first == FOURS.as_slice());
+    assert!(rt; last == THREES.as_slice());
 }
 
 fn assert_many(rt: &impl Abort, alloc: Global) -> Result<(), AllocError> {
     assert!(rt; can_split(64000, &WEIGHTS, &MOST));
-    assert_sixteens(rt, &split(alloc, 64000, &WEIGHTS, &MOST)?);
-    assert_sixteens(rt, &split_by_marks(alloc, 64000, &WEIGHTS, &MOST)?);
+    assert_fours(rt, &split(alloc, 64000, &WEIGHTS, &MOST)?);
+    assert_fours(rt, &split_by_marks(alloc, 64000, &WEIGHTS, &MOST)?);
     let mut work = Work::new();
-    assert_sixteens(
+    assert_fours(
         rt,
         &split_counted(alloc, 64000, &WEIGHTS, &MOST, &mut work)?,
     );
