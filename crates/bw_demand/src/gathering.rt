@@ -77,7 +77,7 @@ pub fn gather_levels(
 }
 
 /// What each group wants and can be given, and which are tight. Time grows as the number of rows.
-/// Refused for want of memory alone.
+/// Fails only when out of memory.
 pub fn gather(alloc: Global, instance: &Instance) -> Result<Gathered, AllocError>
     ensures { IfOk result (λ gathered. IsGathered instance.now (demands_of gathered)) }
 {
