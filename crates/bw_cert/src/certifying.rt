@@ -41,7 +41,7 @@ fn level_at(
 }
 
 /// The certificate of an instance's own plan: the tight groups flagged, and the greatest last mark of the children
-/// at each group that shares something out. Time grows as the number of rows. Refused for want of memory alone.
+/// at each group that shares something out. Time grows as the number of rows. Fails only when out of memory.
 pub fn certify(alloc: Global, instance: &Instance, plan: &Plan) -> Result<Certificate, AllocError>
     requires plan { IsPlan instance.now plan.now.amounts.items }
     ensures certified { IfOk result (λ c. IsAccepted instance.now plan.now.amounts.items (certified_of c)) }

@@ -1,4 +1,4 @@
--- The path of a group that is there is refused for want of memory alone.
+-- The path of a group that is there fails only when out of memory.
 use Rattle.std.proofs.Common.{◌≡◌, Option, Some, None, refl, sym, ◌∙◌}
 use Rattle.bw_tree.specs.Tree.{IsRefused}
 use Rattle.bw_tree.specs.declared.fault.TreeFault.{TreeFault}

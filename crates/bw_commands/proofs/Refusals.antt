@@ -17,13 +17,13 @@ pub call_outcome-refused : {A : Type 0} (s : State) (text : A → List ℕ) (aft
     → IsOutcome s (call_outcome s text after r) (error_line (fault.Call f)) s
 call_outcome-refused s text after r f e = subst (λ o. IsOutcome s (call_outcome s text after o) (error_line (fault.Call f)) s) (sym e) (inl (refl, refl))
 
--- and so is want of memory where nothing else refuses the call
+-- and so is `OutOfMemory` where nothing else refuses the call
 pub call_outcome-memory : {A : Type 0} (s : State) (text : A → List ℕ) (after : A → State) (r : Result A Fault) → IfErr r (λ other. ⊥)
     → IsOutcome s (call_outcome s text after r) (error_line fault.OutOfMemory) s
 call_outcome-memory s text after (Ok x) h = inr (refl, refl)
 call_outcome-memory s text after (Err f) h = absurd h
 
--- a fault of the tree is want of memory, or another one
+-- a fault of the tree is `OutOfMemory`, or another one
 memory_or_other : (f : TreeFault) → (f ≡ OutOfMemory) ⊎ (f ≢ OutOfMemory)
 memory_or_other f = by (sameb the_type f OutOfMemory) refl
   where

@@ -122,7 +122,7 @@ Gives s Cert text next = IsCertifiedPlan s.hierarchy text × (next ≡ s)
 Gives s Period text next = IsPeriod s.hierarchy s.uses text next.hierarchy × (next.uses ≡ s.uses)
 Gives s Report text next = IsReport s.hierarchy text × (next ≡ s)
 
--- What may stand in place of an answer: want of memory where memory is taken, and where a period is served a thread that
+-- What may stand in place of an answer: `OutOfMemory` where memory is taken, and where a period is served a thread that
 -- was refused. A refusal, and what `rmdir`, `demand` and `write` answer, has nothing in its place.
 abbrev pub IsAllowedFailure : Outcome → List ℕ → Type 0
 IsAllowedFailure Silent text = ⊥

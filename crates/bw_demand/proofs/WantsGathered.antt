@@ -1,7 +1,7 @@
 -- Wants and the most of each group, as far as they are gathered.
 use Rattle.std.proofs.Common.{◌≡◌, ℕ, zero, suc, ◌+◌, ◌*◌, ◌<◌, ◌≤◌, List, [], ◌∷◌, Bool, true, false, ◌||◌, eqb, true≢false, cond, Option, None, Some, length}
 use Rattle.std.proofs.Common.{get_or, set, replicate, ltb, refl, ap, sym, ◌∙◌, arith, inl, inr}
-use Rattle.std.specs.Prelude.{sum_by, slice_index, map, min}
+use Rattle.std.specs.Prelude.{◌^◌, sum_by, slice_index, map, min, IfSome}
 use Rattle.std.specs.Option.{option_map_or}
 use Rattle.std.proofs.Math.Bool.{or-false}
 use Rattle.std.proofs.lemmas.Bool.{cases_Bool, cases_eq, eq-eqb, ne_eqb, eqb-true, or_cases, or_parts}
@@ -12,6 +12,7 @@ use Rattle.bw_model.specs.declared.limits.TheConstants.{MAX_DEMAND, MAX_GROUPS}
 use Rattle.bw_model.specs.Groups.{Groups, AreTreeRows, IsInstance, parent_of, is_child, children_of, is_leaf, limit_of, demand_of}
 use Rattle.bw_model.specs.Demand.{want_of}
 use Rattle.bw_demand.specs.Demands.{IsGathered}
+use Rattle.bw_demand.specs.OneRow.{given_to, is_cut, added_above, CanGather}
 use Rattle.bw_model.proofs.CallerLemmas.{sum_below-term, zeros, capped_le_want, parent_lt, sum_by-children, is_child_no, is_child_from_parent, no_children}
 use Rattle.bw_model.proofs.CallerLemmas.{capped, capped-IsMost, sum_below, sum_below-zero, sum_below-ap}
 
@@ -123,6 +124,11 @@ nothing_gathered groups valid seen nothing n en want most tight ew em et = recor
 
     at : (r : ℕ) → get_or want r 0 ≡ demand_of groups.rows r
     at r = ap (λ (xs : List ℕ). get_or xs r 0) ew ∙ demand_at groups.rows r
+
+-- the same rule, as the program says it
+pub cut-capped : (o : Option ℕ) (want : ℕ) → option_map_or (min want) o want ≡ capped o want
+cut-capped None want = refl
+cut-capped (Some limit) want = refl
 
 -- one group more, which has not been seen, nor has the group above it
 module _ (groups : Groups) (tree : AreTreeRows groups.rows) (seen next : ℕ → Bool) (g : ℕ) (below : g < length groups.rows)
@@ -268,6 +274,46 @@ module _ (groups : Groups) (tree : AreTreeRows groups.rows) (seen next : ℕ →
       some_none : (r : ℕ) → Some r ≡ None → ⊥
       some_none r f = cc
 
+  -- a row, whatever stands above it
+  gathered_row : (flag : Bool) → flag ≡ option_map_or (λ limit. ltb limit (get_or want g 0)) (limit_of groups g) false →
+      IsGathering groups next (added_above (parent_of groups.rows g) want given) (set most g given) (set tight g flag)
+  gathered_row flag is_flag =
+      (elim (parent_of groups.rows g) as (λ o. parent_of groups.rows g ≡ o →
+      IsGathering groups next (added_above o want given) (set most g given) (set tight g flag)) [
+        | Some p ↦ λ e. gathered_child p (get_or want p 0 + given) flag e refl is_flag
+        | None ↦ λ e. gathered_root flag e is_flag
+      ]) refl
+
+  -- what is added to its parent's want fits
+  row_fits : IfSome (parent_of groups.rows g) (λ p. get_or want p 0 + given < 2 ^ 64)
+  row_fits =
+      (elim (parent_of groups.rows g) as (λ o. parent_of groups.rows g ≡ o → IfSome o (λ p. get_or want p 0 + given < 2 ^ 64)) [
+        | Some p ↦ λ e. let fits = sum_fits p e in omega (arith, fits)
+        | None ↦ λ e. tt
+      ]) refl
+
+-- the same, by what the program does to one row
+module _ (groups : Groups) (tree : AreTreeRows groups.rows) (seen next : ℕ → Bool) (g : ℕ) (below : g < length groups.rows)
+    (fresh : seen g ≡ false) (marks : (c : ℕ) → c < length groups.rows → next c ≡ (seen c || eqb g c))
+    (above : (p : ℕ) → parent_of groups.rows g ≡ Some p → seen p ≡ false)
+    (want most : List ℕ) (tight : List Bool) (so_far : IsGathering groups seen want most tight) where
+  is_given : given_to groups want g ≡ capped (limit_of groups g) (get_or want g 0)
+  is_given = cut-capped (limit_of groups g) (get_or want g 0)
+
+  pub row_can : CanGather groups (record { want = want; most = most; tight = tight }) g
+  row_can = record {
+    within = below;
+    wants_each = so_far.wants_each;
+    mosts_each = so_far.mosts_each;
+    flags_each = so_far.flags_each;
+    fits = row_fits groups tree seen next g below fresh marks above want most tight so_far (given_to groups want g) is_given;
+  }
+
+  pub row_gathered : IsGathering groups next (added_above (parent_of groups.rows g) want (given_to groups want g)) (set most g (given_to groups want g))
+      (set tight g (is_cut groups want g))
+  row_gathered =
+      gathered_row groups tree seen next g below fresh marks above want most tight so_far (given_to groups want g) is_given (is_cut groups want g) refl
+
 -- once all are seen
 pub all_gathered : (groups : Groups) → IsInstance groups → (seen : ℕ → Bool) → ((c : ℕ) → c < length groups.rows → seen c ≡ true) →
     (want most : List ℕ) (tight : List Bool) → IsGathering groups seen want most tight →
@@ -288,8 +334,3 @@ all_gathered groups valid seen all want most tight done = record {
 
     rule : (g : ℕ) → g < length groups.rows → get_or most g 0 ≡ capped (limit_of groups g) (want_of groups most g)
     rule g below = done.cut g below (all g below) ∙ ap (capped (limit_of groups g)) (wants g below)
-
--- the same rule, as the program says it
-pub cut-capped : (o : Option ℕ) (want : ℕ) → option_map_or (min want) o want ≡ capped o want
-cut-capped None want = refl
-cut-capped (Some limit) want = refl

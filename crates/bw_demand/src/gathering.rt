@@ -3,6 +3,7 @@ ghost use Rattle.std.specs.Prelude.{◌≡◌, false, nat_lt, min, map, IfOk};
 ghost use Rattle.std.specs.Option.{option_map_or};
 ghost use Rattle.bw_demand.specs.Demands.{demands_of, IsGathered};
 ghost use Rattle.bw_demand.specs.Levels.{AreLevels};
+ghost use Rattle.bw_demand.specs.OneRow.{with_row, CanGather};
 
 use crate::demands::Gathered;
 use crate::depths::levels;
@@ -36,6 +37,21 @@ pub(crate) fn demands_of(alloc: Global, rows: &[Row]) -> Result<Vec<u64>, AllocE
     rows.iter().map(|row| row.demand).collect(alloc)
 }
 
+/// One row: what its limit leaves of its want is the most that it can be given, and is wanted of its parent.
+pub(crate) fn gather_row(instance: &Instance, g: u32, gathered: &mut Gathered)
+    requires { CanGather instance.now (demands_of gathered.old) g }
+    ensures { demands_of gathered.new ≡ with_row instance.now (demands_of gathered.old) g }
+{
+    let wanted = gathered.want[g as usize];
+    let limit = instance.limit(g);
+    let given = cut_at(limit, wanted);
+    gathered.most[g as usize] = given;
+    gathered.tight[g as usize] = is_below(limit, wanted);
+    if let Some(parent) = instance.parent(g) {
+        gathered.want[parent as usize] += given;
+    }
+}
+
 /// As [`gather`], for a caller that has the levels.
 pub fn gather_levels(
     alloc: Global,
@@ -46,29 +62,22 @@ pub fn gather_levels(
     ensures { IfOk result (λ gathered. IsGathered instance.now (demands_of gathered)) }
 {
     let rows = instance.rows();
-    let mut want = demands_of(alloc, rows)?;
-    let mut most = vec![in alloc; 0u64; rows.len()]?;
-    let mut tight = vec![in alloc; false; rows.len()]?;
+    let want = demands_of(alloc, rows)?;
+    let most = vec![in alloc; 0u64; rows.len()]?;
+    let tight = vec![in alloc; false; rows.len()]?;
+    let mut gathered = Gathered { want, most, tight };
     // the children of a row are one level deeper, so each want is whole when its row is met
     for depth in (0..levels.len()).rev() {
         let level = levels[depth].as_slice();
         for k in 0..level.len() {
-            let g = level[k] as usize;
-            let wanted = want[g];
-            let limit = instance.limit(g as u32);
-            let given = cut_at(limit, wanted);
-            most[g] = given;
-            tight[g] = is_below(limit, wanted);
-            if let Some(parent) = rows[g].parent {
-                want[parent as usize] += given;
-            }
+            gather_row(instance, level[k], &mut gathered);
         }
     }
-    Ok(Gathered { want, most, tight })
+    Ok(gathered)
 }
 
 /// What each group wants and can be given, and which are tight. Time grows as the number of rows.
-/// Refused for want of memory alone.
+/// Fails only when out of memory.
 pub fn gather(alloc: Global, instance: &Instance) -> Result<Gathered, AllocError>
     ensures { IfOk result (λ gathered. IsGathered instance.now (demands_of gathered)) }
 {

@@ -43,7 +43,7 @@ fn demand_if_outside(leaf: bool, covered: bool, demand: u64) -> u64
 }
 
 /// What limits an instance, given its own gathering: the limits of these groups and the rest add up
-/// to the greatest total. Time grows as the number of rows. Refused for want of memory alone.
+/// to the greatest total. Time grows as the number of rows. Fails only when out of memory.
 pub fn limiting(
     alloc: Global,
     instance: &Instance,

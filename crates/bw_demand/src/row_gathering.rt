@@ -3,7 +3,7 @@ ghost use Rattle.std.specs.Prelude.{IfOk};
 ghost use Rattle.bw_demand.specs.Demands.{demands_of, IsGathered};
 
 use crate::demands::Gathered;
-use crate::gathering::{cut_at, demands_of, is_below};
+use crate::gathering::{demands_of, gather_row};
 use bw_model::Instance;
 use std::alloc::{AllocError, Global};
 
@@ -13,18 +13,12 @@ pub fn gather_rows(alloc: Global, instance: &Instance) -> Result<Gathered, Alloc
     ensures { IfOk result (λ gathered. IsGathered instance.now (demands_of gathered)) }
 {
     let rows = instance.rows();
-    let mut want = demands_of(alloc, rows)?;
-    let mut most = vec![in alloc; 0u64; rows.len()]?;
-    let mut tight = vec![in alloc; false; rows.len()]?;
+    let want = demands_of(alloc, rows)?;
+    let most = vec![in alloc; 0u64; rows.len()]?;
+    let tight = vec![in alloc; false; rows.len()]?;
+    let mut gathered = Gathered { want, most, tight };
     for g in (0..rows.len()).rev() {
-        let wanted = want[g];
-        let limit = instance.limit(g as u32);
-        let given = cut_at(limit, wanted);
-        most[g] = given;
-        tight[g] = is_below(limit, wanted);
-        if let Some(parent) = rows[g].parent {
-            want[parent as usize] += given;
-        }
+        gather_row(instance, g as u32, &mut gathered);
     }
-    Ok(Gathered { want, most, tight })
+    Ok(gathered)
 }

@@ -76,7 +76,7 @@ refusal_number groups =
 unfoldable pub asked_number : Shape → Table → ℕ
 asked_number shape table = if are_even table then refusal_number (groups_in shape table) else 50
 
--- what a call may answer that refuses so: that number, or 71 for want of memory
+-- what a call may answer that refuses so: that number, or 71 when out of memory
 abbrev pub Answers : ℕ → ℕ → Type 0
 Answers refused number = (number ≡ refused) ⊎ (number ≡ 71)
 

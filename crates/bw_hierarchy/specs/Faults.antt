@@ -22,10 +22,10 @@ hierarchy_fault_name NoSuchFile = codes "NoSuchFile"
 hierarchy_fault_name ReadOnly = codes "ReadOnly"
 hierarchy_fault_name BurstAboveQuota = codes "BurstAboveQuota"
 
--- a call that grows something answers its refusal, or want of memory in place of any answer
+-- a call that grows something answers its refusal, or `OutOfMemory` in place of any answer
 abbrev pub IsRefusal : {A : Type 0} → Result A Fault → Fault → Type 0
 IsRefusal outcome fault = fault ≢ Tree OutOfMemory → outcome ≡ Err fault
 
--- want of memory is answered only where nothing else refuses the call
+-- `OutOfMemory` is answered only where nothing else refuses the call
 abbrev pub IsMemoryLast : {A : Type 0} → Result A Fault → Fault → Type 0
 IsMemoryLast outcome fault = fault ≡ Tree OutOfMemory → IfErr outcome (λ other. ⊥)

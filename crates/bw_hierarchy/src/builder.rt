@@ -59,7 +59,7 @@ impl<'a> CgroupBuilder<'a> {
     /// then the quota and the period where one is given.
     ///
     /// Where one of these single calls is refused, the first refusal is answered and nothing is changed. The tree is copied
-    /// before the first of them, so want of memory may stand in place of any other refusal.
+    /// before the first of them, so `OutOfMemory` may stand in place of any other refusal.
     pub fn build(self, hierarchy: &mut Hierarchy) -> Result<Cgroup, Fault>
         ensures made { IfOk result
             (λ g. built hierarchy.old.tree self.entry.path.now self.entry.shares self.entry.quota self.entry.period ≡ Ok (g.id, hierarchy.new.tree)) }

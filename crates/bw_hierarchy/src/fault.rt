@@ -7,7 +7,7 @@ use bw_tree::TreeFault;
 use std::alloc::AllocError;
 use thiserror::Error;
 
-/// Why a call is refused. A refused call changes nothing. Want of memory is the tree's `OutOfMemory`.
+/// Why a call is refused. A refused call changes nothing. Out of memory is the tree's `OutOfMemory`.
 #[derive(Clone, Copy, Debug, PartialEq, Eq, Error)]
 pub enum Fault {
     /// The tree refuses the call, or memory is wanting.

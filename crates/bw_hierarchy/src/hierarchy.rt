@@ -39,7 +39,7 @@ impl Model for Hierarchy {
 }
 
 impl Hierarchy {
-    /// A hierarchy of the root alone, with no counters. It fails for want of memory alone.
+    /// A hierarchy of the root alone, with no counters. It fails only when out of memory.
     pub fn new(alloc: Global, shape: HostShape) -> Result<Hierarchy, Fault>
         ensures made { IfOk result (λ h. h ≡ new_hierarchy shape) }
         ensures err { IfErr result (λ e. e ≡ Fault.Tree TreeFault.OutOfMemory) }
@@ -75,8 +75,8 @@ impl Hierarchy {
     }
 
     /// Counts one period for each group of the present snapshot: its instance, ids and quotas in slices, what the groups
-    /// wanted and what they drew (sched-bwc.rst, "Statistics"); and notes what each left of its limit. It fails for want of
-    /// memory alone, and nothing is then counted or noted.
+    /// wanted and what they drew (sched-bwc.rst, "Statistics"); and notes what each left of its limit. It fails only when
+    /// out of memory, and nothing is then counted or noted.
     pub fn book(
         &mut self,
         instance: &Instance,
@@ -108,8 +108,8 @@ impl Hierarchy {
         Cgroup { id: 0 }
     }
 
-    /// The rows of all groups in order of creation, their ids, and their quotas in whole slices. It fails for want of memory
-    /// alone.
+    /// The rows of all groups in order of creation, their ids, and their quotas in whole slices. It fails only when
+    /// out of memory.
     pub fn snapshot(&self) -> Result<Snapshot, Fault>
         ensures rows { IfOk result (λ s. s.0 ≡ instance_of self.now.tree self.now.shape) }
         ensures valid { IsInstance (instance_of self.now.tree self.now.shape) }
@@ -123,7 +123,7 @@ impl Hierarchy {
     }
 
     /// Makes a group, and answers its id. The path splits at its last `/`; where it has none, the parent is the root.
-    /// Want of memory is answered only where nothing else refuses the call.
+    /// `OutOfMemory` is answered only where nothing else refuses the call.
     pub fn mkdir(&mut self, path: &str) -> Result<GroupId, Fault>
         ensures made { IfOk result (λ id. mkdir_of self.old.tree path.now ≡ Ok (id, self.new.tree)) }
         ensures rest { self.new ≡ with_tree self.old self.new.tree }
@@ -168,7 +168,7 @@ impl Hierarchy {
     /// counters in `cpu.stat`, which are all 0 before the first period is counted. The root has `cpu.stat` alone, and in it its usage
     /// alone.
     ///
-    /// `NotFound` where there is no such group, else `NoSuchFile` where it has no such file, else want of memory.
+    /// `NotFound` where there is no such group, else `NoSuchFile` where it has no such file, else `OutOfMemory`.
     pub fn read_file(&self, path: &str, file: &str) -> Result<String, Fault>
         ensures found { IfOk result (λ t. read_of self.now path.now file.now ≡ Ok (string_bytes t)) }
         ensures refused { IfErr result (IsRefusal (read_of self.now path.now file.now)) }
@@ -236,7 +236,7 @@ impl Hierarchy {
         calls::set_cfs(&mut self.tree, id, quota, period)
     }
 
-    // All that a builder does, or nothing. The copy comes before each test, so want of memory may be answered first.
+    // All that a builder does, or nothing. The copy comes before each test, so `OutOfMemory` may be answered first.
     pub(crate) fn build(
         &mut self,
         path: &str,

@@ -263,7 +263,7 @@ pub fn plan_gathered(
 
 /// The one plan of an instance, as [`plan`](crate::plan) gives it, one level after another from the root down. The groups of a
 /// level with many children to split among are split in several threads, and where no level can have so many, this is
-/// [`plan`](crate::plan). Refused for want of memory alone.
+/// [`plan`](crate::plan). Fails only when out of memory.
 pub fn plan_levels(
     rt: &(impl Threads + Sync),
     alloc: Global,

@@ -129,8 +129,8 @@ impl Core {
         Ok(true)
     }
 
-    /// One event: true where it was possible and done, and false otherwise, also for an unknown seat, with nothing changed. Refused for
-    /// want of memory alone, and nothing is changed then.
+    /// One event: true where it was possible and done, and false otherwise, also for an unknown seat, with nothing changed. Fails only
+    /// when out of memory, and nothing is changed then.
     pub fn event(&mut self, event: CoreEvent<PoolCall>) -> Result<bool, AllocError>
         ensures possible { IfOk result (λ b. b ≡ is_possible self.old event) }
         ensures state { OnOk result (self.new ≡ happens after answer self.old event) }
@@ -144,7 +144,7 @@ impl Core {
         }
     }
 
-    /// A core of so many idle seats over the pool. Refused for want of memory alone: the pool is dropped then.
+    /// A core of so many idle seats over the pool. Fails only when out of memory: the pool is dropped then.
     pub fn new(alloc: Global, pool: SlicePool, seats: u32) -> Result<Core, AllocError>
         requires some { 1 ≤ seats }
         requires few { seats ≤ MAX_SEATS }
@@ -162,7 +162,7 @@ impl Core {
 
     /// A core that has played a whole schedule, one event after another. Whatever the events, it was one thread's work: at most one seat is
     /// inside or done, the history is legal and in ticket order, the pool is its replay, and each seat's own calls are those for which
-    /// it took a ticket; and no group is past the ceiling that it opened with. Refused for want of memory alone: the pool is dropped
+    /// it took a ticket; and no group is past the ceiling that it opened with. Fails only when out of memory: the pool is dropped
     /// then.
     pub fn play(
         alloc: Global,

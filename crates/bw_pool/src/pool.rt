@@ -126,7 +126,7 @@ fn leaf_flags(alloc: Global, instance: &Instance, rows: u32) -> Result<Vec<bool>
 
 impl SlicePool {
     /// A pool with nothing drawn or held, and the amounts, one for each row, as ceilings. It takes the room for all holdings, so no call
-    /// on it takes any. Refused for want of memory alone.
+    /// on it takes any. Fails only when out of memory.
     pub fn new(alloc: Global, instance: &Instance, amounts: &[u64]) -> Result<SlicePool, AllocError>
         requires { length amounts.now ≡ length instance.now.rows }
         ensures { IfOk result (λ pool. pool ≡ new_pool instance.now.shape.processors (slices_per_processor instance.now.shape) instance.now.rows amounts.now) }

@@ -51,7 +51,7 @@ impl Books {
     }
 
     /// Counts one period for each group of an instance: the ids of its rows, their quotas, what they wanted and what
-    /// they drew, all three in slices. `Err` is want of memory alone, and the books are then as before.
+    /// they drew, all three in slices. It fails only when out of memory, and the books are then as before.
     ///
     /// A group other than the root is throttled where its limit is below its want, and used its burst where it drew more
     /// than its quota (sched-bwc.rst, "Statistics").

@@ -136,7 +136,7 @@ fn calls_each(instance: &Instance, leaves: &[u32]) -> u32
 /// left. So what is drawn in the end is the plan at the leaves that are used, in every schedule: `cpu.max` hands slices to processors
 /// as they run (sched-bwc.rst), and the plan decides how many.
 ///
-/// Refused by `NotStarted` where a thread was refused, and for want of memory.
+/// Refused by `NotStarted` where a thread was refused, and when out of memory.
 pub fn serve<G: Gate, R: Threads + Wait + Sync>(
     rt: &R,
     alloc: Global,

@@ -32,7 +32,7 @@ impl Model for Paths {
 }
 
 impl Paths {
-    /// The paths of a tree, by the rows and the ids of its snapshot. It fails for want of memory alone.
+    /// The paths of a tree, by the rows and the ids of its snapshot. It fails only when out of memory.
     pub fn new(
         alloc: Global,
         tree: &Tree,

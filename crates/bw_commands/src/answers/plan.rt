@@ -10,7 +10,7 @@ use std::alloc::Global;
 use std::thread::Threads;
 
 /// Appends the answer to `plan`: for each group, in order of creation, what it gets in slices of one
-/// period, and its path. It fails for want of memory alone.
+/// period, and its path. It fails only when out of memory.
 pub fn put_plan<H: Threads + Sync>(
     rt: &H,
     alloc: Global,

@@ -9,7 +9,7 @@ use bw_stat::report_head;
 use std::alloc::Global;
 
 /// Appends the answer to `report`: the head line and, for each group in order of creation, its counters and its path.
-/// It fails for want of memory alone.
+/// It fails only when out of memory.
 pub fn put_report(alloc: Global, hierarchy: &Hierarchy, answer: &mut Vec<u8>) -> Result<(), Fault>
     ensures { Answers (IsReport hierarchy.now) answer.old answer.new result }
 {

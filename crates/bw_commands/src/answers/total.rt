@@ -18,7 +18,7 @@ use bw_tree::{GroupId, Tree, TreeFault};
 use std::alloc::Global;
 
 /// Appends the answer to `total`: the greatest total, a line for each limiting group in order of
-/// creation, and the demands outside them, in slices of one period. It fails for want of memory alone.
+/// creation, and the demands outside them, in slices of one period. It fails only when out of memory.
 pub fn put_total(alloc: Global, hierarchy: &Hierarchy, answer: &mut Vec<u8>) -> Result<(), Fault>
     ensures { Answers (IsTotal hierarchy.now) answer.old answer.new result }
 {
@@ -93,7 +93,7 @@ fn put_limit(
     Ok(())
 }
 
-// The path of the group of a row. It fails for want of memory alone.
+// The path of the group of a row. It fails only when out of memory.
 fn path_of(tree: &Tree, ids: &[GroupId], g: usize) -> Result<String, TreeFault>
     requires ids { ids.now ≡ keys_of tree.now.groups }
     requires within { g < length ids.now }
