@@ -1,8 +1,13 @@
--- What gathering one row changes: the most of the row, its flag, and the want of its parent.
-use Rattle.std.specs.Prelude.{◌≡◌, ℕ, ◌+◌, ◌^◌, ◌<◌, List, Option, Some, None, Bool, false, nat_lt, min, length, slice_index, slice_set, IfSome}
+-- What stands before the first row is gathered, and what gathering one row changes: its most, its flag, and the want of its parent.
+use Rattle.std.specs.Prelude.{◌≡◌, ℕ, ◌+◌, ◌^◌, ◌<◌, List, Option, Some, None, Bool, false, nat_lt, min, map, length, replicate, slice_index, slice_set, IfSome}
 use Rattle.std.specs.Option.{option_map_or}
+use Rattle.bw_model.specs.declared.row.Row.{Row}
 use Rattle.bw_model.specs.Groups.{Groups, parent_of, limit_of}
 use Rattle.bw_demand.specs.Demands.{Demands}
+
+-- each wants its own demand, and nothing is given
+abbrev pub ungathered : List Row → Demands
+ungathered rows = record { want = map (λ row. row.demand) rows; most = replicate (length rows) 0; tight = replicate (length rows) false }
 
 -- what its limit leaves of a row's want
 abbrev pub given_to : Groups → List ℕ → ℕ → ℕ

@@ -3,7 +3,7 @@ ghost use Rattle.std.specs.Prelude.{◌≡◌, false, nat_lt, min, map, IfOk};
 ghost use Rattle.std.specs.Option.{option_map_or};
 ghost use Rattle.bw_demand.specs.Demands.{demands_of, IsGathered};
 ghost use Rattle.bw_demand.specs.Levels.{AreLevels};
-ghost use Rattle.bw_demand.specs.OneRow.{with_row, CanGather};
+ghost use Rattle.bw_demand.specs.OneRow.{ungathered, with_row, CanGather};
 
 use crate::demands::Gathered;
 use crate::depths::levels;
@@ -30,11 +30,21 @@ pub(crate) fn is_below(limit: Option<u64>, want: u64) -> bool
     }
 }
 
-/// The demand of each row.
-pub(crate) fn demands_of(alloc: Global, rows: &[Row]) -> Result<Vec<u64>, AllocError>
+// The demand of each row.
+fn demands_of(alloc: Global, rows: &[Row]) -> Result<Vec<u64>, AllocError>
     ensures { IfOk result (λ demands. demands.items ≡ map (λ row. row.demand) rows.now) }
 {
     rows.iter().map(|row| row.demand).collect(alloc)
+}
+
+/// Before the first row: each wants its own demand, and nothing is given.
+pub(crate) fn ungathered(alloc: Global, rows: &[Row]) -> Result<Gathered, AllocError>
+    ensures { IfOk result (λ gathered. demands_of gathered ≡ ungathered rows.now) }
+{
+    let want = demands_of(alloc, rows)?;
+    let most = vec![in alloc; 0u64; rows.len()]?;
+    let tight = vec![in alloc; false; rows.len()]?;
+    Ok(Gathered { want, most, tight })
 }
 
 /// One row: what its limit leaves of its want is the most that it can be given, and is wanted of its parent.
@@ -62,10 +72,7 @@ pub fn gather_levels(
     ensures { IfOk result (λ gathered. IsGathered instance.now (demands_of gathered)) }
 {
     let rows = instance.rows();
-    let want = demands_of(alloc, rows)?;
-    let most = vec![in alloc; 0u64; rows.len()]?;
-    let tight = vec![in alloc; false; rows.len()]?;
-    let mut gathered = Gathered { want, most, tight };
+    let mut gathered = ungathered(alloc, rows)?;
     // the children of a row are one level deeper, so each want is whole when its row is met
     for depth in (0..levels.len()).rev() {
         let level = levels[depth].as_slice();

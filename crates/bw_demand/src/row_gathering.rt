@@ -3,7 +3,7 @@ ghost use Rattle.std.specs.Prelude.{IfOk};
 ghost use Rattle.bw_demand.specs.Demands.{demands_of, IsGathered};
 
 use crate::demands::Gathered;
-use crate::gathering::{demands_of, gather_row};
+use crate::gathering::{gather_row, ungathered};
 use bw_model::Instance;
 use std::alloc::{AllocError, Global};
 
@@ -13,10 +13,7 @@ pub fn gather_rows(alloc: Global, instance: &Instance) -> Result<Gathered, Alloc
     ensures { IfOk result (λ gathered. IsGathered instance.now (demands_of gathered)) }
 {
     let rows = instance.rows();
-    let want = demands_of(alloc, rows)?;
-    let most = vec![in alloc; 0u64; rows.len()]?;
-    let tight = vec![in alloc; false; rows.len()]?;
-    let mut gathered = Gathered { want, most, tight };
+    let mut gathered = ungathered(alloc, rows)?;
     for g in (0..rows.len()).rev() {
         gather_row(instance, g as u32, &mut gathered);
     }

@@ -14,8 +14,9 @@ loop-depth-init c =
     (seen_from c.args.instance.now.rows (length c.args.levels.now))
     (none_seen c.args.instance.now.rows c.args.levels.now (length c.args.levels.now) c.requires.levels refl)
     (length c.rows-rows.result.now) (rw c.rows-rows.ensures.rows)
-    c.in_ok-want.want.items c.in_ok-most.most.items c.in_ok-tight.tight.items
-    (c.in_ok-want.ensures ∙ rw c.rows-rows.ensures.rows) (search rules) (search rules)
+    c.in_ok-gathered.gathered.want.items c.in_ok-gathered.gathered.most.items c.in_ok-gathered.gathered.tight.items
+    (ap (λ (d : Demands). d.want) c.in_ok-gathered.ensures ∙ rw c.rows-rows.ensures.rows)
+    (ap (λ (d : Demands). d.most) c.in_ok-gathered.ensures) (ap (λ (d : Demands). d.tight) c.in_ok-gathered.ensures)
 
 pub loop-k-init : goal.loop-k-init
 loop-k-init c =

@@ -11,8 +11,9 @@ loop-g-init c =
     nothing_gathered c.args.instance.now c.rows-rows.ensures.valid (rows_from (length c.rows-rows.result.now))
     (λ r below. no_rows (length c.rows-rows.result.now) r (omega (arith, below, ap (length {A = Row}) c.rows-rows.ensures.rows)))
     (length c.rows-rows.result.now) (rw c.rows-rows.ensures.rows)
-    c.in_ok-want.want.items c.in_ok-most.most.items c.in_ok-tight.tight.items
-    (c.in_ok-want.ensures ∙ rw c.rows-rows.ensures.rows) (search rules) (search rules)
+    c.in_ok-gathered.gathered.want.items c.in_ok-gathered.gathered.most.items c.in_ok-gathered.gathered.tight.items
+    (ap (λ (d : Demands). d.want) c.in_ok-gathered.ensures ∙ rw c.rows-rows.ensures.rows)
+    (ap (λ (d : Demands). d.most) c.in_ok-gathered.ensures) (ap (λ (d : Demands). d.tight) c.in_ok-gathered.ensures)
 
 pub gather_row-requires : goal.gather_row-requires
 gather_row-requires c =
