@@ -1,5 +1,5 @@
 -- What stands at each turn of the loop in `put_blanks`.
-use Rattle.std.proofs.Common.{◌≡◌, ◌≤◌, ◌++◌, ℕ, replicate}
+use Rattle.std.proofs.Common.{◌≡◌, ◌≤◌, ◌++◌, replicate}
 use Rattle.std.specs.Vec.{vec_capacity}
 use Rattle.bw_stat.proofs.report.put_blanks.Given as goal
 
