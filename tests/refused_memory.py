@@ -16,7 +16,7 @@ from cases import (CERTIFIED, MEMORY, NO_MEMORY, NO_THREAD, Cases, in_place_of_a
 # What the program answers where memory is refused while the words of the command line are read: as before any first read.
 WORDS_REFUSED = MEMORY
 
-ENDED = "ended for want of memory"
+ENDED = "ended out of memory"
 
 # A sweep that refuses fewer allocations than this has fallen to nothing.
 LEAST_REFUSED = {"run": 100, "check": 30, "words": 20}

@@ -11,7 +11,7 @@ use std::alloc::{AllocError, Global};
 
 /// The one plan of an instance: of all allocations within demands, limits and the capacity, the one with the
 /// greatest total that is best at every group. Each group's children are looked at once, so the time grows as
-/// gathering and the splits do. Refused for want of memory alone.
+/// gathering and the splits do. It fails only when out of memory.
 pub fn plan(alloc: Global, instance: &Instance) -> Result<Plan, AllocError>
     ensures { IfOk result (λ plan. IsPlan instance.now plan.amounts.items) }
 {

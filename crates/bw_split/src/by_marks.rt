@@ -9,7 +9,7 @@ use std::cmp::Reverse;
 use std::collections::BinaryHeap;
 
 /// What [`split`](crate::split) answers, by the plain program: each slice goes to the child with the least next mark,
-/// and that child's next mark goes back while it is below its maximum. It is refused for want of memory alone.
+/// and that child's next mark goes back while it is below its maximum. It fails only when out of memory.
 pub fn split_by_marks(
     alloc: Global,
     amount: u64,

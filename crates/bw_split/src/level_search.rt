@@ -356,7 +356,7 @@ pub fn split_counted(
 
 /// Of all lists that sum up to the amount, with no part above its maximum, the one of least cost, and of those the
 /// lexicographically greatest. The cost is the sum of the parts squared, each over its weight. Amounts are in slices;
-/// [`can_split`](crate::can_split) is the test of what may be split. It is refused for want of memory alone.
+/// [`can_split`](crate::can_split) is the test of what may be split. It fails only when out of memory.
 ///
 /// cgroup-v2.rst, "Weights": what is shared out is shared by the ratio of the weights.
 pub fn split(

@@ -1,5 +1,5 @@
 -- The goals of `gather_rows` that are answered by hand.
-use Rattle.std.proofs.Common.{◌≡◌, ◌<◌, ◌+◌, ◌-◌, ℕ, length, sym, ap, ◌∙◌, subst, arith, rules}
+use Rattle.std.proofs.Common.{◌≡◌, ◌<◌, ◌+◌, ◌-◌, ℕ, length, sym, ap, ◌∙◌, subst, arith}
 use Rattle.bw_model.specs.declared.row.Row.{Row}
 use Rattle.bw_demand.specs.Demands.{Demands}
 use Rattle.bw_demand.proofs.Seen.{rows_from, no_rows, all_rows, next_row, fresh_row, parent_row_unseen}
