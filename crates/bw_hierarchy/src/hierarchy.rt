@@ -74,29 +74,29 @@ impl Hierarchy {
         &self.books
     }
 
-    /// Counts one period for each group of the present snapshot: its instance, ids and quotas in slices, what the groups
-    /// wanted and what they drew (sched-bwc.rst, "Statistics"); and notes what each left of its limit. It fails only when
+    /// Counts one period for each group of the present snapshot, by what the groups wanted and what they drew (sched-bwc.rst, "Statistics"); and notes what each left of its limit. It fails only when
     /// out of memory, and nothing is then counted or noted.
     pub fn book(
         &mut self,
-        instance: &Instance,
-        ids: &[GroupId],
-        base: &[Option<u64>],
+        snapshot: &Snapshot,
         gathered: &Gathered,
         drawn: &[u64],
     ) -> Result<(), Fault>
-        requires snapshot { instance.now ≡ instance_of self.old.tree self.old.shape }
-        requires ids { ids.now ≡ keys_of self.old.tree.groups }
-        requires base { length base.now ≡ length instance.now.rows }
-        requires wants { length gathered.now.want.items ≡ length instance.now.rows }
-        requires drawn { length drawn.now ≡ length instance.now.rows }
-        requires distinct { IsDistinct nat_eq ids.now }
-        requires within { IsDrawnWithin instance.now.rows drawn.now }
-        ensures booked { OnOk result (self.new ≡ booked_period self.old instance.now.rows base.now gathered.now.want.items drawn.now) }
+        requires rows { snapshot.now.instance ≡ instance_of self.old.tree self.old.shape }
+        requires ids { snapshot.now.ids.items ≡ keys_of self.old.tree.groups }
+        requires quotas { length snapshot.now.quotas.items ≡ length snapshot.now.instance.rows }
+        requires wants { length gathered.now.want.items ≡ length snapshot.now.instance.rows }
+        requires drawn { length drawn.now ≡ length snapshot.now.instance.rows }
+        requires distinct { IsDistinct nat_eq snapshot.now.ids.items }
+        requires within { IsDrawnWithin snapshot.now.instance.rows drawn.now }
+        ensures booked { OnOk result
+            (self.new ≡ booked_period self.old snapshot.now.instance.rows snapshot.now.quotas.items gathered.now.want.items drawn.now) }
         ensures err { IfErr result (λ e. e ≡ Fault.Tree TreeFault.OutOfMemory) }
         ensures kept { OnErr result (self.new ≡ self.old) }
     {
-        self.books.book(instance, ids, base, gathered, drawn)?;
+        let instance = &snapshot.instance;
+        self.books
+            .book(instance, &snapshot.ids, &snapshot.quotas, gathered, drawn)?;
         self.tree.carry_over(instance, drawn);
         Ok(())
     }
@@ -111,12 +111,12 @@ impl Hierarchy {
     /// The rows of all groups in order of creation, their ids, and their quotas in whole slices. It fails only when
     /// out of memory.
     pub fn snapshot(&self) -> Result<Snapshot, Fault>
-        ensures rows { IfOk result (λ s. s.0 ≡ instance_of self.now.tree self.now.shape) }
+        ensures rows { IfOk result (λ s. s.instance ≡ instance_of self.now.tree self.now.shape) }
         ensures valid { IsInstance (instance_of self.now.tree self.now.shape) }
-        ensures ids { IfOk result (λ s. s.1.items ≡ keys_of self.now.tree.groups) }
-        ensures base { IfOk result (λ s. s.2.items ≡ base_of self.now.tree.groups self.now.shape) }
-        ensures count { IfOk result (λ s. (length s.1.items ≡ length s.0.rows) × (length s.2.items ≡ length s.0.rows)) }
-        ensures distinct { IfOk result (λ s. IsDistinct nat_eq s.1.items) }
+        ensures ids { IfOk result (λ s. s.ids.items ≡ keys_of self.now.tree.groups) }
+        ensures quotas { IfOk result (λ s. s.quotas.items ≡ base_of self.now.tree.groups self.now.shape) }
+        ensures count { IfOk result (λ s. (length s.ids.items ≡ length s.instance.rows) × (length s.quotas.items ≡ length s.instance.rows)) }
+        ensures distinct { IfOk result (λ s. IsDistinct nat_eq s.ids.items) }
         ensures err { IfErr result (λ e. e ≡ Fault.Tree TreeFault.OutOfMemory) }
     {
         Ok(self.tree.snapshot(self.shape)?)

@@ -104,13 +104,14 @@ fn slices_within_limits(rt: HostRuntime) -> Result<(), Fail> {
     let mut tree = small_tree(&rt)?;
     assert!(rt; tree.set_limit(1, Quota::Micros(50_000)) == Ok(()));
     let shape = HostShape::new(1, 100_000, 5_000)?;
-    let (instance, _ids, base) = match tree.snapshot(shape) {
+    let snapshot = match tree.snapshot(shape) {
         Err(_) => tree.snapshot(shape)?,
         Ok(snapshot) => snapshot,
     };
-    assert_eq!(rt; base.as_slice(), [None, Some(10), None].as_slice());
-    assert!(rt; instance.rows().len() == 3);
-    assert!(rt; is_drawn_within(instance.rows(), &[99, 10, 99]));
-    assert!(rt; !is_drawn_within(instance.rows(), &[0, 11, 0]));
+    assert_eq!(rt; snapshot.quotas.as_slice(), [None, Some(10), None].as_slice());
+    let rows = snapshot.instance.rows();
+    assert!(rt; rows.len() == 3);
+    assert!(rt; is_drawn_within(rows, &[99, 10, 99]));
+    assert!(rt; !is_drawn_within(rows, &[0, 11, 0]));
     Ok(())
 }

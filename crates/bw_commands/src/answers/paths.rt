@@ -9,7 +9,7 @@ ghost use Rattle.bw_commands.specs.PathList.{cut, cuts, AreWithin, path_below};
 
 use crate::span::Span;
 use bw_model::Instance;
-use bw_tree::{GroupId, Tree};
+use bw_tree::{GroupId, Snapshot, Tree};
 use std::alloc::{AllocError, Global};
 use std::marker::Model;
 
@@ -32,19 +32,16 @@ impl Model for Paths {
 }
 
 impl Paths {
-    /// The paths of a tree, by the rows and the ids of its snapshot. It fails only when out of memory.
-    pub fn new(
-        alloc: Global,
-        tree: &Tree,
-        instance: &Instance,
-        ids: &[GroupId],
-    ) -> Result<Paths, AllocError>
-        requires rows { instance.now ≡ instance_of tree.now instance.now.shape }
-        requires ids { ids.now ≡ keys_of tree.now.groups }
-        requires each { length ids.now ≡ length instance.now.rows }
-        ensures count { IfOk result (λ paths. length paths ≡ length ids.now) }
-        ensures named { IfOk result (λ paths. ArePathsOf tree.now (range_with_len 0 (length ids.now)) paths) }
+    /// The paths of a tree, by its snapshot. It fails only when out of memory.
+    pub fn new(alloc: Global, tree: &Tree, snapshot: &Snapshot) -> Result<Paths, AllocError>
+        requires rows { snapshot.now.instance ≡ instance_of tree.now snapshot.now.instance.shape }
+        requires ids { snapshot.now.ids.items ≡ keys_of tree.now.groups }
+        requires each { length snapshot.now.ids.items ≡ length snapshot.now.instance.rows }
+        ensures count { IfOk result (λ paths. length paths ≡ length snapshot.now.ids.items) }
+        ensures named { IfOk result (λ paths. ArePathsOf tree.now (range_with_len 0 (length snapshot.now.ids.items)) paths) }
     {
+        let instance = &snapshot.instance;
+        let ids = snapshot.ids.as_slice();
         let mut text = Vec::new(alloc);
         let mut spans = Vec::new(alloc);
         for g in 0..instance.group_count() {

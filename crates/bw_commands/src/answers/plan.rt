@@ -19,9 +19,9 @@ pub fn put_plan<H: Threads + Sync>(
 ) -> Result<(), Fault>
     ensures { Answers (IsPlanText hierarchy.now) answer.old answer.new result }
 {
-    let (instance, ids, _base) = hierarchy.snapshot()?;
-    let plan = plan_levels(rt, alloc, &instance)?;
-    let paths = Paths::new(alloc, hierarchy.tree(), &instance, ids.as_slice())?;
+    let snapshot = hierarchy.snapshot()?;
+    let plan = plan_levels(rt, alloc, &snapshot.instance)?;
+    let paths = Paths::new(alloc, hierarchy.tree(), &snapshot)?;
     put_lines(Line::Amount(plan.amounts.as_slice()), &paths, answer)?;
     Ok(())
 }

@@ -13,10 +13,10 @@ use std::alloc::Global;
 pub fn put_report(alloc: Global, hierarchy: &Hierarchy, answer: &mut Vec<u8>) -> Result<(), Fault>
     ensures { Answers (IsReport hierarchy.now) answer.old answer.new result }
 {
-    let (instance, ids, _base) = hierarchy.snapshot()?;
-    let ids = ids.as_slice();
-    let paths = Paths::new(alloc, hierarchy.tree(), &instance, ids)?;
+    let snapshot = hierarchy.snapshot()?;
+    let paths = Paths::new(alloc, hierarchy.tree(), &snapshot)?;
     answer.extend_from_slice(report_head().as_bytes())?;
-    put_lines(Line::Counters(hierarchy.books(), ids), &paths, answer)?;
+    let line = Line::Counters(hierarchy.books(), snapshot.ids.as_slice());
+    put_lines(line, &paths, answer)?;
     Ok(())
 }

@@ -14,7 +14,7 @@ use crate::put::{put_last_word, put_number, put_number_line};
 use bw_demand::{Gathered, gather_rows, limiting};
 use bw_hierarchy::{Fault, Hierarchy};
 use bw_model::Instance;
-use bw_tree::{GroupId, Tree, TreeFault};
+use bw_tree::{GroupId, Snapshot, Tree, TreeFault};
 use std::alloc::Global;
 
 /// Appends the answer to `total`: the greatest total, a line for each limiting group in order of
@@ -22,15 +22,14 @@ use std::alloc::Global;
 pub fn put_total(alloc: Global, hierarchy: &Hierarchy, answer: &mut Vec<u8>) -> Result<(), Fault>
     ensures { Answers (IsTotal hierarchy.now) answer.old answer.new result }
 {
-    let (instance, ids, _base) = hierarchy.snapshot()?;
-    let gathered = gather_rows(alloc, &instance)?;
-    let limits = limiting(alloc, &instance, &gathered)?;
-    let total = total_of(&instance, &gathered);
+    let snapshot = hierarchy.snapshot()?;
+    let gathered = gather_rows(alloc, &snapshot.instance)?;
+    let limits = limiting(alloc, &snapshot.instance, &gathered)?;
+    let total = total_of(&snapshot.instance, &gathered);
     put_number_line(b"total ", total, answer)?;
     put_limits(
         hierarchy.tree(),
-        &instance,
-        ids.as_slice(),
+        &snapshot,
         limits.groups.as_slice(),
         answer,
     )?;
@@ -51,21 +50,20 @@ fn total_of(instance: &Instance, gathered: &Gathered) -> u64
 // Appends a line for each of these rows.
 fn put_limits(
     tree: &Tree,
-    instance: &Instance,
-    ids: &[GroupId],
+    snapshot: &Snapshot,
     groups: &[u32],
     answer: &mut Vec<u8>,
 ) -> Result<(), Fault>
-    requires ids { ids.now ≡ keys_of tree.now.groups }
-    requires each { length ids.now ≡ length instance.now.rows }
-    requires within { (k : ℕ) → k < length groups.now → slice_index groups.now k < length instance.now.rows }
+    requires ids { snapshot.now.ids.items ≡ keys_of tree.now.groups }
+    requires each { length snapshot.now.ids.items ≡ length snapshot.now.instance.rows }
+    requires within { (k : ℕ) → k < length groups.now → slice_index groups.now k < length snapshot.now.instance.rows }
     ensures ok { OnOk result ((paths : List (List ℕ)) × ArePathsOf tree.now groups.now paths
-        × (answer.new.items ≡ answer.old.items ++ limit_lines instance.now groups.now paths)) }
+        × (answer.new.items ≡ answer.old.items ++ limit_lines snapshot.now.instance groups.now paths)) }
     ensures err { IfErr result (λ fault. fault ≡ Fault.Tree TreeFault.OutOfMemory) }
     ensures room { vec_capacity answer.old ≤ vec_capacity answer.new }
 {
     for g in groups {
-        put_limit(tree, instance, ids, *g, answer)?;
+        put_limit(tree, snapshot, *g, answer)?;
     }
     Ok(())
 }
@@ -73,21 +71,20 @@ fn put_limits(
 // Appends the line of one row.
 fn put_limit(
     tree: &Tree,
-    instance: &Instance,
-    ids: &[GroupId],
+    snapshot: &Snapshot,
     g: u32,
     answer: &mut Vec<u8>,
 ) -> Result<(), Fault>
-    requires ids { ids.now ≡ keys_of tree.now.groups }
-    requires each { length ids.now ≡ length instance.now.rows }
-    requires within { g < length instance.now.rows }
+    requires ids { snapshot.now.ids.items ≡ keys_of tree.now.groups }
+    requires each { length snapshot.now.ids.items ≡ length snapshot.now.instance.rows }
+    requires within { g < length snapshot.now.instance.rows }
     ensures ok { OnOk result ((path : List ℕ) × IsPathOf tree.now g path
-        × (answer.new.items ≡ answer.old.items ++ limit_line instance.now g path)) }
+        × (answer.new.items ≡ answer.old.items ++ limit_line snapshot.now.instance g path)) }
     ensures err { IfErr result (λ fault. fault ≡ Fault.Tree TreeFault.OutOfMemory) }
     ensures room { vec_capacity answer.old ≤ vec_capacity answer.new }
 {
-    let path = path_of(tree, ids, g as usize)?;
-    let limit = instance.limit(g).unwrap_or(0);
+    let path = path_of(tree, snapshot.ids.as_slice(), g as usize)?;
+    let limit = snapshot.instance.limit(g).unwrap_or(0);
     put_number(b"limit ", limit, answer)?;
     put_last_word(path.as_bytes(), answer)?;
     Ok(())

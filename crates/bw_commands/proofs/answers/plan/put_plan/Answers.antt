@@ -6,8 +6,8 @@ use Rattle.bw_commands.proofs.answers.plan.put_plan.Goals as goal
 
 pub put_lines-requires : goal.put_lines-requires
 put_lines-requires g c =
-    let rows = c.in_ok-instance.instance.rows in
+    let rows = c.in_ok-snapshot.snapshot.instance.rows in
     let plan = c.in_ok-plan.ensures in
-    let amounts : length c.as_slice-2.result.now ≡ length rows =
-    ap length c.as_slice-2.ensures.value ∙ ap length plan.amounts_are ∙ length-map-range_with_len (total rows plan.allocation) 0 (length rows) in
-    λ k lt. omega (arith, lt, amounts, c.in_ok-paths.ensures.count, ap length c.as_slice.ensures.value, c.in_ok-instance.ensures.count)
+    let amounts : length c.as_slice.result.now ≡ length rows =
+    ap length c.as_slice.ensures.value ∙ ap length plan.amounts_are ∙ length-map-range_with_len (total rows plan.allocation) 0 (length rows) in
+    λ k lt. omega (arith, lt, amounts, c.in_ok-paths.ensures.count, c.in_ok-snapshot.ensures.count)

@@ -15,7 +15,8 @@ use Rattle.bw_commands.proofs.answers.paths.Paths.new.Goals as goal
 pub loop-g-preserved : goal.loop-g-preserved
 loop-g-preserved c =
     let t = c.args.tree.now in
-    let shape = c.args.instance.now.shape in
+    let shape = c.args.snapshot.now.instance.shape in
+    let known : c.as_slice-ids.result.now ≡ keys_of t.groups = c.as_slice-ids.ensures.value ∙ c.requires.ids in
     let g = c.loop-g.g in
     let i = c.loop-g.invariant in
     let text = c.loop-g.text.items in
@@ -41,12 +42,12 @@ loop-g-preserved c =
       ap length c.requires.ids,
       length-map t.groups (λ (e : ℕ × GroupFields). e.0),
     ) in
-    let at : group_at t.groups (get_or (keys_of t.groups) g 0) ≡ Some group.0 = ap (λ ids. group_at t.groups (get_or ids g 0)) (sym c.requires.ids) ∙ group.1 in
+    let at : group_at t.groups (get_or (keys_of t.groups) g 0) ≡ Some group.0 = ap (λ ids. group_at t.groups (get_or ids g 0)) (sym known) ∙ group.1 in
     let up : parent_of (rows_of t.groups shape) g ≡ c.parent.result =
     ap (λ (x : Groups). parent_of x.rows g) (sym c.requires.rows) ∙ sym c.parent.ensures.value in
     let count : length paths ≡ g = length-map spans (cut text) ∙ i.count in
     let before : (k : ℕ) → k < g → path_at t.groups (get_or (keys_of t.groups) k 0) ≡ Some (get_or paths k []) =
-    λ k low. ap (λ ids. path_at t.groups (get_or ids k 0)) (sym c.requires.ids) ∙ i.named k low in
+    λ k low. ap (λ ids. path_at t.groups (get_or ids k 0)) (sym known) ∙ i.named k low in
     let here : path_at t.groups (get_or (keys_of t.groups) g 0) ≡ Some path =
     step_path t c.name_of-name.ensures.valid shape paths g group.0 lt at c.parent.result up c.parent.ensures.before before
     ∙ ap (λ name. Some (path_below paths c.parent.result name)) (sym group.2) in
@@ -61,15 +62,15 @@ loop-g-preserved c =
       within = subst (AreWithin (length c.put_path.new.text.items)) (sym longer)
           (within_push (length text) (length c.put_path.new.text.items) spans span i.within (omega (arith, ap length wider, long))
           (omega (arith, from, to, long)) (omega (arith, to, ap length wider)));
-      named = λ k low. ap (λ ids. path_at t.groups (get_or ids k 0)) c.requires.ids ∙ named k low;
+      named = λ k low. ap (λ ids. path_at t.groups (get_or ids k 0)) known ∙ named k low;
       found = λ k low. path_leads t c.name_of-name.ensures.valid (get_or (cuts c.put_path.new.text.items c.push.new.self.items) k [])
           (get_or (keys_of t.groups) k 0) (named k low);
     }
 
 pub returns-clause-named : goal.returns-clause-named
 returns-clause-named c =
-    let count : c.loop-g.g ≡ length c.args.ids.now =
+    let count : c.loop-g.g ≡ length c.args.snapshot.now.ids.items =
     omega (arith, c.loop-g-test.false, c.loop-g.auto.g-end, c.group_count-g-end.ensures.count, c.requires.each) in
-    paths_of_rows c.args.tree.now (cuts c.loop-g.text.items c.loop-g.spans.items) (length c.args.ids.now)
+    paths_of_rows c.args.tree.now (cuts c.loop-g.text.items c.loop-g.spans.items) (length c.args.snapshot.now.ids.items)
     (length-map c.loop-g.spans.items (cut c.loop-g.text.items) ∙ c.loop-g.invariant.count ∙ count)
     (λ k low. c.loop-g.invariant.found k (omega (arith, low, count)))
