@@ -71,14 +71,14 @@ uint32_t arbiter_check(uint64_t processors, uint64_t period_us, uint64_t slice_u
 /* The same for a certified text (docs/CERTIFIED.md); `row` is written for 51 to 58. */
 uint32_t arbiter_check_text(const uint8_t *text, size_t text_length, uint32_t *row);
 
-/* Writes the rows of the groups whose limits hold the total down to the front of `groups`, how many they are to `count`, and
+/* Writes the rows of the groups whose limits hold the total down to the beginning of `groups`, how many they are to `count`, and
  * what is wanted outside them to `rest`: their limits and the rest add up to the greatest total. */
 uint32_t arbiter_limiting(uint64_t processors, uint64_t period_us, uint64_t slice_us,
                           const uint32_t *parents, size_t parents_length, const uint64_t *weights, size_t weights_length,
                           const uint64_t *limits, size_t limits_length, const uint64_t *demands, size_t demands_length,
                           uint32_t *groups, size_t groups_length, uint32_t *count, uint64_t *rest);
 
-/* How many characters the name of a fault's number has, 0 where the number is no fault's. The name is written to the front of
+/* How many characters the name of a fault's number has, 0 where the number is no fault's. The name is written to the beginning of
  * `name` with a 0 behind it where there is room for both; else, and where the answer is 0, `name` is as it was. */
 uint32_t arbiter_name(uint32_t number, char *name, size_t name_length);
 

@@ -4,7 +4,7 @@ ghost use Rattle.arbiter.specs.Status.{status_of_fault};
 
 use crate::words::WordsFault;
 
-/// The exit number where the words name no job: help was asked for, they are refused, or memory is wanting.
+/// The exit number where the words name no job: help was asked for, they are refused, or it is out of memory.
 pub fn status_of_words(fault: &WordsFault) -> u8
     ensures { result ≡ status_of_fault fault.now }
 {

@@ -25,7 +25,7 @@ pub enum Job {
     Check,
 }
 
-/// Why there is no job: help was asked for, the words are wrong, or memory is wanting.
+/// Why there is no job: help was asked for, the words are wrong, or it is out of memory.
 #[derive(Debug, Drop)]
 pub enum WordsFault {
     /// Help or the version was asked for: its text.
@@ -51,7 +51,7 @@ Example:
 const COMMANDS: &str = "\
 Commands of a script, one a line (P is a path: . for the root, else names joined by /):
   mkdir P             a new group
-  rmdir P             takes out a group without children and without a demand
+  rmdir P             removes a group without children and without a demand
   demand P N          a group without children asks for N slices in each period
   write P FILE TEXT   FILE is cpu.weight, cpu.max or cpu.max.burst
   read P FILE         or cpu.stat
@@ -178,7 +178,7 @@ fn job_found(matches: &ArgMatches<'_>) -> Job
 
 /// Reads the words after the program's name.
 pub fn read_words(alloc: Global, words: &[String]) -> Result<Job, WordsFault>
-    // Words that name a job give that job, unless memory is wanting.
+    // Words that name a job give that job, unless it is out of memory.
     ensures named { (job : Job) → job_named (map string_bytes words.now) ≡ Some job → MatchResult result (λ k. k ≡ job) (λ f. f ≡ WordsFault.Memory) }
     // So do plain words: `check` alone, or `run` with each option at most once, as `--name N`.
     ensures plain { (job : Job) → plain_job (map string_bytes words.now) ≡ Some job → MatchResult result (λ k. k ≡ job) (λ f. f ≡ WordsFault.Memory) }

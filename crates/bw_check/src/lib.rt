@@ -24,8 +24,8 @@ pub use verdict::Verdict;
 /// Whether the certificate shows that the amounts, in slices, are the plan; else the first fault by its
 /// number, then by its row.
 ///
-/// Amounts, limits and levels may be any numbers. The cost is linear in the rows, and `Err` is want of
-/// memory alone.
+/// Amounts, limits and levels may be any numbers. The cost is linear in the rows. It fails only when
+/// out of memory.
 pub fn check(
     alloc: Global,
     instance: &Instance,

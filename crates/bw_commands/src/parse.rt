@@ -14,7 +14,7 @@ pub enum Command<'a> {
     Mkdir {
         path: &'a str,
     },
-    /// `rmdir P` takes a group out.
+    /// `rmdir P` removes a group.
     Rmdir {
         path: &'a str,
     },

@@ -35,11 +35,11 @@ booked_period h rows base wants drawn =
 abbrev pub new_hierarchy : Shape → HierarchyState
 new_hierarchy shape = record { shape = shape; tree = root_alone FIRST_ID; books = [] }
 
--- one group taken out with its counters, by its id
+-- one group removed with its counters, by its id
 abbrev pub delete_of : HierarchyState → ℕ → Result HierarchyState Fault
 delete_of h id = unless (rmdir_refusal h.tree id) (with_books (with_tree h (without_group h.tree id)) (forgotten h.books id))
 
--- one group taken out with its counters, by its path
+-- one group removed with its counters, by its path
 abbrev pub rmdir_of : HierarchyState → List ℕ → Result HierarchyState Fault
 rmdir_of h path = and_then (found_at h.tree path) (delete_of h)
 

@@ -10,7 +10,7 @@ use thiserror::Error;
 /// Why a call is refused. A refused call changes nothing. Out of memory is the tree's `OutOfMemory`.
 #[derive(Clone, Copy, Debug, PartialEq, Eq, Error)]
 pub enum Fault {
-    /// The tree refuses the call, or memory is wanting.
+    /// The tree refuses the call, or it is out of memory.
     #[error("{0}")]
     Tree(TreeFault),
     /// The text or the number is none of the file.

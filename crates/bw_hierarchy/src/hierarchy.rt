@@ -67,7 +67,7 @@ impl Hierarchy {
         &self.tree
     }
 
-    /// The counters of the groups that were booked and not taken out since (cgroup-v2.rst, "CPU Interface Files").
+    /// The counters of the groups that were booked and not removed since (cgroup-v2.rst, "CPU Interface Files").
     pub fn books(&self) -> &Books
         ensures { result.now ≡ self.now.books }
     {

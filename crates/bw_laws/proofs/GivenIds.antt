@@ -22,7 +22,7 @@ use Rattle.bw_laws.specs.Counted.{AreOfGivenIds, NewGroupsCountNothing}
 none_some : (x : Stat) → Some x ≡ None → ⊥
 none_some x w = cc
 
--- what is not there is not there once something is taken out
+-- what is not there is not there once something is removed
 removed : (es : List (ℕ × Stat)) (k q : ℕ) → stat_at es q ≡ None → stat_at (remove_entry (eqb k) es) q ≡ None
 removed [] k q h = refl
 removed (e ∷ es) k q h = by (λ rest. removed es k q rest) (eqb_tells k e.0) (eqb_tells q e.0)

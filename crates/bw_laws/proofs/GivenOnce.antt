@@ -26,7 +26,7 @@ rises t (Made path id after ∷ rest) steps =
     (omega (arith, own), subst (λ n. AreRisingFrom n (ids_made rest)) next (rises after rest steps.1))
 rises t (Changed after ∷ rest) steps = from_lower t.next after.next (ids_made rest) steps.0 (rises after rest steps.1)
 
--- the group is taken out, and the next id stays
+-- the group is removed, and the next id stays
 taken_out : (h new : HierarchyState) (id : ℕ) (r : Option TreeFault)
     → unless r (with_books (with_tree h (without_group h.tree id)) (forgotten h.books id)) ≡ Ok new → h.tree.next ≤ new.tree.next
 taken_out h new id (Some fault) e = cc

@@ -12,4 +12,4 @@ pub use amounts::Plan;
 pub use downward::plan;
 pub use laws::there_is_one_plan;
 pub use level_plan::{plan_gathered, plan_levels};
-pub use siblings::{child_values, child_weights};
+pub use siblings::{ChildValues, child_values, child_weights};

@@ -130,7 +130,8 @@ fn share_among(
     Ok(())
 }
 
-/// Splits what a group has among its children, in place. It takes memory where it has something and more than one child.
+/// Splits what a group has among its children, in place. It takes memory only where it has something and several
+/// children, which can be given more than that or are more than eight.
 #[inline(always)]
 pub fn share_out(
     alloc: Global,

@@ -37,5 +37,5 @@ pub record Runs {R W T : Type 0} (remaining : R → Option (List ℕ)) (contents
       (remaining (inner_of reader_old)) (remaining (inner_of reader_new)) (contents (inner_of writer_old)) (contents (inner_of writer_new))
       × IsAtEnd (remaining (inner_of reader_new)))
   pub write_when : IsErrOf result Write → (has_failed writer_new || has_stalled writer_new) ≡ true
-  -- memory is wanted before the first read alone
+  -- it runs out of memory before the first read alone
   pub memory : IsErrOf result Memory → (reader_new ≡ reader_old) × (writer_new ≡ writer_old)

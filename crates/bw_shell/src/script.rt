@@ -30,7 +30,7 @@ pub enum RunFault {
     /// A read failed, `READ_CALLS` reads did not reach the end, or a certified text has more than 4 MiB.
     #[error("read fault")]
     Read,
-    /// A write or a flush failed, or a write took no bytes. What was written is a front of the answers.
+    /// A write or a flush failed, or a write took no bytes. What was written is a prefix of the answers.
     #[error("write fault")]
     Write,
     /// Memory was refused, before the first read of a script, or before anything was written of a certified text.

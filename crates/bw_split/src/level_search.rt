@@ -112,7 +112,7 @@ struct Upper {
 }
 
 /// A level that the amount does not pass: of the children filled up to one and a half times their shares; where they do not
-/// make up the amount, because some have reached their maxima, the others once more with what is wanting; else the greatest
+/// make up the amount, because some have reached their maxima, the others once more with what is missing; else the greatest
 /// level.
 fn upper_level(amount: u64, weights: &[u64], most: &[u64]) -> Upper
     requires can { CanSplit amount weights.now most.now }

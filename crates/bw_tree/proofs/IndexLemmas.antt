@@ -124,7 +124,7 @@ index_set f gs id index parent name is = by (group_at gs id) refl
     }
 
 module _ (id : ℕ) (g : GroupFields) where
-  -- a group that is taken out is missed at its own parent and name alone
+  -- a group that is removed is missed at its own parent and name alone
   pub child_unnamed : (gs : List (ℕ × GroupFields)) (p : ℕ) (n : List ℕ) → group_at gs id ≡ Some g → is_child_named g p n ≡ false
       → child_of (remove_entry (eqb id) gs) p n ≡ child_of gs p n
   child_unnamed [] p n at other = refl

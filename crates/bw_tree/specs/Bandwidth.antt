@@ -36,7 +36,7 @@ pub record CanBook (shape : Shape) (t : TreeState) (drawn : List ℕ) : Type 0 w
   pub count : length drawn ≡ length t.groups
   pub within : IsDrawnWithin (rows_of t.groups shape) drawn
 
--- a period books what it may, and this group is not taken out
+-- a period books what it may, and this group is not removed
 abbrev pub KeepsGroup : Shape → ℕ → TreeState → Call → Type 0
 KeepsGroup shape id t (Book drawn) = CanBook shape t drawn
 KeepsGroup shape id t (Rmdir gone) = gone ≢ id

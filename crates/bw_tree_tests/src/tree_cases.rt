@@ -108,7 +108,10 @@ fn slices_within_limits(rt: HostRuntime) -> Result<(), Fail> {
         Err(_) => tree.snapshot(shape)?,
         Ok(snapshot) => snapshot,
     };
-    assert_eq!(rt; snapshot.quotas.as_slice(), [None, Some(10), None].as_slice());
+    assert_eq!(rt;
+        snapshot.quotas.as_slice(),
+        [None, Some(10), None].as_slice()
+    );
     let rows = snapshot.instance.rows();
     assert!(rt; rows.len() == 3);
     assert!(rt; is_drawn_within(rows, &[99, 10, 99]));

@@ -69,12 +69,7 @@ fn put_limits(
 }
 
 // Appends the line of one row.
-fn put_limit(
-    tree: &Tree,
-    snapshot: &Snapshot,
-    g: u32,
-    answer: &mut Vec<u8>,
-) -> Result<(), Fault>
+fn put_limit(tree: &Tree, snapshot: &Snapshot, g: u32, answer: &mut Vec<u8>) -> Result<(), Fault>
     requires ids { snapshot.now.ids.items ≡ keys_of tree.now.groups }
     requires each { length snapshot.now.ids.items ≡ length snapshot.now.instance.rows }
     requires within { g < length snapshot.now.instance.rows }
