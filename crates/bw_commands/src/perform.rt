@@ -1,5 +1,7 @@
 //! The commands of a script, on a host and its tree of groups.
-ghost use Rattle.std.specs.Prelude.{◌≡◌, ◌≤◌, [], IfOk};
+ghost use Rattle.std.specs.Prelude.{◌≡◌, ◌≤◌, [], IfOk, IfErr};
+ghost use Rattle.bw_tree.specs.declared.fault.TreeFault.TheVariants.{OutOfMemory};
+ghost use Rattle.bw_hierarchy.specs.declared.fault.Fault.TheVariants.{Tree};
 ghost use Rattle.std.specs.Vec.{vec_capacity};
 ghost use Rattle.bw_text.specs.Number.{number_spelled};
 ghost use Rattle.bw_commands.specs.Script.{outcome_of_command, outcome_of_text, mkdir_outcome, rmdir_outcome, demand_outcome, read_outcome, write_outcome};
@@ -29,9 +31,10 @@ pub struct Commands<'a, G> {
 }
 
 impl<'a, G: Gate> Commands<'a, G> {
-    /// The root alone.
+    /// The root alone. It fails only when out of memory.
     pub fn new(alloc: Global, shape: HostShape, gate: &'a G) -> Result<Commands<'a, G>, Fault>
-        ensures { IfOk result (λ c. state_of G.used c ≡ start shape (G.used gate.now)) }
+        ensures made { IfOk result (λ c. state_of G.used c ≡ start shape (G.used gate.now)) }
+        ensures err { IfErr result (λ fault. fault ≡ Tree OutOfMemory) }
     {
         let hierarchy = Hierarchy::new(alloc, shape)?;
         Ok(Commands { hierarchy, gate })
