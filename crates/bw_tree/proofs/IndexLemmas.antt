@@ -8,7 +8,8 @@ use Rattle.std.specs.Cmp.Lexicographic.{bytes_decides}
 use Rattle.std.specs.HashMap.{get}
 use Rattle.bw_tree.specs.declared.child_index.ChildIndex.{ChildIndex}
 use Rattle.bw_tree.specs.declared.siblings.Siblings.{Siblings}
-use Rattle.bw_tree.specs.Children.{named, child_at, is_listed, AnswersAs, AreNamed, IsIndexOf}
+use Rattle.bw_tree.specs.Fingerprints.{among}
+use Rattle.bw_tree.specs.Children.{child_named, child_at, is_listed, AnswersAs, AreNamed, IsIndexOf}
 use Rattle.bw_tree.specs.Groups.{GroupFields, TreeState, group_at, has_children, is_parent, is_child_named, child_of, IsTree, AllAfter, AreRising}
 use Rattle.bw_tree.specs.Tree.{changed, changed_at, new_group}
 use Rattle.bw_tree.proofs.GroupLemmas.{children_push, child_push, child_push_old}
@@ -148,7 +149,7 @@ module _ (id : ℕ) (g : GroupFields) where
       onto false at rest = ap (λ b. is_parent e.1.parent p || b) (rest at other)
 
 -- a name is found where there are names alone
-some_named : (o : Option Siblings) (n : List ℕ) → is_some (named o n) ≡ true → is_some o ≡ true
+some_named : (o : Option Siblings) (n : List ℕ) → is_some (among child_named o n) ≡ true → is_some o ≡ true
 some_named None n h = h
 some_named (Some m) n h = refl
 

@@ -2,10 +2,12 @@
 #![tactic(auto)]
 
 mod child_index;
+mod directory;
 mod fault;
 mod group;
 mod laws;
 pub mod limits;
+mod namesakes;
 mod setting;
 mod siblings;
 mod tree;

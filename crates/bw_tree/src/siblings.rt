@@ -1,36 +1,29 @@
 //! The children of one group.
-ghost use Rattle.std.specs.Prelude.{◌≡◌, ℕ, List, true, false, None, Some, IfOk, OnOk, OnErr, is_some, cond};
-ghost use Rattle.std.specs.BTreeMap.{get_by_text};
+ghost use Rattle.std.specs.Prelude.{◌≡◌, ℕ, List, true, false, None, Some, OnOk, OnErr, is_some, cond};
 ghost use Rattle.std.specs.Str.{bytes_eq};
 ghost use Rattle.std.specs.String.{string_bytes};
-ghost use Rattle.bw_tree.specs.Children.{named_in};
+ghost use Rattle.bw_tree.specs.Children.{child_named};
 
+use crate::directory::Directory;
 use crate::group::GroupId;
+use crate::namesakes::id_where;
 use std::alloc::{AllocError, Global};
-use std::collections::BTreeMap;
 
-// The children of one group, by their names. A first child needs no map.
+// The children of one group, by their names. A first child needs no directory.
 #[derive(Debug, Drop)]
 pub(crate) enum Siblings {
     One(String, GroupId),
-    // Names come from strangers, so the map is ordered: a look-up takes logarithmic time at worst.
-    Many(BTreeMap<String, GroupId>),
+    Many(Directory),
 }
 
 impl Siblings {
     // The child with this name.
     pub(crate) fn get(&self, name: &str) -> Option<GroupId>
-        ensures { result ≡ named_in self.now name.now }
+        ensures { result ≡ child_named self.now name.now }
     {
         match self {
-            Siblings::One(only, id) => {
-                if only.as_str() == name {
-                    Some(*id)
-                } else {
-                    None
-                }
-            }
-            Siblings::Many(children) => children.get(name).copied(),
+            Siblings::One(only, id) => id_where(only, name, *id),
+            Siblings::Many(children) => children.get(name),
         }
     }
 
@@ -41,51 +34,30 @@ impl Siblings {
         name: String,
         id: GroupId,
     ) -> Result<(), AllocError>
-        ensures added { OnOk result ((n : List ℕ) → named_in self.new n ≡ cond (bytes_eq (string_bytes name) n) (Some id) (named_in self.old n)) }
-        ensures kept { OnErr result ((n : List ℕ) → named_in self.new n ≡ named_in self.old n) }
+        ensures added { OnOk result ((n : List ℕ) → child_named self.new n ≡ cond (bytes_eq (string_bytes name) n) (Some id) (child_named self.old n)) }
+        ensures kept { OnErr result ((n : List ℕ) → child_named self.new n ≡ child_named self.old n) }
     {
         match self {
             Siblings::One(only, only_id) => {
-                let first = only.clone()?;
-                let both = pair(alloc, first, *only_id, name, id)?;
-                *self = Siblings::Many(both);
+                let mut children = Directory::new(alloc);
+                children.insert(alloc, only.clone()?, *only_id)?;
+                children.insert(alloc, name, id)?;
+                *self = Siblings::Many(children);
+                Ok(())
             }
-            Siblings::Many(children) => {
-                children.insert(name, id)?;
-            }
+            Siblings::Many(children) => children.insert(alloc, name, id),
         }
-        Ok(())
     }
 
     // Takes a name out where other children stay, and says whether they do.
     pub(crate) fn remove(&mut self, name: &str) -> bool
-        ensures taken { result ≡ true → (n : List ℕ) → named_in self.new n ≡ cond (bytes_eq name.now n) None (named_in self.old n) }
-        ensures some_left { result ≡ true → (n : List ℕ) × (is_some (named_in self.new n) ≡ true) }
-        ensures none_left { result ≡ false → (n : List ℕ) → cond (bytes_eq name.now n) None (named_in self.old n) ≡ None }
+        ensures taken { result ≡ true → (n : List ℕ) → child_named self.new n ≡ cond (bytes_eq name.now n) None (child_named self.old n) }
+        ensures some_left { result ≡ true → (n : List ℕ) × (is_some (child_named self.new n) ≡ true) }
+        ensures none_left { result ≡ false → (n : List ℕ) → cond (bytes_eq name.now n) None (child_named self.old n) ≡ None }
     {
         match self {
             Siblings::One(only, _) => only.as_str() != name,
-            Siblings::Many(children) => {
-                let _removed = children.remove(name);
-                !children.is_empty()
-            }
+            Siblings::Many(children) => children.remove(name),
         }
     }
-}
-
-// A map of two children, of which the second may have the first one's name.
-fn pair(
-    alloc: Global,
-    first: String,
-    first_id: GroupId,
-    name: String,
-    id: GroupId,
-) -> Result<BTreeMap<String, GroupId>, AllocError>
-    ensures { IfOk result (λ m. (n : List ℕ)
-        → get_by_text m n ≡ cond (bytes_eq (string_bytes name) n) (Some id) (cond (bytes_eq (string_bytes first) n) (Some first_id) None)) }
-{
-    let mut children = BTreeMap::new(alloc);
-    children.insert(first, first_id)?;
-    children.insert(name, id)?;
-    Ok(children)
 }

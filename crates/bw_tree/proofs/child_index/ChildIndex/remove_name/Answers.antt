@@ -2,7 +2,8 @@
 use Rattle.std.proofs.Common.{Some, None, cond, eqb, is_some, sym, ap, ◌∙◌}
 use Rattle.std.specs.HashMap.{get}
 use Rattle.std.specs.Str.{bytes_eq}
-use Rattle.bw_tree.specs.Children.{named}
+use Rattle.bw_tree.specs.Fingerprints.{among}
+use Rattle.bw_tree.specs.Children.{child_named}
 use Rattle.bw_tree.proofs.ChildIndexLemmas.{nested, written, listed_moved, listed_again, moved_here, none_of}
 use Rattle.bw_tree.proofs.child_index.ChildIndex.remove_name.Goals as goal
 
@@ -12,14 +13,14 @@ returns-in-Some-clause-taken c =
     let moves = written c.args.parent c.args.self.now.by_parent new c.in-Some.children.now c.remove.new.self c.in-Some.ensures.value
     (c.get_mut.follows.holds c.remove.new.self) in
     λ left. nested c.args.parent c.args.self.now.by_parent new c.remove.new.self moves c.args.name.now None
-    (λ n. c.remove.ensures.taken left n ∙ ap (λ o. cond (bytes_eq c.args.name.now n) None (named o n)) c.in-Some.ensures.value)
+    (λ n. c.remove.ensures.taken left n ∙ ap (λ o. cond (bytes_eq c.args.name.now n) None (among child_named o n)) c.in-Some.ensures.value)
 
 pub returns-in-Some-clause-others : goal.returns-in-Some-clause-others
 returns-in-Some-clause-others c =
     let moves = written c.args.parent c.args.self.now.by_parent
     (c.get_mut.follows.lender c.remove.new.self) c.in-Some.children.now c.remove.new.self c.in-Some.ensures.value
     (c.get_mut.follows.holds c.remove.new.self) in
-    λ p n apart. ap (λ o. named o n) (moves p) ∙ ap (λ b. named (cond b (Some c.remove.new.self) (get eqb c.args.self.now.by_parent p)) n) apart
+    λ p n apart. ap (λ o. among child_named o n) (moves p) ∙ ap (λ b. among child_named (cond b (Some c.remove.new.self) (get eqb c.args.self.now.by_parent p)) n) apart
 
 pub returns-in-Some-clause-listed : goal.returns-in-Some-clause-listed
 returns-in-Some-clause-listed c =
@@ -35,12 +36,12 @@ returns-in-Some-clause-some_left c =
     (c.get_mut.follows.lender c.remove.new.self) c.in-Some.children.now c.remove.new.self c.in-Some.ensures.value
     (c.get_mut.follows.holds c.remove.new.self) in
     let here = moved_here c.args.parent c.args.self.now.by_parent (c.get_mut.follows.lender c.remove.new.self) c.remove.new.self moves in
-    λ left. let n = c.remove.ensures.some_left left in (n.0, ap (λ o. is_some (named o n.0)) here ∙ n.1)
+    λ left. let n = c.remove.ensures.some_left left in (n.0, ap (λ o. is_some (among child_named o n.0)) here ∙ n.1)
 
 pub returns-in-Some-clause-none_left : goal.returns-in-Some-clause-none_left
 returns-in-Some-clause-none_left c =
-    λ last n. ap (λ o. cond (bytes_eq c.args.name.now n) None (named o n)) (sym c.in-Some.ensures.value) ∙ c.remove.ensures.none_left last n
+    λ last n. ap (λ o. cond (bytes_eq c.args.name.now n) None (among child_named o n)) (sym c.in-Some.ensures.value) ∙ c.remove.ensures.none_left last n
 
 pub returns-in-None-clause-none_left : goal.returns-in-None-clause-none_left
 returns-in-None-clause-none_left c =
-    λ _ n. none_of (bytes_eq c.args.name.now n) _ (ap (λ o. named o n) (sym c.in-None.ensures.value))
+    λ _ n. none_of (bytes_eq c.args.name.now n) _ (ap (λ o. among child_named o n) (sym c.in-None.ensures.value))

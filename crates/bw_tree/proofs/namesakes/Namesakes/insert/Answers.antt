@@ -1,11 +1,11 @@
--- The goals of `Siblings::insert` that are answered by hand.
+-- The goals of `Namesakes::insert` that are answered by hand.
 use Rattle.std.proofs.Common.{rules, ◌≡◌, ℕ, List, Some, cond, ap, ◌∙◌}
 use Rattle.std.proofs.lemmas.Map.Text.{btree_map_updates_text}
 use Rattle.std.specs.BTreeMap.{get_by_text}
 use Rattle.std.specs.Str.{bytes_eq}
 use Rattle.std.specs.String.{string_bytes}
-use Rattle.bw_tree.specs.Children.{named_in}
-use Rattle.bw_tree.proofs.siblings.Siblings.insert.Goals as goal
+use Rattle.bw_tree.specs.Fingerprints.{named_in}
+use Rattle.bw_tree.proofs.namesakes.Namesakes.insert.Goals as goal
 
 pub returns-in_ok-insert-in-Many-clause-added : goal.returns-in_ok-insert-in-Many-clause-added
 returns-in_ok-insert-in-Many-clause-added c =

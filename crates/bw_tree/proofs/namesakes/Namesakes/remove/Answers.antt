@@ -1,12 +1,12 @@
--- The goals of `Siblings::remove` that are answered by hand.
+-- The goals of `Namesakes::remove` that are answered by hand.
 use Rattle.std.proofs.Common.{rules, ◌≡◌, ℕ, List, true, false, not, None, cond, sym, ap, ◌∙◌}
 use Rattle.std.proofs.lemmas.Map.Text.{btree_map_updates_text}
 use Rattle.std.specs.BTreeMap.{get_by_text}
 use Rattle.std.specs.Str.{bytes_eq}
-use Rattle.bw_tree.specs.Children.{named_in}
+use Rattle.bw_tree.specs.Fingerprints.{named_in}
 use Rattle.bw_tree.proofs.ChildIndexLemmas.{some_text, no_text, none_in}
 use Rattle.bw_tree.proofs.GroupLemmas.{not_false}
-use Rattle.bw_tree.proofs.siblings.Siblings.remove.Goals as goal
+use Rattle.bw_tree.proofs.namesakes.Namesakes.remove.Goals as goal
 
 pub returns-in-Many-clause-taken : goal.returns-in-Many-clause-taken
 returns-in-Many-clause-taken c =

@@ -4,7 +4,7 @@ use Rattle.std.proofs.lemmas.Map.Text.{btree_map_updates_text}
 use Rattle.std.specs.Str.{bytes_eq}
 use Rattle.std.specs.String.{string_bytes}
 use Rattle.bw_tree.proofs.ChildIndexLemmas.{no_text}
-use Rattle.bw_tree.proofs.siblings.pair.Goals as goal
+use Rattle.bw_tree.proofs.namesakes.pair.Goals as goal
 
 pub returns : goal.returns
 returns c =
