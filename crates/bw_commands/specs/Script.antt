@@ -93,9 +93,13 @@ outcome_of_command s command.Cert = Cert
 outcome_of_command s command.Period = Period
 outcome_of_command s command.Report = Report
 
--- a line of text: what its command does, or the refusal where it names none
+-- what was asked: what the command does, or the refusal where it is none
+abbrev pub outcome_of_asked : State → Option Command → Outcome
+outcome_of_asked s asked = option_map_or (outcome_of_command s) asked (refused s fault.BadCommand)
+
+-- a line of text: what it asks for
 unfoldable pub outcome_of_text : State → List ℕ → Outcome
-outcome_of_text s line = option_map_or (outcome_of_command s) (command_of_line line) (refused s fault.BadCommand)
+outcome_of_text s line = outcome_of_asked s (command_of_line line)
 
 -- what is kept of a line: nothing where it is too long
 abbrev pub kept_of : List ℕ → Option (List ℕ)

@@ -1,10 +1,10 @@
 //! The commands of a script, on a host and its tree of groups.
-ghost use Rattle.std.specs.Prelude.{◌≡◌, ◌≤◌, [], IfOk, IfErr};
+ghost use Rattle.std.specs.Prelude.{option_map, ◌≡◌, ◌≤◌, [], IfOk, IfErr};
 ghost use Rattle.bw_tree.specs.declared.fault.TreeFault.TheVariants.{OutOfMemory};
 ghost use Rattle.bw_hierarchy.specs.declared.fault.Fault.TheVariants.{Tree};
 ghost use Rattle.std.specs.Vec.{vec_capacity};
 ghost use Rattle.bw_text.specs.Number.{number_spelled};
-ghost use Rattle.bw_commands.specs.Script.{outcome_of_command, outcome_of_text, mkdir_outcome, rmdir_outcome, demand_outcome, read_outcome, write_outcome};
+ghost use Rattle.bw_commands.specs.Script.{outcome_of_command, outcome_of_asked, mkdir_outcome, rmdir_outcome, demand_outcome, read_outcome, write_outcome};
 ghost use Rattle.bw_commands.specs.Script.{ok_line, Performs, Period};
 ghost use Rattle.bw_commands.specs.State.{start};
 ghost use Rattle.bw_commands.specs.Commands.{state_of};
@@ -150,23 +150,22 @@ impl<'a, G: Gate> Commands<'a, G> {
         }
     }
 
-    /// Forms the whole answer to a line of text in an empty buffer, and then makes its change.
-    /// An `Err` changes nothing.
-    #[tactic(auto, unfolding(crate::specs::Script::outcome_of_text))]
+    /// Forms the whole answer to what a line asks for in an empty buffer, and then makes its change; where it asks for
+    /// nothing known, the refusal. An `Err` changes nothing.
     pub fn answer<H: Threads + Wait + Sync>(
         &mut self,
         rt: &H,
         alloc: Global,
-        line: &str,
+        asked: Option<Command<'_>>,
         answer: &mut Vec<u8>,
     ) -> Result<(), ScriptFault>
         requires empty { answer.old.items ≡ [] }
         requires room { REFUSAL_BYTES ≤ vec_capacity answer.old }
-        ensures outcome { Performs (state_of G.used self.old) (outcome_of_text (state_of G.used self.old) line.now)
+        ensures outcome { Performs (state_of G.used self.old) (outcome_of_asked (state_of G.used self.old) (option_map meaning_of asked.entry))
             result answer.new.items (state_of G.used self.new) }
         ensures room { vec_capacity answer.old ≤ vec_capacity answer.new }
     {
-        match Command::parse(line) {
+        match asked {
             Some(command) => self.perform(rt, alloc, command, answer),
             None => Err(ScriptFault::BadCommand),
         }

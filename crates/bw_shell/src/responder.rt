@@ -1,7 +1,8 @@
 //! The answers to lines that are given whole.
-ghost use Rattle.std.specs.Prelude.{◌≡◌, ◌≤◌, [], true, OnOk, Some, MatchResult};
+ghost use Rattle.std.specs.Prelude.{◌≡◌, ◌≤◌, [], true, OnOk, Some, MatchResult, option_map};
 ghost use Rattle.std.specs.Vec.{vec_capacity};
-ghost use Rattle.bw_commands.specs.Command.{command_of_line, Period};
+ghost use Rattle.bw_commands.specs.Command.{Period};
+ghost use Rattle.bw_commands.specs.Parsed.{meaning_of};
 ghost use Rattle.bw_commands.specs.Script.{outcome_of, outcome_of_text, refused};
 ghost use Rattle.bw_commands.specs.State.{State};
 ghost use Rattle.bw_shell.specs.Watched.{is_flushed, HasNoFault};
@@ -34,19 +35,22 @@ fn text_of(line: &[u8]) -> Result<&str, ScriptFault>
 }
 
 // Whether the line may take long to answer, as each `period` does.
-fn takes_long(text: &str) -> bool
-    ensures { command_of_line text.now ≡ Some Period → result ≡ true }
+fn takes_long(asked: Option<Command<'_>>) -> bool
+    ensures { option_map meaning_of asked.entry ≡ Some Period → result ≡ true }
 {
-    matches!(Command::parse(text), Some(Command::Period))
+    matches!(asked, Some(Command::Period))
 }
 
 // Flushes the writer before a line that may take long, so that no answer waits for that one.
-fn flush_before<W: Write>(text: &str, writer: &mut Watched<W>) -> Result<(), RunFault>
+fn flush_before<W: Write>(
+    asked: Option<Command<'_>>,
+    writer: &mut Watched<W>,
+) -> Result<(), RunFault>
     requires { HasNoFault writer.old }
     ensures writes { Writes W.contents writer.old writer.new result (λ none. none ≡ []) (λ none. none ≡ []) }
-    ensures flushed { OnOk result (command_of_line text.now ≡ Some Period → is_flushed writer.new ≡ true) }
+    ensures flushed { OnOk result (option_map meaning_of asked.entry ≡ Some Period → is_flushed writer.new ≡ true) }
 {
-    if writer.flushed() || !takes_long(text) {
+    if writer.flushed() || !takes_long(asked) {
         return Ok(());
     }
     flush(writer)
@@ -62,10 +66,11 @@ pub struct Responder<'a, G> {
 }
 
 impl<'a, G: Gate> Responder<'a, G> {
-    ghost use Rattle.std.specs.Prelude.{◌≡◌, [], List, ℕ, true, IfOk, Some};
-    ghost use Rattle.bw_commands.specs.Command.{command_of_line, Period};
+    ghost use Rattle.std.specs.Prelude.{◌≡◌, [], List, ℕ, true, IfOk, Some, option_map};
+    ghost use Rattle.bw_commands.specs.Command.{Period};
+    ghost use Rattle.bw_commands.specs.Parsed.{meaning_of};
     ghost use Rattle.bw_commands.specs.Faults.{error_line};
-    ghost use Rattle.bw_commands.specs.Script.{outcome_of_text, IsAnswer, IsOutcome};
+    ghost use Rattle.bw_commands.specs.Script.{outcome_of_asked, outcome_of_text, IsAnswer, IsOutcome};
     ghost use Rattle.bw_commands.specs.State.{State, start};
     ghost use Rattle.bw_shell.specs.Responder.{responder_state};
     ghost use Rattle.bw_shell.specs.Watched.{is_flushed, HasNoFault};
@@ -82,19 +87,22 @@ impl<'a, G: Gate> Responder<'a, G> {
         })
     }
 
-    // Forms the answer to a text, and makes its change. Before a period no answer waits in the writer.
-    fn answer_text<H: Threads + Wait + Sync, W: Write>(
+    // Forms the answer to what a line asks for, and makes its change. Before a period no answer waits in the writer.
+    fn answer_asked<H: Threads + Wait + Sync, W: Write>(
         &mut self,
         rt: &H,
-        text: &str,
+        asked: Option<Command<'_>>,
         _writer: &Watched<W>,
     )
-        requires flushed { command_of_line text.now ≡ Some Period → is_flushed _writer.now ≡ true }
-        ensures { IsOutcome (responder_state G.used self.old) (outcome_of_text (responder_state G.used self.old) text.now)
+        requires flushed { option_map meaning_of asked ≡ Some Period → is_flushed _writer.now ≡ true }
+        ensures { IsOutcome (responder_state G.used self.old) (outcome_of_asked (responder_state G.used self.old) (option_map meaning_of asked.entry))
             self.new.answer.items (responder_state G.used self.new) }
     {
         self.answer.clear();
-        if let Err(fault) = self.commands.answer(rt, self.alloc, text, &mut self.answer) {
+        let answered = self
+            .commands
+            .answer(rt, self.alloc, asked, &mut self.answer);
+        if let Err(fault) = answered {
             self.answer.clear();
             put_error(&mut self.answer, fault);
         }
@@ -113,11 +121,12 @@ impl<'a, G: Gate> Responder<'a, G> {
             answer (responder_state G.used self.new))
             (λ answer. (t : State) × IsOutcome (responder_state G.used self.old) (outcome_of_text (responder_state G.used self.old) text.now) answer t) }
     {
-        match flush_before(text, writer) {
+        let asked = Command::parse(text);
+        match flush_before(asked, writer) {
             Ok(()) => {}
             Err(fault) => return Err(fault),
         }
-        self.answer_text(rt, text, writer);
+        self.answer_asked(rt, asked, writer);
         send(writer, self.answer.as_slice())
     }
 

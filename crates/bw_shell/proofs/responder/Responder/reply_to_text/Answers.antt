@@ -1,6 +1,7 @@
 -- The goals of `Responder::reply_to_text` that are answered by hand.
 use Rattle.std.proofs.Common.{sym, subst, ◌∙◌}
-use Rattle.bw_commands.specs.Script.{IsOutcome, outcome_of_text}
+use Rattle.bw_commands.specs.Command.{command_of_line}
+use Rattle.bw_commands.specs.Script.{IsOutcome, outcome_of_asked, outcome_of_text}
 use Rattle.bw_shell.specs.Responder.{responder_state}
 use Rattle.bw_shell.proofs.Scanning.{answered}
 use Rattle.bw_shell.proofs.Writing.{Writes-first, Writes-map, Writes-none}
@@ -13,12 +14,14 @@ returns-in-Err g c =
     Writes-none g.W.Write.contents c.args.writer.now c.flush_before.new.writer c.in-Err.fault any.0 (any.1, any.2) c.in-Err.ensures.writes
 
 pub returns : goal.returns
+unfolding outcome_of_text
 returns g c =
     let s = responder_state g.G.Gate.used c.args.self.now in
-    let t = responder_state g.G.Gate.used c.answer_text.new.self in
+    let t = responder_state g.G.Gate.used c.answer_asked.new.self in
     let none = c.in-Ok.ensures.writes.ok in
-    let answer = c.answer_text.new.self.answer.items in
-    let is : IsOutcome s (outcome_of_text s c.args.text.now) answer t = c.answer_text.ensures in
+    let answer = c.answer_asked.new.self.answer.items in
+    let is : IsOutcome s (outcome_of_text s c.args.text.now) answer t =
+    subst (λ asked. IsOutcome s (outcome_of_asked s asked) answer t) c.parse-asked.ensures c.answer_asked.ensures in
     Writes-first g.W.Write.contents c.args.writer.now c.flush_before.new.writer c.send.new.writer c.send.result none.0 none.2 none.1
     (Writes-map g.W.Write.contents c.flush_before.new.writer c.send.new.writer c.send.result
     (λ text e. subst (λ l. IsOutcome s (outcome_of_text s c.args.text.now) l t) (sym (e ∙ c.as_slice.ensures.value)) is)
