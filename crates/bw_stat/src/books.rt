@@ -132,9 +132,14 @@ fn book_row(
     ensures entries { stats.new.entries ≡ with_share stats.old.entries id (share_of slice_us row.now quota want drawn) }
     ensures room { spare stats.old ≤ spare stats.new + 1 }
 {
-    let stat = or_zeros(stats.get(&id).copied());
-    let stat = added(stat, slice_us, row, quota, want, drawn);
-    let _old = stats.insert(id, stat).unwrap();
+    match stats.get_mut(&id) {
+        Some(stat) => add(stat, slice_us, row, quota, want, drawn),
+        None => {
+            let mut stat = or_zeros(None);
+            add(&mut stat, slice_us, row, quota, want, drawn);
+            let _none = stats.insert(id, stat).unwrap();
+        }
+    }
 }
 
 fn or_zeros(stat: Option<Stat>) -> Stat
@@ -180,17 +185,18 @@ fn more(counter: u64, slices: u64, slice_us: u64) -> u64
     counter.saturating_add(slices.saturating_mul(slice_us))
 }
 
-fn added(stat: Stat, slice_us: u64, row: &Row, quota: Option<u64>, want: u64, drawn: u64) -> Stat
-    ensures { result ≡ added stat (share_of slice_us row.now quota want drawn) }
+// Adds one period to the counters of a group.
+fn add(stat: &mut Stat, slice_us: u64, row: &Row, quota: Option<u64>, want: u64, drawn: u64)
+    ensures { stat.new ≡ added stat.old (share_of slice_us row.now quota want drawn) }
 {
     let withheld = withheld_slices(row, want);
     let burst = burst(row, quota, drawn);
-    Stat {
+    *stat = Stat {
         usage_usec: more(stat.usage_usec, drawn, slice_us),
         nr_periods: stat.nr_periods.saturating_add(1),
         nr_throttled: stat.nr_throttled.saturating_add(u64::from(withheld > 0)),
         throttled_usec: more(stat.throttled_usec, withheld, slice_us),
         nr_bursts: stat.nr_bursts.saturating_add(u64::from(burst > 0)),
         burst_usec: more(stat.burst_usec, burst, slice_us),
-    }
+    };
 }
