@@ -1,8 +1,8 @@
 //! The split by a level of cost: a search for the level in rounds, then what is left, one slice each.
-ghost use Rattle.std.specs.Prelude.{◌≡◌, ◌+◌, ◌*◌, ◌<◌, ◌≤◌, ℕ, length, slice_index, sum, EachIndex, IfOk, IfSome};
+ghost use Rattle.std.specs.Prelude.{◌≡◌, ◌+◌, ◌*◌, ◌<◌, ◌≤◌, ℕ, length, slice_index, sum, EachIndex, IfOk, IfSome, IfNone};
 ghost use Rattle.bw_model.specs.Split.{IsBestSplit};
 ghost use Rattle.bw_split.specs.Conditions.{CanSplit, NeedsNoSearch};
-ghost use Rattle.bw_split.specs.Levels.{taken, taken_by_all};
+ghost use Rattle.bw_split.specs.Levels.{taken, taken_by_all, AreTaken, TakesMore, NoneTakesMore};
 
 use crate::Work;
 use crate::conditions::fits_in;
@@ -313,6 +313,45 @@ fn find_level(amount: u64, weights: &[u64], most: &[u64], work: &mut Work) -> Fo
     Found { level, rest }
 }
 
+/// What each child takes at a level.
+fn parts_at(
+    alloc: Global,
+    level: u64,
+    weights: &[u64],
+    most: &[u64],
+) -> Result<Vec<u64>, AllocError>
+    requires level_in_range { level ≤ GREATEST_LEVEL }
+    requires one_each { length most.now ≡ length weights.now }
+    requires weights_in_range { EachIndex weights.now (λ k. (MIN_WEIGHT ≤ slice_index weights.now k) × (slice_index weights.now k ≤ MAX_WEIGHT)) }
+    ensures lengths { IfOk result (λ parts. length parts.items ≡ length weights.now) }
+    ensures taken { IfOk result (λ parts. AreTaken level weights.now most.now parts.items) }
+{
+    let mut parts = vec![in alloc; 0u64; weights.len()]?;
+    for i in 0..weights.len() {
+        parts[i] = takes(level, weights[i], most[i]);
+    }
+    Ok(parts)
+}
+
+/// The first child, from a place on, that takes more at a level than its part. It is the earlier sibling where several do.
+fn first_taker(
+    from: usize,
+    level: u64,
+    parts: &[u64],
+    weights: &[u64],
+    most: &[u64],
+) -> Option<usize>
+    requires level_in_range { level ≤ GREATEST_LEVEL }
+    requires part_each { length parts.now ≡ length weights.now }
+    requires one_each { length most.now ≡ length weights.now }
+    requires weights_in_range { EachIndex weights.now (λ k. (MIN_WEIGHT ≤ slice_index weights.now k) × (slice_index weights.now k ≤ MAX_WEIGHT)) }
+    ensures takes { IfSome result (λ child. (from ≤ child) × (child < length weights.now) × TakesMore level weights.now most.now parts.now child) }
+    ensures first { IfSome result (λ child. NoneTakesMore level weights.now most.now parts.now from child) }
+    ensures none { IfNone result (NoneTakesMore level weights.now most.now parts.now from (length weights.now)) }
+{
+    (from..weights.len()).find(|i| takes(level, weights[*i], most[*i]) > parts[*i])
+}
+
 /// What [`split`] answers, with a count of its work: a round for each level that was tested on all children, at most
 /// [`MAX_ROUNDS`] of them, and a pick for each slice that was given after the search, at most one a child. An amount
 /// of 0, an only child, and an amount equal to the sum of the maxima cost no round, and all else at least one.
@@ -338,17 +377,17 @@ pub fn split_counted(
         return [amount].to_vec(alloc);
     }
     let found = find_level(amount, weights, most, work);
-    let mut rest = found.rest;
-    let mut parts = Vec::with_capacity(alloc, weights.len())?;
+    let mut parts = parts_at(alloc, found.level, weights, most)?;
     // The rest goes, one slice each, to the first children in order that take one more a step above the level. Their next
     // marks are all equal in cost, so a tie goes to the earlier sibling.
-    for i in 0..weights.len() {
-        let part = takes(found.level, weights[i], most[i]);
-        if rest > 0 && takes(found.level + 1, weights[i], most[i]) > part {
-            rest -= 1;
-            parts.push(with_one_more(part, work))?;
-        } else {
-            parts.push(part)?;
+    let mut from = 0;
+    for _slice in 0..found.rest {
+        match first_taker(from, found.level + 1, &parts, weights, most) {
+            Some(i) => {
+                parts[i] = with_one_more(parts[i], work);
+                from = i + 1;
+            }
+            None => unreachable!(),
         }
     }
     Ok(parts)

@@ -1,15 +1,14 @@
 -- The goals of `split_counted` that are answered by hand.
-use Rattle.std.proofs.Common.{◌≡◌, ◌<◌, ◌≤◌, ◌-◌, ℕ, List, [], ◌∷◌, length, arith, inl, inr, subst, ◌∙◌, rules}
+use Rattle.std.proofs.Common.{◌≡◌, ◌<◌, ◌≤◌, ℕ, List, [], ◌∷◌, length, get_or, arith, inl, inr, ◌∙◌, rules}
 use Rattle.std.specs.Prelude.{sum, IfOk}
 use Rattle.std.proofs.lemmas.Result.{IfOk-weaker}
 use Rattle.std.proofs.lemmas.Bool.{cases_lt}
 use Rattle.bw_model.specs.Split.{IsBestSplit}
+use Rattle.bw_model.proofs.CallerLemmas.{get_or_within}
 use Rattle.bw_split.specs.Conditions.{NeedsNoSearch}
-use Rattle.bw_split.proofs.Picks.{IsGiven, given-none, given-kept, given-pick, given-IsBestSplit}
+use Rattle.bw_split.proofs.Picks.{given-none, given-more, not_given, given-IsBestSplit}
 use Rattle.bw_split.proofs.Search.{all-IsBestSplit, one-IsBestSplit}
 use Rattle.bw_split.proofs.level_search.split_counted.Goals as goal
-use Rattle.bw_split.proofs.level_search.split_counted.Goals.{then-rest-gt0+then-takes-part+in_ok-push, else-rest-gt0+in_ok-push-2}
-use Rattle.bw_split.proofs.level_search.split_counted.Goals.{else-rest-gt0-via-then-rest-gt0+else-takes-part, else-rest-gt0-via-else-rest-gt0}
 
 -- a search is needed for some amount alone
 amount_left : (amount : ℕ) (weights most : List ℕ) → (NeedsNoSearch amount weights most → ⊥) → 0 < amount
@@ -18,10 +17,11 @@ amount_left amount weights most wanted = elim (cases_lt 0 amount) [
   | inr h ↦ absurd (wanted (inl (omega (arith, h))))
 ]
 
-pub loop-i-init : goal.loop-i-init
-loop-i-init c = record {
-  given = rw c.in_ok-parts.ensures.items
-      (given-none c.find_level-found.result.level c.find_level-found.result.rest c.args.weights.now c.args.most.now);
+pub loop-slice-init : goal.loop-slice-init
+loop-slice-init c = record {
+  given = given-none c.find_level-found.result.level c.args.weights.now c.args.most.now c.in_ok-parts.parts.items
+      c.in_ok-parts.ensures.lengths c.in_ok-parts.ensures.taken;
+  inside = omega arith;
   rounds = omega (arith, c.find_level-found.ensures.rounds);
   picks = omega (arith, c.find_level-found.ensures.picks);
   searched = λ wanted. let some = amount_left c.args.amount c.args.weights.now c.args.most.now wanted in
@@ -36,36 +36,33 @@ loop-i-init c = record {
   counted = (omega (arith, c.find_level-found.ensures.counted), omega (arith, c.find_level-found.ensures.picks));
 }
 
-pub loop-i-preserved : goal.loop-i-preserved
-loop-i-preserved c =
-    let inv = c.loop-i.invariant in
-    let light = (c.requires.weights_in_range c.loop-i.i c.loop-i-test.true).1 in
-    elim c.if-rest-gt0.branch [
-      | then-rest-gt0+then-takes-part+in_ok-push w ↦ rw (w.rest-is, w.parts-is, w.work-is, w.in_ok-push.ensures.items) (record {
-        given = given-pick c.find_level-found.result.level c.find_level-found.result.rest c.loop-i.rest c.loop-i.i c.args.weights.now c.args.most.now
-            c.loop-i.parts.items inv.given w.with_one_more.result (c.loop-i.rest - 1) light
-            (omega (arith, w.if-rest-gt0.true)) (omega (arith, w.with_one_more.ensures.part, c.takes-part.ensures.taken))
-            (omega (arith, c.takes-part.ensures.taken, w.takes.ensures.taken, w.if-takes-part.true));
-        rounds = omega (arith, w.with_one_more.ensures.rounds, inv.rounds);
-        picks = omega (arith, w.with_one_more.ensures.picks, inv.picks);
-        searched = λ wanted. omega (arith, w.with_one_more.ensures.rounds, inv.searched wanted);
-        no_search = λ plain. w.with_one_more.ensures.rounds ∙ inv.no_search plain;
-        counted = (omega (arith, w.with_one_more.ensures.rounds, inv.counted.0), omega (arith, w.with_one_more.ensures.picks, inv.counted.1));
-      })
-      | else-rest-gt0+in_ok-push-2 w ↦ rw (w.rest-is, w.parts-is, w.work-is, w.in_ok-push-2.ensures.items) (record {
-        given = given-kept c.find_level-found.result.level c.find_level-found.result.rest c.loop-i.rest c.loop-i.i c.args.weights.now c.args.most.now
-            c.loop-i.parts.items inv.given c.takes-part.result c.takes-part.ensures.taken
-            (λ some. elim w.else-rest-gt0.branch [
-              | else-rest-gt0-via-then-rest-gt0+else-takes-part w' ↦ omega (arith, w'.takes.ensures.taken, w'.if-takes-part.false)
-              | else-rest-gt0-via-else-rest-gt0 w' ↦ absurd (omega (arith, some, w'.if-rest-gt0.false))
-            ]);
-        rounds = inv.rounds;
-        picks = omega (arith, inv.picks);
-        searched = inv.searched;
-        no_search = inv.no_search;
-        counted = inv.counted;
-      })
-    ]
+pub unreachable-requires : goal.unreachable-requires
+unreachable-requires c =
+    let looked_at : c.deref.result.now ≡ c.loop-slice.parts.items = search rules in
+    not_given c.find_level-found.result.level c.loop-slice._slice c.loop-slice.from c.args.weights.now c.args.most.now
+    c.loop-slice.parts.items c.loop-slice.invariant.given c.find_level-found.result.rest c.args.amount
+    c.find_level-found.ensures.rest c.find_level-found.ensures.enough (omega (arith, c.loop-slice-test.true)) (rw looked_at at c.in-None.ensures.none)
+
+pub loop-slice-preserved : goal.loop-slice-preserved
+loop-slice-preserved c =
+    let inv = c.loop-slice.invariant in
+    let taker = c.in-Some.ensures.takes in
+    let looked_at : c.deref.result.now ≡ c.loop-slice.parts.items = search rules in
+    let there : c.in-Some.i < length c.loop-slice.parts.items = omega (arith, taker.1, inv.given.lengths) in
+    let read : c.index.result.now ≡ get_or c.loop-slice.parts.items c.in-Some.i 0 =
+    c.index.ensures ∙ get_or_within c.loop-slice.parts.items c.in-Some.i c.index.result.now there in
+    record {
+      given = given-more c.find_level-found.result.level c.loop-slice._slice c.loop-slice.from c.args.weights.now c.args.most.now
+          c.loop-slice.parts.items inv.given c.in-Some.i c.with_one_more.result
+          taker.0 taker.1 (c.requires.weights_in_range c.in-Some.i taker.1).1 (rw looked_at at taker.2) (rw looked_at at c.in-Some.ensures.first)
+          (omega (arith, c.with_one_more.ensures.part, read));
+      inside = omega (arith, taker.1);
+      rounds = omega (arith, c.with_one_more.ensures.rounds, inv.rounds);
+      picks = omega (arith, c.with_one_more.ensures.picks, inv.picks, taker.0);
+      searched = λ wanted. omega (arith, c.with_one_more.ensures.rounds, inv.searched wanted);
+      no_search = λ plain. c.with_one_more.ensures.rounds ∙ inv.no_search plain;
+      counted = (omega (arith, c.with_one_more.ensures.rounds, inv.counted.0), omega (arith, c.with_one_more.ensures.picks, inv.counted.1));
+    }
 
 pub returns-then-fits_in-clause-best : goal.returns-then-fits_in-clause-best
 returns-then-fits_in-clause-best c =
@@ -85,9 +82,7 @@ returns-then-weights-eq1-clause-best c =
 
 pub returns-clause-best : goal.returns-clause-best
 returns-clause-best c =
-    let all : c.loop-i.i ≡ length c.args.weights.now = omega arith in
-    given-IsBestSplit c.find_level-found.result.level c.find_level-found.result.rest c.loop-i.rest c.args.weights.now c.args.most.now
-    c.loop-i.parts.items c.requires.weights_in_range
-    (subst (λ (n : ℕ). IsGiven c.find_level-found.result.level c.find_level-found.result.rest c.loop-i.rest n c.args.weights.now c.args.most.now
-    c.loop-i.parts.items)
-    all c.loop-i.invariant.given) c.args.amount c.requires.one_each c.find_level-found.ensures.rest c.find_level-found.ensures.enough
+    let all : c.loop-slice._slice ≡ c.find_level-found.result.rest = omega arith in
+    given-IsBestSplit c.find_level-found.result.level c.loop-slice._slice c.loop-slice.from c.args.weights.now c.args.most.now
+    c.loop-slice.parts.items c.loop-slice.invariant.given c.find_level-found.result.rest c.args.amount
+    c.requires.one_each c.requires.weights_in_range c.find_level-found.ensures.rest all
