@@ -352,10 +352,8 @@ fn first_taker(
     (from..weights.len()).find(|i| takes(level, weights[*i], most[*i]) > parts[*i])
 }
 
-/// What [`split`] answers, with a count of its work: a round for each level that was tested on all children, at most
-/// [`MAX_ROUNDS`] of them, and a pick for each slice that was given after the search, at most one a child. An amount
-/// of 0, an only child, and an amount equal to the sum of the maxima cost no round, and all else at least one.
-pub fn split_counted(
+/// What [`split`](crate::split) answers, with what it does added to a count.
+pub(crate) fn split_with(
     alloc: Global,
     amount: u64,
     weights: &[u64],
@@ -391,21 +389,4 @@ pub fn split_counted(
         }
     }
     Ok(parts)
-}
-
-/// Of all lists that sum up to the amount, with no part above its maximum, the one of least cost, and of those the
-/// lexicographically greatest. The cost is the sum of the parts squared, each over its weight. Amounts are in slices;
-/// [`can_split`](crate::can_split) is the test of what may be split. It fails only when out of memory.
-///
-/// cgroup-v2.rst, "Weights": what is shared out is shared by the ratio of the weights.
-pub fn split(
-    alloc: Global,
-    amount: u64,
-    weights: &[u64],
-    most: &[u64],
-) -> Result<Vec<u64>, AllocError>
-    requires { CanSplit amount weights.now most.now }
-    ensures best { IfOk result (λ parts. IsBestSplit amount weights.now most.now parts.items) }
-{
-    split_counted(alloc, amount, weights, most, &mut Work::new())
 }

@@ -17,5 +17,4 @@ pub use by_marks::split_by_marks;
 pub use conditions::{can_split, fits_in};
 pub use laws::no_move_gains;
 pub use level::level_of;
-pub use level_search::{split, split_counted};
-pub use work::Work;
+pub use work::{Work, split, split_counted};

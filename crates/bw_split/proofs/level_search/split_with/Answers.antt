@@ -1,4 +1,4 @@
--- The goals of `split_counted` that are answered by hand.
+-- The goals of `split_with` that are answered by hand.
 use Rattle.std.proofs.Common.{◌≡◌, ◌<◌, ◌≤◌, ℕ, List, [], ◌∷◌, length, get_or, arith, inl, inr, ◌∙◌, rules}
 use Rattle.std.specs.Prelude.{sum, IfOk}
 use Rattle.std.proofs.lemmas.Result.{IfOk-weaker}
@@ -8,7 +8,7 @@ use Rattle.bw_model.proofs.CallerLemmas.{get_or_within}
 use Rattle.bw_split.specs.Conditions.{NeedsNoSearch}
 use Rattle.bw_split.proofs.Picks.{given-none, given-more, not_given, given-IsBestSplit}
 use Rattle.bw_split.proofs.Search.{all-IsBestSplit, one-IsBestSplit}
-use Rattle.bw_split.proofs.level_search.split_counted.Goals as goal
+use Rattle.bw_split.proofs.level_search.split_with.Goals as goal
 
 -- a search is needed for some amount alone
 amount_left : (amount : ℕ) (weights most : List ℕ) → (NeedsNoSearch amount weights most → ⊥) → 0 < amount
