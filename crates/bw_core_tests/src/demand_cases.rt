@@ -50,7 +50,7 @@ fn assert_once(
 }
 
 // A static table costs its readers no proof; each entry of a local one is a step of it.
-static CASES: [Case; 5] = [
+static CASES: [Case; 6] = [
     // the root alone
     Case {
         processors: 1,
@@ -111,6 +111,39 @@ static CASES: [Case; 5] = [
         tight: &[false, true, false, false, false],
         groups: &[1],
         rest: 20,
+    },
+    // the greatest demands, in all far more than the greatest capacity
+    Case {
+        processors: 4,
+        rows: &[
+            (None, None, 0),
+            (Some(0), None, 0),
+            (Some(1), None, 1_000_000),
+            (Some(1), None, 1_000_000),
+            (Some(1), None, 1_000_000),
+            (Some(1), None, 1_000_000),
+            (Some(1), None, 1_000_000),
+            (Some(1), None, 1_000_000),
+            (Some(1), None, 1_000_000),
+            (Some(1), None, 1_000_000),
+            (Some(1), None, 1_000_000),
+            (Some(1), None, 1_000_000),
+            (Some(1), None, 1_000_000),
+        ],
+        want: &[
+            11_000_000, 11_000_000, 1_000_000, 1_000_000, 1_000_000, 1_000_000, 1_000_000,
+            1_000_000, 1_000_000, 1_000_000, 1_000_000, 1_000_000, 1_000_000,
+        ],
+        most: &[
+            80, 11_000_000, 1_000_000, 1_000_000, 1_000_000, 1_000_000, 1_000_000, 1_000_000,
+            1_000_000, 1_000_000, 1_000_000, 1_000_000, 1_000_000,
+        ],
+        tight: &[
+            true, false, false, false, false, false, false, false, false, false, false, false,
+            false,
+        ],
+        groups: &[0],
+        rest: 0,
     },
 ];
 
