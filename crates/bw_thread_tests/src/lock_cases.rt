@@ -1,13 +1,10 @@
 //! The ticket lock round a small machine, called from threads.
 //! Where one allocation is refused a case is run once more, so that each holds with any one of its allocations failing.
-ghost use Rattle.std.specs.Prelude.{◌≡◌, ℕ, ◌<◌, ◌≤◌, All, length, None, IfOk, IsSome};
-ghost use Rattle.bw_ticket.specs.declared.limits.TheConstants.{MAX_SEATS, MAX_CALLS};
-ghost use Rattle.bw_ticket.specs.Faults.{InRange};
-ghost use Rattle.bw_ticket.specs.Holder.{fresh_seats};
+ghost use Rattle.std.specs.Prelude.{◌≡◌, ℕ, All, length, None, IfOk, IsSome};
 
 use crate::counter::{Add, Counter, Total};
-use bw_model::Entry;
-use bw_ticket::{CallsSpent, CloseFault, Closed, OpenFault, Seat, TicketLock, close, open};
+use bw_model::{Entry, Machine};
+use bw_ticket::{CallsSpent, CloseFault, Closed, Seat, TicketLock, close, open};
 use std::alloc::{AllocError, Global};
 use std::process::Abort;
 use std::sync::Wait;
@@ -18,57 +15,85 @@ use std::thread::{Threads, join};
 // How often a thread looks whether another one has come to some point.
 const TURNS: u32 = 1_000_000;
 
+// A lock with its seats. Bad numbers of seats or calls fail as refused memory does, but the second time too.
 fn opened(
     alloc: Global,
     seats: u32,
     calls: u32,
 ) -> Result<(TicketLock<Counter>, Vec<Seat<Counter>>), AllocError>
-    requires { InRange seats MAX_SEATS × InRange calls MAX_CALLS }
-    ensures lock { IfOk result (λ t. (t.0.seats ≡ seats) × (t.1.items ≡ fresh_seats t.0.lock_id calls 0 seats)) }
-    ensures each { IfOk result (λ t. All (λ s. s.lock_id ≡ t.0.lock_id) t.1.items × All (λ s. s.pending ≡ None) t.1.items) }
+    ensures { IfOk result (λ t. All (λ s. s.lock_id ≡ t.0.lock_id) t.1.items × All (λ s. s.pending ≡ None) t.1.items) }
 {
     match open(alloc, Counter::new(), seats, calls) {
         Ok(made) => Ok(made),
-        Err(OpenFault::OutOfMemory) => Err(AllocError),
-        Err(_) => unreachable!(),
+        Err(_) => Err(AllocError),
     }
+}
+
+// The last seat of a list.
+pub(crate) fn pop_seat<M: Machine>(
+    rt: &impl Abort,
+    lock: &TicketLock<M>,
+    seats: &mut Vec<Seat<M>>,
+) -> Seat<M>
+    requires { All (λ s. s.lock_id ≡ lock.now.lock_id) seats.old.items × All (λ s. s.pending ≡ None) seats.old.items }
+    ensures seat { (result.lock_id ≡ lock.now.lock_id) × (result.pending ≡ None) }
+    ensures rest { All (λ s. s.lock_id ≡ lock.now.lock_id) seats.new.items × All (λ s. s.pending ≡ None) seats.new.items }
+{
+    let Some(seat) = seats.pop() else {
+        panic!(rt; "no seat")
+    };
+    seat
 }
 
 // A lock with two seats.
 fn pair(
+    rt: &impl Abort,
     alloc: Global,
     calls: u32,
 ) -> Result<(TicketLock<Counter>, Seat<Counter>, Seat<Counter>), AllocError>
-    requires { InRange calls MAX_CALLS }
-    ensures seats { IfOk result (λ t. t.0.seats ≡ 2) }
     ensures lock { IfOk result (λ t. (t.1.lock_id ≡ t.0.lock_id) × (t.2.lock_id ≡ t.0.lock_id)) }
     ensures idle { IfOk result (λ t. (t.1.pending ≡ None) × (t.2.pending ≡ None)) }
 {
     let (lock, mut seats) = opened(alloc, 2, calls)?;
-    let Some(second) = seats.pop() else {
-        unreachable!()
-    };
-    let Some(first) = seats.pop() else {
-        unreachable!()
-    };
+    let second = pop_seat(rt, &lock, &mut seats);
+    let first = pop_seat(rt, &lock, &mut seats);
     Ok((lock, first, second))
 }
 
-fn close_pair<R: Abort>(
-    rt: &R,
+// Closes the lock with all its seats, and asserts the total and how many calls were made. Gives these calls.
+fn assert_closed(
+    rt: &impl Abort,
+    lock: TicketLock<Counter>,
+    seats: Vec<Seat<Counter>>,
+    total: u64,
+    calls: usize,
+) -> Vec<Entry<Add, Total>>
+    requires { All (λ s. s.lock_id ≡ lock.lock_id) seats.items × All (λ s. s.pending ≡ None) seats.items }
+    ensures { length result.items ≡ calls }
+{
+    let Ok(Closed { machine, history }) = close(lock, seats) else {
+        panic!(rt; "not closed")
+    };
+    assert!(rt; machine.total() == total);
+    assert!(rt; history.len() == calls);
+    history
+}
+
+// The same with two seats.
+fn assert_pair_closed(
+    rt: &impl Abort,
     alloc: Global,
     lock: TicketLock<Counter>,
-    first: Seat<Counter>,
-    second: Seat<Counter>,
-) -> Result<Closed<Counter>, AllocError>
-    requires lock { (first.lock_id ≡ lock.lock_id) × (second.lock_id ≡ lock.lock_id) }
-    requires idle { (first.pending ≡ None) × (second.pending ≡ None) }
+    seats: (Seat<Counter>, Seat<Counter>),
+    total: u64,
+    calls: usize,
+) -> Result<Vec<Entry<Add, Total>>, AllocError>
+    requires lock { (seats.0.lock_id ≡ lock.lock_id) × (seats.1.lock_id ≡ lock.lock_id) }
+    requires idle { (seats.0.pending ≡ None) × (seats.1.pending ≡ None) }
+    ensures { IfOk result (λ v. length v.items ≡ calls) }
 {
-    let seats = vec![in alloc; first, second]?;
-    match close(lock, seats) {
-        Ok(closed) => Ok(closed),
-        Err(_) => panic!(rt; "not closed with both seats"),
-    }
+    let seats = vec![in alloc; seats.0, seats.1]?;
+    Ok(assert_closed(rt, lock, seats, total, calls))
 }
 
 // Adds 1 as often as said.
@@ -85,6 +110,26 @@ fn add<R: Wait>(
         let _ = seat.call(rt, lock, Add(1));
     }
     seat
+}
+
+// The same by two threads, a seat in each.
+fn add_in_both<R: Threads + Wait + Sync>(
+    rt: &R,
+    lock: &TicketLock<Counter>,
+    seats: (Seat<Counter>, Seat<Counter>),
+    calls: (u32, u32),
+) -> (Seat<Counter>, Seat<Counter>)
+    requires lock { (seats.0.lock_id ≡ lock.now.lock_id) × (seats.1.lock_id ≡ lock.now.lock_id) }
+    requires idle { (seats.0.pending ≡ None) × (seats.1.pending ≡ None) }
+    ensures lock { (result.0.lock_id ≡ lock.now.lock_id) × (result.1.lock_id ≡ lock.now.lock_id) }
+    ensures idle { (result.0.pending ≡ None) × (result.1.pending ≡ None) }
+{
+    let (first, second) = seats;
+    join(
+        rt,
+        || add(rt, lock, first, calls.0),
+        || add(rt, lock, second, calls.1),
+    )
 }
 
 // One call by each seat, in the order of the list.
@@ -112,7 +157,7 @@ fn add_three<R: Wait + Abort>(
         let Ok(answer) = seat.call(rt, lock, Add(1)) else {
             panic!(rt; "a call is missing")
         };
-        assert!(rt; before < Some(answer.at), "at {}", answer.at);
+        assert!(rt; before < Some(answer.at));
         before = Some(answer.at);
     }
     seat
@@ -146,19 +191,34 @@ fn keep(refused: &AtomicBool, seat: Seat<Counter>) -> Seat<Counter>
     seat
 }
 
+// With a seat missing nothing is closed: the lock and the seats come back.
+fn assert_seats_missing(
+    rt: &impl Abort,
+    lock: TicketLock<Counter>,
+    seats: Vec<Seat<Counter>>,
+) -> (TicketLock<Counter>, Vec<Seat<Counter>>)
+    requires { All (λ s. s.lock_id ≡ lock.lock_id) seats.items × All (λ s. s.pending ≡ None) seats.items }
+    ensures { (result.0 ≡ lock) × (result.1.items ≡ seats.items) }
+{
+    let Err(fault) = close(lock, seats) else {
+        panic!(rt; "closed with a seat missing")
+    };
+    assert!(rt; fault.number() == 63);
+    assert!(rt; fault.name() == "SeatsMissing");
+    let CloseFault::SeatsMissing(lock, seats) = fault;
+    (lock, seats)
+}
+
 fn close_too_early(
+    rt: &impl Abort,
     lock: TicketLock<Counter>,
     seats: Vec<Seat<Counter>>,
     refused: &AtomicBool,
 ) -> (TicketLock<Counter>, Vec<Seat<Counter>>)
-    requires lock { All (λ s. s.lock_id ≡ lock.lock_id) seats.items }
-    requires idle { All (λ s. s.pending ≡ None) seats.items }
-    requires few { length seats.items < lock.seats }
+    requires { All (λ s. s.lock_id ≡ lock.lock_id) seats.items × All (λ s. s.pending ≡ None) seats.items }
     ensures { (result.0 ≡ lock) × (result.1.items ≡ seats.items) }
 {
-    let Err(CloseFault::SeatsMissing(lock, seats)) = close(lock, seats) else {
-        unreachable!()
-    };
+    let (lock, seats) = assert_seats_missing(rt, lock, seats);
     refused.store(true, Ordering::SeqCst);
     (lock, seats)
 }
@@ -202,45 +262,71 @@ fn finish_after<R: Wait>(
     (seat, answer.at)
 }
 
+// Numbers of seats and of calls, and the number and the name of the refusal.
+static BAD_NUMBERS: [(u32, u32, u8, &str); 4] = [
+    (0, 1, 60, "BadSeats"),
+    (65, 1, 60, "BadSeats"),
+    (1, 0, 61, "BadCalls"),
+    (64, 65537, 61, "BadCalls"),
+];
+
 #[test]
 fn refuses_bad_numbers(rt: HostRuntime) {
-    for (seats, calls, number, name) in [
-        (0, 1, 60, "BadSeats"),
-        (65, 1, 60, "BadSeats"),
-        (1, 0, 61, "BadCalls"),
-        (64, 65537, 61, "BadCalls"),
-    ] {
-        let Err(fault) = open(rt.alloc(), Counter::new(), seats, calls) else {
-            panic!(rt; "opened {seats} seats of {calls} calls")
+    for (seats, calls, number, name) in &BAD_NUMBERS {
+        let Err(fault) = open(rt.alloc(), Counter::new(), *seats, *calls) else {
+            panic!(rt; "opened with bad numbers")
         };
-        assert!(rt; fault.number() == number && fault.name() == name);
+        assert!(rt; fault.number() == *number);
+        assert!(rt; fault.name() == *name);
     }
+    assert!(rt; CallsSpent.number() == 62);
+    assert!(rt; CallsSpent.name() == "CallsSpent");
+}
+
+// A seat has made all its calls.
+fn assert_spent<R: Wait + Abort>(rt: &R, lock: &TicketLock<Counter>, seat: &mut Seat<Counter>)
+    requires { (seat.old.lock_id ≡ lock.now.lock_id) × (seat.old.pending ≡ None) }
+    ensures { (seat.new.lock_id ≡ lock.now.lock_id) × (seat.new.pending ≡ None) }
+{
+    assert!(rt; matches!(seat.call(rt, lock, Add(3)), Err(CallsSpent)));
+    assert!(rt; seat.calls_left() == 0);
+}
+
+// A seat adds a number, at this place of the history and with this sum after it.
+fn assert_call<R: Wait + Abort>(
+    rt: &R,
+    lock: &TicketLock<Counter>,
+    seat: &mut Seat<Counter>,
+    add: u16,
+    at: u64,
+    total: u64,
+)
+    requires { (seat.old.lock_id ≡ lock.now.lock_id) × (seat.old.pending ≡ None) }
+    ensures { (seat.new.lock_id ≡ lock.now.lock_id) × (seat.new.pending ≡ None) }
+{
+    let Ok(answer) = seat.call(rt, lock, Add(add)) else {
+        panic!(rt; "a call is missing")
+    };
+    assert!(rt; answer.at == at);
+    assert!(rt; answer.reply.0 == total);
 }
 
 // Two seats of two calls in one thread.
 fn spend<R: Wait + Abort>(rt: &R, alloc: Global) -> Result<(), AllocError> {
-    let (lock, mut first, mut second) = pair(alloc, 2)?;
-    assert!(rt; first.number() == 0 && second.number() == 1);
-    for want in 0..2u64 {
-        let Ok(answer) = first.call(rt, &lock, Add(3)) else {
-            panic!(rt; "call {want} is missing")
-        };
-        assert!(rt; answer.at == want && answer.reply == Total(3 * want + 3));
-    }
-    assert!(rt; first.call(rt, &lock, Add(3)) == Err(CallsSpent) && first.calls_left() == 0);
-    assert!(rt; CallsSpent.number() == 62 && CallsSpent.name() == "CallsSpent");
-    assert!(rt; second.call(rt, &lock, Add(5)).is_ok() && second.calls_left() == 1);
-    let Err(fault) = close(lock, vec![in alloc; first]?) else {
-        panic!(rt; "closed with one seat")
-    };
-    assert!(rt; fault.number() == 63 && fault.name() == "SeatsMissing");
-    let CloseFault::SeatsMissing(lock, mut seats) = fault;
+    let (lock, mut first, mut second) = pair(rt, alloc, 2)?;
+    assert!(rt; first.number() == 0);
+    assert!(rt; second.number() == 1);
+    assert_call(rt, &lock, &mut first, 3, 0, 3);
+    assert_call(rt, &lock, &mut first, 3, 1, 6);
+    assert_spent(rt, &lock, &mut first);
+    assert_call(rt, &lock, &mut second, 5, 2, 11);
+    assert!(rt; second.calls_left() == 1);
+    let seats = vec![in alloc; first]?;
+    let (lock, mut seats) = assert_seats_missing(rt, lock, seats);
     seats.push(second)?;
-    let Ok(Closed { machine, history }) = close(lock, seats) else {
-        panic!(rt; "not closed")
-    };
-    assert!(rt; machine.total() == 11 && history.len() == 3);
-    assert!(rt; calls_of(&history, 0) == 2 && calls_of(&history, 1) == 1);
+    let history = assert_closed(rt, lock, seats, 11, 3);
+    assert!(rt; calls_of(&history, 0) == 2);
+    assert!(rt; calls_of(&history, 1) == 1);
     Ok(())
 }
 
@@ -249,35 +335,27 @@ fn keep_one_back<R: Threads + Wait + Abort + Sync>(
     rt: &R,
     alloc: Global,
 ) -> Result<(), AllocError> {
-    let (lock, first, second) = pair(alloc, 1)?;
+    let (lock, first, second) = pair(rt, alloc, 1)?;
     let first = add(rt, &lock, first, 1);
     let seats = vec![in alloc; first]?;
     let refused = AtomicBool::new(false);
     let (second, (lock, mut seats)) = join(
         rt,
         || keep(&refused, second),
-        || close_too_early(lock, seats, &refused),
+        || close_too_early(rt, lock, seats, &refused),
     );
     seats.push(second)?;
-    let Ok(Closed { machine, history }) = close(lock, seats) else {
-        panic!(rt; "not closed")
-    };
-    assert!(rt; machine.total() == 1 && history.len() == 1);
+    let _ = assert_closed(rt, lock, seats, 1, 1);
     Ok(())
 }
 
 // Two threads with 1000 calls each.
 fn add_in_two<R: Threads + Wait + Abort + Sync>(rt: &R, alloc: Global) -> Result<(), AllocError> {
-    let (lock, first, second) = pair(alloc, 1000)?;
-    let (first, second) = join(
-        rt,
-        || add(rt, &lock, first, 1000),
-        || add(rt, &lock, second, 1000),
-    );
-    let Closed { machine, history } = close_pair(rt, alloc, lock, first, second)?;
-    assert!(rt; machine.total() == 2000 && history.len() == 2000);
+    let (lock, first, second) = pair(rt, alloc, 1000)?;
+    let seats = add_in_both(rt, &lock, (first, second), (1000, 1000));
+    let history = assert_pair_closed(rt, alloc, lock, seats, 2000, 2000)?;
     for k in 0..history.len() {
-        assert!(rt; history[k].reply == Total(k as u64 + 1), "entry {k}");
+        assert!(rt; history[k].reply.0 == k as u64 + 1);
     }
     Ok(())
 }
@@ -286,12 +364,9 @@ fn add_in_two<R: Threads + Wait + Abort + Sync>(rt: &R, alloc: Global) -> Result
 fn add_in_sixty_four<R: Wait + Abort>(rt: &R, alloc: Global) -> Result<(), AllocError> {
     let (lock, mut seats) = opened(alloc, 64, 1)?;
     add_in_turn(rt, &lock, &mut seats);
-    let Ok(Closed { machine, history }) = close(lock, seats) else {
-        panic!(rt; "not closed")
-    };
-    assert!(rt; machine.total() == 64 && history.len() == 64);
+    let history = assert_closed(rt, lock, seats, 64, 64);
     for k in 0..history.len() {
-        assert!(rt; history[k].seat as usize == k, "entry {k}");
+        assert!(rt; history[k].seat as usize == k);
     }
     Ok(())
 }
@@ -300,30 +375,53 @@ fn add_in_sixty_four<R: Wait + Abort>(rt: &R, alloc: Global) -> Result<(), Alloc
 fn add_in_four<R: Threads + Wait + Abort + Sync>(rt: &R, alloc: Global) -> Result<(), AllocError> {
     let (lock, seats) = opened(alloc, 4, 3)?;
     let seats = add_three_each(rt, &lock, seats)?;
-    let Ok(Closed { machine, history }) = close(lock, seats) else {
-        panic!(rt; "not closed")
-    };
-    assert!(rt; machine.total() == 12 && history.len() == 12);
+    let history = assert_closed(rt, lock, seats, 12, 12);
     for seat in 0..4u32 {
-        assert!(rt; calls_of(&history, seat) == 3, "seat {seat}");
+        assert!(rt; calls_of(&history, seat) == 3);
     }
     Ok(())
 }
 
+// Both seats see so many calls of all seats.
+fn assert_fronts(
+    rt: &impl Abort,
+    lock: &TicketLock<Counter>,
+    first: &mut Seat<Counter>,
+    second: &mut Seat<Counter>,
+    front: u64,
+)
+    requires lock { (first.old.lock_id ≡ lock.now.lock_id) × (second.old.lock_id ≡ lock.now.lock_id) }
+    requires idle { (first.old.pending ≡ None) × (second.old.pending ≡ None) }
+    ensures lock { (first.new.lock_id ≡ lock.now.lock_id) × (second.new.lock_id ≡ lock.now.lock_id) }
+    ensures idle { (first.new.pending ≡ None) × (second.new.pending ≡ None) }
+{
+    assert!(rt; first.front(lock) == front);
+    assert!(rt; second.front(lock) == front);
+}
+
 // The front counts the calls of all seats.
 fn see_fronts<R: Threads + Wait + Abort + Sync>(rt: &R, alloc: Global) -> Result<(), AllocError> {
-    let (lock, mut first, mut second) = pair(alloc, 3)?;
-    assert!(rt; first.front(&lock) == 0 && second.front(&lock) == 0);
-    let (mut first, mut second) = join(
-        rt,
-        || add(rt, &lock, first, 3),
-        || add(rt, &lock, second, 1),
-    );
-    assert!(rt; first.front(&lock) == 4 && second.front(&lock) == 4);
-    assert!(rt; first.call(rt, &lock, Add(1)) == Err(CallsSpent) && first.front(&lock) == 4);
-    let Closed { machine, history } = close_pair(rt, alloc, lock, first, second)?;
-    assert!(rt; machine.total() == 4 && history.len() == 4);
+    let (lock, mut first, mut second) = pair(rt, alloc, 3)?;
+    assert_fronts(rt, &lock, &mut first, &mut second, 0);
+    let (mut first, mut second) = add_in_both(rt, &lock, (first, second), (3, 1));
+    assert_fronts(rt, &lock, &mut first, &mut second, 4);
+    assert_spent(rt, &lock, &mut first);
+    assert_fronts(rt, &lock, &mut first, &mut second, 4);
+    let _ = assert_pair_closed(rt, alloc, lock, (first, second), 4, 4)?;
     Ok(())
+}
+
+// Draws the first ticket of a lock.
+fn take_first(rt: &impl Abort, lock: &TicketLock<Counter>, seat: &mut Seat<Counter>)
+    requires { (seat.old.lock_id ≡ lock.now.lock_id) × (seat.old.pending ≡ None) }
+    ensures { (seat.new.lock_id ≡ lock.now.lock_id) × IsSome seat.new.pending }
+{
+    let Ok(ticket) = seat.take(lock, Add(5)) else {
+        panic!(rt; "no ticket")
+    };
+    assert!(rt; ticket == 0);
+    assert!(rt; matches!(seat.pending(), Some(0)));
+    assert!(rt; seat.front(lock) == 0);
 }
 
 // Seat 1 draws the first ticket and seat 0 the second. The tickets decide, whichever seat asks first.
@@ -332,19 +430,20 @@ fn hold_tickets<R: Threads + Wait + Abort + Sync>(
     alloc: Global,
     at_once: bool,
 ) -> Result<(), AllocError> {
-    let (lock, first, mut second) = pair(alloc, 1)?;
-    assert!(rt; second.take(&lock, Add(5)) == Ok(0));
-    assert!(rt; second.pending() == Some(0) && second.front(&lock) == 0);
+    let (lock, first, mut second) = pair(rt, alloc, 1)?;
+    take_first(rt, &lock, &mut second);
     let drawn = AtomicBool::new(false);
     let ((first, ticket, place), (second, earlier)) = join(
         rt,
         || take_and_finish(rt, &lock, first, &drawn),
         || finish_after(rt, &lock, second, &drawn, at_once),
     );
-    assert!(rt; ticket == 1 && place == 1 && earlier == 0);
-    let Closed { machine, history } = close_pair(rt, alloc, lock, first, second)?;
-    assert!(rt; machine.total() == 12 && history.len() == 2);
-    assert!(rt; history[0].seat == 1 && history[1].seat == 0);
+    assert!(rt; ticket == 1);
+    assert!(rt; place == 1);
+    assert!(rt; earlier == 0);
+    let history = assert_pair_closed(rt, alloc, lock, (first, second), 12, 2)?;
+    assert!(rt; history[0].seat == 1);
+    assert!(rt; history[1].seat == 0);
     Ok(())
 }
 
@@ -367,8 +466,6 @@ fn several_threads(rt: HostRuntime) {
 fn fronts_and_tickets(rt: HostRuntime) {
     let alloc = rt.alloc();
     assert!(rt; see_fronts(&rt, alloc).is_ok() || see_fronts(&rt, alloc).is_ok());
-    for at_once in [true, false] {
-        let held = hold_tickets(&rt, alloc, at_once).is_ok();
-        assert!(rt; held || hold_tickets(&rt, alloc, at_once).is_ok());
-    }
+    assert!(rt; hold_tickets(&rt, alloc, true).is_ok() || hold_tickets(&rt, alloc, true).is_ok());
+    assert!(rt; hold_tickets(&rt, alloc, false).is_ok() || hold_tickets(&rt, alloc, false).is_ok());
 }

@@ -24,9 +24,8 @@ const POD_AND_JOB_SAID: &str = "ok\nok\nok\nok\nok\nok\nok\nok\nok\n";
 
 // Whether memory or a thread was refused to a line of a script.
 fn is_refused(said: &[u8]) -> bool {
-    str::from_utf8(said).is_ok_and(|text| {
-        text.contains("error 71 OutOfMemory\n") || text.contains("error 70 NotStarted\n")
-    })
+    said.split(|byte| *byte == b'\n').any(|line| line == b"error 71 OutOfMemory".as_slice()
+        || line == b"error 70 NotStarted".as_slice())
 }
 
 // Runs a script on four processors of 20 slices each where memory and threads are there, and asserts what it writes.
@@ -143,11 +142,14 @@ fn held_periods<R: AllocGlobal + Threads + Wait + Abort + Sync>(
     Ok(())
 }
 
+// The worker that is held, the one that it waits for, and at which of its draws.
+static WAITS: [(u32, u32, u64); 3] = [(0, 1, 0), (1, 0, 0), (3, 2, 1)];
+
 #[test]
 fn fifty_periods_where_one_waits(rt: HostRuntime) -> Result<(), Fail> {
-    for (held, other, nth) in [(0, 1, 0), (1, 0, 0), (3, 2, 1)] {
-        if held_periods(&rt, held, other, nth).is_err() {
-            held_periods(&rt, held, other, nth)?;
+    for (held, other, nth) in &WAITS {
+        if held_periods(&rt, *held, *other, *nth).is_err() {
+            held_periods(&rt, *held, *other, *nth)?;
         }
     }
     Ok(())

@@ -3,6 +3,7 @@
 ghost use Rattle.std.specs.Prelude.{◌≡◌, ℕ, ◌==◌, not, true, All, None, IfOk};
 ghost use Rattle.bw_model.specs.Plan.{IsPlan};
 
+use crate::lock_cases::pop_seat;
 use bw_model::{Entry, HostShape, Instance, Row};
 use bw_plan::{Plan, plan};
 use bw_pool::{PoolCall, PoolReply, Short, SlicePool};
@@ -18,22 +19,30 @@ use std::thread::{Threads, join};
 // How often a gate looks whether another worker has come to some point.
 const TURNS: u32 = 100_000_000;
 
-// A group below another one.
-fn group(parent: u32, weight: u64, limit: Option<u64>, demand: u64) -> Row {
-    Row {
-        parent: Some(parent),
-        weight,
-        limit,
-        demand,
-    }
-}
+// The parent, weight, limit and demand of a group.
+type Group = (Option<u32>, u64, Option<u64>, u64);
 
-// A host with 20 slices on each processor, the root over these groups, and their plan.
+const ROOT: Group = (None, 100, None, 0);
+
+// A static table costs its readers no proof; each entry of a local one is a step of it.
+static POD_AND_JOB: [Group; 5] = [
+    ROOT,
+    (Some(0), 100, Some(10), 0),
+    (Some(1), 100, None, 20),
+    (Some(1), 300, None, 20),
+    (Some(0), 100, None, 20),
+];
+
+static TWO_GROUPS: [Group; 3] = [ROOT, (Some(0), 100, None, 20), (Some(0), 200, None, 20)];
+
+static LEAF_OF_THREE: [Group; 2] = [ROOT, (Some(0), 100, None, 3)];
+
+// A host with 20 slices on each processor, these groups, and their plan.
 fn planned(
     rt: &impl Abort,
     alloc: Global,
     processors: u64,
-    groups: &[Row],
+    groups: &[Group],
 ) -> Result<(Instance, Plan), AllocError>
     ensures { IfOk result (λ t. IsPlan t.0 t.1.amounts.items) }
 {
@@ -41,14 +50,13 @@ fn planned(
         panic!(rt; "no host")
     };
     let mut rows = Vec::new(alloc);
-    rows.push(Row {
-        parent: None,
-        weight: 100,
-        limit: None,
-        demand: 0,
-    })?;
-    for row in groups {
-        rows.push(*row)?;
+    for (parent, weight, limit, demand) in groups {
+        rows.push(Row {
+            parent: *parent,
+            weight: *weight,
+            limit: *limit,
+            demand: *demand,
+        })?;
     }
     let Ok(instance) = Instance::new(alloc, rows, shape) else {
         return Err(AllocError);
@@ -61,29 +69,7 @@ fn planned(
 pub(crate) fn pod_and_job(rt: &impl Abort, alloc: Global) -> Result<(Instance, Plan), AllocError>
     ensures { IfOk result (λ t. IsPlan t.0 t.1.amounts.items) }
 {
-    let groups = [
-        group(0, 100, Some(10), 0),
-        group(1, 100, None, 20),
-        group(1, 300, None, 20),
-        group(0, 100, None, 20),
-    ];
-    planned(rt, alloc, 4, &groups)
-}
-
-// Two groups of weights 100 and 200 with a demand of 20 each.
-fn two_groups(
-    rt: &impl Abort,
-    alloc: Global,
-    processors: u64,
-) -> Result<(Instance, Plan), AllocError>
-    ensures { IfOk result (λ t. IsPlan t.0 t.1.amounts.items) }
-{
-    planned(
-        rt,
-        alloc,
-        processors,
-        &[group(0, 100, None, 20), group(0, 200, None, 20)],
-    )
+    planned(rt, alloc, 4, &POD_AND_JOB)
 }
 
 // Serves the plan where memory and threads are there, and asserts what is drawn.
@@ -243,7 +229,7 @@ fn serve_one_waits<R: Threads + Wait + Abort + Sync>(
     held: u32,
     other: u32,
 ) -> Result<(), AllocError> {
-    let (instance, plan) = two_groups(rt, alloc, 2)?;
+    let (instance, plan) = planned(rt, alloc, 2, &TWO_GROUPS)?;
     let gate = held_first(held, other, 0);
     let served = served(rt, alloc, &instance, &plan, &gate, &[40, 20, 20])?;
     assert!(rt; gate.met.load() == 2);
@@ -251,12 +237,15 @@ fn serve_one_waits<R: Threads + Wait + Abort + Sync>(
     Ok(())
 }
 
+// The worker that is held, and the one that it waits for.
+static WAITS: [(u32, u32); 2] = [(0, 1), (1, 0)];
+
 #[test]
 fn one_waits(rt: HostRuntime) -> Result<(), Fail> {
     let alloc = rt.alloc();
-    for (held, other) in [(0, 1), (1, 0)] {
-        if serve_one_waits(&rt, alloc, held, other).is_err() {
-            serve_one_waits(&rt, alloc, held, other)?;
+    for (held, other) in &WAITS {
+        if serve_one_waits(&rt, alloc, *held, *other).is_err() {
+            serve_one_waits(&rt, alloc, *held, *other)?;
         }
     }
     Ok(())
@@ -306,15 +295,15 @@ fn serve_in_row_order<R: Threads + Wait + Abort + Sync>(
     rt: &R,
     alloc: Global,
 ) -> Result<(), AllocError> {
-    let (instance, plan) = two_groups(rt, alloc, 1)?;
+    let (instance, plan) = planned(rt, alloc, 1, &TWO_GROUPS)?;
     let gate = InTurn {
         calls: AtomicCell::new(0),
         astray: AtomicCell::new(false),
     };
     let served = served(rt, alloc, &instance, &plan, &gate, &[20, 7, 13])?;
     assert!(rt; served.history.len() == 21);
-    for (entry, leaf) in served.history.iter().zip(ROUND_AND_ROUND) {
-        assert!(rt; entry.call == PoolCall::Draw { leaf, ask: 1 });
+    for (entry, leaf) in served.history.iter().zip(&ROUND_AND_ROUND) {
+        assert!(rt; matches!(entry.call, PoolCall::Draw { leaf: of, ask: 1 } if of == *leaf));
     }
     // one call of the gate before each draw, and one after it
     assert!(rt; gate.calls.load() == 42 && !gate.astray.load());
@@ -357,17 +346,20 @@ pub(crate) fn pool_of<A: Abort>(
     SlicePool::new(alloc, instance, amounts)
 }
 
+// The replies to the first and to the second call for 2 of a leaf that has 3.
+static WHOLE: PoolReply = PoolReply::Granted {
+    got: 2,
+    short: None,
+};
+
+static REST: PoolReply = PoolReply::Granted {
+    got: 1,
+    short: Some(Short::Group(1)),
+};
+
 // One of two replies to a call for 2 of a leaf that had 3 is all of it, and the other the rest.
 fn assert_two_and_one(rt: &impl Abort, one: PoolReply, other: PoolReply) {
-    let whole = PoolReply::Granted {
-        got: 2,
-        short: None,
-    };
-    let rest = PoolReply::Granted {
-        got: 1,
-        short: Some(Short::Group(1)),
-    };
-    assert!(rt; one == whole && other == rest || one == rest && other == whole);
+    assert!(rt; one == WHOLE && other == REST || one == REST && other == WHOLE);
 }
 
 // A seat makes its last call, which has this reply, and the one after it is refused.
@@ -403,16 +395,28 @@ fn assert_closed<A: Abort>(
     assert!(rt; history.len() == calls);
 }
 
+// A lock round the pool of a leaf with 3 slices, with seats of two calls.
+fn leaf_of_three<A: Abort>(
+    rt: &A,
+    alloc: Global,
+    processors: u64,
+    seats: u32,
+) -> Result<(TicketLock<SlicePool>, Vec<Seat<SlicePool>>), AllocError>
+    ensures { IfOk result (λ t. All (λ s. s.lock_id ≡ t.0.lock_id) t.1.items × All (λ s. s.pending ≡ None) t.1.items) }
+{
+    let (instance, plan) = planned(rt, alloc, processors, &LEAF_OF_THREE)?;
+    let pool = pool_of(rt, alloc, &instance, &plan)?;
+    match open(alloc, pool, seats, 2) {
+        Ok(made) => Ok(made),
+        Err(_) => Err(AllocError),
+    }
+}
+
 // Two threads ask 2 of a leaf that has 3: one gets 2 and the other 1, in one order or the other.
 fn draw_in_two<R: Threads + Wait + Abort + Sync>(rt: &R, alloc: Global) -> Result<(), AllocError> {
-    let (instance, plan) = planned(rt, alloc, 2, &[group(0, 100, None, 3)])?;
-    let pool = pool_of(rt, alloc, &instance, &plan)?;
-    let Ok((lock, mut seats)) = open(alloc, pool, 2, 2) else {
-        return Err(AllocError);
-    };
-    let (Some(second), Some(first)) = (seats.pop(), seats.pop()) else {
-        panic!(rt; "no two seats")
-    };
+    let (lock, mut seats) = leaf_of_three(rt, alloc, 2, 2)?;
+    let second = pop_seat(rt, &lock, &mut seats);
+    let first = pop_seat(rt, &lock, &mut seats);
     let ((first, one), (second, other)) = join(
         rt,
         || ask_two(rt, &lock, first),
@@ -429,20 +433,10 @@ fn draw_in_two<R: Threads + Wait + Abort + Sync>(rt: &R, alloc: Global) -> Resul
 
 // A seat draws 2 of a leaf that has 3 and gives back 3, which it does not hold. Its third call is refused.
 fn give_back_too_many<R: Wait + Abort>(rt: &R, alloc: Global) -> Result<(), AllocError> {
-    let (instance, plan) = planned(rt, alloc, 1, &[group(0, 100, None, 3)])?;
-    let pool = pool_of(rt, alloc, &instance, &plan)?;
-    let Ok((lock, mut seats)) = open(alloc, pool, 1, 2) else {
-        return Err(AllocError);
-    };
-    let Some(seat) = seats.pop() else {
-        panic!(rt; "no seat")
-    };
+    let (lock, mut seats) = leaf_of_three(rt, alloc, 1, 1)?;
+    let seat = pop_seat(rt, &lock, &mut seats);
     let (seat, reply) = ask_two(rt, &lock, seat);
-    let whole = PoolReply::Granted {
-        got: 2,
-        short: None,
-    };
-    assert!(rt; reply == whole);
+    assert!(rt; reply == WHOLE);
     let back = PoolCall::GiveBack { leaf: 1, n: 3 };
     let seat = assert_last(rt, &lock, seat, back, PoolReply::NotHeld { held: 2 });
     let seats = vec![in alloc; seat]?;
