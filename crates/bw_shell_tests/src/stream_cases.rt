@@ -16,8 +16,8 @@ pub(crate) fn host() -> Result<HostShape, Fail> {
     Ok(HostShape::new(1, 100000, 5000)?)
 }
 
-// The lines of one period of one processor, and their answers.
-const ONE_PERIOD: [(&str, &str); 14] = [
+// The lines of one period of one processor, and their answers. A static table costs its readers no proof.
+static ONE_PERIOD: [(&str, &str); 14] = [
     ("mkdir pod", "ok"),
     ("mkdir pod/x", "ok"),
     ("mkdir pod/y", "ok"),
@@ -62,7 +62,7 @@ fn joined(alloc: Global, cases: &[(&str, &str)]) -> Result<(String, String), All
 fn answers_within(alloc: Global, bytes: usize) -> Result<String, AllocError> {
     let mut answers = String::new(alloc);
     let mut end = 0usize;
-    for (line, answer) in ONE_PERIOD {
+    for (line, answer) in &ONE_PERIOD {
         end = end.saturating_add(line.len()).saturating_add(1);
         if end <= bytes {
             answers.push_str(answer)?;
@@ -70,6 +70,18 @@ fn answers_within(alloc: Global, bytes: usize) -> Result<String, AllocError> {
         }
     }
     Ok(answers)
+}
+
+// A run without a fault.
+fn assert_ran(rt: &impl Abort, ran: &Result<(), RunFault>) {
+    assert!(rt; ran.is_ok());
+    assert!(rt; status_of_run(ran) == 0);
+}
+
+// A run that this fault ended.
+fn assert_fault(rt: &impl Abort, ran: &Result<(), RunFault>, fault: RunFault) {
+    assert!(rt; matches!(ran, Err(why) if *why == fault));
+    assert!(rt; status_of_run(ran) == 1);
 }
 
 // A run over a reader that gives at most so many bytes a call, and fails after so many in all.
@@ -93,18 +105,12 @@ fn assert_read<R: AllocGlobal + Threads + Wait + Abort + Sync>(
     let result = run(rt, &mut reader, &mut writer, host()?);
     let failed = reader.failed();
     let answers = answers_within(rt.alloc(), left)?;
-    assert_eq!(rt;
-        str::from_utf8(out.as_slice()),
-        Ok(answers.as_str()),
-        "at {left}"
-    );
-    assert_eq!(rt; failed, left <= script.len(), "at {left}");
+    assert!(rt; out.as_slice() == answers.as_bytes());
+    assert!(rt; failed == (left <= script.len()));
     if failed {
-        assert_eq!(rt; result, Err(RunFault::Read), "at {left}");
-        assert_eq!(rt; status_of_run(&result), 1);
+        assert_fault(rt, &result, RunFault::Read);
     } else {
-        assert_eq!(rt; result, Ok(()), "at {most}");
-        assert_eq!(rt; status_of_run(&result), 0);
+        assert_ran(rt, &result);
     }
     Ok(())
 }
@@ -144,46 +150,41 @@ fn assert_written<R: AllocGlobal + Threads + Wait + Abort + Sync>(
     let failed = writer.failed();
     let stalled = writer.stalled();
     let is_cut = left < calls;
-    assert_eq!(rt; failed, is_cut && !stalls, "at {left}");
-    assert_eq!(rt; stalled, is_cut && stalls, "at {left}");
+    assert!(rt; failed == (is_cut && !stalls));
+    assert!(rt; stalled == (is_cut && stalls));
     if is_cut {
-        assert_eq!(rt; result, Err(RunFault::Write), "at {left}");
-        assert_eq!(rt; status_of_run(&result), 1);
-        assert!(rt;
-            answers.as_bytes().starts_with(out.bytes.as_slice()),
-            "at {left}"
-        );
+        assert_fault(rt, &result, RunFault::Write);
+        assert!(rt; answers.as_bytes().starts_with(out.bytes.as_slice()));
     } else {
-        assert_eq!(rt; result, Ok(()), "at {left}");
-        assert_eq!(rt;
-            str::from_utf8(out.bytes.as_slice()),
-            Ok(answers),
-            "at {left}"
-        );
+        assert_ran(rt, &result);
+        assert!(rt; out.bytes.as_slice() == answers.as_bytes());
     }
     Ok(())
 }
 
+// How many bytes the writer takes a call, whether it stalls or fails, and how many calls write all answers.
+static WRITERS: [(usize, bool, usize); 5] = [
+    (1, false, 605),
+    (2, true, 308),
+    (5, false, 126),
+    (1000, false, 14),
+    (1000, true, 14),
+];
+
 #[test]
 fn a_writer_that_fails_or_stalls(rt: HostRuntime) -> Result<(), Fail> {
     let (script, answers) = joined(rt.alloc(), &ONE_PERIOD)?;
-    for (most, stalls, calls) in [
-        (1, false, 605),
-        (2, true, 308),
-        (5, false, 126),
-        (1000, false, 14),
-        (1000, true, 14),
-    ] {
-        for left in 0..calls + 2usize {
+    for (most, stalls, calls) in &WRITERS {
+        for left in 0..calls.saturating_add(2) {
             let mut out = Choked {
                 bytes: Vec::new(rt.alloc()),
-                most,
+                most: *most,
                 left,
-                stalls,
+                stalls: *stalls,
             };
-            assert_written(&rt, script.as_str(), answers.as_str(), &mut out, calls)?;
-            if most == 1 {
-                assert_eq!(rt; out.bytes.len(), left.min(calls), "at {left}");
+            assert_written(&rt, script.as_str(), answers.as_str(), &mut out, *calls)?;
+            if *most == 1 {
+                assert!(rt; out.bytes.len() == left.min(*calls));
             }
         }
     }
