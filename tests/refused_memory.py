@@ -21,6 +21,9 @@ ENDED = "ended out of memory"
 # A sweep that refuses fewer allocations than this has fallen to nothing.
 LEAST_REFUSED = {"run": 100, "check": 30, "words": 20}
 
+# How often the start of a thread takes memory: for what the thread is given, and for its stack.
+START_TAKES = 2
+
 # The commands that take memory. `rmdir`, `demand` and `write` take none, and so are never refused for it.
 TAKE_MEMORY = ["mkdir", "read", "total", "plan", "cert", "period", "report"]
 
@@ -96,8 +99,9 @@ WIDE_PLAN = "".join(["64000 .\n32000 g0\n32000 g1\n", *(f"{16 if at < 2560 else 
 WIDE_REFUSED, LEAST_WIDE = 60, 20
 
 
-def swept(name, job, library, words, given, allowed, wanted):
-    """Refuses each allocation of one run; answers what is wrong. `allowed` has each answer that may come, with its kind."""
+def swept(name, job, library, words, given, allowed, wanted, at_most=()):
+    """Refuses each allocation of one run; answers what is wrong. `allowed` has each answer that may come, with its kind;
+    `at_most` has how often a kind may come."""
     answers = refused_in_turn(library, words, given)
     kinds = collections.Counter(allowed.get(answer, "wrong") for answer in answers.values())
     told = ", ".join(f"{kind} {number}" for kind, number in sorted(kinds.items()))
@@ -108,12 +112,16 @@ def swept(name, job, library, words, given, allowed, wanted):
         return f"{len(wrong)} wrong; allocation {number}: status {status}, {out[-300:]!r}, {err[:300]!r}"
     if len(answers) < LEAST_REFUSED[job]:
         return f"only {len(answers)} allocations were refused"
+    many = [f"{kind} {kinds[kind]} times" for kind, most in at_most if kinds[kind] > most]
+    if many:
+        return f"too often: {many}"
     missing = sorted(set(wanted) - set(kinds))
     return f"never seen: {missing}" if missing else None
 
 
 def run_swept(name, library, words, lines):
-    """`run` on a script, each of its allocations refused. Each of its commands that take memory has to be the one once."""
+    """`run` on a script, each of its allocations refused. Each of its commands that take memory has to be the one once. On one
+    processor a period starts one thread, and answers 70 only where the memory of that start is refused."""
     given = b"".join(lines)
     allowed = {(0, transcript(words, lines), b""): "the same answer"}
     for verb, answer in in_place_of_a_line(words, lines, NO_MEMORY, TAKE_MEMORY).values():
@@ -123,7 +131,9 @@ def run_swept(name, library, words, lines):
     allowed.update({WORDS_REFUSED: "words not read", MEMORY: ENDED})
     verbs = {line.split()[0].decode() for line in lines}
     wanted = [f"71 at {verb}" for verb in TAKE_MEMORY if verb in verbs]
-    return swept(name, "run", library, words, given, allowed, [ENDED, "70 at period", *wanted])
+    starts = [line.split()[0] for line in lines].count(b"period")
+    at_most = [("70 at period", starts * START_TAKES)] if words == ["run"] else []
+    return swept(name, "run", library, words, given, allowed, [ENDED, "70 at period", *wanted], at_most)
 
 
 def plan_in_pieces_swept(library):

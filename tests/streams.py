@@ -230,6 +230,10 @@ def main():
         answers = transcript(["run"], [SCRIPT])
         for name, nth, wanted in [("REFUSE_READ", 1, b""), ("REFUSE_READ", 2, answers), ("REFUSE_WRITE", 1, answers)]:
             cases.case(f"run, {name} {nth}", failed_once, library, ["run"], SCRIPT, name, nth, wanted)
+        # more than the buffer of standard output holds, so that a write comes while lines are left
+        many = b"frob\n" * 600
+        answers = transcript(["run"], [many])
+        cases.case("run, REFUSE_WRITE 1, with more answers than are buffered", failed_once, library, ["run"], many, "REFUSE_WRITE", 1, answers)
         for nth in (1, 2):
             cases.case(f"check, REFUSE_READ {nth}", failed_once, library, ["check"], TWO_CERTIFIED, "REFUSE_READ", nth, b"")
     cases.case("run, a reader that goes away", reader_goes_away)

@@ -1,4 +1,5 @@
-//! The script of one period over readers and writers that fail.
+//! The script of one period over readers and writers that fail. The period needs a thread: where the machine refuses one, the
+//! answer is another, and a test ends at its assertion.
 ghost use Rattle.std.specs.Prelude.{◌<◌};
 
 use crate::streams::{Broken, Choked};
