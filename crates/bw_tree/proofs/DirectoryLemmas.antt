@@ -13,11 +13,7 @@ use Rattle.bw_tree.specs.declared.namesakes.Namesakes.{Namesakes}
 use Rattle.bw_tree.specs.declared.namesakes.Namesakes.TheVariants.{One, Many}
 use Rattle.bw_tree.specs.Fingerprints.{NamesakesMap, fingerprint, among, named_in, named_at, entry_at, AreSome, AreInPlace}
 use Rattle.bw_tree.proofs.ChildIndexLemmas.{some_text, no_text, none_in}
-
--- what is there
-pub some_of : {V : Type 0} (o : Option V) → is_some o ≡ true → (v : V) × (o ≡ Some v)
-some_of (Some v) there = (v, refl)
-some_of None there = absurd (cc)
+use Rattle.bw_tree.proofs.GroupLemmas.{some_of}
 
 -- nothing is there
 pub none_is : (o : Option ℕ) → is_some o ≡ true → o ≡ None → ⊥
