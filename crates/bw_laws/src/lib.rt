@@ -6,13 +6,9 @@ mod counted;
 mod flagged;
 mod given;
 mod joined;
-mod numbers;
 
 pub use best_split::{level_shows_best, marks_agree};
 pub use counted::new_groups_count_nothing;
 pub use flagged::bounds_cover_mosts;
 pub use given::ids_are_given_once;
 pub use joined::cert_is_accepted;
-pub use numbers::{
-    group_numbers, host_numbers, lock_numbers, script_numbers, split_numbers, tree_numbers,
-};

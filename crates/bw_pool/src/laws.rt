@@ -8,6 +8,7 @@ ghost use Rattle.bw_pool.specs.Drained.{IsDrawnOut, DrainedWorkersDrawTheAmounts
 ghost use Rattle.bw_pool.specs.Seats.{start, run, takes};
 ghost use Rattle.bw_pool.specs.Schedules.{IsOneThread};
 
+use crate::seats::MAX_SEATS;
 use bw_model::Machine;
 
 /// In every schedule, drained workers leave the amounts at the leaves that are used, and nothing at the others: any amounts of which
@@ -40,4 +41,9 @@ pub fn holdings_add_up()
 pub fn every_schedule<M: Machine>()
     ensures { (m : M) (seats : ℕ) (events : List (CoreEvent M.Call)) →
         IsOneThread M.after M.answer m (takes M.after M.answer (start seats m) events) (run M.after M.answer (start seats m) events) }
+{}
+
+/// A pool: up to 64 seats, one for each processor. The definitions read the number from the code.
+pub fn pool_numbers()
+    ensures { MAX_SEATS ≡ 64 }
 {}

@@ -12,6 +12,7 @@ pub use calls::{PoolCall, PoolReply, Refusal, Short};
 pub use interleaving::Core;
 pub use laws::{
     drained_workers, every_schedule, holdings_add_up, never_past_the_plan, one_drawn_list,
+    pool_numbers,
 };
 pub use pool::SlicePool;
 pub use seats::{CoreEvent, MAX_SEATS, Phase};

@@ -15,6 +15,6 @@ mod work;
 
 pub use by_marks::split_by_marks;
 pub use conditions::{can_split, fits_in};
-pub use laws::no_move_gains;
+pub use laws::{no_move_gains, split_numbers};
 pub use level::level_of;
 pub use work::{Work, split, split_counted};

@@ -1,7 +1,9 @@
-//! The laws of how the lock's seats wait: each is the contract of a function that does nothing.
+//! The laws of how the lock's seats wait, and its limits: each is the contract of a function that does nothing.
+ghost use Rattle.std.specs.Prelude.{◌≡◌};
 ghost use Rattle.bw_ticket.specs.Follows.{StepsAreEvents};
 ghost use Rattle.bw_ticket.specs.UnderWay.{NoWakeIsLostInLock};
 
+use crate::limits::{MAX_CALLS, MAX_SEATS};
 use bw_model::Machine;
 
 /// Each step of a waiting or leaving seat is the event of the waiting protocol of `bw_wake` that has its name: in every state of that protocol
@@ -18,4 +20,10 @@ pub fn steps_are_events<M: Machine>()
 /// marks stand, it is so with no condition.
 pub fn no_wake_is_lost<M: Machine>()
     ensures { NoWakeIsLostInLock M.after M.answer }
+{}
+
+/// A lock: up to 64 seats, and up to 65536 calls of each. The definitions read both from the code.
+pub fn lock_numbers()
+    ensures seats { MAX_SEATS ≡ 64 }
+    ensures calls { MAX_CALLS ≡ 65536 }
 {}

@@ -1,7 +1,10 @@
 //! Laws about the definitions, each the contract of a function that does nothing.
+ghost use Rattle.std.specs.Prelude.{◌≡◌};
 ghost use Rattle.bw_tree.specs.Booked.{IsBoundedByBurst, IsBoundedByCarry, IsCarryBounded, IsLeftOver, AreLimitsQuotas, IsCarryUnseen, KeepsNoBurst};
 ghost use Rattle.bw_tree.specs.Groups.{TreeState, IsTree};
 ghost use Rattle.bw_tree.specs.Paths.{IsInverse, AreNamesUnique};
+
+use crate::limits::{DEFAULT_PERIOD_US, DEFAULT_WEIGHT, FIRST_ID, MAX_NAME};
 
 /// In each tree the path of a group finds that group, and no other path does; and siblings have different names.
 pub fn paths_are_exact()
@@ -26,4 +29,13 @@ pub fn carries_need_a_burst()
     ensures limits { AreLimitsQuotas }
     ensures unseen { IsCarryUnseen }
     ensures stays { KeepsNoBurst }
+{}
+
+/// A new group: a name of up to 255 bytes, the weight 100, a period of its own of 100 milliseconds; the first one's id is 1. The
+/// definitions read these numbers from the code.
+pub fn new_group_numbers()
+    ensures name { MAX_NAME ≡ 255 }
+    ensures first_id { FIRST_ID ≡ 1 }
+    ensures first_weight { DEFAULT_WEIGHT ≡ 100 }
+    ensures first_period { DEFAULT_PERIOD_US ≡ 100000 }
 {}

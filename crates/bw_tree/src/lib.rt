@@ -14,5 +14,5 @@ mod tree;
 
 pub use fault::TreeFault;
 pub use group::{Group, GroupId};
-pub use laws::{bursts_are_bounded, carries_need_a_burst, paths_are_exact};
+pub use laws::{bursts_are_bounded, carries_need_a_burst, new_group_numbers, paths_are_exact};
 pub use tree::{Snapshot, Tree, is_drawn_within, split_front};
