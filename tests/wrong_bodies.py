@@ -10,13 +10,16 @@ file of lines:
   by: the clause or test that refuses it
   check: CRATE PATH..     `rt check --only PATH ..` in crates/CRATE has to end with status 1, or
   try: CRATE              `rt try --test` in crates/CRATE has to fail, or
-  cases: FILE..           the body is proved, and of `./build` and files of cases in tests/ one of the files has to fail
+  cases: FILE..           the body is proved, and of `./build` and files of cases in tests/ one of the files has to fail, or
+  run: WORDS..            the program, built with checks and not proved, is given the words and the lines that follow
+  in: LINE                a line of its standard input
+  says: TEXT              stands in what it says with the body, and not without it
   file: PATH              what follows changes this file
   old: TEXT               stands there exactly once (space at both ends is not a part of it)
   new: TEXT               the wrong body, in its place
   neutral: TEXT           a right body in the same place, which has to be proved or to pass (optional)
 
-It is no part of ./test: a body costs from ten seconds to two minutes.
+It is no part of ./test: a body costs from ten seconds to two minutes, one with a build some minutes.
 """
 import os
 import subprocess
@@ -33,6 +36,7 @@ class Body:
         self.name = path.stem
         self.what = self.by = ""
         self.kind, self.words = "", []
+        self.lines, self.says = [], ""
         self.edits = []
         file = None
         for line in path.read_text().splitlines():
@@ -42,8 +46,12 @@ class Body:
                 self.what = rest
             elif word == "by":
                 self.by = rest
-            elif word in ("check", "try", "cases"):
+            elif word in ("check", "try", "cases", "run"):
                 self.kind, self.words = word, rest.split()
+            elif word == "in":
+                self.lines.append(rest)
+            elif word == "says":
+                self.says = rest
             elif word == "file":
                 file = rest
             elif word == "old":
@@ -56,7 +64,8 @@ class Body:
             raise SystemExit(f"{path.name}: no command or no change")
 
     def has_neutral(self):
-        return any(edit["neutral"] is not None for edit in self.edits)
+        # what a run says is told wrong by what it says without the body
+        return self.kind == "run" or any(edit["neutral"] is not None for edit in self.edits)
 
 
 def changed(clone, body, key):
@@ -82,14 +91,23 @@ def run(clone, body):
     elif body.kind == "try":
         command = ["rt", "try", "--test"]
         folder = clone / "crates" / body.words[0]
+    elif body.kind == "run":
+        command = ["rt", "try", "--", *body.words]
+        folder = clone / "crates" / "arbiter"
     else:
         command = ["bash", "-c", "./build || exit 2; " + " && ".join(f"python3 tests/{file}" for file in body.words)]
         folder = clone
     try:
-        done = subprocess.run(command, cwd=folder, capture_output=True, timeout=SECONDS, stdin=subprocess.DEVNULL)
+        lines = "".join(f"{line}\n" for line in body.lines).encode()
+        done = subprocess.run(command, cwd=folder, capture_output=True, timeout=SECONDS, input=lines)
     except subprocess.TimeoutExpired:
         return "no end", ""
-    return done.returncode, (done.stdout + done.stderr).decode(errors="replace")
+    said = (done.stdout + done.stderr).decode(errors="replace")
+    if body.kind == "run":
+        if "checked: ended" not in said:
+            return 2, said
+        return int(body.says in said.splitlines()), said
+    return done.returncode, said
 
 
 def tried(clone, body, key):
@@ -126,8 +144,9 @@ def main():
     for path in paths:
         body = Body(path)
         status, said = tried(clone, body, "new")
-        # status 1 is 'not proved' of a check; a test that fails may end in other ways, but never in 2 ('judged nothing')
-        right = status == 1 if body.kind == "check" else status not in (0, 2)
+        # status 1 is 'not proved' of a check, and a wrong answer of a run; a test that fails may end in other ways, but never
+        # in 2 ('judged nothing')
+        right = status == 1 if body.kind in ("check", "run") else status not in (0, 2)
         note = first_goal(said)
         if right and body.has_neutral():
             neutral, said = tried(clone, body, "neutral")
