@@ -264,12 +264,12 @@ def leaves_other_crates_out(copy):
     """The crates of tests are no part of the program."""
     copy.build()
     others = set(copy.crates) - copy.ours
-    same({"bw_core_tests", "bw_tree_tests", "plan_bench"} <= others and not {"bw_shell", "bw_model"} & others, True, f"other crates: {others}")
+    same({"bw_core_tests", "bw_group_tests", "plan_bench"} <= others and not {"bw_shell", "bw_model"} & others, True, f"other crates: {others}")
     for crate in sorted(others):
         for path in copy.sources(crate):
             copy.write(path, "edited\n")
     copy.is_native("edits of tests")
-    copy.write("crates.txt", copy.read("crates.txt").replace("bw_tree_tests: bw_model", "bw_tree_tests: bw_text bw_model") + "more_tests: bw_model\n")
+    copy.write("crates.txt", copy.read("crates.txt").replace("bw_check_tests: bw_model", "bw_check_tests: bw_text bw_model") + "more_tests: bw_model\n")
     copy.is_native("lines of tests in crates.txt")
 
 

@@ -1,12 +1,10 @@
 //! What groups want, what limits them, against worked values.
+use crate::rows::{Shown, instance_of};
 use bw_demand::{gather, limiting};
-use bw_model::{HostShape, Instance, InstanceFault, Row};
-use std::alloc::{AllocError, Global};
+use bw_model::{HostShape, InstanceFault};
+use std::alloc::Global;
 use std::process::Abort;
 use std::test::Fail;
-
-/// The parent, limit and demand of a row of weight 100.
-type Shown = (Option<u32>, Option<u64>, u64);
 
 /// So many processors of 20 slices each, rows, and what is gathered of them and limits it.
 struct Case {
@@ -19,26 +17,13 @@ struct Case {
     rest: u64,
 }
 
-fn rows_of(alloc: Global, shown: &[Shown]) -> Result<Vec<Row>, AllocError> {
-    let mut rows = Vec::new(alloc);
-    for (parent, limit, demand) in shown {
-        rows.push(Row {
-            parent: *parent,
-            weight: 100,
-            limit: *limit,
-            demand: *demand,
-        })?;
-    }
-    Ok(rows)
-}
-
 fn assert_once(
     rt: &impl Abort,
     alloc: Global,
     shape: HostShape,
     case: &Case,
 ) -> Result<(), InstanceFault> {
-    let instance = Instance::new(alloc, rows_of(alloc, case.rows)?, shape)?;
+    let instance = instance_of(alloc, shape, case.rows)?;
     let gathered = gather(alloc, &instance)?;
     assert!(rt; gathered.want.as_slice() == case.want);
     assert!(rt; gathered.most.as_slice() == case.most);

@@ -1,35 +1,25 @@
 //! The levels of a tree, against worked values.
+use crate::rows::{Shown, instance_of};
 use bw_demand::levels;
-use bw_model::{HostShape, Instance, InstanceFault, Row};
+use bw_model::{HostShape, InstanceFault};
 use std::alloc::Global;
 use std::process::Abort;
 use std::test::Fail;
 
-/// The parents of a group over two leaves, and of a leaf beside it that was made last.
-static PARENTS: [Option<u32>; 5] = [None, Some(0), Some(1), Some(1), Some(0)];
+/// A group over two leaves, and a leaf beside it that was made last.
+static ROWS: [Shown; 5] = [
+    (None, None, 0),
+    (Some(0), None, 0),
+    (Some(1), None, 0),
+    (Some(1), None, 0),
+    (Some(0), None, 0),
+];
 
 /// The rows of each depth.
 static LEVELS: [&[u32]; 3] = [&[0], &[1, 4], &[2, 3]];
 
-fn instance_of(
-    alloc: Global,
-    shape: HostShape,
-    parents: &[Option<u32>],
-) -> Result<Instance, InstanceFault> {
-    let mut rows = Vec::new(alloc);
-    for parent in parents {
-        rows.push(Row {
-            parent: *parent,
-            weight: 100,
-            limit: None,
-            demand: 0,
-        })?;
-    }
-    Instance::new(alloc, rows, shape)
-}
-
 fn assert_levels(rt: &impl Abort, alloc: Global, shape: HostShape) -> Result<(), InstanceFault> {
-    let found = levels(alloc, &instance_of(alloc, shape, &PARENTS)?)?;
+    let found = levels(alloc, &instance_of(alloc, shape, &ROWS)?)?;
     assert!(rt; found.len() == 3);
     for (level, rows) in found.iter().zip(&LEVELS) {
         assert!(rt; level.as_slice() == *rows);

@@ -11,4 +11,6 @@ mod model_cases;
 #[cfg(test)]
 mod pool_cases;
 #[cfg(test)]
+mod rows;
+#[cfg(test)]
 mod split_cases;

@@ -123,36 +123,66 @@ fn deep_rows(rt: HostRuntime) -> Result<(), Fail> {
     Ok(())
 }
 
-const BUSY: Row = Row {
-    parent: Some(1),
-    weight: 100,
-    limit: Some(10),
-    demand: 20,
-};
+/// A group over two leaves, and a leaf beside it.
+static FIVE: [Row; 5] = [
+    Row {
+        parent: None,
+        weight: 100,
+        limit: None,
+        demand: 0,
+    },
+    Row {
+        parent: Some(0),
+        weight: 100,
+        limit: None,
+        demand: 0,
+    },
+    Row {
+        parent: Some(1),
+        weight: 100,
+        limit: Some(10),
+        demand: 20,
+    },
+    Row {
+        parent: Some(0),
+        weight: 100,
+        limit: None,
+        demand: 0,
+    },
+    Row {
+        parent: Some(1),
+        weight: 100,
+        limit: None,
+        demand: 0,
+    },
+];
 
 static CHILDREN: [&[u32]; 5] = [&[1, 3], &[2, 4], &[], &[], &[]];
 
 static PATHS: [&[u32]; 5] = [&[0], &[1, 0], &[2, 1, 0], &[3, 0], &[4, 1, 0]];
 
+/// What the readers tell of one group. They borrow the instance, which a test that owns it would drop at each assertion.
+fn assert_reads(rt: &impl Abort, instance: &Instance, g: u32, children: &[u32], path: &[u32]) {
+    assert!(rt; g < instance.group_count());
+    assert!(rt; instance.children(g) == children);
+    assert!(rt; instance.is_leaf(g) == children.is_empty());
+    assert!(rt; instance.path_up(g).as_slice() == path);
+}
+
+fn assert_readers(rt: &impl Abort, instance: &Instance) {
+    assert!(rt; instance.rows().len() == 5);
+    assert!(rt; instance.row(2) == FIVE[2]);
+    assert!(rt; instance.shape().capacity() == 20);
+    let mut g = 0;
+    for (children, path) in CHILDREN.iter().zip(&PATHS) {
+        assert_reads(rt, instance, g, children, path);
+        g = g.saturating_add(1);
+    }
+}
+
 #[test]
 fn readers(rt: HostRuntime) -> Result<(), Fail> {
-    let rows = [
-        idle(None),
-        idle(Some(0)),
-        BUSY,
-        idle(Some(0)),
-        idle(Some(1)),
-    ];
-    let instance = made(rt.alloc(), &rows)?;
-    assert!(rt; instance.rows().len() == 5);
-    assert!(rt; instance.row(2) == BUSY);
-    assert!(rt; instance.shape().capacity() == 20);
-    for g in 0..5u32 {
-        let children = CHILDREN[g as usize];
-        assert!(rt; instance.children(g) == children);
-        assert!(rt; instance.is_leaf(g) == children.is_empty());
-        assert!(rt; instance.path_up(g).as_slice() == PATHS[g as usize]);
-    }
+    assert_readers(&rt, &made(rt.alloc(), &FIVE)?);
     Ok(())
 }
 

@@ -2,7 +2,8 @@
 //! Where one allocation is refused a case is run once more, so that each holds with any one of its allocations failing.
 ghost use Rattle.std.specs.Prelude.{◌≤◌, length};
 
-use bw_model::{HostShape, Instance, InstanceFault, Machine, Row};
+use crate::rows::{Shown, instance_of};
+use bw_model::{HostShape, Machine};
 use bw_pool::{
     Core, CoreEvent, PoolCall, PoolReply, Refusal, Short, SlicePool, drained_workers,
     every_schedule, holdings_add_up, never_past_the_plan, one_drawn_list,
@@ -11,34 +12,17 @@ use std::alloc::{AllocError, Global};
 use std::process::Abort;
 use std::test::Fail;
 
-/// A host with periods of so many microseconds, and groups by their parents, with amounts in slices of 5000 microseconds.
+/// A host with periods of so many microseconds, and groups, with amounts in slices of 5000 microseconds.
 #[derive(Clone, Copy)]
 struct Setting {
     processors: u64,
     period_us: u64,
-    parents: &'static [Option<u32>],
+    rows: &'static [Shown],
     amounts: &'static [u64],
 }
 
 /// A call of a seat, and the reply that it is to have.
 type Wanted = (u32, PoolCall, PoolReply);
-
-fn instance_of(
-    alloc: Global,
-    shape: HostShape,
-    parents: &[Option<u32>],
-) -> Result<Instance, InstanceFault> {
-    let mut rows = Vec::new(alloc);
-    for parent in parents {
-        rows.push(Row {
-            parent: *parent,
-            weight: 100,
-            limit: None,
-            demand: 0,
-        })?;
-    }
-    Instance::new(alloc, rows, shape)
-}
 
 /// Asserts that a pool's readers say that nothing is drawn and that the amounts are the ceilings.
 fn assert_new(rt: &impl Abort, pool: &SlicePool, amounts: &[u64], groups: u32, processors: u32)
@@ -60,7 +44,7 @@ fn opened(rt: &impl Abort, alloc: Global, setting: &Setting) -> Result<SlicePool
     let Ok(shape) = HostShape::new(setting.processors, setting.period_us, 5000) else {
         panic!(rt; "no host")
     };
-    let Ok(instance) = instance_of(alloc, shape, setting.parents) else {
+    let Ok(instance) = instance_of(alloc, shape, setting.rows) else {
         return Err(AllocError);
     };
     assert!(rt; setting.amounts.len() == instance.rows().len());
@@ -81,6 +65,12 @@ fn step<M: Machine>(machine: &mut M, seat: u32, call: &M::Call) -> M::Reply {
     machine.step(seat, call)
 }
 
+/// Asserts that an event is possible, and has it happen.
+fn happens(rt: &impl Abort, core: &mut Core, event: CoreEvent<PoolCall>) -> Result<(), AllocError> {
+    assert!(rt; core.event(event)?);
+    Ok(())
+}
+
 /// One whole call of a seat, by its four events.
 fn call_by_events(
     rt: &impl Abort,
@@ -88,19 +78,44 @@ fn call_by_events(
     seat: u32,
     call: PoolCall,
 ) -> Result<(), AllocError> {
-    let events = [
-        CoreEvent::Take { seat, call },
-        CoreEvent::Enter { seat },
-        CoreEvent::Apply { seat },
-        CoreEvent::Leave { seat },
-    ];
-    for event in events {
-        assert!(rt; core.event(event)?);
+    happens(rt, core, CoreEvent::Take { seat, call })?;
+    happens(rt, core, CoreEvent::Enter { seat })?;
+    happens(rt, core, CoreEvent::Apply { seat })?;
+    happens(rt, core, CoreEvent::Leave { seat })
+}
+
+/// Asserts the replies of a pool by single steps, and what is drawn of each group in the end.
+fn assert_steps(rt: &impl Abort, pool: &mut SlicePool, calls: &[Wanted], drawn: &[u64]) {
+    for (seat, call, reply) in calls {
+        assert!(rt; step(pool, *seat, call) == *reply);
     }
+    assert!(rt; pool.all_drawn() == drawn);
+}
+
+/// The same by the core.
+fn assert_events(
+    rt: &impl Abort,
+    core: &mut Core,
+    calls: &[Wanted],
+    drawn: &[u64],
+) -> Result<(), AllocError> {
+    for (seat, call, _) in calls {
+        call_by_events(rt, core, *seat, *call)?;
+    }
+    assert!(rt; core.pool().all_drawn() == drawn);
+    assert_history(rt, core, calls);
     Ok(())
 }
 
-/// Asserts the replies to calls from a new pool, and what is drawn of each group in the end, by steps and by the core.
+/// Asserts that these calls were made in this order, with these replies.
+fn assert_history(rt: &impl Abort, core: &Core, calls: &[Wanted]) {
+    assert!(rt; core.history().len() == calls.len());
+    for (entry, (seat, call, reply)) in core.history().iter().zip(calls) {
+        assert!(rt; entry.seat == *seat && entry.call == *call && entry.reply == *reply);
+    }
+}
+
+/// Asserts both from a new pool.
 fn assert_replies(
     rt: &impl Abort,
     alloc: Global,
@@ -108,19 +123,9 @@ fn assert_replies(
     calls: &[Wanted],
     drawn: &[u64],
 ) -> Result<(), AllocError> {
-    let mut pool = opened(rt, alloc, setting)?;
+    assert_steps(rt, &mut opened(rt, alloc, setting)?, calls, drawn);
     let mut core = Core::new(alloc, opened(rt, alloc, setting)?, 2)?;
-    for (seat, call, reply) in calls {
-        assert!(rt; step(&mut pool, *seat, call) == *reply);
-        call_by_events(rt, &mut core, *seat, *call)?;
-    }
-    assert!(rt; pool.all_drawn() == drawn);
-    assert!(rt; core.pool().all_drawn() == drawn);
-    assert!(rt; core.history().len() == calls.len());
-    for (entry, (seat, call, reply)) in core.history().iter().zip(calls) {
-        assert!(rt; entry.seat == *seat && entry.call == *call && entry.reply == *reply);
-    }
-    Ok(())
+    assert_events(rt, &mut core, calls, drawn)
 }
 
 /// The same, once more where memory was refused.
@@ -141,7 +146,7 @@ fn assert_case(
 static LEAF_WITH_THREE: Setting = Setting {
     processors: 1,
     period_us: 100_000,
-    parents: &[None, Some(0)],
+    rows: &[(None, None, 0), (Some(0), None, 0)],
     amounts: &[3, 3],
 };
 
@@ -149,7 +154,7 @@ static LEAF_WITH_THREE: Setting = Setting {
 static SHARED_LEAF: Setting = Setting {
     processors: 2,
     period_us: 100_000,
-    parents: &[None, Some(0)],
+    rows: &[(None, None, 0), (Some(0), None, 0)],
     amounts: &[3, 3],
 };
 
@@ -207,7 +212,7 @@ fn shared_leaf(rt: HostRuntime) -> Result<(), Fail> {
 static CHAIN: Setting = Setting {
     processors: 1,
     period_us: 100_000,
-    parents: &[None, Some(0), Some(1)],
+    rows: &[(None, None, 0), (Some(0), None, 0), (Some(1), None, 0)],
     amounts: &[3, 3, 3],
 };
 
@@ -287,7 +292,7 @@ static HELD: [Wanted; 4] = [
 static SHORT: Setting = Setting {
     processors: 2,
     period_us: 5000,
-    parents: &[None, Some(0)],
+    rows: &[(None, None, 0), (Some(0), None, 0)],
     amounts: &[2, 2],
 };
 
@@ -444,10 +449,7 @@ fn stand(core: &Core) -> (u64, u64, usize) {
 /// Asserts that both calls were made, first that of seat 0.
 fn assert_played(rt: &impl Abort, core: &Core) {
     assert!(rt; core.next() == 2 && core.serving() == 2);
-    assert!(rt; core.history().len() == 2);
-    for (entry, (seat, call, reply)) in core.history().iter().zip(&FIRST_COMES_FIRST) {
-        assert!(rt; entry.seat == *seat && entry.call == *call && entry.reply == *reply);
-    }
+    assert_history(rt, core, FIRST_COMES_FIRST.split_at(2).0);
     assert!(rt; core.pool().held(0, 1) == 2);
     assert!(rt; core.pool().held(1, 1) == 1);
 }

@@ -1,45 +1,65 @@
 //! Texts of a group's files that no script line holds: with line breaks, and with counters at their greatest value.
 use bw_files::{MaxWrite, read_burst, read_max, read_weight, write_stat};
 use bw_model::{Quota, Stat};
+use std::alloc::Global;
+use std::process::Abort;
 use std::test::Fail;
+
+// Static tables cost their readers no proof; each entry of a local one is a step of it. Of a refusal its number is told.
+static WEIGHTS: [(&[u8], Result<u64, u8>); 2] = [(b" 100\n", Ok(100)), (b" \t\n", Err(17))];
+
+static BURSTS: [(&[u8], Result<u64, u8>); 2] = [(b"\n25000 \n", Ok(25_000)), (b"1\n2", Err(16))];
+
+static MAXIMA: [(&[u8], Result<MaxWrite, u8>); 2] = [
+    (
+        b"\tmax \n 1000\n",
+        Ok(MaxWrite {
+            quota: Quota::Max,
+            period: Some(1000),
+        }),
+    ),
+    (b"\t\n ", Err(17)),
+];
 
 /// A line break is a blank.
 #[test]
 fn line_breaks(rt: HostRuntime) {
-    assert!(rt; read_weight(b" 100\n") == Ok(100));
-    assert!(rt; read_weight(b" \t\n").map_err(|fault| fault.number()) == Err(17));
-    assert!(rt; read_burst(b"\n25000 \n") == Ok(25_000));
-    assert!(rt; read_burst(b"1\n2").map_err(|fault| fault.number()) == Err(16));
-    let asked = MaxWrite {
-        quota: Quota::Max,
-        period: Some(1000),
-    };
-    assert!(rt; read_max(b"\tmax \n 1000\n") == Ok(asked));
-    assert!(rt; read_max(b"\t\n ").map_err(|fault| fault.number()) == Err(17));
+    for (text, wanted) in &WEIGHTS {
+        assert!(rt; read_weight(text).map_err(|fault| fault.number()) == *wanted);
+    }
+    for (text, wanted) in &BURSTS {
+        assert!(rt; read_burst(text).map_err(|fault| fault.number()) == *wanted);
+    }
+    for (text, wanted) in &MAXIMA {
+        assert!(rt; read_max(text).map_err(|fault| fault.number()) == *wanted);
+    }
 }
 
-const GREATEST: &str =
+static GREATEST: Stat = Stat {
+    usage_usec: u64::MAX,
+    nr_periods: 1,
+    nr_throttled: 2,
+    throttled_usec: u64::MAX,
+    nr_bursts: 3,
+    burst_usec: u64::MAX,
+};
+
+static OF_THE_ROOT: &str = "usage_usec 18446744073709551615\n";
+
+static OF_A_GROUP: &str =
     "usage_usec 18446744073709551615\nnr_periods 1\nnr_throttled 2\nthrottled_usec 18446744073709551615\nnr_bursts 3\nburst_usec 18446744073709551615\n";
+
+fn assert_writes(rt: &impl Abort, alloc: Global, root: bool, wanted: &str) -> Result<(), Fail> {
+    let text = match write_stat(alloc, &GREATEST, root) {
+        Err(_) => write_stat(alloc, &GREATEST, root)?,
+        Ok(text) => text,
+    };
+    assert!(rt; text.as_str() == wanted);
+    Ok(())
+}
 
 #[test]
 fn greatest_counters(rt: HostRuntime) -> Result<(), Fail> {
-    let stat = Stat {
-        usage_usec: u64::MAX,
-        nr_periods: 1,
-        nr_throttled: 2,
-        throttled_usec: u64::MAX,
-        nr_bursts: 3,
-        burst_usec: u64::MAX,
-    };
-    let root = match write_stat(rt.alloc(), &stat, true) {
-        Err(_) => write_stat(rt.alloc(), &stat, true)?,
-        Ok(text) => text,
-    };
-    assert!(rt; root.as_str() == "usage_usec 18446744073709551615\n");
-    let group = match write_stat(rt.alloc(), &stat, false) {
-        Err(_) => write_stat(rt.alloc(), &stat, false)?,
-        Ok(text) => text,
-    };
-    assert!(rt; group.as_str() == GREATEST);
-    Ok(())
+    assert_writes(&rt, rt.alloc(), true, OF_THE_ROOT)?;
+    assert_writes(&rt, rt.alloc(), false, OF_A_GROUP)
 }

@@ -3,7 +3,7 @@
 //! so that each case holds with any one of its allocations failing.
 use bw_hierarchy::{Cgroup, CgroupBuilder, CpuController, Fault, Hierarchy};
 use bw_model::HostShape;
-use bw_tree::TreeFault;
+use bw_tree::{GroupId, TreeFault};
 use std::alloc::Global;
 use std::process::Abort;
 use std::test::Fail;
@@ -18,12 +18,11 @@ fn new_hierarchy(alloc: Global) -> Result<Hierarchy, Fail> {
 }
 
 /// Makes a group.
-fn make(hierarchy: &mut Hierarchy, path: &str) -> Result<(), Fault> {
-    let made = match hierarchy.mkdir(path) {
+fn make(hierarchy: &mut Hierarchy, path: &str) -> Result<GroupId, Fault> {
+    match hierarchy.mkdir(path) {
         Err(Fault::Tree(TreeFault::OutOfMemory)) => hierarchy.mkdir(path),
         made => made,
-    };
-    made.map(|_| ())
+    }
 }
 
 /// Asserts the number of the refusal of a file that is read, 0 for none, and its text.
@@ -182,11 +181,19 @@ fn assert_settings(
     }
 }
 
-/// The root, `a` and `a/b`.
+static TWO_GROUPS: [&str; 2] = ["a", "a/b"];
+
+fn put_groups(hierarchy: &mut Hierarchy) -> Result<(), Fault> {
+    for path in &TWO_GROUPS {
+        make(hierarchy, path)?;
+    }
+    Ok(())
+}
+
+/// The root and these two.
 fn two_groups(alloc: Global) -> Result<Hierarchy, Fail> {
     let mut hierarchy = new_hierarchy(alloc)?;
-    make(&mut hierarchy, "a")?;
-    make(&mut hierarchy, "a/b")?;
+    put_groups(&mut hierarchy)?;
     Ok(hierarchy)
 }
 
@@ -205,12 +212,18 @@ static SETTINGS: [Setting; 12] = [
     (Some(-1), None, 0, -1, 100_000),
 ];
 
+/// What asserts borrows the hierarchy, here and below: a test, which owns it, would have to drop it at each assertion.
+fn assert_controls(rt: &impl Abort, hierarchy: &mut Hierarchy) -> Result<(), Fault> {
+    let cpu = Cgroup::load(hierarchy, "a/b")?.cpu();
+    assert_settings(rt, hierarchy, cpu, &SETTINGS);
+    assert_reads(rt, hierarchy, "a/b", "cpu.max", 0, "max 100000\n");
+    Ok(())
+}
+
 #[test]
 fn controllers(rt: HostRuntime) -> Result<(), Fail> {
     let mut hierarchy = two_groups(rt.alloc())?;
-    let cpu = Cgroup::load(&hierarchy, "a/b")?.cpu();
-    assert_settings(&rt, &mut hierarchy, cpu, &SETTINGS);
-    assert_reads(&rt, &hierarchy, "a/b", "cpu.max", 0, "max 100000\n");
+    assert_controls(&rt, &mut hierarchy)?;
     Ok(())
 }
 
@@ -234,13 +247,18 @@ fn controller_of_a_burst(rt: HostRuntime) -> Result<(), Fail> {
     Ok(())
 }
 
+fn assert_shares(rt: &impl Abort, hierarchy: &mut Hierarchy) -> Result<(), Fault> {
+    let cpu = Cgroup::load(hierarchy, "a/b")?.cpu();
+    assert!(rt; cpu.set_shares(hierarchy, 300) == Ok(()));
+    assert!(rt; number_of(cpu.set_shares(hierarchy, 10_001)) == 12);
+    assert!(rt; cpu.shares(hierarchy) == Ok(300));
+    Ok(())
+}
+
 #[test]
 fn shares_by_a_controller(rt: HostRuntime) -> Result<(), Fail> {
     let mut hierarchy = two_groups(rt.alloc())?;
-    let cpu = Cgroup::load(&hierarchy, "a/b")?.cpu();
-    assert!(rt; cpu.set_shares(&mut hierarchy, 300) == Ok(()));
-    assert!(rt; number_of(cpu.set_shares(&mut hierarchy, 10_001)) == 12);
-    assert!(rt; cpu.shares(&hierarchy) == Ok(300));
+    assert_shares(&rt, &mut hierarchy)?;
     Ok(())
 }
 
@@ -262,20 +280,35 @@ fn assert_refuses_all(rt: &impl Abort, hierarchy: &mut Hierarchy, cpu: CpuContro
     assert!(rt; number_of(set) == wanted);
 }
 
-#[test]
-fn deleted_groups(rt: HostRuntime) -> Result<(), Fail> {
-    let mut hierarchy = two_groups(rt.alloc())?;
-    let group = Cgroup::load(&hierarchy, "a/b")?;
-    let cpu = group.cpu();
-    let above = Cgroup::load(&hierarchy, "a")?;
-    match above.delete(&mut hierarchy) {
+/// Asserts that `a` is kept, since a group is below it.
+fn assert_keeps(rt: &impl Abort, hierarchy: &mut Hierarchy, above: Cgroup) {
+    match above.delete(hierarchy) {
         Ok(()) => assert!(rt; false),
         Err(kept) => assert!(rt; kept.fault.number() == 23 && kept.cgroup.id == 1),
     }
-    assert!(rt; group.delete(&mut hierarchy) == Ok(()));
-    assert_refuses_all(&rt, &mut hierarchy, cpu, 20);
+}
+
+/// Deletes `a/b`, and asserts what calls of a controller of a group that is gone, and of the root, answer.
+fn assert_deletes(rt: &impl Abort, hierarchy: &mut Hierarchy, group: Cgroup) {
+    let cpu = group.cpu();
+    assert!(rt; group.delete(hierarchy) == Ok(()));
+    assert_refuses_all(rt, hierarchy, cpu, 20);
     let root = hierarchy.root_control_group().cpu();
-    assert_refuses_all(&rt, &mut hierarchy, root, 26);
-    assert!(rt; number_of(Cgroup::load(&hierarchy, "a/b")) == 20);
+    assert_refuses_all(rt, hierarchy, root, 26);
+    assert!(rt; number_of(Cgroup::load(hierarchy, "a/b")) == 20);
+}
+
+fn assert_deletions(rt: &impl Abort, hierarchy: &mut Hierarchy) -> Result<(), Fault> {
+    let group = Cgroup::load(hierarchy, "a/b")?;
+    let above = Cgroup::load(hierarchy, "a")?;
+    assert_keeps(rt, hierarchy, above);
+    assert_deletes(rt, hierarchy, group);
+    Ok(())
+}
+
+#[test]
+fn deleted_groups(rt: HostRuntime) -> Result<(), Fail> {
+    let mut hierarchy = two_groups(rt.alloc())?;
+    assert_deletions(&rt, &mut hierarchy)?;
     Ok(())
 }

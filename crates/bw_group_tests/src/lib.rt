@@ -1,5 +1,5 @@
-//! Tests of files, settings by path and counters that no script line reaches; what one does reach stands in tests/worked of the
-//! repository, which the native program is run on.
+//! Tests of trees, files, settings by path and counters that no script line reaches; what one does reach stands in tests/worked of
+//! the repository, which the native program is run on.
 #![tactic(auto)]
 
 #[cfg(test)]
@@ -8,3 +8,5 @@ mod files_cases;
 mod hierarchy_cases;
 #[cfg(test)]
 mod stat_cases;
+#[cfg(test)]
+mod tree_cases;

@@ -112,20 +112,27 @@ fn counters(usage_usec: u64, nr_periods: u64, nr_bursts: u64, burst_usec: u64) -
     })
 }
 
+fn assert_counts(rt: &impl Abort, books: &Books, id: u64, wanted: Option<Stat>) {
+    assert!(rt; books.of(id) == wanted);
+}
+
 // A group that is forgotten begins anew where it is booked again, and the others go on.
-#[test]
-fn forgotten_groups(rt: HostRuntime) -> Result<(), Fail> {
-    let alloc = rt.alloc();
-    let mut books = Books::new(alloc);
-    book_pod(&rt, alloc, &mut books, 2, &QUOTAS, &DRAWN)?;
+fn assert_forgets(rt: &impl Abort, alloc: Global, books: &mut Books) -> Result<(), Fail> {
+    book_pod(rt, alloc, books, 2, &QUOTAS, &DRAWN)?;
     books.forget(4);
     books.forget(8);
-    assert!(rt; books.of(4) == None);
-    assert!(rt; books.of(3) == counters(30_000, 2, 0, 0));
-    book_pod(&rt, alloc, &mut books, 1, &QUOTAS, &DRAWN)?;
-    assert!(rt; books.of(4) == counters(50_000, 1, 0, 0));
-    assert!(rt; books.of(3) == counters(45_000, 3, 0, 0));
+    assert_counts(rt, books, 4, None);
+    assert_counts(rt, books, 3, counters(30_000, 2, 0, 0));
+    book_pod(rt, alloc, books, 1, &QUOTAS, &DRAWN)?;
+    assert_counts(rt, books, 4, counters(50_000, 1, 0, 0));
+    assert_counts(rt, books, 3, counters(45_000, 3, 0, 0));
     Ok(())
+}
+
+#[test]
+fn forgotten_groups(rt: HostRuntime) -> Result<(), Fail> {
+    let mut books = Books::new(rt.alloc());
+    assert_forgets(&rt, rt.alloc(), &mut books)
 }
 
 static SMALL_QUOTAS: [Option<u64>; 5] = [Some(1), Some(10), Some(0), None, None];
@@ -133,37 +140,41 @@ static SMALL_QUOTAS: [Option<u64>; 5] = [Some(1), Some(10), Some(0), None, None]
 static GREATEST: [u64; 5] = [u64::MAX, 10, u64::MAX, 7, 10];
 
 // A counter stays at its greatest value. Of the root no burst is counted, whatever its quota.
-#[test]
-fn greatest_counters(rt: HostRuntime) -> Result<(), Fail> {
-    let alloc = rt.alloc();
-    let mut books = Books::new(alloc);
-    book_pod(&rt, alloc, &mut books, 2, &SMALL_QUOTAS, &GREATEST)?;
-    assert!(rt; books.of(0) == counters(u64::MAX, 2, 0, 0));
-    assert!(rt; books.of(3) == counters(u64::MAX, 2, 2, u64::MAX));
-    book_pod(&rt, alloc, &mut books, 1, &QUOTAS, &DRAWN)?;
-    assert!(rt; books.of(0) == counters(u64::MAX, 3, 0, 0));
+fn assert_stays(rt: &impl Abort, alloc: Global, books: &mut Books) -> Result<(), Fail> {
+    book_pod(rt, alloc, books, 2, &SMALL_QUOTAS, &GREATEST)?;
+    assert_counts(rt, books, 0, counters(u64::MAX, 2, 0, 0));
+    assert_counts(rt, books, 3, counters(u64::MAX, 2, 2, u64::MAX));
+    book_pod(rt, alloc, books, 1, &QUOTAS, &DRAWN)?;
+    assert_counts(rt, books, 0, counters(u64::MAX, 3, 0, 0));
     Ok(())
 }
+
+#[test]
+fn greatest_counters(rt: HostRuntime) -> Result<(), Fail> {
+    let mut books = Books::new(rt.alloc());
+    assert_stays(&rt, rt.alloc(), &mut books)
+}
+
+static WIDE: Stat = Stat {
+    usage_usec: u64::MAX,
+    nr_periods: u64::MAX,
+    nr_throttled: 12_345_678_901,
+    throttled_usec: u64::MAX,
+    nr_bursts: 7,
+    burst_usec: 8,
+};
+
+static WIDE_LINE: &str =
+    "18446744073709551615 18446744073709551615 12345678901 18446744073709551615 a/b\n";
 
 // Numbers that are wider than their columns.
 #[test]
 fn wide_line(rt: HostRuntime) -> Result<(), Fail> {
-    let stat = Stat {
-        usage_usec: u64::MAX,
-        nr_periods: u64::MAX,
-        nr_throttled: 12_345_678_901,
-        throttled_usec: u64::MAX,
-        nr_bursts: 7,
-        burst_usec: 8,
-    };
     let mut line = Vec::new(rt.alloc());
-    if put_report_line(&stat, b"a/b", &mut line).is_err() {
+    if put_report_line(&WIDE, b"a/b", &mut line).is_err() {
         line.clear();
-        put_report_line(&stat, b"a/b", &mut line)?;
+        put_report_line(&WIDE, b"a/b", &mut line)?;
     }
-    assert!(rt;
-        line.as_slice()
-            == b"18446744073709551615 18446744073709551615 12345678901 18446744073709551615 a/b\n".as_slice()
-    );
+    assert!(rt; line.as_slice() == WIDE_LINE.as_bytes());
     Ok(())
 }

@@ -1,0 +1,170 @@
+//! Trees of groups by ids, which no script line names, against worked values.
+//! What asserts stands in functions that borrow a tree: in a test, which owns it, each assertion would have to drop it.
+use bw_model::{HostShape, Quota};
+use bw_tree::{GroupId, Snapshot, Tree, TreeFault, is_drawn_within};
+use std::alloc::Global;
+use std::process::Abort;
+use std::test::Fail;
+
+/// Makes a group. A call that is refused memory has changed nothing, and is made again.
+fn make(tree: &mut Tree, parent: GroupId, name: &str) -> Result<GroupId, TreeFault> {
+    match tree.mkdir(parent, name) {
+        Err(TreeFault::OutOfMemory) => tree.mkdir(parent, name),
+        answer => answer,
+    }
+}
+
+fn assert_makes(
+    rt: &impl Abort,
+    tree: &mut Tree,
+    parent: GroupId,
+    name: &str,
+    wanted: Result<GroupId, TreeFault>,
+) {
+    assert!(rt; make(tree, parent, name) == wanted, "{name}");
+}
+
+fn assert_has_no(rt: &impl Abort, tree: &Tree, path: &str) {
+    assert!(rt; tree.find(path) == Err(TreeFault::NotFound), "{path}");
+}
+
+/// The parents and names of `a` (1) and `a/b` (2).
+static TWO_GROUPS: [(GroupId, &str); 2] = [(0, "a"), (1, "b")];
+
+/// Makes them, and `a/b` has a demand of 20.
+fn put_groups(tree: &mut Tree) -> Result<(), TreeFault> {
+    for (parent, name) in &TWO_GROUPS {
+        make(tree, *parent, name)?;
+    }
+    tree.set_demand(2, 20)
+}
+
+/// A tree of them.
+fn small_tree(alloc: Global) -> Result<Tree, TreeFault> {
+    let mut tree = match Tree::new(alloc) {
+        Err(_) => Tree::new(alloc)?,
+        Ok(tree) => tree,
+    };
+    put_groups(&mut tree)?;
+    Ok(tree)
+}
+
+#[test]
+fn ids_that_are_spent(rt: HostRuntime) -> Result<(), Fail> {
+    let mut last = match Tree::with_next_id(rt.alloc(), u64::MAX) {
+        Err(_) => Tree::with_next_id(rt.alloc(), u64::MAX)?,
+        Ok(tree) => tree,
+    };
+    assert_makes(&rt, &mut last, 0, "a", Err(TreeFault::IdsSpent));
+    Ok(())
+}
+
+#[test]
+fn number_of_spent_ids(rt: HostRuntime) {
+    assert!(rt; TreeFault::IdsSpent.number() == 28);
+    assert!(rt; TreeFault::IdsSpent.name() == "IdsSpent");
+}
+
+// A static table costs its readers no proof; each entry of a local one is a step of it.
+static BAD_NAMES: [&str; 4] = ["", "x/y", "x\ny", "x\0y"];
+
+fn assert_refuses_names(rt: &impl Abort, tree: &mut Tree) {
+    for name in &BAD_NAMES {
+        assert_makes(rt, tree, 0, name, Err(TreeFault::BadName));
+    }
+    assert_makes(rt, tree, 9, "", Err(TreeFault::NotFound));
+    assert_has_no(rt, tree, "");
+    assert!(rt; tree.path_of(9) == Err(TreeFault::NotFound));
+    assert!(rt; tree.group(9).is_none());
+}
+
+/// Names and texts that no word of a script is.
+#[test]
+fn names_that_no_word_is(rt: HostRuntime) -> Result<(), Fail> {
+    let mut tree = small_tree(rt.alloc())?;
+    assert_refuses_names(&rt, &mut tree);
+    Ok(())
+}
+
+/// Asserts that no setting of this group is taken.
+fn assert_refuses_settings(rt: &impl Abort, tree: &mut Tree, id: GroupId, fault: TreeFault) {
+    assert!(rt; tree.set_weight(id, 1) == Err(fault));
+    assert!(rt; tree.set_limit(id, Quota::Max) == Err(fault));
+    assert!(rt; tree.set_period(id, 1_000) == Err(fault));
+    assert!(rt; tree.set_burst(id, 1) == Err(fault));
+}
+
+#[test]
+fn refused_settings(rt: HostRuntime) -> Result<(), Fail> {
+    let mut tree = small_tree(rt.alloc())?;
+    assert_refuses_settings(&rt, &mut tree, 0, TreeFault::RootFixed);
+    assert_refuses_settings(&rt, &mut tree, 9, TreeFault::NotFound);
+    Ok(())
+}
+
+/// A group of the copy is none of the first tree, and both trees give the same next id.
+fn assert_apart(rt: &impl Abort, tree: &mut Tree, copy: &mut Tree) {
+    assert_makes(rt, copy, 1, "c", Ok(3));
+    assert_has_no(rt, tree, "a/c");
+    assert_makes(rt, tree, 0, "d", Ok(3));
+    assert_has_no(rt, copy, "d");
+}
+
+#[test]
+fn change_of_a_copy(rt: HostRuntime) -> Result<(), Fail> {
+    let mut tree = small_tree(rt.alloc())?;
+    let mut copy = match tree.copy() {
+        Err(_) => tree.copy()?,
+        Ok(copy) => copy,
+    };
+    assert_apart(&rt, &mut tree, &mut copy);
+    Ok(())
+}
+
+/// The id of a group that is gone is not given again, and its name is free.
+fn assert_gone(rt: &impl Abort, tree: &mut Tree) {
+    assert!(rt; tree.set_demand(2, 0) == Ok(()));
+    assert!(rt; tree.rmdir(2) == Ok(()));
+    assert_has_no(rt, tree, "a/b");
+    assert_makes(rt, tree, 1, "b", Ok(3));
+}
+
+#[test]
+fn ids_that_are_gone(rt: HostRuntime) -> Result<(), Fail> {
+    let mut tree = small_tree(rt.alloc())?;
+    assert_gone(&rt, &mut tree);
+    Ok(())
+}
+
+static QUOTAS: [Option<u64>; 3] = [None, Some(10), None];
+
+static WITHIN: [u64; 3] = [99, 10, 99];
+
+static NOT_WITHIN: [u64; 3] = [0, 11, 0];
+
+fn assert_draws_ten(rt: &impl Abort, snapshot: &Snapshot) {
+    assert!(rt; snapshot.quotas.as_slice() == QUOTAS.as_slice());
+    let rows = snapshot.instance.rows();
+    assert!(rt; rows.len() == 3);
+    assert!(rt; is_drawn_within(rows, &WITHIN));
+    assert!(rt; !is_drawn_within(rows, &NOT_WITHIN));
+}
+
+fn assert_within(rt: &impl Abort, tree: &mut Tree, shape: HostShape) -> Result<(), TreeFault> {
+    assert!(rt; tree.set_limit(1, Quota::Micros(50_000)) == Ok(()));
+    let snapshot = match tree.snapshot(shape) {
+        Err(_) => tree.snapshot(shape)?,
+        Ok(snapshot) => snapshot,
+    };
+    assert_draws_ten(rt, &snapshot);
+    Ok(())
+}
+
+/// A group with ten slices of quota draws at most ten.
+#[test]
+fn slices_within_limits(rt: HostRuntime) -> Result<(), Fail> {
+    let shape = HostShape::new(1, 100_000, 5_000)?;
+    let mut tree = small_tree(rt.alloc())?;
+    assert_within(&rt, &mut tree, shape)?;
+    Ok(())
+}
