@@ -135,7 +135,10 @@ fn book_row(
     ensures room { spare stats.old ≤ spare stats.new + 1 }
 {
     match place_of(stats, likely, id) {
-        Some(place) => add(&mut stats[place], slice_us, row, quota, want, drawn),
+        Some(place) => {
+            let stat = &mut stats[place];
+            add(stat, slice_us, row, quota, want, drawn);
+        }
         None => {
             let mut stat = or_zeros(None);
             add(&mut stat, slice_us, row, quota, want, drawn);

@@ -1,6 +1,6 @@
 -- The goals of `book_row` that are answered by hand.
 use Rattle.std.proofs.Common.{◌≡◌, None, rules, sym, ap, ◌∙◌, eqb}
-use Rattle.indexmap.specs.IndexMap.{insert_entry, set_value_at}
+use Rattle.indexmap.specs.IndexMap.{insert_entry}
 use Rattle.indexmap.proofs.MapLemmas.{Found-position, Missing-position, insert_entry-first}
 use Rattle.bw_stat.specs.Books.{stat_at, or_zeros, added, share_of}
 use Rattle.bw_stat.proofs.books.book_row.Goals as goal
@@ -11,7 +11,7 @@ returns-in-Some-clause-entries c =
     let es = c.args.stats.now.entries in
     let share = share_of c.args.slice_us c.args.row.now c.args.quota c.args.want c.args.drawn in
     let found = Found-position (eqb c.args.id) es c.in-Some.place (sym c.place_of.ensures ∙ c.in-Some.is) in
-    let there = found.value ∙ c.index_mut.ensures.value in
+    let there = found.value ∙ c.index_mut-stat.ensures.value in
     sym (insert_entry-first eqb c.args.id c.add.new.stat es c.in-Some.place found.first)
     ∙ ap (insert_entry eqb es c.args.id) (c.add.ensures ∙ ap (λ o. added (or_zeros o) share) (sym there))
 

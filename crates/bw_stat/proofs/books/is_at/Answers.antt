@@ -1,5 +1,5 @@
 -- The goals of `is_at` that are answered by hand.
-use Rattle.std.proofs.Common.{◌≡◌, ℕ, List, Some, slice_get, sym, ap, ◌∙◌, eqb}
+use Rattle.std.proofs.Common.{ℕ, List, Some, slice_get, sym, ap, ◌∙◌, eqb}
 use Rattle.std.proofs.lemmas.Bool.{eqb-true}
 use Rattle.std.specs.Cmp.{nat_eq_equiv}
 use Rattle.indexmap.proofs.MapLemmas.{index-first}
