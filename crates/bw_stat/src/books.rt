@@ -1,7 +1,8 @@
 //! What was counted for each group.
-ghost use Rattle.std.specs.Prelude.{◌≡◌, ◌+◌, ◌*◌, ◌<◌, ◌≤◌, [], ◌∷◌, ℕ, List, length, OnOk, OnErr, IfOk, nat_eq};
+ghost use Rattle.std.specs.Prelude.{◌≡◌, ◌+◌, ◌*◌, ◌<◌, ◌≤◌, [], ◌∷◌, ℕ, List, length, position, OnOk, OnErr, IfOk, nat_eq, true, Some};
 ghost use Rattle.std.specs.Option.{option_copied};
 ghost use Rattle.std.specs.List.{IsDistinct};
+ghost use Rattle.std.specs.Map.{keys_of};
 ghost use Rattle.indexmap.specs.IndexMap.{spare};
 ghost use Rattle.bw_stat.specs.Books.{withheld_slices, burst, cut, periods_if, added, share_of, shares_of, stat_at, or_zeros, with_share, booked, forgotten};
 
@@ -114,13 +115,14 @@ fn book_rows(
 {
     for i in 0..rows.len() {
         book_row(
-            stats, ids[i], slice_us, &rows[i], base[i], wants[i], drawn[i],
+            stats, i, ids[i], slice_us, &rows[i], base[i], wants[i], drawn[i],
         );
     }
 }
 
 fn book_row(
     stats: &mut IndexMap<u64, Stat>,
+    likely: usize,
     id: u64,
     slice_us: u64,
     row: &Row,
@@ -132,13 +134,37 @@ fn book_row(
     ensures entries { stats.new.entries ≡ with_share stats.old.entries id (share_of slice_us row.now quota want drawn) }
     ensures room { spare stats.old ≤ spare stats.new + 1 }
 {
-    match stats.get_mut(&id) {
-        Some(stat) => add(stat, slice_us, row, quota, want, drawn),
+    match place_of(stats, likely, id) {
+        Some(place) => {
+            let stat = &mut stats[place];
+            add(stat, slice_us, row, quota, want, drawn);
+        }
         None => {
             let mut stat = or_zeros(None);
             add(&mut stat, slice_us, row, quota, want, drawn);
             let _none = stats.insert(id, stat).unwrap();
         }
+    }
+}
+
+// The place of a group's counters. They stand in the likely place, which is the number of the group's row, where the rows before
+// it were booked before it and are all there. Only else are they looked up.
+fn place_of(stats: &IndexMap<u64, Stat>, likely: usize, id: u64) -> Option<usize>
+    ensures { result ≡ position (nat_eq id) (keys_of stats.now.entries) }
+{
+    if is_at(stats, likely, id) {
+        return Some(likely);
+    }
+    stats.get_index_of(&id)
+}
+
+// Whether the counters at a place are this group's.
+fn is_at(stats: &IndexMap<u64, Stat>, place: usize, id: u64) -> bool
+    ensures { result ≡ true → position (nat_eq id) (keys_of stats.now.entries) ≡ Some place }
+{
+    match stats.as_slice().get_index(place) {
+        None => false,
+        Some((key, _stat)) => *key == id,
     }
 }
 

@@ -1,26 +1,22 @@
 -- The goals of `book_row` that are answered by hand.
-use Rattle.std.proofs.Common.{if◌then◌else◌, ◌≡◌, ℕ, Bool, true, false, List, [], ◌∷◌, Some, cond, refl, sym, ap, ◌∙◌, eqb}
-use Rattle.std.specs.Map.{lookup, set_value}
+use Rattle.std.proofs.Common.{◌≡◌, None, rules, sym, ap, ◌∙◌, eqb}
 use Rattle.indexmap.specs.IndexMap.{insert_entry}
-use Rattle.bw_model.specs.declared.stat.Stat.{Stat}
+use Rattle.indexmap.proofs.MapLemmas.{Found-position, Missing-position, insert_entry-first}
 use Rattle.bw_stat.specs.Books.{stat_at, or_zeros, added, share_of}
 use Rattle.bw_stat.proofs.books.book_row.Goals as goal
 
--- a value that is written in place is inserted at a key that is there
-written : (es : List (ℕ × Stat)) (id : ℕ) (v s : Stat) → lookup (eqb id) es ≡ Some s → set_value (eqb id) es v ≡ insert_entry eqb es id v
-written [] id v s there = absurd (cc)
-written (e ∷ es) id v s there = by (eqb id e.0) there (written es id v s)
-  where
-    by : (b : Bool) → cond b (Some e.1) (lookup (eqb id) es) ≡ Some s
-        → (lookup (eqb id) es ≡ Some s → set_value (eqb id) es v ≡ insert_entry eqb es id v)
-        → cond b ((e.0, v) ∷ es) (e ∷ set_value (eqb id) es v) ≡ (if b then (e.0, v) ∷ es else e ∷ insert_entry eqb es id v)
-    by true _ _ = refl
-    by false below rest = ap (λ xs. e ∷ xs) (rest below)
-
+-- a value that is written at the group's place is inserted under its id
 pub returns-in-Some-clause-entries : goal.returns-in-Some-clause-entries
 returns-in-Some-clause-entries c =
-    let there : stat_at c.args.stats.now.entries c.args.id ≡ Some c.in-Some.stat.now = sym c.in-Some.ensures.value in
+    let es = c.args.stats.now.entries in
     let share = share_of c.args.slice_us c.args.row.now c.args.quota c.args.want c.args.drawn in
-    (c.get_mut.follows.holds c.add.new.stat).0
-    ∙ written c.args.stats.now.entries c.args.id c.add.new.stat c.in-Some.stat.now there
-    ∙ ap (λ v. insert_entry eqb c.args.stats.now.entries c.args.id v) (c.add.ensures ∙ ap (λ o. added (or_zeros o) share) (sym there))
+    let found = Found-position (eqb c.args.id) es c.in-Some.place (sym c.place_of.ensures ∙ c.in-Some.is) in
+    let there = found.value ∙ c.index_mut-stat.ensures.value in
+    sym (insert_entry-first eqb c.args.id c.add.new.stat es c.in-Some.place found.first)
+    ∙ ap (insert_entry eqb es c.args.id) (c.add.ensures ∙ ap (λ o. added (or_zeros o) share) (sym there))
+
+pub returns-in-None-clause-entries : goal.returns-in-None-clause-entries
+returns-in-None-clause-entries c =
+    let none : stat_at c.args.stats.now.entries c.args.id ≡ None =
+    (Missing-position (eqb c.args.id) c.args.stats.now.entries (sym c.place_of.ensures ∙ c.in-None.is)).value in
+    search rules
