@@ -9,6 +9,7 @@ use crate::namesakes::Namesakes;
 use crate::small_name::SmallName;
 use std::alloc::{AllocError, Global};
 use std::collections::HashMap;
+use std::collections::hash_map::Entry;
 use std::hash::{BuildHasher, BuildHasherDefault, FoldHasher};
 
 // The children of a group that has several: a hash of the name finds those of one fingerprint.
@@ -83,14 +84,14 @@ fn insert_at(
     ensures kept { OnErr result ((q : ℕ) (n : List ℕ) → named_at map.new q n ≡ named_at map.old q n) }
     ensures listed { OnErr result ((q : ℕ) → is_some (get nat_eq map.new q) ≡ is_some (get nat_eq map.old q)) }
 {
-    match map.get_mut(&print) {
-        Some(namesakes) => namesakes.insert(alloc, name, id)?,
-        None => {
+    match map.entry(print)? {
+        Entry::Occupied(entry) => entry.into_mut().insert(alloc, name, id),
+        Entry::Vacant(entry) => {
             let only = SmallName::new(alloc, name)?;
-            map.insert(print, Namesakes::One(only, id))?;
+            entry.insert(Namesakes::One(only, id));
+            Ok(())
         }
     }
-    Ok(())
 }
 
 // Takes a name out of those of its fingerprint.
