@@ -9,11 +9,12 @@ use crate::namesakes::id_where;
 use crate::small_name::SmallName;
 use std::alloc::{AllocError, Global};
 
-// The children of one group, by their names. A first child needs no directory.
+// The children of one group, by their names. A first child needs no directory, and a directory stands in a box, so that an
+// entry of the index is no larger than a first child.
 #[derive(Debug, Drop)]
 pub(crate) enum Siblings {
     One(SmallName, GroupId),
-    Many(Directory),
+    Many(Box<Directory>),
 }
 
 impl Siblings {
@@ -42,7 +43,7 @@ impl Siblings {
                 let mut children = Directory::new(alloc);
                 children.insert(alloc, only.as_str(), *only_id)?;
                 children.insert(alloc, name, id)?;
-                *self = Siblings::Many(children);
+                *self = Siblings::Many(Box::new(alloc, children)?);
                 Ok(())
             }
             Siblings::Many(children) => children.insert(alloc, name, id),
