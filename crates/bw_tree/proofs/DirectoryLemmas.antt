@@ -7,7 +7,6 @@ use Rattle.std.specs.Map.{lookup}
 use Rattle.std.specs.Prelude.{Result, Ok, Err, OnOk, OnErr}
 use Rattle.std.specs.Cmp.Lexicographic.{bytes_decides}
 use Rattle.std.specs.Str.{bytes_eq}
-use Rattle.std.specs.String.{string_bytes}
 use Rattle.bw_model.proofs.CallerLemmas.{bytes_eq-self}
 use Rattle.bw_tree.specs.declared.namesakes.Namesakes.{Namesakes}
 use Rattle.bw_tree.specs.declared.namesakes.Namesakes.TheVariants.{One, Many}
@@ -66,7 +65,7 @@ module _ (old new : NamesakesMap) (kept : (q : ℕ) (n : List ℕ) → named_at 
 
 -- children of whom not all have no name have one
 pub some_named : (children : Namesakes) → (((n : List ℕ) → named_in children n ≡ None) → ⊥) → (n : List ℕ) × (is_some (named_in children n) ≡ true)
-some_named (One only id) full = (string_bytes only, ap (λ b. is_some (cond b (Some id) None)) (bytes_eq-self (string_bytes only)))
+some_named (One only id) full = (only, ap (λ b. is_some (cond b (Some id) None)) (bytes_eq-self only))
 some_named (Many children) full = some_text children (λ none. full (no_text children (none_in children none)))
 
 -- a map that is not empty has a name

@@ -6,7 +6,6 @@ use Rattle.std.specs.Hash.FoldHasher as folding
 use Rattle.std.specs.HashMap.{HashMap, get}
 use Rattle.std.specs.BTreeMap.{get_by_text}
 use Rattle.std.specs.Str.{bytes_eq}
-use Rattle.std.specs.String.{string_bytes}
 use Rattle.std.specs.declared.hash.FoldHasher.{FoldHasher}
 use Rattle.std.specs.declared.hash.BuildHasherDefault.{BuildHasherDefault}
 use Rattle.bw_tree.specs.declared.namesakes.Namesakes.{Namesakes}
@@ -18,7 +17,7 @@ fingerprint name = folding.finish (fold folding.write folding.initial (hash.str 
 
 -- the child with this name, among children of one fingerprint
 abbrev pub named_in : Namesakes → List ℕ → Option ℕ
-named_in (One only id) name = cond (bytes_eq (string_bytes only) name) (Some id) None
+named_in (One only id) name = cond (bytes_eq only name) (Some id) None
 named_in (Many children) name = get_by_text children name
 
 -- the child with this name, where there are children

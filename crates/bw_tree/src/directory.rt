@@ -2,13 +2,14 @@
 ghost use Rattle.std.specs.Prelude.{◌≡◌, ◌==◌, ℕ, List, nat_eq, true, false, None, Some, OnOk, OnErr, is_some, cond};
 ghost use Rattle.std.specs.HashMap.{get};
 ghost use Rattle.std.specs.Str.{bytes_eq};
-ghost use Rattle.std.specs.String.{string_bytes};
 ghost use Rattle.bw_tree.specs.Fingerprints.{fingerprint, named_at, entry_at, AreSome, AreInPlace};
 
 use crate::group::GroupId;
 use crate::namesakes::Namesakes;
+use crate::small_name::SmallName;
 use std::alloc::{AllocError, Global};
 use std::collections::HashMap;
+use std::collections::hash_map::Entry;
 use std::hash::{BuildHasher, BuildHasherDefault, FoldHasher};
 
 // The children of a group that has several: a hash of the name finds those of one fingerprint.
@@ -43,14 +44,13 @@ impl Directory {
     pub(crate) fn insert(
         &mut self,
         alloc: Global,
-        name: String,
+        name: &str,
         id: GroupId,
     ) -> Result<(), AllocError>
-        ensures added { OnOk result ((n : List ℕ) → entry_at self.new.by_fingerprint n ≡ cond (bytes_eq (string_bytes name) n) (Some id) (entry_at self.old.by_fingerprint n)) }
+        ensures added { OnOk result ((n : List ℕ) → entry_at self.new.by_fingerprint n ≡ cond (bytes_eq name.now n) (Some id) (entry_at self.old.by_fingerprint n)) }
         ensures kept { OnErr result ((n : List ℕ) → entry_at self.new.by_fingerprint n ≡ entry_at self.old.by_fingerprint n) }
     {
-        let print = fingerprint(name.as_str());
-        insert_at(&mut self.by_fingerprint, alloc, print, name, id)
+        insert_at(&mut self.by_fingerprint, alloc, fingerprint(name), name, id)
     }
 
     // Takes a name out, and says whether other children stay.
@@ -76,21 +76,22 @@ fn insert_at(
     map: &mut HashMap<u64, Namesakes>,
     alloc: Global,
     print: u64,
-    name: String,
+    name: &str,
     id: GroupId,
 ) -> Result<(), AllocError>
-    ensures here { OnOk result ((n : List ℕ) → named_at map.new print n ≡ cond (bytes_eq (string_bytes name) n) (Some id) (named_at map.old print n)) }
+    ensures here { OnOk result ((n : List ℕ) → named_at map.new print n ≡ cond (bytes_eq name.now n) (Some id) (named_at map.old print n)) }
     ensures others { OnOk result ((q : ℕ) → (print == q) ≡ false → get nat_eq map.new q ≡ get nat_eq map.old q) }
     ensures kept { OnErr result ((q : ℕ) (n : List ℕ) → named_at map.new q n ≡ named_at map.old q n) }
     ensures listed { OnErr result ((q : ℕ) → is_some (get nat_eq map.new q) ≡ is_some (get nat_eq map.old q)) }
 {
-    match map.get_mut(&print) {
-        Some(namesakes) => namesakes.insert(alloc, name, id)?,
-        None => {
-            map.insert(print, Namesakes::One(name, id))?;
+    match map.entry(print)? {
+        Entry::Occupied(entry) => entry.into_mut().insert(alloc, name, id),
+        Entry::Vacant(entry) => {
+            let only = SmallName::new(alloc, name)?;
+            entry.insert(Namesakes::One(only, id));
+            Ok(())
         }
     }
-    Ok(())
 }
 
 // Takes a name out of those of its fingerprint.

@@ -10,6 +10,7 @@ pub mod limits;
 mod namesakes;
 mod setting;
 mod siblings;
+mod small_name;
 mod tree;
 
 pub use fault::TreeFault;

@@ -2,17 +2,17 @@
 ghost use Rattle.std.specs.Prelude.{◌≡◌, ℕ, List, true, false, None, Some, IfOk, OnOk, OnErr, is_some, cond};
 ghost use Rattle.std.specs.BTreeMap.{get_by_text};
 ghost use Rattle.std.specs.Str.{bytes_eq};
-ghost use Rattle.std.specs.String.{string_bytes};
 ghost use Rattle.bw_tree.specs.Fingerprints.{named_in};
 
 use crate::group::GroupId;
+use crate::small_name::SmallName;
 use std::alloc::{AllocError, Global};
 use std::collections::BTreeMap;
 
 // Children of one group whose names have one fingerprint, by these names. Nearly always there is one, which needs no map.
 #[derive(Debug, Drop)]
 pub(crate) enum Namesakes {
-    One(String, GroupId),
+    One(SmallName, GroupId),
     // Names come from strangers, who may choose many of one fingerprint, so the map is ordered: a look-up takes logarithmic
     // time at worst.
     Many(BTreeMap<String, GroupId>),
@@ -33,20 +33,19 @@ impl Namesakes {
     pub(crate) fn insert(
         &mut self,
         alloc: Global,
-        name: String,
+        name: &str,
         id: GroupId,
     ) -> Result<(), AllocError>
-        ensures added { OnOk result ((n : List ℕ) → named_in self.new n ≡ cond (bytes_eq (string_bytes name) n) (Some id) (named_in self.old n)) }
+        ensures added { OnOk result ((n : List ℕ) → named_in self.new n ≡ cond (bytes_eq name.now n) (Some id) (named_in self.old n)) }
         ensures kept { OnErr result ((n : List ℕ) → named_in self.new n ≡ named_in self.old n) }
     {
         match self {
             Namesakes::One(only, only_id) => {
-                let first = only.clone()?;
-                let both = pair(alloc, first, *only_id, name, id)?;
+                let both = pair(alloc, only.as_str(), *only_id, name, id)?;
                 *self = Namesakes::Many(both);
             }
             Namesakes::Many(children) => {
-                children.insert(name, id)?;
+                children.insert(String::from_str(alloc, name)?, id)?;
             }
         }
         Ok(())
@@ -71,23 +70,23 @@ impl Namesakes {
 // A map of two children, of which the second may have the first one's name.
 fn pair(
     alloc: Global,
-    first: String,
+    first: &str,
     first_id: GroupId,
-    name: String,
+    name: &str,
     id: GroupId,
 ) -> Result<BTreeMap<String, GroupId>, AllocError>
     ensures { IfOk result (λ m. (n : List ℕ)
-        → get_by_text m n ≡ cond (bytes_eq (string_bytes name) n) (Some id) (cond (bytes_eq (string_bytes first) n) (Some first_id) None)) }
+        → get_by_text m n ≡ cond (bytes_eq name.now n) (Some id) (cond (bytes_eq first.now n) (Some first_id) None)) }
 {
     let mut children = BTreeMap::new(alloc);
-    children.insert(first, first_id)?;
-    children.insert(name, id)?;
+    children.insert(String::from_str(alloc, first)?, first_id)?;
+    children.insert(String::from_str(alloc, name)?, id)?;
     Ok(children)
 }
 
 // The id of an only child where it has this name.
-pub(crate) fn id_where(only: &String, name: &str, id: GroupId) -> Option<GroupId>
-    ensures { result ≡ cond (bytes_eq (string_bytes only.now) name.now) (Some id) None }
+pub(crate) fn id_where(only: &SmallName, name: &str, id: GroupId) -> Option<GroupId>
+    ensures { result ≡ cond (bytes_eq only.now name.now) (Some id) None }
 {
     if only.as_str() == name {
         Some(id)

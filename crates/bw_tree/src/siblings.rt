@@ -1,19 +1,20 @@
 //! The children of one group.
 ghost use Rattle.std.specs.Prelude.{◌≡◌, ℕ, List, true, false, None, Some, OnOk, OnErr, is_some, cond};
 ghost use Rattle.std.specs.Str.{bytes_eq};
-ghost use Rattle.std.specs.String.{string_bytes};
 ghost use Rattle.bw_tree.specs.Children.{child_named};
 
 use crate::directory::Directory;
 use crate::group::GroupId;
 use crate::namesakes::id_where;
+use crate::small_name::SmallName;
 use std::alloc::{AllocError, Global};
 
-// The children of one group, by their names. A first child needs no directory.
+// The children of one group, by their names. A first child needs no directory, and a directory stands in a box, so that an
+// entry of the index is no larger than a first child.
 #[derive(Debug, Drop)]
 pub(crate) enum Siblings {
-    One(String, GroupId),
-    Many(Directory),
+    One(SmallName, GroupId),
+    Many(Box<Directory>),
 }
 
 impl Siblings {
@@ -31,18 +32,18 @@ impl Siblings {
     pub(crate) fn insert(
         &mut self,
         alloc: Global,
-        name: String,
+        name: &str,
         id: GroupId,
     ) -> Result<(), AllocError>
-        ensures added { OnOk result ((n : List ℕ) → child_named self.new n ≡ cond (bytes_eq (string_bytes name) n) (Some id) (child_named self.old n)) }
+        ensures added { OnOk result ((n : List ℕ) → child_named self.new n ≡ cond (bytes_eq name.now n) (Some id) (child_named self.old n)) }
         ensures kept { OnErr result ((n : List ℕ) → child_named self.new n ≡ child_named self.old n) }
     {
         match self {
             Siblings::One(only, only_id) => {
                 let mut children = Directory::new(alloc);
-                children.insert(alloc, only.clone()?, *only_id)?;
+                children.insert(alloc, only.as_str(), *only_id)?;
                 children.insert(alloc, name, id)?;
-                *self = Siblings::Many(children);
+                *self = Siblings::Many(Box::new(alloc, children)?);
                 Ok(())
             }
             Siblings::Many(children) => children.insert(alloc, name, id),

@@ -10,6 +10,8 @@ use Rattle.bw_tree.proofs.namesakes.Namesakes.insert.Goals as goal
 pub returns-in_ok-insert-in-Many-clause-added : goal.returns-in_ok-insert-in-Many-clause-added
 returns-in_ok-insert-in-Many-clause-added c =
     let was : (n : List ℕ) → get_by_text c.in-Many.children n ≡ named_in c.args.self.now n = λ n. search rules in
-    let texts = btree_map_updates_text (string_bytes c.args.name) c.in-Many.children c.insert.new.self
+    let name = c.in_ok-from_str-in-Many.field-0 in
+    let texts = btree_map_updates_text (string_bytes name) c.in-Many.children c.insert.new.self
     (Some c.args.id) c.in_ok-insert-in-Many.ensures.updates in
-    λ n. texts n ∙ ap (λ o. cond (bytes_eq (string_bytes c.args.name) n) (Some c.args.id) o) (was n)
+    λ n. texts n ∙ ap (λ o. cond (bytes_eq (string_bytes name) n) (Some c.args.id) o) (was n)
+    ∙ ap (λ k. cond (bytes_eq k n) (Some c.args.id) (named_in c.args.self.now n)) c.in_ok-from_str-in-Many.ensures.ok
