@@ -58,7 +58,7 @@ impl Namesakes {
         ensures none_left { result ≡ false → (n : List ℕ) → cond (bytes_eq name.now n) None (named_in self.old n) ≡ None }
     {
         match self {
-            Namesakes::One(only, _) => only.as_str() != name,
+            Namesakes::One(only, _) => !only.is(name),
             Namesakes::Many(children) => {
                 let _removed = children.remove(name);
                 !children.is_empty()
@@ -88,7 +88,7 @@ fn pair(
 pub(crate) fn id_where(only: &SmallName, name: &str, id: GroupId) -> Option<GroupId>
     ensures { result ≡ cond (bytes_eq only.now name.now) (Some id) None }
 {
-    if only.as_str() == name {
+    if only.is(name) {
         Some(id)
     } else {
         None

@@ -57,7 +57,7 @@ impl Siblings {
         ensures none_left { result ≡ false → (n : List ℕ) → cond (bytes_eq name.now n) None (child_named self.old n) ≡ None }
     {
         match self {
-            Siblings::One(only, _) => only.as_str() != name,
+            Siblings::One(only, _) => !only.is(name),
             Siblings::Many(children) => children.remove(name),
         }
     }

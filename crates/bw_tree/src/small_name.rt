@@ -1,5 +1,6 @@
 //! A name in the index of children.
 ghost use Rattle.std.specs.Prelude.{◌≡◌, IfOk};
+ghost use Rattle.std.specs.Str.{bytes_eq};
 
 use smallvec::SmallVec;
 use std::alloc::{AllocError, Global};
@@ -35,11 +36,17 @@ impl SmallName {
         })
     }
 
+    // Whether this is the name.
+    pub(crate) fn is(&self, name: &str) -> bool
+        ensures { result ≡ bytes_eq self.now name.now }
+    {
+        self.bytes.as_slice() == name.as_bytes()
+    }
+
     // The name as a text.
     pub(crate) fn as_str(&self) -> &str
         ensures { result.now ≡ self.now }
     {
-        // only texts are copied into a name
-        unsafe { str::from_utf8_unchecked(self.bytes.as_slice()) }
+        str::from_utf8(self.bytes.as_slice()).unwrap()
     }
 }
