@@ -88,9 +88,5 @@ fn pair(
 pub(crate) fn id_where(only: &SmallName, name: &str, id: GroupId) -> Option<GroupId>
     ensures { result ≡ cond (bytes_eq only.now name.now) (Some id) None }
 {
-    if only.is(name) {
-        Some(id)
-    } else {
-        None
-    }
+    if only.is(name) { Some(id) } else { None }
 }
