@@ -147,8 +147,8 @@ fn book_row(
     }
 }
 
-// The place of a group's counters. They stand in the likely place, which is the number of the group's row, where the rows before
-// it were booked before it and are all there. Only else are they looked up.
+// The place of a group's counters. Where each instance that was booked had all groups in order of creation, and each removed group
+// was forgotten, that is the number of the group's row, the likely place. Only else are they looked up.
 fn place_of(stats: &IndexMap<u64, Stat>, likely: usize, id: u64) -> Option<usize>
     ensures { result ≡ position (nat_eq id) (keys_of stats.now.entries) }
 {
@@ -204,10 +204,13 @@ fn burst(row: &Row, quota: Option<u64>, drawn: u64) -> u64
     }
 }
 
-// A counter with some slices more, in microseconds.
+// A counter with some slices more, in microseconds. In most periods a group adds none to some of its counters.
 fn more(counter: u64, slices: u64, slice_us: u64) -> u64
     ensures { result ≡ cut (counter + slices * slice_us) }
 {
+    if slices == 0 {
+        return counter;
+    }
     counter.saturating_add(slices.saturating_mul(slice_us))
 }
 
