@@ -3,12 +3,14 @@
 #![tactic(auto)]
 
 mod failure;
+mod memory;
 mod status;
 mod words;
 
 use bw_model::HostShape;
 use bw_shell::{RunFault, Watched, check_text, run, status_of_check, status_of_run};
 use failure::Failure;
+use memory::keep_freed;
 use status::status_of_words;
 use std::io;
 use std::io::BufWriter;
@@ -25,6 +27,7 @@ fn run_script<R: AllocGlobal + Input + Print + Threads + Wait + Sync>(
     rt: &R,
     shape: HostShape,
 ) -> Result<(), Failure> {
+    keep_freed(rt.alloc());
     let Ok(output) = BufWriter::new(rt.alloc(), io::writer(rt)) else {
         return Err(Failure::memory());
     };
