@@ -22,13 +22,15 @@ file of lines:
 It is no part of ./test: a body costs from ten seconds to two minutes, one with a build some minutes.
 """
 import os
+import signal
 import subprocess
 import sys
 from pathlib import Path
 
 HERE = Path(__file__).resolve().parent
 BODIES = HERE / "wrong_bodies"
-SECONDS = 1200
+# A build of all crates on a loaded machine takes most of an hour.
+SECONDS = 5400
 
 
 class Body:
@@ -97,17 +99,20 @@ def run(clone, body):
     else:
         command = ["bash", "-c", "./build || exit 2; " + " && ".join(f"python3 tests/{file}" for file in body.words)]
         folder = clone
-    try:
-        lines = "".join(f"{line}\n" for line in body.lines).encode()
-        done = subprocess.run(command, cwd=folder, capture_output=True, timeout=SECONDS, input=lines)
-    except subprocess.TimeoutExpired:
-        return "no end", ""
-    said = (done.stdout + done.stderr).decode(errors="replace")
+    lines = "".join(f"{line}\n" for line in body.lines).encode()
+    # in a process group of its own, so that what it started ends with it
+    with subprocess.Popen(command, cwd=folder, stdin=subprocess.PIPE, stdout=subprocess.PIPE, stderr=subprocess.STDOUT, start_new_session=True) as talk:
+        try:
+            said = talk.communicate(lines, timeout=SECONDS)[0].decode(errors="replace")
+        except subprocess.TimeoutExpired:
+            os.killpg(talk.pid, signal.SIGKILL)
+            talk.communicate()
+            return 2, f"error: no end in {SECONDS} seconds"
     if body.kind == "run":
         if "checked: ended" not in said:
             return 2, said
         return int(body.says in said.splitlines()), said
-    return done.returncode, said
+    return talk.returncode, said
 
 
 def tried(clone, body, key):
