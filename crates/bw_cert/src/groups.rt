@@ -6,8 +6,9 @@ ghost use Rattle.bw_cert.specs.Reading.{ReadsAs, seen, line_at, group_of, groups
 use crate::fault::CertFault;
 use crate::fields::group_words;
 use crate::words::{flag, level, limit, number, parent};
+use bw_model::limits::MAX_GROUPS;
 use bw_model::{Certificate, Instance, Mark, Row};
-use bw_text::split_once;
+use bw_text::split_line;
 use std::alloc::Global;
 
 /// An instance, an amount in slices for each of its groups, and a certificate of the amounts.
@@ -40,7 +41,7 @@ pub(crate) struct Columns {
 pub(crate) fn first_line(text: &[u8]) -> Result<(&[u8], &[u8]), CertFault>
     ensures { seen (λ p. (p.0.now, lines_of p.1.now)) result ≡ line_at (lines_of text.now) }
 {
-    match split_once(text, b'\n') {
+    match split_line(text) {
         None => Err(CertFault::CutShort),
         Some((line, rest)) => Ok((line, rest)),
     }
@@ -78,10 +79,12 @@ fn group(line: &[u8]) -> Result<GroupLine, CertFault>
 pub(crate) fn groups(alloc: Global, count: u64, text: &[u8]) -> Result<(Columns, &[u8]), CertFault>
     ensures { ReadsAs (λ p. (columns_view p.0, lines_of p.1.now)) result (groups_at count (lines_of text.now)) }
 {
-    let mut rows = Vec::new(alloc);
-    let mut amounts = Vec::new(alloc);
-    let mut tight = Vec::new(alloc);
-    let mut levels = Vec::new(alloc);
+    // the text has less where it is cut short
+    let room = count.min(MAX_GROUPS as u64) as usize;
+    let mut rows = Vec::with_capacity(alloc, room)?;
+    let mut amounts = Vec::with_capacity(alloc, room)?;
+    let mut tight = Vec::with_capacity(alloc, room)?;
+    let mut levels = Vec::with_capacity(alloc, room)?;
     let mut rest = text;
     for _ in 0..count {
         let (line, after) = first_line(rest)?;

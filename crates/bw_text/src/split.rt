@@ -3,6 +3,8 @@ ghost use Rattle.std.specs.Prelude.{◌≡◌, ℕ, ◌≤◌, ◌<◌, ◌==◌
 ghost use Rattle.std.specs.List.{slice_split};
 ghost use Rattle.bw_text.specs.Words.{is_white, words};
 
+use memchr::memchr;
+
 fn is_white(b: u8) -> bool
     ensures { result ≡ is_white b }
 {
@@ -47,4 +49,14 @@ pub fn split_once(text: &[u8], byte: u8) -> Option<(&[u8], &[u8])>
         }
     }
     None
+}
+
+/// The first line of a text, and what stands after its newline; `None` where there is none. `memchr` looks at many bytes at
+/// a time, so this is for long texts, and [`split_once`] for the words of a line.
+pub fn split_line(text: &[u8]) -> Option<(&[u8], &[u8])>
+    ensures { MatchOption result (slice_split (λ b. b == 10) text.now ≡ text.now ∷ [])
+        (λ p. slice_split (λ b. b == 10) text.now ≡ p.0.now ∷ slice_split (λ b. b == 10) p.1.now) }
+{
+    let end = memchr(b'\n', text)?;
+    Some((&text[..end], &text[end + 1..]))
 }

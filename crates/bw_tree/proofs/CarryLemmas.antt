@@ -8,11 +8,12 @@ use Rattle.bw_model.specs.declared.row.Row.{Row}
 use Rattle.bw_model.specs.declared.limits.TheConstants.{MAX_PATH}
 use Rattle.bw_tree.specs.declared.child_index.ChildIndex.{ChildIndex}
 use Rattle.bw_tree.specs.Children.{IsIndexOf}
-use Rattle.bw_tree.specs.Groups.{GroupFields, TreeState, group_at, has_group, has_children, is_parent, is_child_named, demand_of, child_of, parent_of, is_name}
+use Rattle.bw_tree.specs.Groups.{GroupFields, TreeState, group_at, has_group, has_children, is_parent, is_child_named, is_child_of, children_count, demand_of, child_of, parent_of, is_name}
 use Rattle.bw_tree.specs.Groups.{IsTree, AllBefore, AllAfter, AreRising, IsSound}
 use Rattle.bw_tree.specs.Tree.{set_carry}
 use Rattle.bw_tree.specs.Snapshot.{carried, carried_at, left_of, left_over}
 use Rattle.bw_tree.proofs.GroupLemmas.{above_same}
+use Rattle.bw_tree.proofs.IndexLemmas.{index_alike}
 
 pub length_carried : (gs : List (ℕ × GroupFields)) (cs : List ℕ) → length (carried gs cs) ≡ length gs
 length_carried gs [] = refl
@@ -49,6 +50,11 @@ children_carried gs [] p = refl
 children_carried [] (c ∷ cs) p = refl
 children_carried (e ∷ es) (c ∷ cs) p = ap (λ b. is_parent e.1.parent p || b) (children_carried es cs p)
 
+count_carried : (gs : List (ℕ × GroupFields)) (cs : List ℕ) (p : ℕ) → children_count (carried gs cs) p ≡ children_count gs p
+count_carried gs [] p = refl
+count_carried [] (c ∷ cs) p = refl
+count_carried (e ∷ es) (c ∷ cs) p = ap (λ n. cond (is_parent e.1.parent p) (suc n) n) (count_carried es cs p)
+
 -- a group that is found is the old one, but for what it left over
 abbrev pub IsKept : Option GroupFields → Option GroupFields → Type 0
 IsKept None None = Unit {0}
@@ -75,6 +81,12 @@ there_kept None None k = refl
 there_kept None (Some g) k = absurd k
 there_kept (Some h) None k = absurd k
 there_kept (Some h) (Some g) k = refl
+
+child_kept : (p : ℕ) (n : List ℕ) (o r : Option GroupFields) → IsKept o r → is_child_of o p n ≡ is_child_of r p n
+child_kept p n None None k = refl
+child_kept p n None (Some g) k = absurd k
+child_kept p n (Some h) None k = absurd k
+child_kept p n (Some h) (Some g) k = ap (λ (x : GroupFields). is_child_named x p n) k.1
 
 parent_kept : (o p : Option GroupFields) → IsKept o p → parent_of o ≡ parent_of p
 parent_kept None None k = refl
@@ -162,7 +174,8 @@ module _ (t : TreeState) (cs : List ℕ) (ok : IsTree t) where
 -- the index stays theirs
 pub index_carried : (gs : List (ℕ × GroupFields)) (cs : List ℕ) (index : ChildIndex) → IsIndexOf gs index → IsIndexOf (carried gs cs) index
 index_carried gs cs index is =
-    record { children = λ p n. is.children p n ∙ sym (child_carried gs cs p n); listed = λ p. is.listed p ∙ sym (children_carried gs cs p) }
+    index_alike gs (carried gs cs) index (λ q p n. child_kept p n (group_at (carried gs cs) q) (group_at gs q) (look_carried gs cs q))
+    (child_carried gs cs) (count_carried gs cs) is
 
 -- ---- one group after another
 

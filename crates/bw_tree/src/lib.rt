@@ -1,16 +1,13 @@
 //! The tree of groups: each call is an exact change of the list of groups, or a refusal that changes nothing.
 #![tactic(auto)]
 
+mod by_id;
 mod child_index;
-mod directory;
 mod fault;
 mod group;
 mod laws;
 pub mod limits;
-mod namesakes;
 mod setting;
-mod siblings;
-mod small_name;
 mod tree;
 
 pub use fault::TreeFault;

@@ -17,7 +17,7 @@ returns-in_err-line c =
       flags = c.loop.tight.items;
       levels = map (option_map price_of) c.loop.levels.items;
     } in
-    let p = err_from_is_err_and c.from_residual.result c.from_residual.ensures.1 in
+    let p = err_from_is_err_and c.from_residual-in_err-line.result c.from_residual-in_err-line.ensures.1 in
     rw (p.1, p.2) (line_ends c.in_err-line.field-0.0 front c.args.count c.loop.counter (lines_of c.loop.rest.now)
     (groups_at c.args.count (lines_of c.args.text.now)) c.loop-test.true (sym c.in_err-line.ensures) c.loop.invariant)
 

@@ -1,5 +1,6 @@
 -- The goals of `run_gated` that are answered by hand.
-use Rattle.std.proofs.Common.{◌≡◌, ◌∙◌, [], refl, sym, subst, inl, inr, arith, rules, Bool, Result, Ok, Err, IfErr, IsErrOf}
+use Rattle.std.proofs.Common.{◌≡◌, ◌∙◌, [], refl, sym, ap, subst, inl, inr, arith, Bool, Result, Ok, Err, IfErr, IsErrOf}
+use Rattle.std.proofs.lemmas.Result.{err_from_is_err_and}
 use Rattle.bw_shell.specs.declared.script.RunFault.{RunFault}
 use Rattle.bw_shell.specs.declared.script.RunFault.TheVariants.{Read, Write, Memory}
 use Rattle.bw_commands.specs.State.{start}
@@ -35,7 +36,8 @@ loop-turn-preserved g c = record {
 
 pub returns-in_err-piece : goal.returns-in_err-piece
 returns-in_err-piece g c =
-    let e : c.from_residual-in_err-piece.result ≡ Err Memory = search rules in
+    let p = err_from_is_err_and c.from_residual-in_err-piece.result c.from_residual-in_err-piece.ensures.1 in
+    let e : c.from_residual-in_err-piece.result ≡ Err Memory = p.1 ∙ ap Err p.2 in
     rw e
     (record {
       ok = tt;

@@ -1,5 +1,6 @@
 -- The goals of `Tree::copy` that are answered by hand.
-use Rattle.std.proofs.Common.{sym, ap, subst, ◌∙◌}
+use Rattle.std.proofs.Common.{◌≤◌, length, sym, ap, subst, ◌∙◌}
+use Rattle.bw_model.specs.declared.limits.TheConstants.{MAX_GROUPS}
 use Rattle.bw_tree.specs.Groups.{TreeState, IsTree}
 use Rattle.bw_tree.specs.Children.{AreNamed}
 use Rattle.bw_tree.proofs.IndexLemmas.{tree_named, same_entries}
@@ -9,7 +10,10 @@ pub index_of-requires : goal.index_of-requires
 index_of-requires c =
     let t : TreeState = record { groups = c.self.inside.groups.entries; next = c.self.inside.next_id } in
     let same = same_entries c.self.inside.groups.entries c.in_ok-groups.groups.entries c.in_ok-groups.ensures.cases in
-    subst (λ es. AreNamed es es) (sym same) (tree_named t c.self.invariant.tree)
+    record {
+      named = subst (λ es. AreNamed es es) (sym same) (tree_named t c.self.invariant.tree);
+      few = subst (λ es. length es ≤ MAX_GROUPS) (sym same) c.self.invariant.tree.count;
+    }
 
 pub invariant_of-result : goal.invariant_of-result
 invariant_of-result c =

@@ -1,0 +1,49 @@
+-- Where the children of all groups are found: by a key that is made of the parent and the name.
+use Rattle.std.specs.Prelude.{ℕ, zero, suc, ◌+◌, ◌-◌, ◌%◌, ◌^◌, nat_eq, ◌==◌, cond, List, Option, Some, None}
+use Rattle.std.specs.List.{fold}
+use Rattle.std.specs.Hash as hash
+use Rattle.std.specs.Hash.FoldHasher as folding
+use Rattle.std.specs.HashMap.{HashMap, get}
+use Rattle.std.specs.BTreeMap.{BTreeMap, get_by_text}
+use Rattle.std.specs.declared.string.String.{String}
+use Rattle.std.specs.declared.alloc.Global.{Global}
+use Rattle.std.specs.declared.hash.FoldHasher.{FoldHasher}
+use Rattle.std.specs.declared.hash.BuildHasherDefault.{BuildHasherDefault}
+
+-- the library's hash of a name, moved on by the parent's id: few children share a key
+unfoldable pub key : ℕ → List ℕ → ℕ
+key parent name = (folding.finish (fold folding.write folding.initial (hash.str name)) + parent) % 2 ^ 64
+
+-- the child with this name, among children whose keys others had before them
+abbrev pub text_in : Option (BTreeMap (String Global) ℕ) → List ℕ → Option ℕ
+text_in None name = None
+text_in (Some children) name = get_by_text children name
+
+-- the child of a group with this name, among those whose keys others had before them
+abbrev pub text_at : HashMap ℕ (BTreeMap (String Global) ℕ) (BuildHasherDefault FoldHasher) → ℕ → List ℕ → Option ℕ
+text_at others parent name = text_in (get nat_eq others parent) name
+
+-- the child that a key finds, after one more was given this key: the first stays
+abbrev pub first_of : Option ℕ → ℕ → Option ℕ
+first_of None id = Some id
+first_of (Some first) id = Some first
+
+-- the child that a key finds, after one was taken out
+abbrev pub without : ℕ → Option ℕ → Option ℕ
+without id None = None
+without id (Some first) = cond (first == id) None (Some first)
+
+-- a number of children as it is kept: none where there are none
+abbrev pub counted : ℕ → Option ℕ
+counted zero = None
+counted (suc n) = Some (suc n)
+
+-- one child more
+abbrev pub one_more : Option ℕ → Option ℕ
+one_more None = Some 1
+one_more (Some n) = Some (n + 1)
+
+-- one child less
+abbrev pub one_less : Option ℕ → Option ℕ
+one_less None = None
+one_less (Some n) = counted (n - 1)
