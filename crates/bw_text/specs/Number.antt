@@ -19,6 +19,12 @@ value_of_digits (d ∷ ds) = (d - 48) * 10 ^ length ds + value_of_digits ds
 abbrev pub number_spelled : List ℕ → Option ℕ
 number_spelled word = if is_number word then Some (value_of_digits word) else None
 
+-- the number that a word spells at 64 bits where it may begin with any digit, or why there is none
+abbrev pub digits_read : List ℕ → Result ℕ NumberFault
+digits_read word =
+    if list_all is_ascii_digit word then (if nat_lt (value_of_digits word) (2 ^ 64) then Ok (value_of_digits word) else Err TooGreat)
+    else Err BadForm
+
 -- the same at 64 bits: why a word is no number, or the number
 abbrev pub number_read : List ℕ → Result ℕ NumberFault
 number_read word =

@@ -1,9 +1,9 @@
 //! Numbers in decimal digits.
-ghost use Rattle.std.specs.Prelude.{◌≡◌, ℕ, ◌+◌, ◌-◌, ◌*◌, ◌<◌, ◌≤◌, ◌^◌, List, Ok, MatchOption, IsTrue};
+ghost use Rattle.std.specs.Prelude.{◌≡◌, ℕ, ◌+◌, ◌-◌, ◌*◌, ◌<◌, ◌≤◌, ◌^◌, ◌==◌, ◌&&◌, ◌||◌, not, nat_lt, length, slice_index, List, Ok, MatchOption, if◌then◌else◌};
 ghost use Rattle.std.specs.List.{list_all};
 ghost use Rattle.std.specs.Char.{is_ascii_digit};
 ghost use Rattle.std.specs.Fmt.{decimal};
-ghost use Rattle.bw_text.specs.Number.{is_number, value_of_digits, number_read};
+ghost use Rattle.bw_text.specs.Number.{digits_read, number_read};
 
 /// Why a word is no number of 64 bits.
 #[derive(Clone, Copy, Debug, PartialEq, Eq)]
@@ -20,13 +20,10 @@ pub enum NumberFault {
 pub fn read_number(word: &[u8]) -> Result<u64, NumberFault>
     ensures { result ≡ number_read word.now }
 {
-    if !is_number(word) {
+    if !begins_as_number(word) {
         return Err(NumberFault::BadForm);
     }
-    match value_of_digits(word) {
-        None => Err(NumberFault::TooGreat),
-        Some(n) => Ok(n),
-    }
+    digits_read(word)
 }
 
 fn are_digits(word: &[u8]) -> bool
@@ -35,29 +32,47 @@ fn are_digits(word: &[u8]) -> bool
     word.iter().all(|b| b.is_ascii_digit())
 }
 
-fn is_number(word: &[u8]) -> bool
-    ensures { result ≡ is_number word.now }
+// Whether a word begins as a number does: with a byte, and with no `0` that others follow.
+fn begins_as_number(word: &[u8]) -> bool
+    ensures { result ≡ (nat_lt 0 (length word.now) && (length word.now == 1 || not (slice_index word.now 0 == 48))) }
 {
-    !word.is_empty() && are_digits(word) && (word.len() == 1 || word[0] != b'0')
+    !word.is_empty() && (word.len() == 1 || word[0] != b'0')
 }
 
 // The number with one digit more.
 fn push_digit(n: u64, digit: u8) -> Option<u64>
     requires { (48 ≤ digit) × (digit ≤ 57) }
-    ensures { MatchOption result (2 ^ 64 ≤ n * 10 + (digit - 48)) (λ m. m ≡ n * 10 + (digit - 48)) }
+    ensures { MatchOption result (2 ^ 64 ≤ n * 10 + (digit - 48)) (λ m. (m ≡ n * 10 + (digit - 48)) × (m < 2 ^ 64)) }
 {
     n.checked_mul(10)?.checked_add(u64::from(digit - b'0'))
 }
 
-fn value_of_digits(word: &[u8]) -> Option<u64>
-    requires { IsTrue (list_all is_ascii_digit word.now) }
-    ensures { MatchOption result (2 ^ 64 ≤ value_of_digits word.now) (λ n. n ≡ value_of_digits word.now) }
+// The number that digits spell. Each byte is looked at once, but where the number is too great.
+fn digits_read(word: &[u8]) -> Result<u64, NumberFault>
+    ensures { result ≡ digits_read word.now }
 {
     let mut n: u64 = 0;
     for b in word {
-        n = push_digit(n, *b)?;
+        if !b.is_ascii_digit() {
+            return Err(NumberFault::BadForm);
+        }
+        let Some(next) = push_digit(n, *b) else {
+            return Err(too_great(word));
+        };
+        n = next;
     }
-    Some(n)
+    Ok(n)
+}
+
+// Why a word is refused whose first digits are too great a number: a byte behind them may be no digit.
+fn too_great(word: &[u8]) -> NumberFault
+    ensures { result ≡ (if list_all is_ascii_digit word.now then NumberFault.TooGreat else NumberFault.BadForm) }
+{
+    if are_digits(word) {
+        NumberFault::TooGreat
+    } else {
+        NumberFault::BadForm
+    }
 }
 
 /// What std writes of a number is read as that number, and each number that is read is spelled so.
