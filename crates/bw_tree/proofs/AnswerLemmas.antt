@@ -53,18 +53,18 @@ added_at gs old new parent id name added p n mine only =
     moved : (b : Bool) → eqb (key parent name) (key p n) ≡ b → (o : Option ℕ) → get eqb old.first (key p n) ≡ o
         → (h : Bool) → (eqb parent p && bytes_eq name n) ≡ h
         → child_at gs new p n
-            ≡ child_among gs (cond b (first_of o id) o)
-                (cond (is_some (get eqb old.first (key parent name)) && h) (Some id) (text_at old.others p n)) p n
+        ≡ child_among gs (cond b (first_of o id) o)
+        (cond (is_some (get eqb old.first (key parent name)) && h) (Some id) (text_at old.others p n)) p n
     moved b is_b o is_o h is_h =
         ap (λ k. child_among gs k (text_at new.others p n) p n) (added.first (key p n))
         ∙ ap (λ k. child_among gs (cond (eqb (key parent name) (key p n)) (first_of (get eqb old.first (key p n)) id) (get eqb old.first (key p n))) k p n)
-            (added.others p n)
+        (added.others p n)
         ∙ ap (λ c. child_among gs (cond c (first_of (get eqb old.first (key p n)) id) (get eqb old.first (key p n)))
-            (cond (is_some (get eqb old.first (key parent name)) && (eqb parent p && bytes_eq name n)) (Some id) (text_at old.others p n)) p n) is_b
+        (cond (is_some (get eqb old.first (key parent name)) && (eqb parent p && bytes_eq name n)) (Some id) (text_at old.others p n)) p n) is_b
         ∙ ap (λ k. child_among gs (cond b (first_of k id) k)
-            (cond (is_some (get eqb old.first (key parent name)) && (eqb parent p && bytes_eq name n)) (Some id) (text_at old.others p n)) p n) is_o
+        (cond (is_some (get eqb old.first (key parent name)) && (eqb parent p && bytes_eq name n)) (Some id) (text_at old.others p n)) p n) is_o
         ∙ ap (λ c. child_among gs (cond b (first_of o id) o)
-            (cond (is_some (get eqb old.first (key parent name)) && c) (Some id) (text_at old.others p n)) p n) is_h
+        (cond (is_some (get eqb old.first (key parent name)) && c) (Some id) (text_at old.others p n)) p n) is_h
 
     -- the slot of the name's own key
     slot : eqb (key parent name) (key p n) ≡ true → (o : Option ℕ) → get eqb old.first (key p n) ≡ o → get eqb old.first (key parent name) ≡ o
@@ -115,9 +115,9 @@ taken_at gs hs old new parent id name taken p n mine gone there alone =
     moved b is_b o is_o h is_h =
         ap (λ k. child_among hs k (text_at new.others p n) p n) (taken.first (key p n))
         ∙ ap (λ k. child_among hs (cond (eqb (key parent name) (key p n)) (without id (get eqb old.first (key p n))) (get eqb old.first (key p n))) k p n)
-            (taken.others p n)
+        (taken.others p n)
         ∙ ap (λ c. child_among hs (cond c (without id (get eqb old.first (key p n))) (get eqb old.first (key p n)))
-            (cond (eqb parent p && bytes_eq name n) None (text_at old.others p n)) p n) is_b
+        (cond (eqb parent p && bytes_eq name n) None (text_at old.others p n)) p n) is_b
         ∙ ap (λ k. child_among hs (cond b (without id k) k) (cond (eqb parent p && bytes_eq name n) None (text_at old.others p n)) p n) is_o
         ∙ ap (λ c. child_among hs (cond b (without id o) o) (cond c None (text_at old.others p n)) p n) is_h
 
@@ -142,7 +142,7 @@ taken_at gs hs old new parent id name taken p n mine gone there alone =
 
     slot_of : (q : ℕ) (c : Bool) → eqb q id ≡ c → (h : Bool) → (eqb parent p && bytes_eq name n) ≡ h
         → child_among hs (cond c None (Some q)) (cond h None (text_at old.others p n)) p n
-            ≡ cond h None (child_among gs (Some q) (text_at old.others p n) p n)
+        ≡ cond h None (child_among gs (Some q) (text_at old.others p n) p n)
     slot_of q true is_c true is_h = refl
     slot_of q true is_c false is_h =
         ap (λ c. cond c (Some q) (text_at old.others p n)) (sym (ap (λ k. is_child_at gs k p n) (eqb-true q id is_c) ∙ mine ∙ is_h))

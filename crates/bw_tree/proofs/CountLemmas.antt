@@ -34,16 +34,16 @@ count_push (e ∷ es) k p g = grouped (is_parent e.1.parent p) (is_parent g.pare
 -- one group less
 pub count_removed : (id : ℕ) (g : GroupFields) (gs : List (ℕ × GroupFields)) (p : ℕ) → group_at gs id ≡ Some g
     → children_count gs p
-        ≡ cond (is_parent g.parent p) (suc (children_count (remove_entry (eqb id) gs) p)) (children_count (remove_entry (eqb id) gs) p)
+    ≡ cond (is_parent g.parent p) (suc (children_count (remove_entry (eqb id) gs) p)) (children_count (remove_entry (eqb id) gs) p)
 count_removed id g [] p at = cc
 count_removed id g (e ∷ es) p at = onto (eqb id e.0) at (count_removed id g es p)
   where
     onto : (b : Bool) → cond b (Some e.1) (group_at es id) ≡ Some g
         → (group_at es id ≡ Some g → children_count es p
-            ≡ cond (is_parent g.parent p) (suc (children_count (remove_entry (eqb id) es) p)) (children_count (remove_entry (eqb id) es) p))
+        ≡ cond (is_parent g.parent p) (suc (children_count (remove_entry (eqb id) es) p)) (children_count (remove_entry (eqb id) es) p))
         → cond (is_parent e.1.parent p) (suc (children_count es p)) (children_count es p)
         ≡ cond (is_parent g.parent p) (suc (children_count (cond b es (e ∷ remove_entry (eqb id) es)) p))
-            (children_count (cond b es (e ∷ remove_entry (eqb id) es)) p)
+        (children_count (cond b es (e ∷ remove_entry (eqb id) es)) p)
     onto true at rest = ap (λ (x : GroupFields). cond (is_parent x.parent p) (suc (children_count es p)) (children_count es p)) (inside {a = e.1} {b = g} at)
     onto false at rest = grouped (is_parent e.1.parent p) (is_parent g.parent p) _ _ (rest at)
 

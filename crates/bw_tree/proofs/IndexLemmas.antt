@@ -291,7 +291,7 @@ part_step groups e es parent old new up is added = record {
         cond (eqb parent p) (suc c.0) c.0,
         added.counts p ∙ ap (λ o. cond (eqb parent p) (one_more o) o) c.1 ∙ counted_more (eqb parent p) c.0,
         sum (eqb parent p) c.0 (children_count es p)
-        ∙ ap (λ o. c.0 + cond (is_parent o p) (suc (children_count es p)) (children_count es p)) (sym up) ∙ c.2,
+            ∙ ap (λ o. c.0 + cond (is_parent o p) (suc (children_count es p)) (children_count es p)) (sym up) ∙ c.2,
       );
   left = is.left.1;
 }
@@ -314,7 +314,7 @@ part_step groups e es parent old new up is added = record {
     onto p n false other =
         ap (λ b. either (cond b (Some e.0) (child_at groups old p n)) (child_of es p n)) other
         ∙ ap (either (child_at groups old p n))
-            (sym (ap (λ b. cond b (Some e.0) (child_of es p n)) (ap (λ o. is_parent o p && bytes_eq e.1.name n) up ∙ other)))
+        (sym (ap (λ b. cond b (Some e.0) (child_of es p n)) (ap (λ o. is_parent o p && bytes_eq e.1.name n) up ∙ other)))
         ∙ is.children p n
 
 -- in a tree, each group is found by its name
@@ -326,7 +326,7 @@ tree_named t ok = all t.groups ok.rising (λ id g at. at)
     all [] up found = tt
     all (e ∷ es) up found = (
       λ p is. let at = found e.0 e.1 (ap (λ b. cond b (Some e.1) (group_at es e.0)) (eq-eqb e.0 e.0 refl)) in
-      (ok.named e.0 p e.1 at is, ap (λ o. is_child_of o p e.1.name) at ∙ is_named e.1 p is),
+          (ok.named e.0 p e.1 at is, ap (λ o. is_child_of o p e.1.name) at ∙ is_named e.1 p is),
       all es up.1 (λ id g at. found id g (at_more e es id g up.0 at)),
     )
 

@@ -30,7 +30,7 @@ loop-id-preserved-in-Continue-1 c =
       tt,
       tt,
       part_step c.args.groups.now.entries (c.in-Some.id.now, c.in-Some.group.now) c.next.new.self c.in-Some-parent.parent
-      c.loop-id.children c.insert.new.self up was added,
+          c.loop-id.children c.insert.new.self up was added,
     )
 
 pub loop-id-preserved : goal.loop-id-preserved
