@@ -128,7 +128,8 @@ def tried(clone, body, key):
 
 
 def first_goal(said):
-    lines = [line.strip() for line in said.splitlines()]
+    # the lines of what macros write name `thiserror`
+    lines = [line.strip() for line in said.splitlines() if not line.startswith("by-macro:")]
     for mark in ("did not prove", "not proved that", "FAILED", "failed", "error", "goal"):
         for line in lines:
             if mark in line:
