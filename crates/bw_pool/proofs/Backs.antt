@@ -3,7 +3,6 @@ use Rattle.std.proofs.Common.{◌≡◌, ◌≢◌, ℕ, ◌-◌, ◌<◌, ◌�
 use Rattle.std.proofs.Common.{eq-eqb, ltb}
 use Rattle.std.proofs.lemmas.Bool.{lt-ltb, le-ltb, cases_lt}
 use Rattle.std.specs.List.{AllByRecursion}
-use Rattle.bw_model.specs.declared.row.Row.{Row}
 use Rattle.bw_model.specs.Groups.{path_up, is_leaf}
 use Rattle.bw_pool.specs.declared.calls.Refusal.TheVariants.{NoGroup, NotLeaf, ZeroAsk}
 use Rattle.bw_pool.specs.Pool.{PoolState, lowered, gave_back, held_place, held_by, leaf_refusal}
@@ -34,13 +33,13 @@ back_passed s seat leaf n e has =
       | inr le ↦ absurd (not_zero s leaf n e (omega (arith, held_beyond s seat leaf le)))
     ]
 
-pub gave_from : (s : PoolState) (seat leaf n : ℕ) (ps : List Row) (d d' : List ℕ) (by held place : ℕ)
-    → ps ≡ s.rows → d ≡ s.drawn → d' ≡ lowered (path_up ps leaf) n d → by ≡ get_or s.by_processor seat 0 - n
+pub gave_from : (s : PoolState) (seat leaf n : ℕ) (way d d' : List ℕ) (by held place : ℕ)
+    → way ≡ path_up s.rows leaf → d ≡ s.drawn → d' ≡ lowered way n d → by ≡ get_or s.by_processor seat 0 - n
     → place ≡ held_place s seat leaf → held ≡ get_or s.held (held_place s seat leaf) 0
     → record s { drawn = d'; by_processor = set s.by_processor seat by; held = set s.held place (held - n) } ≡ gave_back s seat leaf n
-gave_from s seat leaf n ps d d' by held place ep ed er eb epl eh =
+gave_from s seat leaf n way d d' by held place ep ed er eb epl eh =
     let drawn' : d' ≡ lowered (path_up s.rows leaf) n s.drawn =
-    er ∙ (ap (λ x. lowered (path_up x leaf) n d) ep ∙ ap (λ x. lowered (path_up s.rows leaf) n x) ed) in
+    er ∙ (ap (λ x. lowered x n d) ep ∙ ap (λ x. lowered (path_up s.rows leaf) n x) ed) in
     let by' : set s.by_processor seat by ≡ set s.by_processor seat (get_or s.by_processor seat 0 - n) = ap (λ x. set s.by_processor seat x) eb in
     let held' : set s.held place (held - n) ≡ set s.held (held_place s seat leaf) (get_or s.held (held_place s seat leaf) 0 - n) =
     ap (λ x. set s.held x (held - n)) epl ∙ ap (λ x. set s.held (held_place s seat leaf) (x - n)) eh in
@@ -53,8 +52,8 @@ gave_from s seat leaf n ps d d' by held place ep ed er eb epl eh =
       held = x;
     }) held')
 
-pub enough_from : (ps ps' : List Row) (d d' : List ℕ) (leaf n : ℕ) → ps ≡ ps' → d ≡ d'
-    → AllByRecursion (λ g. n ≤ get_or d g 0) (path_up ps leaf) → AllByRecursion (λ g. n ≤ get_or d' g 0) (path_up ps' leaf)
-enough_from ps ps' d d' leaf n p q all =
-    subst (λ x. AllByRecursion (λ g. n ≤ get_or x g 0) (path_up ps' leaf)) q
-    (subst (λ x. AllByRecursion (λ g. n ≤ get_or d g 0) (path_up x leaf)) p all)
+pub enough_from : (way way' d d' : List ℕ) (n : ℕ) → way ≡ way' → d ≡ d'
+    → AllByRecursion (λ g. n ≤ get_or d g 0) way → AllByRecursion (λ g. n ≤ get_or d' g 0) way'
+enough_from way way' d d' n p q all =
+    subst (λ x. AllByRecursion (λ g. n ≤ get_or x g 0) way') q
+    (subst (λ x. AllByRecursion (λ g. n ≤ get_or d g 0) x) p all)

@@ -2,6 +2,7 @@
 pub mod CallerLemmas
 mod Amounts
 mod Backs
+mod BareRows
 mod Bounds
 mod Drained
 mod Drawing

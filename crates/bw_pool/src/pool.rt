@@ -3,6 +3,7 @@ ghost use Rattle.std.specs.Prelude.{◌≡◌, ℕ, ◌-◌, ◌+◌, ◌<◌, �
 ghost use Rattle.std.specs.List.{AllByRecursion};
 ghost use Rattle.bw_model.specs.Groups.{AreTreeRows, path_up, is_leaf};
 ghost use Rattle.bw_model.specs.Host.{slices_per_processor};
+ghost use Rattle.bw_pool.specs.Parents.{parents_of, bare_rows};
 ghost use Rattle.bw_pool.specs.Pool.{PoolState, IsSound, gave_back, least, raised, lowered, first_with, new_pool};
 ghost use Rattle.bw_pool.specs.Pool.{refusal, leaf_refusal, group_refusal, state_after, reply_to, held_by, after, answer};
 
@@ -10,14 +11,17 @@ use crate::calls::{PoolCall, PoolReply, Refusal, Short};
 use bw_model::{Instance, Machine, Row};
 use std::alloc::{AllocError, Global};
 use std::marker::Model;
+use std::snapshot::Snapshot;
 
 /// How many slices of one period are drawn, up to which ceilings, and who holds them: the global pool of sched-bwc.rst, from which
-/// each processor draws. The number of a seat is that of its processor.
+/// each processor draws. The number of a seat is that of its processor. Of each row it keeps what the calls go by: the parent, and
+/// whether it is a leaf. The contracts speak of the rows of the instance, which they read in `groups`, a field of no bytes.
 #[derive(Drop)]
 pub struct SlicePool {
     processors: u32,
     per_processor: u64,
-    rows: Vec<Row>,
+    groups: Snapshot<Instance>,
+    parents: Vec<Option<u32>>,
     leaf: Vec<bool>,
     drawn: Vec<u64>,
     ceiling: Vec<u64>,
@@ -38,67 +42,73 @@ impl Model for SlicePool {
 }
 
 /// The least of the bound and of what is left at the leaf and at each ancestor.
-fn least_left(rows: &[Row], drawn: &[u64], ceiling: &[u64], leaf: u32, bound: u64) -> u64
-    requires tree { AreTreeRows rows.now }
-    requires row { leaf < length rows.now }
-    requires drawn { length drawn.now ≡ length rows.now }
-    requires ceiling { length ceiling.now ≡ length rows.now }
+fn least_left(parents: &[Option<u32>], drawn: &[u64], ceiling: &[u64], leaf: u32, bound: u64) -> u64
+    requires tree { AreTreeRows (bare_rows parents.now) }
+    requires row { leaf < length parents.now }
+    requires drawn { length drawn.now ≡ length parents.now }
+    requires ceiling { length ceiling.now ≡ length parents.now }
     requires within { (g : ℕ) → slice_index drawn.now g ≤ slice_index ceiling.now g }
-    ensures value { result ≡ least (λ g. slice_index ceiling.now g - slice_index drawn.now g) (path_up rows.now leaf) bound }
-    ensures room { AllByRecursion (λ g. result ≤ slice_index ceiling.now g - slice_index drawn.now g) (path_up rows.now leaf) }
+    ensures value { result ≡ least (λ g. slice_index ceiling.now g - slice_index drawn.now g) (path_up (bare_rows parents.now) leaf) bound }
+    ensures room { AllByRecursion (λ g. result ≤ slice_index ceiling.now g - slice_index drawn.now g) (path_up (bare_rows parents.now) leaf) }
 {
     let mut least = bound;
     let mut at = Some(leaf);
     while let Some(group) = at {
         let row = group as usize;
         least = least.min(ceiling[row] - drawn[row]);
-        at = rows[row].parent;
+        at = parents[row];
     }
     least
 }
 
 /// Adds n at the leaf and at each ancestor, where each has as much left.
-fn raise(rows: &[Row], ceiling: &[u64], drawn: &mut [u64], leaf: u32, n: u64)
-    requires tree { AreTreeRows rows.now }
-    requires row { leaf < length rows.now }
-    requires one_each { length drawn.old ≡ length rows.now }
-    requires ceiling { length ceiling.now ≡ length rows.now }
+fn raise(parents: &[Option<u32>], ceiling: &[u64], drawn: &mut [u64], leaf: u32, n: u64)
+    requires tree { AreTreeRows (bare_rows parents.now) }
+    requires row { leaf < length parents.now }
+    requires one_each { length drawn.old ≡ length parents.now }
+    requires ceiling { length ceiling.now ≡ length parents.now }
     requires within { (g : ℕ) → slice_index drawn.old g ≤ slice_index ceiling.now g }
-    requires room { AllByRecursion (λ g. n ≤ slice_index ceiling.now g - slice_index drawn.old g) (path_up rows.now leaf) }
-    ensures { drawn.new ≡ raised (path_up rows.now leaf) n drawn.old }
+    requires room { AllByRecursion (λ g. n ≤ slice_index ceiling.now g - slice_index drawn.old g) (path_up (bare_rows parents.now) leaf) }
+    ensures { drawn.new ≡ raised (path_up (bare_rows parents.now) leaf) n drawn.old }
 {
     let mut at = Some(leaf);
     while let Some(group) = at {
         let row = group as usize;
         drawn[row] += n;
-        at = rows[row].parent;
+        at = parents[row];
     }
 }
 
 /// Takes n away at the leaf and at each ancestor, where each has as much.
-fn lower(rows: &[Row], drawn: &mut [u64], leaf: u32, n: u64)
-    requires tree { AreTreeRows rows.now }
-    requires row { leaf < length rows.now }
-    requires one_each { length drawn.old ≡ length rows.now }
-    requires enough { AllByRecursion (λ g. n ≤ slice_index drawn.old g) (path_up rows.now leaf) }
-    ensures { drawn.new ≡ lowered (path_up rows.now leaf) n drawn.old }
+fn lower(parents: &[Option<u32>], drawn: &mut [u64], leaf: u32, n: u64)
+    requires tree { AreTreeRows (bare_rows parents.now) }
+    requires row { leaf < length parents.now }
+    requires one_each { length drawn.old ≡ length parents.now }
+    requires enough { AllByRecursion (λ g. n ≤ slice_index drawn.old g) (path_up (bare_rows parents.now) leaf) }
+    ensures { drawn.new ≡ lowered (path_up (bare_rows parents.now) leaf) n drawn.old }
 {
     let mut at = Some(leaf);
     while let Some(group) = at {
         let row = group as usize;
         drawn[row] -= n;
-        at = rows[row].parent;
+        at = parents[row];
     }
 }
 
 /// The group nearest the leaf that has exactly so much left, else the processor.
-fn nearest_with(rows: &[Row], drawn: &[u64], ceiling: &[u64], leaf: u32, got: u64) -> Short
-    requires tree { AreTreeRows rows.now }
-    requires row { leaf < length rows.now }
-    requires drawn { length drawn.now ≡ length rows.now }
-    requires ceiling { length ceiling.now ≡ length rows.now }
+fn nearest_with(
+    parents: &[Option<u32>],
+    drawn: &[u64],
+    ceiling: &[u64],
+    leaf: u32,
+    got: u64,
+) -> Short
+    requires tree { AreTreeRows (bare_rows parents.now) }
+    requires row { leaf < length parents.now }
+    requires drawn { length drawn.now ≡ length parents.now }
+    requires ceiling { length ceiling.now ≡ length parents.now }
     requires within { (g : ℕ) → slice_index drawn.now g ≤ slice_index ceiling.now g }
-    ensures { result ≡ first_with (λ g. slice_index ceiling.now g - slice_index drawn.now g) got (path_up rows.now leaf) }
+    ensures { result ≡ first_with (λ g. slice_index ceiling.now g - slice_index drawn.now g) got (path_up (bare_rows parents.now) leaf) }
 {
     let mut at = Some(leaf);
     while let Some(group) = at {
@@ -106,9 +116,16 @@ fn nearest_with(rows: &[Row], drawn: &[u64], ceiling: &[u64], leaf: u32, got: u6
         if ceiling[row] - drawn[row] == got {
             return Short::Group(group);
         }
-        at = rows[row].parent;
+        at = parents[row];
     }
     Short::Processor
+}
+
+/// The parent of each row.
+fn parents_of(alloc: Global, rows: &[Row]) -> Result<Vec<Option<u32>>, AllocError>
+    ensures { IfOk result (λ v. v.items ≡ parents_of rows.now) }
+{
+    rows.iter().map(|row| row.parent).collect(alloc)
 }
 
 /// Whether each row is a leaf.
@@ -135,7 +152,7 @@ impl SlicePool {
         let processors = shape.processors() as u32;
         let groups = instance.rows();
         let count = groups.len();
-        let rows = Vec::from_slice(alloc, groups)?;
+        let parents = parents_of(alloc, groups)?;
         let leaf = leaf_flags(alloc, instance, count as u32)?;
         let drawn = vec![in alloc; 0; count]?;
         let ceiling = Vec::from_slice(alloc, amounts)?;
@@ -144,7 +161,8 @@ impl SlicePool {
         Ok(SlicePool {
             processors,
             per_processor: shape.per_processor(),
-            rows,
+            groups: Snapshot::of(instance),
+            parents,
             leaf,
             drawn,
             ceiling,
@@ -159,6 +177,13 @@ impl SlicePool {
         ensures sound { IsSound self.now }
     {
         self.drawn.as_slice()
+    }
+
+    /// The slices drawn by each group, with those of the groups below it, for which the pool is given up.
+    pub fn into_drawn(self) -> Vec<u64>
+        ensures { result.items ≡ self.drawn }
+    {
+        self.drawn
     }
 
     /// The slices drawn by a group, with those of the groups below it.
@@ -189,8 +214,8 @@ impl SlicePool {
     pub fn held(&self, seat: u32, leaf: u32) -> u64
         ensures { result ≡ held_by self.now seat leaf }
     {
-        if seat < self.processors && (leaf as usize) < self.rows.len() {
-            self.held[seat as usize * self.rows.len() + leaf as usize]
+        if seat < self.processors && (leaf as usize) < self.parents.len() {
+            self.held[seat as usize * self.parents.len() + leaf as usize]
         } else {
             0
         }
@@ -199,7 +224,7 @@ impl SlicePool {
     fn group_refusal(&self, group: u32) -> Option<Refusal>
         ensures { result ≡ group_refusal self.now group }
     {
-        if (group as usize) < self.rows.len() {
+        if (group as usize) < self.parents.len() {
             None
         } else {
             Some(Refusal::NoGroup)
@@ -209,7 +234,7 @@ impl SlicePool {
     fn leaf_refusal(&self, leaf: u32, n: u64) -> Option<Refusal>
         ensures { result ≡ leaf_refusal self.now leaf n }
     {
-        if (leaf as usize) < self.rows.len() {
+        if (leaf as usize) < self.parents.len() {
             if self.leaf[leaf as usize] {
                 if n == 0 { Some(Refusal::ZeroAsk) } else { None }
             } else {
@@ -245,15 +270,15 @@ impl SlicePool {
     {
         let processor = seat as usize;
         let bound = ask.min(self.per_processor - self.by_processor[processor]);
-        let got = least_left(&self.rows, &self.drawn, &self.ceiling, leaf, bound);
+        let got = least_left(&self.parents, &self.drawn, &self.ceiling, leaf, bound);
         let short = if got == ask {
             None
         } else {
-            Some(nearest_with(&self.rows, &self.drawn, &self.ceiling, leaf, got))
+            Some(nearest_with(&self.parents, &self.drawn, &self.ceiling, leaf, got))
         };
-        raise(&self.rows, &self.ceiling, &mut self.drawn, leaf, got);
+        raise(&self.parents, &self.ceiling, &mut self.drawn, leaf, got);
         self.by_processor[processor] += got;
-        let place = processor * self.rows.len() + leaf as usize;
+        let place = processor * self.parents.len() + leaf as usize;
         self.held[place] += got;
         PoolReply::Granted { got, short }
     }
@@ -265,9 +290,9 @@ impl SlicePool {
         ensures { self.new ≡ gave_back self.old seat leaf n }
     {
         let processor = seat as usize;
-        lower(&self.rows, &mut self.drawn, leaf, n);
+        lower(&self.parents, &mut self.drawn, leaf, n);
         self.by_processor[processor] -= n;
-        let place = processor * self.rows.len() + leaf as usize;
+        let place = processor * self.parents.len() + leaf as usize;
         self.held[place] -= n;
     }
 

@@ -167,6 +167,6 @@ pub fn serve<G: Gate, R: Threads + Wait + Sync>(
     let Ok(Closed { machine, history }) = close(lock, seats) else {
         unreachable!()
     };
-    let drawn = Vec::from_slice(alloc, machine.all_drawn())?;
+    let drawn = machine.into_drawn();
     Ok(Served { history, drawn })
 }

@@ -1,5 +1,6 @@
 -- The next group up keeps the least of what is left.
 use Rattle.std.proofs.Common.{ℕ, ◌-◌, slice_index, ◌∙◌, sym, ap, arith}
+use Rattle.bw_pool.specs.Parents.{bare_rows}
 use Rattle.bw_pool.specs.Pool.{least}
 use Rattle.bw_model.proofs.CallerLemmas.{way_from}
 use Rattle.bw_model.specs.Groups.{path_up}
@@ -8,13 +9,13 @@ use Rattle.bw_pool.proofs.StepsUp.{falls, on_the_way, least_goes}
 use Rattle.bw_pool.proofs.pool.least_left.Goals as goal
 
 pub loop-at-smaller : goal.loop-at-smaller
-loop-at-smaller c = falls c.args.rows.now c.requires.tree c.loop-at.at c.in-Some.group c.loop-at.invariant.on_the_way c.in-Some.is
+loop-at-smaller c = falls c.args.parents.now c.requires.tree c.loop-at.at c.in-Some.group c.loop-at.invariant.on_the_way c.in-Some.is
 
 pub loop-at-preserved : goal.loop-at-preserved
 loop-at-preserved c = record {
-  on_the_way = on_the_way c.args.rows.now c.requires.tree c.loop-at.at c.in-Some.group c.loop-at.invariant.on_the_way c.in-Some.is;
+  on_the_way = on_the_way c.args.parents.now c.requires.tree c.loop-at.at c.in-Some.group c.loop-at.invariant.on_the_way c.in-Some.is;
   the_rest =
-      least_goes c.args.rows.now c.requires.tree c.loop-at.at c.in-Some.group c.loop-at.invariant.on_the_way c.in-Some.is
+      least_goes c.args.parents.now c.requires.tree c.loop-at.at c.in-Some.group c.loop-at.invariant.on_the_way c.in-Some.is
       (λ g. slice_index c.args.ceiling.now g - slice_index c.args.drawn.now g) c.loop-at.least c.min-least.result c.min-least.ensures
       ∙ c.loop-at.invariant.the_rest;
 }
@@ -22,6 +23,6 @@ loop-at-preserved c = record {
 pub returns-clause-room : goal.returns-clause-room
 returns-clause-room c =
     let f : ℕ → ℕ = λ g. slice_index c.args.ceiling.now g - slice_index c.args.drawn.now g in
-    let end = ap (λ a. least f (way_from c.args.rows.now a) c.loop-at.least) c.in_default.is in
+    let end = ap (λ a. least f (way_from (bare_rows c.args.parents.now) a) c.loop-at.least) c.in_default.is in
     let e = sym end ∙ c.loop-at.invariant.the_rest in
-    least_all f (path_up c.args.rows.now c.args.leaf) c.args.bound c.loop-at.least (omega (arith, e))
+    least_all f (path_up (bare_rows c.args.parents.now) c.args.leaf) c.args.bound c.loop-at.least (omega (arith, e))

@@ -31,7 +31,7 @@ returns-clause-drawn g c =
     let amounts = c.args.plan.now.amounts.items in
     let history = c.in-Ok-close.field-0.history.items in
     let legal : IsLegal after answer (opening instance amounts) history = search rules in
-    let replayed : c.in_ok-drawn.drawn.items ≡ (replay after (opening instance amounts) history).drawn = search rules in
+    let replayed : c.into_drawn-drawn.result.items ≡ (replay after (opening instance amounts) history).drawn = search rules in
     subst (IsDrawnOut (g.G.Gate.used c.args.gate.now) instance.rows amounts) (sym replayed)
     (drained_workers_draw_the_plan (g.G.Gate.used c.args.gate.now) instance amounts history c.rows-rows.ensures.valid c.requires legal
     (returns-clause-drained g c))
@@ -44,8 +44,8 @@ returns-clause-headline g c =
     let opened : c.in-Ok.made.0.seats ≡ instance.shape.processors = search rules in
     let many : length c.in_ok-seats.seats.items ≡ instance.shape.processors = search rules in
     let legal : IsLegal after answer (opening instance amounts) history = search rules in
-    let replayed : c.in_ok-drawn.drawn.items ≡ (replay after (opening instance amounts) history).drawn = search rules in
-    carried (g.G.Gate.used c.args.gate.now) instance amounts c.in-Ok.made.0.lock_id c.in_ok-seats.seats.items history c.in_ok-drawn.drawn.items
+    let replayed : c.into_drawn-drawn.result.items ≡ (replay after (opening instance amounts) history).drawn = search rules in
+    carried (g.G.Gate.used c.args.gate.now) instance amounts c.in-Ok.made.0.lock_id c.in_ok-seats.seats.items history c.into_drawn-drawn.result.items
     c.rows-rows.ensures.valid c.requires many c.in_ok-seats.ensures.1 c.in-Ok-close.ensures.own
     (subst (λ (n : ℕ). All (λ e. e.seat < n) history) opened c.in-Ok-close.ensures.callers)
     legal replayed (returns-clause-drawn g c)

@@ -14,7 +14,7 @@ invariant_of-result c =
     let s : PoolState = record {
       processors = c.processors-processors.result;
       per_processor = c.per_processor.result;
-      rows = c.in_ok-rows.rows.items;
+      rows = c.of.result.value.rows;
       drawn = c.in_ok-drawn.drawn.items;
       ceiling = c.in_ok-ceiling.ceiling.items;
       by_processor = c.in_ok-by_processor.by_processor.items;
@@ -25,6 +25,7 @@ invariant_of-result c =
       sound = subst IsSound (sym opened)
           (sound_new instance.shape.processors (slices_per_processor instance.shape) instance.rows c.args.amounts.now
           known.tree known.few host.few_processors (omega (arith, slices, c.per_processor.ensures.bound)) c.requires);
+      parents = search rules;
       flags = search rules;
       leaf = search rules;
     }
