@@ -5,6 +5,7 @@ use Rattle.std.proofs.lemmas.Bool.Decides.{eqb_tells}
 use Rattle.std.specs.HashMap.{get}
 use Rattle.std.specs.Str.{bytes_eq}
 use Rattle.std.specs.Cmp.Lexicographic.{bytes_decides}
+use Rattle.bw_model.proofs.CallerLemmas.{and_no}
 use Rattle.bw_tree.specs.declared.child_index.ChildIndex.{ChildIndex}
 use Rattle.bw_tree.specs.Keys.{key, text_at, first_of, without}
 use Rattle.bw_tree.specs.Children.{child_among, child_at, AnswersAs, IsAdded, IsTaken}
@@ -30,10 +31,6 @@ key_apart : (parent p : ℕ) (name n : List ℕ) → (eqb parent p && bytes_eq n
 key_apart parent p name n same =
     let both = and_parts (eqb parent p) (bytes_eq name n) same in
     eq-eqb (key parent name) (key p n) (ap (λ k. key k name) (eqb-true parent p both.0) ∙ ap (key p) ((bytes_decides name n).0 both.1))
-
-and_false : (b : Bool) → (b && false) ≡ false
-and_false true = refl
-and_false false = refl
 
 -- what is said of a parent and a name is said of the same parent and name
 said_of : (gs : List (ℕ × GroupFields)) (q parent p : ℕ) (name n : List ℕ) → (eqb parent p && bytes_eq name n) ≡ true
@@ -96,7 +93,7 @@ added_at gs old new parent id name added p n mine only =
     by false is_b o is_o true is_h = let wrong : true ≡ false = sym (key_apart parent p name n is_h) ∙ is_b in absurd (cc)
     by false is_b o is_o false is_h =
         moved false is_b o is_o false is_h
-        ∙ ap (λ c. child_among gs o (cond c (Some id) (text_at old.others p n)) p n) (and_false (is_some (get eqb old.first (key parent name))))
+        ∙ ap (λ c. child_among gs o (cond c (Some id) (text_at old.others p n)) p n) (and_no (is_some (get eqb old.first (key parent name))))
         ∙ ap (λ k. child_among gs k (text_at old.others p n) p n) (sym is_o)
         ∙ ap (λ c. cond c (Some id) (child_at gs old p n)) (sym is_h)
 
