@@ -1,5 +1,5 @@
 //! What was counted for each group.
-ghost use Rattle.std.specs.Prelude.{◌≡◌, ◌+◌, ◌*◌, ◌<◌, ◌≤◌, [], ◌∷◌, ℕ, List, length, position, OnOk, OnErr, IfOk, nat_eq, true, Some};
+ghost use Rattle.std.specs.Prelude.{◌≡◌, ◌+◌, ◌*◌, ◌<◌, ◌≤◌, [], ◌∷◌, ℕ, List, length, position, OnOk, OnErr, IfOk, nat_eq, nat_lt, true, Some};
 ghost use Rattle.std.specs.Option.{option_copied};
 ghost use Rattle.std.specs.List.{IsDistinct};
 ghost use Rattle.std.specs.Map.{keys_of};
@@ -204,28 +204,51 @@ fn burst(row: &Row, quota: Option<u64>, drawn: u64) -> u64
     }
 }
 
-// A counter with some slices more, in microseconds. In most periods a group adds none to some of its counters.
-fn more(counter: u64, slices: u64, slice_us: u64) -> u64
-    ensures { result ≡ cut (counter + slices * slice_us) }
+// Counts a period in which so many slices were withheld, where any were.
+fn add_withheld(stat: &mut Stat, slices: u64, slice_us: u64)
+    ensures { stat.new ≡ record stat.old {
+      nr_throttled = cut (stat.old.nr_throttled + periods_if (nat_lt 0 slices));
+      throttled_usec = cut (stat.old.throttled_usec + slices * slice_us);
+    } }
 {
-    if slices == 0 {
-        return counter;
+    let Stat {
+        nr_throttled,
+        throttled_usec,
+        ..
+    } = *stat;
+    if slices > 0 {
+        stat.nr_throttled = nr_throttled.saturating_add(1);
+        stat.throttled_usec = throttled_usec.saturating_add(slices.saturating_mul(slice_us));
     }
-    counter.saturating_add(slices.saturating_mul(slice_us))
 }
 
-// Adds one period to the counters of a group.
+// Counts a period in which so many slices were drawn above the quota, where any were.
+fn add_burst(stat: &mut Stat, slices: u64, slice_us: u64)
+    ensures { stat.new ≡ record stat.old {
+      nr_bursts = cut (stat.old.nr_bursts + periods_if (nat_lt 0 slices));
+      burst_usec = cut (stat.old.burst_usec + slices * slice_us);
+    } }
+{
+    let Stat {
+        nr_bursts,
+        burst_usec,
+        ..
+    } = *stat;
+    if slices > 0 {
+        stat.nr_bursts = nr_bursts.saturating_add(1);
+        stat.burst_usec = burst_usec.saturating_add(slices.saturating_mul(slice_us));
+    }
+}
+
+// Adds one period to the counters of a group. In most periods it was neither throttled nor above its quota.
 fn add(stat: &mut Stat, slice_us: u64, row: &Row, quota: Option<u64>, want: u64, drawn: u64)
     ensures { stat.new ≡ added stat.old (share_of slice_us row.now quota want drawn) }
 {
     let withheld = withheld_slices(row, want);
-    let burst = burst(row, quota, drawn);
-    *stat = Stat {
-        usage_usec: more(stat.usage_usec, drawn, slice_us),
-        nr_periods: stat.nr_periods.saturating_add(1),
-        nr_throttled: stat.nr_throttled.saturating_add(u64::from(withheld > 0)),
-        throttled_usec: more(stat.throttled_usec, withheld, slice_us),
-        nr_bursts: stat.nr_bursts.saturating_add(u64::from(burst > 0)),
-        burst_usec: more(stat.burst_usec, burst, slice_us),
-    };
+    stat.usage_usec = stat
+        .usage_usec
+        .saturating_add(drawn.saturating_mul(slice_us));
+    stat.nr_periods = stat.nr_periods.saturating_add(1);
+    add_withheld(stat, withheld, slice_us);
+    add_burst(stat, burst(row, quota, drawn), slice_us);
 }
