@@ -1,6 +1,5 @@
 -- The goals of `Responder::reply_to_text` that are answered by hand.
 use Rattle.std.proofs.Common.{sym, subst, ◌∙◌}
-use Rattle.bw_commands.specs.Command.{command_of_line}
 use Rattle.bw_commands.specs.Script.{IsOutcome, outcome_of_asked, outcome_of_text}
 use Rattle.bw_shell.specs.Responder.{responder_state}
 use Rattle.bw_shell.proofs.Scanning.{answered}
