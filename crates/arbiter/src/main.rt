@@ -15,6 +15,7 @@ use status::status_of_words;
 use std::io;
 use std::io::BufWriter;
 use std::process::ExitCode;
+use std::rt::Clock;
 use std::sync::Wait;
 use std::thread::Threads;
 use words::{Job, WordsFault, read_words};
@@ -23,7 +24,7 @@ use words::{Job, WordsFault, read_words};
 const USAGE_STATUS: u8 = 2;
 
 // Runs the script on standard input, with a thread for each processor at each `period`.
-fn run_script<R: AllocGlobal + Input + Print + Threads + Wait + Sync>(
+fn run_script<R: AllocGlobal + Input + Print + Threads + Wait + Clock + Sync>(
     rt: &R,
     shape: HostShape,
 ) -> Result<(), Failure> {
@@ -58,7 +59,7 @@ fn ended(rt: &impl Eprint, outcome: Result<(), Failure>, status: u8) -> ExitCode
 }
 
 // `arbiter run`
-fn run_job<R: AllocGlobal + Input + Print + Eprint + Threads + Wait + Sync>(
+fn run_job<R: AllocGlobal + Input + Print + Eprint + Threads + Wait + Clock + Sync>(
     rt: &R,
     processors: u32,
     period_us: u32,

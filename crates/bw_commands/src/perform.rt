@@ -20,6 +20,7 @@ use bw_model::HostShape;
 use bw_text::{NumberFault, read_number};
 use bw_workers::Gate;
 use std::alloc::Global;
+use std::rt::Clock;
 use std::sync::Wait;
 use std::thread::Threads;
 
@@ -95,7 +96,7 @@ impl<'a, G: Gate> Commands<'a, G> {
     }
 
     // `period`
-    fn period<H: Threads + Wait + Sync>(
+    fn period<H: Threads + Wait + Clock + Sync>(
         &mut self,
         rt: &H,
         alloc: Global,
@@ -110,7 +111,7 @@ impl<'a, G: Gate> Commands<'a, G> {
 
     // Forms the whole answer to a command in an empty buffer, and then makes its change.
     #[tactic(auto, unfolding(crate::specs::Faults::error_line))]
-    fn perform<H: Threads + Wait + Sync>(
+    fn perform<H: Threads + Wait + Clock + Sync>(
         &mut self,
         rt: &H,
         alloc: Global,
@@ -152,7 +153,7 @@ impl<'a, G: Gate> Commands<'a, G> {
 
     /// Forms the whole answer to what a line asks for in an empty buffer, and then makes its change; where it asks for
     /// nothing known, the refusal. An `Err` changes nothing.
-    pub fn answer<H: Threads + Wait + Sync>(
+    pub fn answer<H: Threads + Wait + Clock + Sync>(
         &mut self,
         rt: &H,
         alloc: Global,

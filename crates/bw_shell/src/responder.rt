@@ -18,6 +18,7 @@ use bw_model::HostShape;
 use bw_workers::Gate;
 use std::alloc::{AllocError, Global};
 use std::io::Write;
+use std::rt::Clock;
 use std::sync::Wait;
 use std::thread::Threads;
 
@@ -88,7 +89,7 @@ impl<'a, G: Gate> Responder<'a, G> {
     }
 
     // Forms the answer to what a line asks for, and makes its change. Before a period no answer waits in the writer.
-    fn answer_asked<H: Threads + Wait + Sync, W: Write>(
+    fn answer_asked<H: Threads + Wait + Clock + Sync, W: Write>(
         &mut self,
         rt: &H,
         asked: Option<Command<'_>>,
@@ -109,7 +110,7 @@ impl<'a, G: Gate> Responder<'a, G> {
     }
 
     // Writes the answer to a text.
-    fn reply_to_text<H: Threads + Wait + Sync, W: Write>(
+    fn reply_to_text<H: Threads + Wait + Clock + Sync, W: Write>(
         &mut self,
         rt: &H,
         text: &str,
@@ -146,7 +147,7 @@ impl<'a, G: Gate> Responder<'a, G> {
     }
 
     /// Writes the answer to a line. Before a line that may take long the writer is flushed.
-    pub fn reply<H: Threads + Wait + Sync, W: Write>(
+    pub fn reply<H: Threads + Wait + Clock + Sync, W: Write>(
         &mut self,
         rt: &H,
         line: &[u8],

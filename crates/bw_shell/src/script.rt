@@ -14,6 +14,7 @@ use bw_model::HostShape;
 use bw_workers::{Gate, NoGate};
 use std::alloc::{AllocError, Global};
 use std::io::{Read, Write};
+use std::rt::Clock;
 use std::sync::Wait;
 use std::thread::Threads;
 use thiserror::Error;
@@ -57,7 +58,7 @@ pub(crate) fn piece_room(alloc: Global) -> Result<Vec<u8>, AllocError>
 }
 
 // One read, and the bytes that it gave; no answer waits for it in the writer. `false` is the end of the script.
-fn read_some<H: Threads + Wait + Sync, G: Gate, R: Read, W: Write>(
+fn read_some<H: Threads + Wait + Clock + Sync, G: Gate, R: Read, W: Write>(
     rt: &H,
     session: &mut Session<'_, G>,
     piece: &mut [u8],
@@ -102,7 +103,7 @@ fn read_some<H: Threads + Wait + Sync, G: Gate, R: Read, W: Write>(
 ///
 /// An `Err` is `Read` after a read that failed or `READ_CALLS` reads, `Write` after a write or flush that failed or a
 /// write that took no bytes, and `Memory` where nothing was read.
-pub fn run_gated<H: AllocGlobal + Threads + Wait + Sync, G: Gate, R: Read, W: Write>(
+pub fn run_gated<H: AllocGlobal + Threads + Wait + Clock + Sync, G: Gate, R: Read, W: Write>(
     rt: &H,
     reader: &mut Watched<R>,
     writer: &mut Watched<W>,
@@ -127,7 +128,7 @@ pub fn run_gated<H: AllocGlobal + Threads + Wait + Sync, G: Gate, R: Read, W: Wr
 
 /// Reads a script to its end, and writes the answer to each line; every leaf uses what its workers draw. All room is
 /// taken before the first read. An `Err` is that of `run_gated`.
-pub fn run<H: AllocGlobal + Threads + Wait + Sync, R: Read, W: Write>(
+pub fn run<H: AllocGlobal + Threads + Wait + Clock + Sync, R: Read, W: Write>(
     rt: &H,
     reader: &mut Watched<R>,
     writer: &mut Watched<W>,

@@ -13,6 +13,7 @@ use bw_workers::Gate;
 use memchr::memchr;
 use std::alloc::{AllocError, Global};
 use std::io::Write;
+use std::rt::Clock;
 use std::sync::Wait;
 use std::thread::Threads;
 
@@ -61,7 +62,7 @@ impl<'a, G: Gate> Session<'a, G> {
     }
 
     // Takes the bytes in front of a newline, which end the line in hand, and answers it.
-    fn end_line<H: Threads + Wait + Sync, W: Write>(
+    fn end_line<H: Threads + Wait + Clock + Sync, W: Write>(
         &mut self,
         rt: &H,
         front: &[u8],
@@ -86,7 +87,7 @@ impl<'a, G: Gate> Session<'a, G> {
     }
 
     // Takes bytes of the script.
-    fn take_bytes<H: Threads + Wait + Sync, W: Write>(
+    fn take_bytes<H: Threads + Wait + Clock + Sync, W: Write>(
         &mut self,
         rt: &H,
         piece: &[u8],
@@ -111,7 +112,7 @@ impl<'a, G: Gate> Session<'a, G> {
     }
 
     /// Takes a piece of the script, and flushes the writer, so that no answer waits for more of the script.
-    pub fn feed<H: Threads + Wait + Sync, W: Write>(
+    pub fn feed<H: Threads + Wait + Clock + Sync, W: Write>(
         &mut self,
         rt: &H,
         piece: &[u8],
@@ -128,7 +129,7 @@ impl<'a, G: Gate> Session<'a, G> {
     }
 
     // Answers a last line that lacks its newline.
-    fn answer_last<H: Threads + Wait + Sync, W: Write>(
+    fn answer_last<H: Threads + Wait + Clock + Sync, W: Write>(
         &mut self,
         rt: &H,
         writer: &mut Watched<W>,
@@ -143,7 +144,7 @@ impl<'a, G: Gate> Session<'a, G> {
     }
 
     /// Answers a last line that lacks its newline, and flushes the writer.
-    pub fn finish<H: Threads + Wait + Sync, W: Write>(
+    pub fn finish<H: Threads + Wait + Clock + Sync, W: Write>(
         &mut self,
         rt: &H,
         writer: &mut Watched<W>,

@@ -8,6 +8,7 @@ use bw_shell::{RunFault, Watched, run, status_of_run};
 use std::alloc::{AllocError, Global};
 use std::io;
 use std::process::Abort;
+use std::rt::Clock;
 use std::sync::Wait;
 use std::test::Fail;
 use std::thread::Threads;
@@ -86,7 +87,7 @@ fn assert_fault(rt: &impl Abort, ran: &Result<(), RunFault>, fault: RunFault) {
 }
 
 // A run over a reader that gives at most so many bytes a call, and fails after so many in all.
-fn assert_read<R: AllocGlobal + Threads + Wait + Abort + Sync>(
+fn assert_read<R: AllocGlobal + Threads + Wait + Clock + Abort + Sync>(
     rt: &R,
     script: &str,
     most: usize,
@@ -136,7 +137,7 @@ fn a_reader_that_fails(rt: HostRuntime) -> Result<(), Fail> {
 }
 
 // A run over a writer that takes at most so many bytes a call, and fails, or takes none, after so many calls.
-fn assert_written<R: AllocGlobal + Threads + Wait + Abort + Sync>(
+fn assert_written<R: AllocGlobal + Threads + Wait + Clock + Abort + Sync>(
     rt: &R,
     script: &str,
     answers: &str,

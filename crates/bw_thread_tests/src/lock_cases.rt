@@ -7,6 +7,7 @@ use bw_model::{Entry, Machine};
 use bw_ticket::{CallsSpent, CloseFault, Closed, Seat, TicketLock, close, open};
 use std::alloc::{AllocError, Global};
 use std::process::Abort;
+use std::rt::Clock;
 use std::sync::Wait;
 use std::sync::atomic::{AtomicBool, Ordering};
 use std::thread;
@@ -97,7 +98,7 @@ fn assert_pair_closed(
 }
 
 // Adds 1 as often as said.
-fn add<R: Wait>(
+fn add<R: Wait + Clock>(
     rt: &R,
     lock: &TicketLock<Counter>,
     mut seat: Seat<Counter>,
@@ -113,7 +114,7 @@ fn add<R: Wait>(
 }
 
 // The same by two threads, a seat in each.
-fn add_in_both<R: Threads + Wait + Sync>(
+fn add_in_both<R: Threads + Wait + Clock + Sync>(
     rt: &R,
     lock: &TicketLock<Counter>,
     seats: (Seat<Counter>, Seat<Counter>),
@@ -133,7 +134,7 @@ fn add_in_both<R: Threads + Wait + Sync>(
 }
 
 // One call by each seat, in the order of the list.
-fn add_in_turn<R: Wait>(rt: &R, lock: &TicketLock<Counter>, seats: &mut Vec<Seat<Counter>>)
+fn add_in_turn<R: Wait + Clock>(rt: &R, lock: &TicketLock<Counter>, seats: &mut Vec<Seat<Counter>>)
     requires { All (λ s. s.lock_id ≡ lock.now.lock_id) seats.old.items × All (λ s. s.pending ≡ None) seats.old.items }
     ensures { All (λ s. s.lock_id ≡ lock.now.lock_id) seats.new.items × All (λ s. s.pending ≡ None) seats.new.items }
 {
@@ -144,7 +145,7 @@ fn add_in_turn<R: Wait>(rt: &R, lock: &TicketLock<Counter>, seats: &mut Vec<Seat
 }
 
 // Three calls, each later than the one before.
-fn add_three<R: Wait + Abort>(
+fn add_three<R: Wait + Clock + Abort>(
     rt: &R,
     lock: &TicketLock<Counter>,
     mut seat: Seat<Counter>,
@@ -163,7 +164,7 @@ fn add_three<R: Wait + Abort>(
     seat
 }
 
-fn add_three_each<R: Threads + Wait + Abort + Sync>(
+fn add_three_each<R: Threads + Wait + Clock + Abort + Sync>(
     rt: &R,
     lock: &TicketLock<Counter>,
     seats: Vec<Seat<Counter>>,
@@ -224,7 +225,7 @@ fn close_too_early(
 }
 
 // Draws a ticket, says so, and makes the call. Gives the ticket and the place.
-fn take_and_finish<R: Wait + Abort>(
+fn take_and_finish<R: Wait + Clock + Abort>(
     rt: &R,
     lock: &TicketLock<Counter>,
     mut seat: Seat<Counter>,
@@ -242,7 +243,7 @@ fn take_and_finish<R: Wait + Abort>(
 }
 
 // Makes the pending call, at once or after another seat has asked for its own. Gives the place.
-fn finish_after<R: Wait>(
+fn finish_after<R: Wait + Clock>(
     rt: &R,
     lock: &TicketLock<Counter>,
     mut seat: Seat<Counter>,
@@ -284,7 +285,11 @@ fn refuses_bad_numbers(rt: HostRuntime) {
 }
 
 // A seat has made all its calls.
-fn assert_spent<R: Wait + Abort>(rt: &R, lock: &TicketLock<Counter>, seat: &mut Seat<Counter>)
+fn assert_spent<R: Wait + Clock + Abort>(
+    rt: &R,
+    lock: &TicketLock<Counter>,
+    seat: &mut Seat<Counter>,
+)
     requires { (seat.old.lock_id ≡ lock.now.lock_id) × (seat.old.pending ≡ None) }
     ensures { (seat.new.lock_id ≡ lock.now.lock_id) × (seat.new.pending ≡ None) }
 {
@@ -293,7 +298,7 @@ fn assert_spent<R: Wait + Abort>(rt: &R, lock: &TicketLock<Counter>, seat: &mut 
 }
 
 // A seat adds a number, at this place of the history and with this sum after it.
-fn assert_call<R: Wait + Abort>(
+fn assert_call<R: Wait + Clock + Abort>(
     rt: &R,
     lock: &TicketLock<Counter>,
     seat: &mut Seat<Counter>,
@@ -312,7 +317,7 @@ fn assert_call<R: Wait + Abort>(
 }
 
 // Two seats of two calls in one thread.
-fn spend<R: Wait + Abort>(rt: &R, alloc: Global) -> Result<(), AllocError> {
+fn spend<R: Wait + Clock + Abort>(rt: &R, alloc: Global) -> Result<(), AllocError> {
     let (lock, mut first, mut second) = pair(rt, alloc, 2)?;
     assert!(rt; first.number() == 0);
     assert!(rt; second.number() == 1);
@@ -331,7 +336,7 @@ fn spend<R: Wait + Abort>(rt: &R, alloc: Global) -> Result<(), AllocError> {
 }
 
 // A thread keeps one of two seats while the other one is handed in.
-fn keep_one_back<R: Threads + Wait + Abort + Sync>(
+fn keep_one_back<R: Threads + Wait + Clock + Abort + Sync>(
     rt: &R,
     alloc: Global,
 ) -> Result<(), AllocError> {
@@ -350,7 +355,10 @@ fn keep_one_back<R: Threads + Wait + Abort + Sync>(
 }
 
 // Two threads with 1000 calls each.
-fn add_in_two<R: Threads + Wait + Abort + Sync>(rt: &R, alloc: Global) -> Result<(), AllocError> {
+fn add_in_two<R: Threads + Wait + Clock + Abort + Sync>(
+    rt: &R,
+    alloc: Global,
+) -> Result<(), AllocError> {
     let (lock, first, second) = pair(rt, alloc, 1000)?;
     let seats = add_in_both(rt, &lock, (first, second), (1000, 1000));
     let history = assert_pair_closed(rt, alloc, lock, seats, 2000, 2000)?;
@@ -361,7 +369,7 @@ fn add_in_two<R: Threads + Wait + Abort + Sync>(rt: &R, alloc: Global) -> Result
 }
 
 // 64 seats of one call, in turn.
-fn add_in_sixty_four<R: Wait + Abort>(rt: &R, alloc: Global) -> Result<(), AllocError> {
+fn add_in_sixty_four<R: Wait + Clock + Abort>(rt: &R, alloc: Global) -> Result<(), AllocError> {
     let (lock, mut seats) = opened(alloc, 64, 1)?;
     add_in_turn(rt, &lock, &mut seats);
     let history = assert_closed(rt, lock, seats, 64, 64);
@@ -372,7 +380,10 @@ fn add_in_sixty_four<R: Wait + Abort>(rt: &R, alloc: Global) -> Result<(), Alloc
 }
 
 // Four threads with three calls each.
-fn add_in_four<R: Threads + Wait + Abort + Sync>(rt: &R, alloc: Global) -> Result<(), AllocError> {
+fn add_in_four<R: Threads + Wait + Clock + Abort + Sync>(
+    rt: &R,
+    alloc: Global,
+) -> Result<(), AllocError> {
     let (lock, seats) = opened(alloc, 4, 3)?;
     let seats = add_three_each(rt, &lock, seats)?;
     let history = assert_closed(rt, lock, seats, 12, 12);
@@ -400,7 +411,10 @@ fn assert_fronts(
 }
 
 // The front counts the calls of all seats.
-fn see_fronts<R: Threads + Wait + Abort + Sync>(rt: &R, alloc: Global) -> Result<(), AllocError> {
+fn see_fronts<R: Threads + Wait + Clock + Abort + Sync>(
+    rt: &R,
+    alloc: Global,
+) -> Result<(), AllocError> {
     let (lock, mut first, mut second) = pair(rt, alloc, 3)?;
     assert_fronts(rt, &lock, &mut first, &mut second, 0);
     let (mut first, mut second) = add_in_both(rt, &lock, (first, second), (3, 1));
@@ -425,7 +439,7 @@ fn take_first(rt: &impl Abort, lock: &TicketLock<Counter>, seat: &mut Seat<Count
 }
 
 // Seat 1 draws the first ticket and seat 0 the second. The tickets decide, whichever seat asks first.
-fn hold_tickets<R: Threads + Wait + Abort + Sync>(
+fn hold_tickets<R: Threads + Wait + Clock + Abort + Sync>(
     rt: &R,
     alloc: Global,
     at_once: bool,

@@ -5,6 +5,7 @@ use bw_shell::{RunFault, Watched, run_gated};
 use bw_workers::Gate;
 use std::alloc::{AllocError, Global};
 use std::process::Abort;
+use std::rt::Clock;
 use std::sync::Wait;
 use std::test::Fail;
 use std::thread::Threads;
@@ -29,7 +30,7 @@ fn is_refused(said: &[u8]) -> bool {
 }
 
 // Runs a script on four processors of 20 slices each where memory and threads are there, and asserts what it writes.
-fn ran<G: Gate, R: AllocGlobal + Threads + Wait + Abort + Sync>(
+fn ran<G: Gate, R: AllocGlobal + Threads + Wait + Clock + Abort + Sync>(
     rt: &R,
     script: &str,
     gate: &G,
@@ -81,7 +82,9 @@ const UNUSED_JOB_SAID: &str = "30 .
 ";
 
 // A gate that does not use job: the plan is as ever, and what is drawn of job is given back.
-fn unused_job<R: AllocGlobal + Threads + Wait + Abort + Sync>(rt: &R) -> Result<(), AllocError> {
+fn unused_job<R: AllocGlobal + Threads + Wait + Clock + Abort + Sync>(
+    rt: &R,
+) -> Result<(), AllocError> {
     let after = "plan\nreport\n";
     let script = around(rt.alloc(), POD_AND_JOB, "period\n", 1, after)?;
     let said = around(
@@ -119,7 +122,7 @@ burst_usec 0
 ";
 
 // Fifty periods of the script of pod and job, and the counters after them.
-fn fifty_periods<G: Gate, R: AllocGlobal + Threads + Wait + Abort + Sync>(
+fn fifty_periods<G: Gate, R: AllocGlobal + Threads + Wait + Clock + Abort + Sync>(
     rt: &R,
     gate: &G,
 ) -> Result<(), AllocError> {
@@ -130,7 +133,7 @@ fn fifty_periods<G: Gate, R: AllocGlobal + Threads + Wait + Abort + Sync>(
 }
 
 // The same, where a worker's first draw waits for one of another.
-fn held_periods<R: AllocGlobal + Threads + Wait + Abort + Sync>(
+fn held_periods<R: AllocGlobal + Threads + Wait + Clock + Abort + Sync>(
     rt: &R,
     held: u32,
     other: u32,
@@ -156,7 +159,9 @@ fn fifty_periods_where_one_waits(rt: HostRuntime) -> Result<(), Fail> {
 }
 
 // The same, where all four workers wait for one another in the first period; the others find them all there.
-fn met_periods<R: AllocGlobal + Threads + Wait + Abort + Sync>(rt: &R) -> Result<(), AllocError> {
+fn met_periods<R: AllocGlobal + Threads + Wait + Clock + Abort + Sync>(
+    rt: &R,
+) -> Result<(), AllocError> {
     let gate = meeting();
     fifty_periods(rt, &gate)?;
     assert!(rt; gate.met.load() == 200);

@@ -9,6 +9,7 @@ use bw_ticket::{Closed, Seat, TicketLock, close, open};
 use crossbeam_utils::atomic::AtomicCell;
 use std::alloc::{AllocError, Global};
 use std::process::Abort;
+use std::rt::Clock;
 use std::sync::Wait;
 use std::test::Fail;
 use std::thread;
@@ -23,7 +24,7 @@ const POD: u32 = 1;
 const Y: u32 = 3;
 
 // Draws one slice and gives it back, a hundred times.
-fn draw_and_give_back<R: Wait>(
+fn draw_and_give_back<R: Wait + Clock>(
     rt: &R,
     lock: &TicketLock<SlicePool>,
     seat: &mut Seat<SlicePool>,
@@ -40,7 +41,7 @@ fn draw_and_give_back<R: Wait>(
 }
 
 // Lowers pod once another seat's first draw is answered.
-fn lower<R: Wait>(
+fn lower<R: Wait + Clock>(
     rt: &R,
     lock: &TicketLock<SlicePool>,
     seat: &mut Seat<SlicePool>,
@@ -57,7 +58,7 @@ fn lower<R: Wait>(
     let _ = seat.call(rt, lock, PoolCall::Lower { group: POD, to: 4 });
 }
 
-fn look<R: Wait>(rt: &R, lock: &TicketLock<SlicePool>, seat: &mut Seat<SlicePool>)
+fn look<R: Wait + Clock>(rt: &R, lock: &TicketLock<SlicePool>, seat: &mut Seat<SlicePool>)
     requires { (seat.old.lock_id ≡ lock.now.lock_id) × (seat.old.pending ≡ None) }
     ensures { (seat.new.lock_id ≡ lock.now.lock_id) × (seat.new.pending ≡ None) }
 {
@@ -67,7 +68,7 @@ fn look<R: Wait>(rt: &R, lock: &TicketLock<SlicePool>, seat: &mut Seat<SlicePool
 }
 
 // What each seat does.
-fn play<R: Wait>(
+fn play<R: Wait + Clock>(
     rt: &R,
     lock: &TicketLock<SlicePool>,
     mut seat: Seat<SlicePool>,
@@ -86,7 +87,7 @@ fn play<R: Wait>(
     seat
 }
 
-fn play_all<R: Threads + Wait + Sync>(
+fn play_all<R: Threads + Wait + Clock + Sync>(
     rt: &R,
     lock: &TicketLock<SlicePool>,
     seats: Vec<Seat<SlicePool>>,
@@ -139,7 +140,10 @@ fn assert_entries(rt: &impl Abort, history: &[Entry<PoolCall, PoolReply>]) {
     assert!(rt; ceiling == 4);
 }
 
-fn storm_once<R: Threads + Wait + Abort + Sync>(rt: &R, alloc: Global) -> Result<(), AllocError> {
+fn storm_once<R: Threads + Wait + Clock + Abort + Sync>(
+    rt: &R,
+    alloc: Global,
+) -> Result<(), AllocError> {
     let (instance, plan) = pod_and_job(rt, alloc)?;
     let pool = pool_of(rt, alloc, &instance, &plan)?;
     let Ok((lock, seats)) = open(alloc, pool, 4, 200) else {

@@ -12,6 +12,7 @@ use bw_workers::{Gate, ServeFault, Served, serve};
 use crossbeam_utils::atomic::AtomicCell;
 use std::alloc::{AllocError, Global};
 use std::process::Abort;
+use std::rt::Clock;
 use std::sync::Wait;
 use std::test::Fail;
 use std::thread::{Threads, join};
@@ -73,7 +74,7 @@ pub(crate) fn pod_and_job(rt: &impl Abort, alloc: Global) -> Result<(Instance, P
 }
 
 // Serves the plan where memory and threads are there, and asserts what is drawn.
-fn served<G: Gate, R: Threads + Wait + Abort + Sync>(
+fn served<G: Gate, R: Threads + Wait + Clock + Abort + Sync>(
     rt: &R,
     alloc: Global,
     instance: &Instance,
@@ -223,7 +224,7 @@ fn first_caller(history: &[Entry<PoolCall, PoolReply>]) -> Option<u32> {
     history.first().map(|entry| entry.seat)
 }
 
-fn serve_one_waits<R: Threads + Wait + Abort + Sync>(
+fn serve_one_waits<R: Threads + Wait + Clock + Abort + Sync>(
     rt: &R,
     alloc: Global,
     held: u32,
@@ -291,7 +292,7 @@ static ROUND_AND_ROUND: [u32; 21] = [
     1, 2, 1, 2, 1, 2, 1, 2, 1, 2, 1, 2, 1, 2, 1, 2, 2, 2, 2, 2, 2,
 ];
 
-fn serve_in_row_order<R: Threads + Wait + Abort + Sync>(
+fn serve_in_row_order<R: Threads + Wait + Clock + Abort + Sync>(
     rt: &R,
     alloc: Global,
 ) -> Result<(), AllocError> {
@@ -320,7 +321,7 @@ fn row_order(rt: HostRuntime) -> Result<(), Fail> {
 }
 
 // A seat asks 2 of the leaf, and gives the reply with the seat.
-fn ask_two<R: Wait + Abort>(
+fn ask_two<R: Wait + Clock + Abort>(
     rt: &R,
     lock: &TicketLock<SlicePool>,
     mut seat: Seat<SlicePool>,
@@ -363,7 +364,7 @@ fn assert_two_and_one(rt: &impl Abort, one: PoolReply, other: PoolReply) {
 }
 
 // A seat makes its last call, which has this reply, and the one after it is refused.
-fn assert_last<R: Wait + Abort>(
+fn assert_last<R: Wait + Clock + Abort>(
     rt: &R,
     lock: &TicketLock<SlicePool>,
     mut seat: Seat<SlicePool>,
@@ -413,7 +414,10 @@ fn leaf_of_three<A: Abort>(
 }
 
 // Two threads ask 2 of a leaf that has 3: one gets 2 and the other 1, in one order or the other.
-fn draw_in_two<R: Threads + Wait + Abort + Sync>(rt: &R, alloc: Global) -> Result<(), AllocError> {
+fn draw_in_two<R: Threads + Wait + Clock + Abort + Sync>(
+    rt: &R,
+    alloc: Global,
+) -> Result<(), AllocError> {
     let (lock, mut seats) = leaf_of_three(rt, alloc, 2, 2)?;
     let second = pop_seat(rt, &lock, &mut seats);
     let first = pop_seat(rt, &lock, &mut seats);
@@ -432,7 +436,7 @@ fn draw_in_two<R: Threads + Wait + Abort + Sync>(rt: &R, alloc: Global) -> Resul
 }
 
 // A seat draws 2 of a leaf that has 3 and gives back 3, which it does not hold. Its third call is refused.
-fn give_back_too_many<R: Wait + Abort>(rt: &R, alloc: Global) -> Result<(), AllocError> {
+fn give_back_too_many<R: Wait + Clock + Abort>(rt: &R, alloc: Global) -> Result<(), AllocError> {
     let (lock, mut seats) = leaf_of_three(rt, alloc, 1, 1)?;
     let seat = pop_seat(rt, &lock, &mut seats);
     let (seat, reply) = ask_two(rt, &lock, seat);

@@ -20,6 +20,7 @@ use bw_plan::Plan;
 use bw_pool::{PoolCall, PoolReply, SlicePool};
 use bw_ticket::{Closed, OpenFault, Seat, TicketLock, close, open};
 use std::alloc::{AllocError, Global};
+use std::rt::Clock;
 use std::sync::Wait;
 use std::thread;
 use std::thread::{Promise, Threads, join_promised};
@@ -64,7 +65,7 @@ fn leaves_of(alloc: Global, instance: &Instance) -> Result<Vec<u32>, AllocError>
 }
 
 // Starts a worker for each seat, and gives the seats back once all have ended.
-fn in_threads<G: Gate, R: Threads + Wait + Sync>(
+fn in_threads<G: Gate, R: Threads + Wait + Clock + Sync>(
     rt: &R,
     alloc: Global,
     lock: &TicketLock<SlicePool>,
@@ -137,7 +138,7 @@ fn calls_each(instance: &Instance, leaves: &[u32]) -> u32
 /// as they run (sched-bwc.rst), and the plan decides how many.
 ///
 /// Refused by `NotStarted` where a thread was refused, and when out of memory.
-pub fn serve<G: Gate, R: Threads + Wait + Sync>(
+pub fn serve<G: Gate, R: Threads + Wait + Clock + Sync>(
     rt: &R,
     alloc: Global,
     instance: &Instance,

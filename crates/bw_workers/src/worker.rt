@@ -10,6 +10,7 @@ use bw_model::limits::MAX_GROUPS;
 use bw_pool::{PoolCall, PoolReply, SlicePool};
 use bw_ticket::{Seat, TicketLock};
 use std::collections::VecDeque;
+use std::rt::Clock;
 use std::sync::Wait;
 
 // Whether a draw got its one slice.
@@ -23,7 +24,7 @@ fn got_one(reply: PoolReply) -> bool
 }
 
 // One call of a seat that has calls left.
-fn ask<R: Wait>(
+fn ask<R: Wait + Clock>(
     rt: &R,
     lock: &TicketLock<SlicePool>,
     seat: &mut Seat<SlicePool>,
@@ -41,7 +42,7 @@ fn ask<R: Wait>(
 }
 
 // Draws one slice of the leaf, and says whether it is kept: one that the leaf doesn't use is given back at once.
-fn take_turn<G: Gate, R: Wait>(
+fn take_turn<G: Gate, R: Wait + Clock>(
     rt: &R,
     lock: &TicketLock<SlicePool>,
     seat: &mut Seat<SlicePool>,
@@ -70,7 +71,7 @@ fn take_turn<G: Gate, R: Wait>(
 
 /// Draws one slice of each leaf in the order of the list, round and round, until the processor is spent or no leaf is left.
 /// A leaf that had none, or whose slice was given back, isn't asked again.
-pub(crate) fn work<G: Gate, R: Wait>(
+pub(crate) fn work<G: Gate, R: Wait + Clock>(
     rt: &R,
     lock: &TicketLock<SlicePool>,
     mut seat: Seat<SlicePool>,

@@ -12,13 +12,14 @@ use bw_hierarchy::Hierarchy;
 use bw_plan::plan_gathered;
 use bw_workers::{Gate, serve};
 use std::alloc::Global;
+use std::rt::Clock;
 use std::sync::Wait;
 use std::thread::Threads;
 
 /// Serves one period, appends the answer, the slices that its workers drew at the root, and then counts the period for
 /// each group and notes what it left of its limit. An `Err` changes neither.
 #[tactic(auto, unfolding(crate::specs::Faults::error_line))]
-pub fn serve_period<G: Gate, H: Threads + Wait + Sync>(
+pub fn serve_period<G: Gate, H: Threads + Wait + Clock + Sync>(
     rt: &H,
     alloc: Global,
     hierarchy: &mut Hierarchy,
