@@ -1,7 +1,7 @@
 //! Whether a seat that waits gives the processor away between looks, before it sleeps.
 //!
-//! A yield among seats that wait too is over within microseconds. One beside other work may last until that has used up its time slice, some
-//! milliseconds, in which all later tickets wait for this seat. Only a clock tells the two apart.
+//! A yield among seats that wait too is over within microseconds. One beside other work may last until that has used
+//! up its time slice, some milliseconds, in which all later tickets wait for this seat. Only a clock tells the two apart.
 use std::rt::Clock;
 use std::thread::yield_now;
 use std::time::Instant;
@@ -29,8 +29,8 @@ impl Patience {
         }
     }
 
-    // Gives the processor away once, and says whether it came back soon. After a long yield the seat's next waits have none, and after each
-    // later one twice as many as before.
+    // Gives the processor away once, and says whether it came back soon. After a long yield the seat's next waits have
+    // none, and after each later one twice as many as before.
     pub(crate) fn yields<R: Clock>(&mut self, rt: &R) -> bool {
         if self.without_yield > 0 {
             self.without_yield -= 1;
