@@ -1,12 +1,15 @@
 #!/usr/bin/env python3
 """Runs the merge gate, `rt ci`, and says at its end what took its time, by crate and by kind.
 
+usage: gate_times.py [WORD..]     the words are handed to `rt ci`: --anew, which takes nothing that an earlier run on this
+                                  machine proved, or names of crates
+
 The gate's output goes out as it comes, by the gate itself. Beside it /proc is looked at once a second for the
 processes below the gate: the prover in a crate's folder (with --test for the proof of its tests), the prover in a
-copy of a crate with a must-fail edit, the linker, and the programs that are run. The table counts seconds from the
-start of a kind's first process to when its last one was seen, and processor seconds as last seen, so each process
-may lack up to a second. Where /proc cannot be read the gate runs all the same, without a table.
-The exit status is the gate's.
+copy of a crate, first as it stands, which is what its must-fail edits begin with, and then with each edit, the linker,
+and the programs that are run. The table counts seconds from the start of a kind's first process to when its last one
+was seen, and processor seconds as last seen, so each process may lack up to a second. What an earlier run proved
+takes none. Where /proc cannot be read the gate runs all the same, without a table. The exit status is the gate's.
 """
 import os
 import re
@@ -19,7 +22,7 @@ import time
 GATE = ["rt", "ci"]
 EVERY = 1.0
 TICK = os.sysconf("SC_CLK_TCK")
-PROOF, TESTS, FIRST, LATER = KINDS = ("proof", "tests", "first edit", "later edits")
+PROOF, TESTS, BASE, EDITS = KINDS = ("proof", "tests", "base of the edits", "edits")
 LINK, RUN = "linking", "runs"
 
 
@@ -66,7 +69,8 @@ def kind_of(pid):
         return None
     crate = words[words.index("--crate-name") + 1]
     if "/rt-edit-" in folder:
-        return crate, FIRST, folder
+        kept = words[words.index("--incremental") + 1] if "--incremental" in words else ""
+        return crate, BASE if os.path.basename(kept) == "seed" else EDITS, folder
     # a program is compiled from what its check has proved
     kind = LINK if "--crate-checked" in words else TESTS if "--test" in words else PROOF
     return crate, kind, folder
@@ -123,10 +127,10 @@ class Watch:
             self.spans.setdefault(key, Span()).saw((pid, began), began, now, used)
 
     def by_kind(self):
-        """The spans by crate and kind: of the folders of a crate's edits the one that began first is its first edit."""
+        """The spans by crate and kind. The gate checks a crate's base once more after its edits, which counts as theirs."""
         found = {}
         for (crate, kind, _), span in sorted(self.spans.items(), key=lambda it: it[1].first):
-            kind = LATER if (crate, kind) in found and kind == FIRST else kind
+            kind = EDITS if (crate, kind) in found and kind == BASE else kind
             found.setdefault((crate, kind), Span()).join(span)
         return found
 
@@ -154,17 +158,15 @@ def longest_chain(stands_on, found):
     def chain(crate, kind):
         if (crate, kind) not in best:
             best[crate, kind] = (0.0, [])
-            before = [(crate, PROOF), (crate, TESTS)] if kind == FIRST else [(it, PROOF) for it in stands_on[crate]]
+            before = [(crate, it) for it in (PROOF, TESTS, BASE)] if kind == EDITS else [(it, PROOF) for it in stands_on[crate]]
             total, links = max((chain(*it) for it in before), key=lambda it: it[0], default=(0.0, []))
-            span = Span()
-            for it in (FIRST, LATER) if kind == FIRST else (kind,):
-                span.join(found.get((crate, it), Span()))
-            if span.processor:
-                total, links = total + span.seconds(), [*links, f"{crate} {'edits' if kind == FIRST else kind} {span.seconds():.0f}"]
+            span = found.get((crate, kind))
+            if span:
+                total, links = total + span.seconds(), [*links, f"{crate} {kind} {span.seconds():.0f}"]
             best[crate, kind] = (total, links)
         return best[crate, kind]
 
-    return max((chain(crate, kind) for crate in stands_on for kind in (PROOF, TESTS, FIRST)), key=lambda it: it[0], default=(0.0, []))
+    return max((chain(crate, kind) for crate in stands_on for kind in KINDS), key=lambda it: it[0], default=(0.0, []))
 
 
 def shown(span):
@@ -174,16 +176,16 @@ def shown(span):
 def table(found, whole, used):
     """The lines of the table and of what stands below it."""
     stands_on = crates()
-    yield "| Crate | proof, s | cpu s | tests, s | cpu s | first edit, s | cpu s | edits | later edits, s | cpu s | all, cpu s |"
+    yield "| Crate | proof, s | cpu s | tests, s | cpu s | base of the edits, s | cpu s | edits | edits, s | cpu s | all, cpu s |"
     yield "|---" * 11 + "|"
     sums = dict.fromkeys(KINDS, 0.0)
     for crate in stands_on:
         spans = {kind: found.get((crate, kind)) for kind in KINDS}
         of_each = {kind: span.used() if span else 0.0 for kind, span in spans.items()}
         sums = {kind: sums[kind] + of_each[kind] for kind in KINDS}
-        columns = [shown(spans[PROOF]), shown(spans[TESTS]), shown(spans[FIRST]), str(edits(crate)), shown(spans[LATER])]
+        columns = [shown(spans[PROOF]), shown(spans[TESTS]), shown(spans[BASE]), str(edits(crate)), shown(spans[EDITS])]
         yield f"| {crate} | {' | '.join(columns)} | {sum(of_each.values()):.0f} |"
-    columns = [f"| {sums[PROOF]:.0f}", f"| {sums[TESTS]:.0f}", f"| {sums[FIRST]:.0f}", f"{sum(map(edits, stands_on))}", f"| {sums[LATER]:.0f}"]
+    columns = [f"| {sums[PROOF]:.0f}", f"| {sums[TESTS]:.0f}", f"| {sums[BASE]:.0f}", f"{sum(map(edits, stands_on))}", f"| {sums[EDITS]:.0f}"]
     yield f"| all | {' | '.join(columns)} | {sum(sums.values()):.0f} |"
     yield ""
     for kind in (LINK, RUN):
@@ -205,11 +207,12 @@ def children_used():
 
 def main():
     os.chdir(os.path.dirname(os.path.dirname(os.path.abspath(__file__))))
+    command = [*GATE, *sys.argv[1:]]
     began, used = time.monotonic(), children_used()
     try:
-        gate = subprocess.Popen(GATE)
+        gate = subprocess.Popen(command)
     except OSError as error:
-        print(f"gate_times: {' '.join(GATE)} cannot be started: {error.strerror}", file=sys.stderr)
+        print(f"gate_times: {' '.join(command)} cannot be started: {error.strerror}", file=sys.stderr)
         return 2
     # an interrupt from the terminal reaches the gate by itself, which then puts back what it set aside
     signal.signal(signal.SIGINT, lambda *_: None)

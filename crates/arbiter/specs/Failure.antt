@@ -1,5 +1,5 @@
 -- What contracts see of a failure.
-use Rattle.bw_shell.specs.declared.script.RunFault.{RunFault}
+use Rattle.bw_streams.specs.declared.fault.RunFault.{RunFault}
 use Rattle.arbiter.specs.declared.failure.Failure.{Failure}
 
 -- what failed, without the reason

@@ -1,8 +1,7 @@
 //! What failed, in the words that are printed.
 ghost use Rattle.std.specs.Prelude.{◌≡◌};
 
-use bw_shell::script::READ_CALLS;
-use bw_shell::{RunFault, Watched};
+use bw_streams::{READ_CALLS, RunFault, Watched};
 use std::io::{Error, ErrorKind};
 
 // The system's numbers of two errors that have no kind: input or output, and a bad descriptor.
@@ -20,7 +19,7 @@ pub struct Failure {
 impl Failure {
     ghost use Rattle.std.specs.Prelude.{◌≡◌};
     ghost use Rattle.arbiter.specs.Failure.{what_failed};
-    ghost use Rattle.bw_shell.specs.declared.script.RunFault.TheVariants.{Memory, Write};
+    ghost use Rattle.bw_streams.specs.declared.fault.RunFault.TheVariants.{Memory, Write};
 
     /// Memory was refused.
     pub fn memory() -> Failure

@@ -8,7 +8,9 @@ mod status;
 mod words;
 
 use bw_model::HostShape;
-use bw_shell::{RunFault, Watched, check_text, run, status_of_check, status_of_run};
+use bw_shell::{run, status_of_run};
+use bw_streams::{RunFault, Watched};
+use bw_text_check::{check_text, status_of_check};
 use failure::Failure;
 use memory::keep_freed;
 use status::status_of_words;

@@ -1,7 +1,7 @@
 -- The numbers and names of the refusals of a line, and the line that prints one.
-use Rattle.std.specs.Prelude.{ℕ, List, [], ◌∷◌, ◌++◌, codes}
-use Rattle.std.specs.Fmt.{decimal}
+use Rattle.std.specs.Prelude.{ℕ, List, codes}
 use Rattle.bw_hierarchy.specs.Faults.{hierarchy_fault_number, hierarchy_fault_name}
+use Rattle.bw_streams.specs.Answers.{refusal_line}
 use Rattle.bw_workers.specs.declared.fault.ServeFault.{ServeFault}
 use Rattle.bw_workers.specs.declared.fault.ServeFault.TheVariants as serve
 use Rattle.bw_commands.specs.declared.fault.ScriptFault.{ScriptFault}
@@ -29,10 +29,6 @@ script_fault_name LineTooLong = codes "LineTooLong"
 abbrev pub of_serve_fault : ServeFault → ScriptFault
 of_serve_fault serve.NotStarted = NotStarted
 of_serve_fault serve.OutOfMemory = OutOfMemory
-
--- the line that a refusal prints, by its number and its name
-abbrev pub refusal_line : ℕ → List ℕ → List ℕ
-refusal_line number name = codes "error " ++ decimal number ++ codes " " ++ name ++ 10 ∷ []
 
 -- the line that the refusal of a line prints
 unfoldable pub error_line : ScriptFault → List ℕ

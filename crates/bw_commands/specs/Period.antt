@@ -5,7 +5,7 @@ use Rattle.bw_demand.specs.Demands.{Demands, IsGathered}
 use Rattle.bw_pool.specs.Drained.{IsDrawnOut}
 use Rattle.bw_tree.specs.Snapshot.{instance_of, base_of}
 use Rattle.bw_hierarchy.specs.State.{HierarchyState, booked_period}
-use Rattle.bw_commands.specs.Total.{number_line}
+use Rattle.bw_streams.specs.Answers.{number_line}
 
 -- The text is the answer to `period`: the plan was drawn at the leaves that use their slices, whatever the schedule, and
 -- what the groups wanted, drew and left over is booked.

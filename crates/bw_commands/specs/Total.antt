@@ -3,13 +3,10 @@ use Rattle.std.specs.Prelude.{◌≡◌, ℕ, List, [], ◌∷◌, ◌++◌, cod
 use Rattle.std.specs.Fmt.{decimal}
 use Rattle.bw_model.specs.Groups.{Groups, limit_of}
 use Rattle.bw_model.specs.Demand.{AreMaxTotals, limiting_groups, limited_total, demand_outside}
+use Rattle.bw_streams.specs.Answers.{number_line}
 use Rattle.bw_tree.specs.Snapshot.{instance_of}
 use Rattle.bw_hierarchy.specs.State.{HierarchyState}
 use Rattle.bw_commands.specs.GroupLines.{ArePathsOf, group_lines}
-
--- a number behind a word, on a line
-abbrev pub number_line : List ℕ → ℕ → List ℕ
-number_line word number = word ++ decimal number ++ 10 ∷ []
 
 -- the line of a limiting group: its limit and its path
 abbrev pub limit_line : Groups → ℕ → List ℕ → List ℕ

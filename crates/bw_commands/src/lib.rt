@@ -6,11 +6,11 @@ mod answers;
 mod fault;
 mod parse;
 mod perform;
-mod put;
+mod refusal;
 mod span;
 mod word;
 
 pub use fault::ScriptFault;
 pub use parse::Command;
 pub use perform::Commands;
-pub use put::{REFUSAL_BYTES, put_error, put_number, put_number_line, put_refusal};
+pub use refusal::{REFUSAL_BYTES, put_error};

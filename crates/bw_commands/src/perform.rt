@@ -9,14 +9,15 @@ ghost use Rattle.bw_commands.specs.Script.{ok_line, Performs, Period};
 ghost use Rattle.bw_commands.specs.State.{start};
 ghost use Rattle.bw_commands.specs.Commands.{state_of};
 ghost use Rattle.bw_commands.specs.Parsed.{meaning_of};
-ghost use Rattle.bw_commands.specs.declared.put.TheConstants.{REFUSAL_BYTES};
+ghost use Rattle.bw_commands.specs.declared.refusal.TheConstants.{REFUSAL_BYTES};
 
 use crate::answers::{put_certified, put_plan, put_report, put_total, serve_period};
 use crate::fault::ScriptFault;
 use crate::parse::Command;
-use crate::put::{REFUSAL_BYTES, put};
+use crate::refusal::REFUSAL_BYTES;
 use bw_hierarchy::{Fault, Hierarchy};
 use bw_model::HostShape;
+use bw_streams::put;
 use bw_text::{NumberFault, read_number};
 use bw_workers::Gate;
 use std::alloc::Global;

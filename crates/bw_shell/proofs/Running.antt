@@ -4,8 +4,9 @@ use Rattle.std.specs.Io.KnownBytes.{Appends, Consumes, Keeps}
 use Rattle.bw_commands.specs.State.{State}
 use Rattle.bw_shell.specs.Lines.{lines_of, whole_lines_of}
 use Rattle.bw_shell.specs.Scan.{Scan, TakesBytes, Finishes, begin}
-use Rattle.bw_shell.specs.Stream.{AppendsFront, Transcribes, TranscribesFront}
-use Rattle.bw_shell.proofs.Known.{Appends-trans, AppendsFront-after, Consumes-trans, Consumes-kept}
+use Rattle.bw_shell.specs.Stream.{Transcribes, TranscribesFront}
+use Rattle.bw_streams.specs.Fronts.{AppendsFront}
+use Rattle.bw_streams.proofs.CallerLemmas.{Appends-trans, AppendsFront-after, Consumes-trans, Consumes-kept}
 use Rattle.bw_shell.proofs.Scanning.{TakesBytes-append, whole_transcript, all_transcript}
 
 -- From a, bytes were read and their text was written.

@@ -1,5 +1,4 @@
 -- The files of definitions.
-pub mod Watched
 pub mod Lines
 pub mod Transcript
 pub mod Scan
@@ -7,7 +6,3 @@ pub mod Stream
 pub mod Responder
 pub mod Session
 pub mod Runs
-pub mod Writes
-pub mod Reads
-pub mod Prints
-pub mod CheckText

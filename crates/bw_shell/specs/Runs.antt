@@ -4,11 +4,11 @@ use Rattle.std.specs.Io.KnownBytes.{IsAtEnd}
 use Rattle.bw_commands.specs.State.{State}
 use Rattle.bw_shell.specs.Lines.{lines_of, whole_lines_of}
 use Rattle.bw_shell.specs.Stream.{Transcribes, TranscribesFront}
-use Rattle.bw_shell.specs.Watched.{inner_of, has_failed, has_stalled, read_calls, is_flushed, HasNoFault}
-use Rattle.bw_shell.specs.declared.script.RunFault.{RunFault}
-use Rattle.bw_shell.specs.declared.script.RunFault.TheVariants.{Read, Write, Memory}
-use Rattle.bw_shell.specs.declared.script.TheConstants.{READ_CALLS}
-use Rattle.bw_shell.specs.declared.watched.Watched.{Watched}
+use Rattle.bw_streams.specs.Watched.{inner_of, has_failed, has_stalled, read_calls, is_flushed, HasNoFault}
+use Rattle.bw_streams.specs.declared.fault.RunFault.{RunFault}
+use Rattle.bw_streams.specs.declared.fault.RunFault.TheVariants.{Read, Write, Memory}
+use Rattle.bw_streams.specs.declared.reading.TheConstants.{READ_CALLS}
+use Rattle.bw_streams.specs.declared.watched.Watched.{Watched}
 
 -- From this state of the script, by what a reader has left and what a writer holds.
 pub record Runs {R W T : Type 0} (remaining : R → Option (List ℕ)) (contents : W → Option (List ℕ)) (s : State)

@@ -1,12 +1,9 @@
 -- What a run does to the known bytes of its reader and its writer.
-use Rattle.std.specs.Prelude.{ℕ, ◌≡◌, List, ◌++◌, Option}
+use Rattle.std.specs.Prelude.{ℕ, List, Option}
 use Rattle.std.specs.Io.KnownBytes.{Appends, Consumes}
 use Rattle.bw_commands.specs.State.{State}
+use Rattle.bw_streams.specs.Fronts.{AppendsFront}
 use Rattle.bw_shell.specs.Transcript.{IsTranscript}
-
--- known bytes grow by a front of the text
-abbrev pub AppendsFront : Option (List ℕ) → Option (List ℕ) → List ℕ → Type 0
-AppendsFront old new text = (front rest : List ℕ) × Appends old new front × (text ≡ front ++ rest)
 
 -- What was written is the transcript of the lines of what was read.
 abbrev pub Transcribes : State → (List ℕ → List (List ℕ)) → Option (List ℕ) → Option (List ℕ) → Option (List ℕ) → Option (List ℕ) → Type 0

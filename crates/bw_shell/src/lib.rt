@@ -4,16 +4,12 @@
 
 mod laws;
 mod responder;
-pub mod script;
-mod send;
+mod script;
 mod session;
 mod status;
-mod text_check;
-mod watched;
 
 pub use bw_commands::ScriptFault;
 pub use laws::script_numbers;
-pub use script::{RunFault, run, run_gated};
-pub use status::{status_of_check, status_of_run};
-pub use text_check::check_text;
-pub use watched::Watched;
+pub use script::{run, run_gated};
+pub use session::LINE_BYTES;
+pub use status::status_of_run;

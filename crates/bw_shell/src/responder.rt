@@ -5,16 +5,14 @@ ghost use Rattle.bw_commands.specs.Command.{Period};
 ghost use Rattle.bw_commands.specs.Parsed.{meaning_of};
 ghost use Rattle.bw_commands.specs.Script.{outcome_of, outcome_of_text, refused};
 ghost use Rattle.bw_commands.specs.State.{State};
-ghost use Rattle.bw_shell.specs.Watched.{is_flushed, HasNoFault};
-ghost use Rattle.bw_shell.specs.Writes.{Writes};
-ghost use Rattle.bw_commands.specs.declared.put.TheConstants.{REFUSAL_BYTES};
+ghost use Rattle.bw_streams.specs.Watched.{is_flushed, HasNoFault};
+ghost use Rattle.bw_streams.specs.Writes.{Writes};
+ghost use Rattle.bw_commands.specs.declared.refusal.TheConstants.{REFUSAL_BYTES};
 
-use crate::script::RunFault;
-use crate::send::{flush, send};
 use crate::session::LINE_BYTES;
-use crate::watched::Watched;
 use bw_commands::{Command, Commands, REFUSAL_BYTES, ScriptFault, put_error};
 use bw_model::HostShape;
+use bw_streams::{RunFault, Watched, flush, send};
 use bw_workers::Gate;
 use std::alloc::{AllocError, Global};
 use std::io::Write;
@@ -74,8 +72,8 @@ impl<'a, G: Gate> Responder<'a, G> {
     ghost use Rattle.bw_commands.specs.Script.{outcome_of_asked, outcome_of_text, IsAnswer, IsOutcome};
     ghost use Rattle.bw_commands.specs.State.{State, start};
     ghost use Rattle.bw_shell.specs.Responder.{responder_state};
-    ghost use Rattle.bw_shell.specs.Watched.{is_flushed, HasNoFault};
-    ghost use Rattle.bw_shell.specs.Writes.{Writes};
+    ghost use Rattle.bw_streams.specs.Watched.{is_flushed, HasNoFault};
+    ghost use Rattle.bw_streams.specs.Writes.{Writes};
 
     /// Takes all the room that refusals need.
     pub fn new(alloc: Global, shape: HostShape, gate: &'a G) -> Result<Responder<'a, G>, AllocError>

@@ -5,57 +5,17 @@ ghost use Rattle.bw_commands.specs.State.{start};
 ghost use Rattle.bw_shell.specs.Scan.{Scan, TakesBytes};
 ghost use Rattle.bw_shell.specs.Session.{scan_of};
 ghost use Rattle.bw_shell.specs.Runs.{Runs};
-ghost use Rattle.bw_shell.specs.Stream.{AppendsFront};
-ghost use Rattle.bw_shell.specs.Watched.{inner_of, has_failed, has_stalled, read_calls, is_flushed, IsFresh, HasNoFault};
+ghost use Rattle.bw_streams.specs.Fronts.{AppendsFront};
+ghost use Rattle.bw_streams.specs.Watched.{inner_of, has_failed, has_stalled, read_calls, is_flushed, IsFresh, HasNoFault};
 
 use crate::session::Session;
-use crate::watched::Watched;
 use bw_model::HostShape;
+use bw_streams::{READ_CALLS, RunFault, Watched, piece_room};
 use bw_workers::{Gate, NoGate};
-use std::alloc::{AllocError, Global};
 use std::io::{Read, Write};
 use std::rt::Clock;
 use std::sync::Wait;
 use std::thread::Threads;
-use thiserror::Error;
-
-/// More read calls than this are not made.
-pub const READ_CALLS: u64 = 4294967296;
-
-// How many bytes one read asks for.
-pub(crate) const PIECE_BYTES: usize = 65536;
-
-/// Why a run over a script, or the check of a certified text, ended early.
-#[derive(Clone, Copy, Debug, PartialEq, Eq, Error)]
-pub enum RunFault {
-    /// A read failed, `READ_CALLS` reads did not reach the end, or a certified text has more than 4 MiB.
-    #[error("read fault")]
-    Read,
-    /// A write or a flush failed, or a write took no bytes. What was written is a prefix of the answers.
-    #[error("write fault")]
-    Write,
-    /// Memory was refused, before the first read of a script, or before anything was written of a certified text.
-    #[error("out of memory")]
-    Memory,
-}
-
-impl From<AllocError> for RunFault {
-    ghost use Rattle.std.specs.Prelude.{◌≡◌};
-    ghost use Rattle.bw_shell.specs.declared.script.RunFault.TheVariants.{Memory};
-
-    ghost from_gives = { λ _ e. e ≡ Memory };
-
-    fn from(_: AllocError) -> RunFault {
-        RunFault::Memory
-    }
-}
-
-// The room for one read.
-pub(crate) fn piece_room(alloc: Global) -> Result<Vec<u8>, AllocError>
-    ensures { IfOk result (λ v. vec_len v ≡ PIECE_BYTES) }
-{
-    vec![in alloc; 0u8; PIECE_BYTES]
-}
 
 // One read, and the bytes that it gave; no answer waits for it in the writer. `false` is the end of the script.
 fn read_some<H: Threads + Wait + Clock + Sync, G: Gate, R: Read, W: Write>(

@@ -1,14 +1,12 @@
 //! A script so far: the commands' state and the line in hand.
 ghost use Rattle.std.specs.Prelude.{◌≡◌, ◌≤◌, ◌<◌, ◌+◌, ◌++◌, [], true, length, vec_len, IfOk, OnOk};
 ghost use Rattle.std.specs.Vec.{vec_capacity};
-ghost use Rattle.bw_shell.specs.Watched.{is_flushed, HasNoFault};
-ghost use Rattle.bw_shell.specs.Writes.{Writes};
+ghost use Rattle.bw_streams.specs.Watched.{is_flushed, HasNoFault};
+ghost use Rattle.bw_streams.specs.Writes.{Writes};
 
 use crate::responder::Responder;
-use crate::script::RunFault;
-use crate::send::flush;
-use crate::watched::Watched;
 use bw_model::HostShape;
+use bw_streams::{RunFault, Watched, flush};
 use bw_workers::Gate;
 use memchr::memchr;
 use std::alloc::{AllocError, Global};
@@ -40,8 +38,8 @@ impl<'a, G: Gate> Session<'a, G> {
     ghost use Rattle.bw_commands.specs.State.{start};
     ghost use Rattle.bw_shell.specs.Scan.{Scan, begin, kept_after, TakesLine, TakesBytes, Finishes};
     ghost use Rattle.bw_shell.specs.Session.{scan_of};
-    ghost use Rattle.bw_shell.specs.Watched.{is_flushed, HasNoFault};
-    ghost use Rattle.bw_shell.specs.Writes.{Writes};
+    ghost use Rattle.bw_streams.specs.Watched.{is_flushed, HasNoFault};
+    ghost use Rattle.bw_streams.specs.Writes.{Writes};
 
     /// Takes all the room that lines and refusals need.
     pub fn new(alloc: Global, shape: HostShape, gate: &'a G) -> Result<Session<'a, G>, AllocError>

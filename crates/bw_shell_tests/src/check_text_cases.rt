@@ -2,7 +2,8 @@
 ghost use Rattle.std.specs.Prelude.{◌<◌};
 
 use crate::streams::{Broken, Choked};
-use bw_shell::{RunFault, Watched, check_text, status_of_check};
+use bw_streams::{RunFault, Watched};
+use bw_text_check::{check_text, status_of_check};
 use std::alloc::Global;
 use std::io;
 use std::process::Abort;

@@ -4,7 +4,8 @@ ghost use Rattle.std.specs.Prelude.{◌<◌};
 
 use crate::streams::{Broken, Choked};
 use bw_model::HostShape;
-use bw_shell::{RunFault, Watched, run, status_of_run};
+use bw_shell::{run, status_of_run};
+use bw_streams::{RunFault, Watched};
 use std::alloc::{AllocError, Global};
 use std::io;
 use std::process::Abort;

@@ -1,7 +1,8 @@
 //! Scripts whose periods are served under gates. Where memory or a thread was refused a case is run once more.
 use crate::workers_cases::{Without, held_first, meeting};
 use bw_model::HostShape;
-use bw_shell::{RunFault, Watched, run_gated};
+use bw_shell::run_gated;
+use bw_streams::{RunFault, Watched};
 use bw_workers::Gate;
 use std::alloc::{AllocError, Global};
 use std::process::Abort;

@@ -7,8 +7,8 @@ ghost use Rattle.bw_commands.specs.GroupLines.{group_lines};
 ghost use Rattle.bw_commands.specs.LineText.{line_of, HasRow};
 
 use super::paths::Paths;
-use crate::put::{put_last_word, put_number};
 use bw_stat::{Books, put_report_line};
+use bw_streams::{put_last_word, put_number};
 use bw_tree::GroupId;
 use std::alloc::AllocError;
 

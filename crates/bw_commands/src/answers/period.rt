@@ -6,10 +6,10 @@ ghost use Rattle.bw_commands.specs.Period.{IsPeriod};
 ghost use Rattle.bw_commands.specs.Script.{Period, IsAllowedFailure};
 
 use crate::fault::ScriptFault;
-use crate::put::put_number_line;
 use bw_demand::gather_rows;
 use bw_hierarchy::Hierarchy;
 use bw_plan::plan_gathered;
+use bw_streams::put_number_line;
 use bw_workers::{Gate, serve};
 use std::alloc::Global;
 use std::rt::Clock;

@@ -10,10 +10,10 @@ ghost use Rattle.bw_commands.specs.Answers.{Answers};
 ghost use Rattle.bw_commands.specs.GroupLines.{IsPathOf, ArePathsOf};
 ghost use Rattle.bw_commands.specs.Total.{IsTotal, limit_line, limit_lines};
 
-use crate::put::{put_last_word, put_number, put_number_line};
 use bw_demand::{Gathered, gather_rows, limiting};
 use bw_hierarchy::{Fault, Hierarchy};
 use bw_model::Instance;
+use bw_streams::{put_last_word, put_number, put_number_line};
 use bw_tree::{GroupId, Snapshot, Tree, TreeFault};
 use std::alloc::Global;
 

@@ -1,6 +1,6 @@
 -- The goals of `read_some` that are answered by hand.
 use Rattle.std.proofs.Common.{[]}
-use Rattle.bw_shell.proofs.Known.{Appends-nil}
+use Rattle.bw_streams.proofs.CallerLemmas.{Appends-nil}
 use Rattle.bw_shell.proofs.Scanning.{TakesBytes-nil}
 use Rattle.bw_shell.proofs.script.read_some.Goals as goal
 

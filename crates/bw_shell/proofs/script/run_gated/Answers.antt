@@ -1,11 +1,11 @@
 -- The goals of `run_gated` that are answered by hand.
 use Rattle.std.proofs.Common.{◌≡◌, ◌∙◌, [], refl, sym, ap, subst, inl, inr, arith, Bool, Result, Ok, Err, IfErr, IsErrOf}
 use Rattle.std.proofs.lemmas.Result.{err_from_is_err_and}
-use Rattle.bw_shell.specs.declared.script.RunFault.{RunFault}
-use Rattle.bw_shell.specs.declared.script.RunFault.TheVariants.{Read, Write, Memory}
+use Rattle.bw_streams.specs.declared.fault.RunFault.{RunFault}
+use Rattle.bw_streams.specs.declared.fault.RunFault.TheVariants.{Read, Write, Memory}
 use Rattle.bw_commands.specs.State.{start}
 use Rattle.bw_shell.specs.Scan.{TakesBytes, begin}
-use Rattle.bw_shell.proofs.Known.{Appends-nil, Consumes-nil, OnOk-map, moves_err}
+use Rattle.bw_streams.proofs.CallerLemmas.{Appends-nil, Consumes-nil, OnOk-map, moves_err}
 use Rattle.bw_shell.proofs.Scanning.{TakesBytes-nil}
 use Rattle.bw_shell.proofs.Running.{takes_more, takes_kept, whole_of_takes, all_of_takes, front_of_all, front_of_whole}
 use Rattle.bw_shell.proofs.script.run_gated.Goals as goal

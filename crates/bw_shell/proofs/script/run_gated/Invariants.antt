@@ -4,7 +4,7 @@ use Rattle.std.specs.Io.KnownBytes.{Appends, Consumes}
 use Rattle.bw_commands.specs.State.{start}
 use Rattle.bw_shell.specs.Session.{scan_of}
 use Rattle.bw_shell.specs.Scan.{TakesBytes, begin}
-use Rattle.bw_shell.specs.Watched.{inner_of, read_calls, is_flushed, HasNoFault}
+use Rattle.bw_streams.specs.Watched.{inner_of, read_calls, is_flushed, HasNoFault}
 use Rattle.bw_shell.proofs.script.run_gated.Given as goal
 
 abbrev pub invariant-loop-turn : goal.invariant-loop-turn

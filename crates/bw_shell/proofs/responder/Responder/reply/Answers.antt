@@ -3,7 +3,7 @@ use Rattle.std.proofs.Common.{sym, subst, inl, refl}
 use Rattle.bw_commands.specs.Faults.{error_line}
 use Rattle.bw_commands.specs.Script.{IsOutcome, IsAnswer}
 use Rattle.bw_shell.specs.Responder.{responder_state}
-use Rattle.bw_shell.proofs.Writing.{Writes-map}
+use Rattle.bw_streams.proofs.CallerLemmas.{Writes-map}
 use Rattle.bw_shell.proofs.responder.Responder.reply.Goals as goal
 
 pub returns-in-Err : goal.returns-in-Err

@@ -3,7 +3,7 @@ use Rattle.std.proofs.Common.{sym, subst, ◌∙◌}
 use Rattle.bw_commands.specs.Script.{IsOutcome, outcome_of_asked, outcome_of_text}
 use Rattle.bw_shell.specs.Responder.{responder_state}
 use Rattle.bw_shell.proofs.Scanning.{answered}
-use Rattle.bw_shell.proofs.Writing.{Writes-first, Writes-map, Writes-none}
+use Rattle.bw_streams.proofs.CallerLemmas.{Writes-first, Writes-map, Writes-none}
 use Rattle.bw_shell.proofs.responder.Responder.reply_to_text.Goals as goal
 
 pub returns-in-Err : goal.returns-in-Err

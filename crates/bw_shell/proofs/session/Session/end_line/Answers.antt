@@ -5,7 +5,7 @@ use Rattle.bw_commands.specs.Script.{kept_of, IsAnswer}
 use Rattle.bw_shell.specs.Responder.{responder_state}
 use Rattle.bw_shell.specs.Scan.{Scan, kept_after}
 use Rattle.bw_shell.proofs.Scanning.{TakesLine-kept, kept_after-kept_of}
-use Rattle.bw_shell.proofs.Writing.{Writes-err, Writes-map}
+use Rattle.bw_streams.proofs.CallerLemmas.{Writes-err, Writes-map}
 use Rattle.bw_shell.proofs.session.Session.end_line.Goals as goal
 
 pub returns-then-is_empty : goal.returns-then-is_empty

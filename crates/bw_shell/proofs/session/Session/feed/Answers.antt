@@ -1,6 +1,6 @@
 -- The goals of `Session::feed` that are answered by hand.
 use Rattle.bw_shell.specs.Session.{scan_of}
-use Rattle.bw_shell.proofs.Writing.{Writes-last}
+use Rattle.bw_streams.proofs.CallerLemmas.{Writes-last}
 use Rattle.bw_shell.proofs.session.Session.feed.Goals as goal
 
 pub returns-clause-writes : goal.returns-clause-writes

@@ -1,5 +1,5 @@
 -- The goals of `Session::finish` that are answered by hand.
-use Rattle.bw_shell.proofs.Writing.{Writes-last}
+use Rattle.bw_streams.proofs.CallerLemmas.{Writes-last}
 use Rattle.bw_shell.proofs.session.Session.finish.Goals as goal
 
 pub returns-clause-writes : goal.returns-clause-writes

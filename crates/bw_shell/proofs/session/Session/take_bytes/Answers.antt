@@ -3,10 +3,10 @@ use Rattle.std.proofs.Common.{◌≡◌, ◌++◌, ◌∙◌, ℕ, List, [], ◌
 use Rattle.std.proofs.lemmas.List.{take-append-drop}
 use Rattle.bw_shell.specs.Scan.{Scan, TakesBytes, TakesLine}
 use Rattle.bw_shell.specs.Session.{scan_of}
-use Rattle.bw_shell.proofs.Known.{Appends-nil, Appends-trans}
+use Rattle.bw_streams.proofs.CallerLemmas.{Appends-nil, Appends-trans}
 use Rattle.bw_shell.proofs.LineLemmas.{first_newline-front, first_newline-rest, no_newline}
 use Rattle.bw_shell.proofs.Scanning.{TakesBytes-nil, TakesBytes-append, TakesBytes-clean, TakesBytes-line, TakesBytes-total}
-use Rattle.bw_shell.proofs.Writing.{Writes-fails}
+use Rattle.bw_streams.proofs.CallerLemmas.{Writes-fails}
 use Rattle.bw_shell.proofs.session.Session.take_bytes.Goals as goal
 
 -- input and a line with its newline, and what stands behind them

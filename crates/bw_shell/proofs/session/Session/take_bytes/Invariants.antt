@@ -3,7 +3,7 @@ use Rattle.std.proofs.Common.{◌≡◌, ◌++◌, ℕ, List, length}
 use Rattle.std.specs.Io.KnownBytes.{Appends}
 use Rattle.bw_shell.specs.Session.{scan_of}
 use Rattle.bw_shell.specs.Scan.{TakesBytes}
-use Rattle.bw_shell.specs.Watched.{inner_of, HasNoFault}
+use Rattle.bw_streams.specs.Watched.{inner_of, HasNoFault}
 use Rattle.bw_shell.proofs.session.Session.take_bytes.Given as goal
 
 abbrev pub invariant-loop-end : goal.invariant-loop-end

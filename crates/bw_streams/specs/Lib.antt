@@ -1,0 +1,6 @@
+-- The files of definitions.
+pub mod Watched
+pub mod Fronts
+pub mod Writes
+pub mod Prints
+pub mod Answers

@@ -1,0 +1,28 @@
+//! Why a run ends early.
+use std::alloc::AllocError;
+use thiserror::Error;
+
+/// Why a run over a script, or the check of a certified text, ended early.
+#[derive(Clone, Copy, Debug, PartialEq, Eq, Error)]
+pub enum RunFault {
+    /// A read failed, `READ_CALLS` reads did not reach the end, or a certified text has more than 4 MiB.
+    #[error("read fault")]
+    Read,
+    /// A write or a flush failed, or a write took no bytes. What was written is a prefix of the answers.
+    #[error("write fault")]
+    Write,
+    /// Memory was refused, before the first read of a script, or before anything was written of a certified text.
+    #[error("out of memory")]
+    Memory,
+}
+
+impl From<AllocError> for RunFault {
+    ghost use Rattle.std.specs.Prelude.{◌≡◌};
+    ghost use Rattle.bw_streams.specs.declared.fault.RunFault.TheVariants.{Memory};
+
+    ghost from_gives = { λ _ e. e ≡ Memory };
+
+    fn from(_: AllocError) -> RunFault {
+        RunFault::Memory
+    }
+}

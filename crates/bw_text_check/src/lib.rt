@@ -1,0 +1,10 @@
+//! The check of a certified text: it is read from any reader, and one line is written to any writer.
+#![tactic(auto)]
+
+mod laws;
+mod status;
+mod text_check;
+
+pub use laws::text_numbers;
+pub use status::status_of_check;
+pub use text_check::{TEXT_BYTES, check_text};
