@@ -4,23 +4,20 @@
 
 mod failure;
 mod memory;
-mod status;
-mod words;
 
 use bw_model::HostShape;
 use bw_shell::{run, status_of_run};
 use bw_streams::{RunFault, Watched};
 use bw_text_check::{check_text, status_of_check};
+use bw_words::{Job, WordsFault, read_words, status_of_words};
 use failure::Failure;
 use memory::keep_freed;
-use status::status_of_words;
 use std::io;
 use std::io::BufWriter;
 use std::process::ExitCode;
 use std::rt::Clock;
 use std::sync::Wait;
 use std::thread::Threads;
-use words::{Job, WordsFault, read_words};
 
 // Words that cannot be read, or a host that is refused.
 const USAGE_STATUS: u8 = 2;

@@ -3,6 +3,7 @@ use Rattle.std.proofs.Common.{◌≡◌, ◌∙◌, ap, ap₂, sym, subst, refl,
 use Rattle.std.proofs.Common.{is_some}
 use Rattle.std.specs.Prelude.{fold, option_map}
 use Rattle.std.specs.Str.{bytes_eq}
+use Rattle.std.proofs.lemmas.Slice.Eq.{bytes_eq-Decides}
 use Rattle.clap.specs.Words.{Row, Text, Shape, subcommand_of}
 use Rattle.clap.specs.Lexer.{long_of}
 use Rattle.clap.specs.Walk.{Held, Names, Walk, arg_by_long, idle, trailing, finished, nothing_held, settled, walk, walk_from, walked, subcommand_met}
@@ -14,17 +15,16 @@ use Rattle.clap.specs.Simple.{entered, filled, help_rule, version_rule}
 use Rattle.clap.proofs.WalkLemmas.{walk_stopped}
 use Rattle.clap.proofs.FaultLemmas.{stopped_fault}
 use Rattle.clap.proofs.OnLiterals.{clap_on_literals}
-use Rattle.arbiter.specs.CommandLine.{arbiter_app}
-use Rattle.arbiter.specs.Found.{HasNumbers}
-use Rattle.arbiter.specs.Words.{Uses, is_end, job_named, run_job}
-use Rattle.arbiter.specs.declared.words.Job.{Job}
-use Rattle.arbiter.specs.declared.words.Job.TheVariants as job
-use Rattle.arbiter.proofs.RunWalk.{state}
-use Rattle.arbiter.proofs.RunFaults.{built_app, names}
-use Rattle.bw_model.proofs.CallerLemmas.{bytes_eq-true}
-use Rattle.arbiter.proofs.Refused.{RefusesWords, is_fault, contra, or_none, fault_left, fault_right, turn_of, trails, fault_at, long_fault_at, idle_other}
-use Rattle.arbiter.proofs.RunSound.{run_sound}
-use Rattle.arbiter.proofs.Named.{named_gives}
+use Rattle.bw_words.specs.CommandLine.{arbiter_app}
+use Rattle.bw_words.specs.Found.{HasNumbers}
+use Rattle.bw_words.specs.Words.{Uses, is_end, job_named, run_job}
+use Rattle.bw_words.specs.declared.words.Job.{Job}
+use Rattle.bw_words.specs.declared.words.Job.TheVariants as job
+use Rattle.bw_words.proofs.RunWalk.{state}
+use Rattle.bw_words.proofs.RunFaults.{built_app, names}
+use Rattle.bw_words.proofs.Refused.{RefusesWords, is_fault, contra, or_none, fault_left, fault_right, turn_of, trails, fault_at, long_fault_at, idle_other}
+use Rattle.bw_words.proofs.RunSound.{run_sound}
+use Rattle.bw_words.proofs.Named.{named_gives}
 
 -- ---- commands without options
 
@@ -212,12 +212,12 @@ other_words X verb rest not_run not_check e = helps (bytes_eq (codes "help") ver
     dashes false dash none rest walks e = only_end built_app.top names top_refuses X verb none dash turn
     dashes true dash none [] walks e =
         contra (fault_of arbiter_app ((45 ∷ 45 ∷ []) ∷ [])) X end_alone
-        (subst (λ w. fault_of arbiter_app (w ∷ []) ≡ []) (bytes_eq-true verb (45 ∷ 45 ∷ []) dash) e)
+        (subst (λ w. fault_of arbiter_app (w ∷ []) ≡ []) ((bytes_eq-Decides verb (45 ∷ 45 ∷ [])).0 dash) e)
     dashes true dash none (y ∷ ys) walks e = after_end built_app.top names top_refuses X verb y ys none dash walks
 
     helps : (b : Bool) → bytes_eq (codes "help") verb ≡ b → X
     helps true is = contra _ X help_faults
-        (subst (λ w. turn_fault built_app.top names (walk_from nothing_held) w ≡ []) (sym (bytes_eq-true (codes "help") verb is)) turn)
+        (subst (λ w. turn_fault built_app.top names (walk_from nothing_held) w ≡ []) (sym ((bytes_eq-Decides (codes "help") verb).0 is)) turn)
     helps false is = dashes (bytes_eq verb (45 ∷ 45 ∷ [])) refl
         (none_met (bytes_eq (codes "run") verb) (bytes_eq (codes "check") verb) (bytes_eq (codes "help") verb) not_run not_check is) rest walks e
 
@@ -226,9 +226,9 @@ job_sound [] k w = contra (fault_of arbiter_app []) _ no_words w.passes
 job_sound (verb ∷ rest) k w = runs (bytes_eq (codes "run") verb) refl
   where
     checks : (b : Bool) → bytes_eq (codes "run") verb ≡ false → bytes_eq (codes "check") verb ≡ b → job_named (verb ∷ rest) ≡ Some k
-    checks true not_run is = subst (λ v. IsFoundFor (v ∷ rest) k → job_named (v ∷ rest) ≡ Some k) (bytes_eq-true (codes "check") verb is) (check_words rest k) w
+    checks true not_run is = subst (λ v. IsFoundFor (v ∷ rest) k → job_named (v ∷ rest) ≡ Some k) ((bytes_eq-Decides (codes "check") verb).0 is) (check_words rest k) w
     checks false not_run is = other_words _ verb rest not_run is w.passes
 
     runs : (b : Bool) → bytes_eq (codes "run") verb ≡ b → job_named (verb ∷ rest) ≡ Some k
-    runs true is = subst (λ v. IsFoundFor (v ∷ rest) k → job_named (v ∷ rest) ≡ Some k) (bytes_eq-true (codes "run") verb is) (run_words rest k) w
+    runs true is = subst (λ v. IsFoundFor (v ∷ rest) k → job_named (v ∷ rest) ≡ Some k) ((bytes_eq-Decides (codes "run") verb).0 is) (run_words rest k) w
     runs false is = checks (bytes_eq (codes "check") verb) is refl

@@ -11,7 +11,7 @@ use Rattle.clap.specs.Faults.{bundle_step_fault, positional_fault, settle_fault,
 use Rattle.clap.specs.Faults.{step_fault, stray_fault, bundle_fault}
 use Rattle.clap.specs.Kinds.{or_else, Kinds}
 use Rattle.clap.proofs.WalkLemmas.{bundle_ends}
-use Rattle.arbiter.proofs.RunWalk.{state, none≢some}
+use Rattle.bw_words.proofs.RunWalk.{state, none≢some}
 
 abbrev pub is_fault : Kinds → Bool
 is_fault [] = false

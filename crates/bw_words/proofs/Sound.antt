@@ -12,8 +12,9 @@ use Rattle.std.specs.Int.{IsInRange}
 use Rattle.std.specs.Str.Parse.{without_leading_plus, without_leading_sign}
 use Rattle.std.proofs.lemmas.Bool.{ltb-true, lt-ltb, ne_eqb}
 use Rattle.std.proofs.lemmas.Str.Parse.{digit_from_value}
+use Rattle.std.proofs.lemmas.Slice.Eq.{bytes_eq-Decides}
 use Rattle.clap.specs.Lexer.{short_of_rest}
-use Rattle.arbiter.specs.Words.{are_digits}
+use Rattle.bw_words.specs.Words.{are_digits}
 use Rattle.clap.specs.Words.{Shape, Text}
 use Rattle.clap.specs.Lexer.{long_of, short_of}
 use Rattle.clap.specs.Walk.{Held, arg_by_id, arg_by_long, idle, option, next, trailing, settled, walked, word_met, long_or_other, plain_word, option_word}
@@ -24,13 +25,12 @@ use Rattle.clap.specs.ValueTests.{accepts}
 use Rattle.clap.specs.Simple.{filled, help_rule}
 use Rattle.clap.specs.declared.builder.ValueParser.TheVariants as parser
 use Rattle.clap.proofs.WalkLemmas.{both}
-use Rattle.arbiter.specs.Words.{Uses, is_setting, is_given, may_give, is_number, option_parts, begins_with_dash, uses_after, after_parts, is_empty}
-use Rattle.arbiter.proofs.RunWalk.{Reads, IsIdle, IsWaiting, state, rows_for, setting_rule, turned, given_row, number_is, none≢some, parts_are, name_met}
-use Rattle.arbiter.proofs.RunWalk.{name_turn, pair_met, pair_turn, paired, valued}
-use Rattle.bw_model.proofs.CallerLemmas.{bytes_eq-self}
-use Rattle.arbiter.proofs.RunFaults.{run_shape}
-use Rattle.arbiter.proofs.Refused.{RefusesWords, is_fault, contra, or_none, fault_left, fault_right, split, turn_of, trails, short_refused, fault_at}
-use Rattle.arbiter.proofs.Refused.{long_fault_at, short_fault_at, met_at, met_other, met_empty, idle_other}
+use Rattle.bw_words.specs.Words.{Uses, is_setting, is_given, may_give, is_number, option_parts, begins_with_dash, uses_after, after_parts, is_empty}
+use Rattle.bw_words.proofs.RunWalk.{Reads, IsIdle, IsWaiting, state, rows_for, setting_rule, turned, given_row, number_is, none≢some, parts_are, name_met}
+use Rattle.bw_words.proofs.RunWalk.{name_turn, pair_met, pair_turn, paired, valued}
+use Rattle.bw_words.proofs.RunFaults.{run_shape}
+use Rattle.bw_words.proofs.Refused.{RefusesWords, is_fault, contra, or_none, fault_left, fault_right, split, turn_of, trails, short_refused, fault_at}
+use Rattle.bw_words.proofs.Refused.{long_fault_at, short_fault_at, met_at, met_other, met_empty, idle_other}
 
 -- the options of a run are all that the command takes
 pub record Refuses (s : Shape) : Type 0 where
@@ -173,7 +173,7 @@ module _ (s : Shape) (r : Reads s) (f : Refuses s) where
         next (cond (nat_lt (pending_count (setting_rule name found.0) (pushed name word (record h { pending = q })).pending) 1)
             (option name) idle),
       )) at.pending
-      ∙ ap (λ p. (record h { pending = Some (name, word ∷ []) }, next (cond (nat_lt (cond p 1 0) 1) (option name) idle))) (bytes_eq-self name)
+      ∙ ap (λ p. (record h { pending = Some (name, word ∷ []) }, next (cond (nat_lt (cond p 1 0) 1) (option name) idle))) ((bytes_eq-Decides name name).1 refl)
 
   -- a word that an option takes as its value
   takes_value : (name word : List ℕ) (h after : Held) (g : Uses) (rest : List Text) → Rest rest → IsWaiting name after g → after.skip ≡ 0
