@@ -462,6 +462,7 @@ def takes_no_wrong_program(copy):
 def test_notes_its_program(copy):
     """./test takes the program that the gate built as current, unless sources were changed meanwhile; cases and counts stand in for the real ones."""
     os.symlink(sys.executable, f"{copy.bin}/python3")
+    same(copy.call(["./test", "frob"]), (2, "", "usage: test [--anew]\n"), "./test with another word")
     files = re.search(r"^for cases in (.*); do$", copy.read("test"), re.M).group(1).split()
     same("install" in files, True, "this file is among the cases")
     for name in files:
