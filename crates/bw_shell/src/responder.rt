@@ -79,10 +79,11 @@ impl<'a, G: Gate> Responder<'a, G> {
     pub fn new(alloc: Global, shape: HostShape, gate: &'a G) -> Result<Responder<'a, G>, AllocError>
         ensures { IfOk result (λ r. responder_state G.used r ≡ start shape (G.used gate.now)) }
     {
+        let answer = Vec::with_capacity(alloc, REFUSAL_BYTES)?;
         Ok(Responder {
             commands: Commands::new(alloc, shape, gate).map_err(|_| AllocError)?,
             alloc,
-            answer: Vec::with_capacity(alloc, REFUSAL_BYTES)?,
+            answer,
         })
     }
 

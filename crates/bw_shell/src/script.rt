@@ -1,5 +1,5 @@
 //! A whole script.
-ghost use Rattle.std.specs.Prelude.{◌≡◌, ◌≢◌, ◌||◌, ◌<◌, ◌+◌, ◌-◌, ◌^◌, ℕ, List, min, length, true, false, OnOk, IfOk, IfErr, IsErrOf, vec_len};
+ghost use Rattle.std.specs.Prelude.{◌≡◌, ◌≢◌, ◌||◌, ◌<◌, ◌+◌, ◌-◌, ◌^◌, ℕ, List, [], Some, min, length, true, false, OnOk, IfOk, IfErr, IsErrOf, vec_len};
 ghost use Rattle.std.specs.Io.KnownBytes.{Appends, Consumes, IsAtEnd, Keeps};
 ghost use Rattle.bw_commands.specs.State.{start};
 ghost use Rattle.bw_shell.specs.Scan.{Scan, TakesBytes};
@@ -58,6 +58,31 @@ fn read_some<H: Threads + Wait + Clock + Sync, G: Gate, R: Read, W: Write>(
     }
 }
 
+// Reads a script to its end, and writes the answer to each line. It borrows what answers: where that is owned, each end
+// of the loop is a place at which all of it is dropped, and has to be proved.
+fn read_script<H: Threads + Wait + Clock + Sync, G: Gate, R: Read, W: Write>(
+    rt: &H,
+    session: &mut Session<'_, G>,
+    piece: &mut [u8],
+    reader: &mut Watched<R>,
+    writer: &mut Watched<W>,
+) -> Result<(), RunFault>
+    requires begun { (scan_of G.used session.old).kept ≡ Some [] }
+    requires room { 0 < length piece.old }
+    requires reader { IsFresh reader.old }
+    requires writer { IsFresh writer.old }
+    ensures { Runs R.remaining W.contents (scan_of G.used session.old).state reader.old reader.new writer.old writer.new result }
+{
+    for turn in 0..READ_CALLS {
+        match read_some(rt, session, piece, reader, writer) {
+            Ok(true) => {}
+            Ok(false) => return session.finish(rt, writer),
+            Err(fault) => return Err(fault),
+        }
+    }
+    Err(RunFault::Read)
+}
+
 /// Reads a script to its end, and writes the answer to each line; the workers of each `period` draw under the gate. All
 /// room is taken before the first read.
 ///
@@ -74,16 +99,9 @@ pub fn run_gated<H: AllocGlobal + Threads + Wait + Clock + Sync, G: Gate, R: Rea
     requires writer { IsFresh writer.old }
     ensures { Runs R.remaining W.contents (start shape (G.used gate.now)) reader.old reader.new writer.old writer.new result }
 {
-    let mut session = Session::new(rt.alloc(), shape, gate)?;
     let mut piece = piece_room(rt.alloc())?;
-    for turn in 0..READ_CALLS {
-        match read_some(rt, &mut session, &mut piece, reader, writer) {
-            Ok(true) => {}
-            Ok(false) => return session.finish(rt, writer),
-            Err(fault) => return Err(fault),
-        }
-    }
-    Err(RunFault::Read)
+    let mut session = Session::new(rt.alloc(), shape, gate)?;
+    read_script(rt, &mut session, &mut piece, reader, writer)
 }
 
 /// Reads a script to its end, and writes the answer to each line; every leaf uses what its workers draw. All room is

@@ -45,9 +45,10 @@ impl<'a, G: Gate> Session<'a, G> {
     pub fn new(alloc: Global, shape: HostShape, gate: &'a G) -> Result<Session<'a, G>, AllocError>
         ensures { IfOk result (λ s. scan_of G.used s ≡ begin (start shape (G.used gate.now))) }
     {
+        let line = Vec::with_capacity(alloc, KEPT_BYTES)?;
         Ok(Session {
             responder: Responder::new(alloc, shape, gate)?,
-            line: Vec::with_capacity(alloc, KEPT_BYTES)?,
+            line,
         })
     }
 

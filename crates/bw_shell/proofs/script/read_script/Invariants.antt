@@ -1,15 +1,14 @@
--- What stands at each turn of the loop in `run_gated`.
+-- What stands at each turn of the loop in `read_script`.
 use Rattle.std.proofs.Common.{◌≡◌, ℕ, List, true}
 use Rattle.std.specs.Io.KnownBytes.{Appends, Consumes}
-use Rattle.bw_commands.specs.State.{start}
 use Rattle.bw_shell.specs.Session.{scan_of}
 use Rattle.bw_shell.specs.Scan.{TakesBytes, begin}
 use Rattle.bw_streams.specs.Watched.{inner_of, read_calls, is_flushed, HasNoFault}
-use Rattle.bw_shell.proofs.script.run_gated.Given as goal
+use Rattle.bw_shell.proofs.script.read_script.Given as goal
 
 abbrev pub invariant-loop-turn : goal.invariant-loop-turn
 invariant-loop-turn g l = record {
-  taken : (input text : List ℕ) × TakesBytes (begin (start l.fn.shape (g.G.Gate.used l.fn.gate))) input text (scan_of g.G.Gate.used l.session)
+  taken : (input text : List ℕ) × TakesBytes (begin (scan_of g.G.Gate.used l.initial.session).state) input text (scan_of g.G.Gate.used l.session)
       × Consumes (g.R.Read.remaining (inner_of l.initial.reader)) (g.R.Read.remaining (inner_of l.reader)) input
       × Appends (g.W.Write.contents (inner_of l.initial.writer)) (g.W.Write.contents (inner_of l.writer)) text;
   reader_quiet : HasNoFault l.reader;

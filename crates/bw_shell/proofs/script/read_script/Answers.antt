@@ -1,21 +1,22 @@
--- The goals of `run_gated` that are answered by hand.
+-- The goals of `read_script` that are answered by hand.
 use Rattle.std.proofs.Common.{◌≡◌, ◌∙◌, [], refl, sym, ap, subst, inl, inr, arith, Bool, Result, Ok, Err, IfErr, IsErrOf}
 use Rattle.std.proofs.lemmas.Result.{err_from_is_err_and}
 use Rattle.bw_streams.specs.declared.fault.RunFault.{RunFault}
 use Rattle.bw_streams.specs.declared.fault.RunFault.TheVariants.{Read, Write, Memory}
-use Rattle.bw_commands.specs.State.{start}
+use Rattle.bw_shell.specs.Session.{scan_of}
 use Rattle.bw_shell.specs.Scan.{TakesBytes, begin}
 use Rattle.bw_streams.proofs.CallerLemmas.{Appends-nil, Consumes-nil, OnOk-map, moves_err}
 use Rattle.bw_shell.proofs.Scanning.{TakesBytes-nil}
 use Rattle.bw_shell.proofs.Running.{takes_more, takes_kept, whole_of_takes, all_of_takes, front_of_all, front_of_whole}
-use Rattle.bw_shell.proofs.script.run_gated.Goals as goal
+use Rattle.bw_shell.proofs.script.read_script.Goals as goal
 
 pub loop-turn-init : goal.loop-turn-init
 loop-turn-init g c = record {
   taken = (
     [],
     [],
-    subst (λ m. TakesBytes (begin (start c.args.shape (g.G.Gate.used c.args.gate.now))) [] [] m) (sym c.in_ok-session.ensures) (TakesBytes-nil _),
+    subst (λ k. TakesBytes (begin (scan_of g.G.Gate.used c.args.session.now).state) [] [] (record (scan_of g.G.Gate.used c.args.session.now) { kept = k }))
+        (sym c.requires.begun) (TakesBytes-nil _),
     Consumes-nil _,
     Appends-nil _,
   );
@@ -34,26 +35,6 @@ loop-turn-preserved g c = record {
   calls = omega (arith, c.in-Ok-true.ensures.reads);
 }
 
-pub returns-in_err-piece : goal.returns-in_err-piece
-returns-in_err-piece g c =
-    let p = err_from_is_err_and c.from_residual-in_err-piece.result c.from_residual-in_err-piece.ensures.1 in
-    let e : c.from_residual-in_err-piece.result ≡ Err Memory = p.1 ∙ ap Err p.2 in
-    rw e
-    (record {
-      ok = tt;
-      end = tt;
-      reader_quiet = tt;
-      writer_quiet = tt;
-      calls = omega (arith, c.requires.reader.no_reads);
-      flushed = tt;
-      read_flushed = λ h. absurd (let bad : Memory ≡ Read = cc in cc);
-      read = λ h. absurd (let bad : Memory ≡ Read = cc in cc);
-      read_when = λ h. absurd (let bad : Memory ≡ Read = cc in cc);
-      write = λ h. absurd (let bad : Memory ≡ Write = cc in cc);
-      write_when = λ h. absurd (let bad : Memory ≡ Write = cc in cc);
-      memory = λ h. (refl, refl);
-    })
-
 -- a call that blames the writer alone blames nothing else
 only_write : {T : Type 0} (r : Result T RunFault) (f : RunFault) → IfErr r (λ g. g ≡ Write) → IsErrOf r f → f ≡ Write
 only_write (Ok v) f w h = absurd (cc)
@@ -61,7 +42,7 @@ only_write (Err g) f w h = let e : g ≡ f = cc in sym e ∙ w
 
 pub returns-in-Ok-false : goal.returns-in-Ok-false
 returns-in-Ok-false g c =
-    let s = start c.args.shape (g.G.Gate.used c.args.gate.now) in
+    let s = (scan_of g.G.Gate.used c.args.session.now).state in
     let taken = takes_more _ _ _ _ _ _ _ _ _ c.loop-turn.invariant.taken c.in-Ok-false.ensures.ok in
     let done = c.finish.ensures.flushed in
     let writes = c.finish.ensures.writes in
@@ -82,7 +63,7 @@ returns-in-Ok-false g c =
 
 pub returns-in-Err : goal.returns-in-Err
 returns-in-Err g c =
-    let s = start c.args.shape (g.G.Gate.used c.args.gate.now) in
+    let s = (scan_of g.G.Gate.used c.args.session.now).state in
     record {
       ok = tt;
       end = tt;
@@ -106,7 +87,7 @@ returns-in-Err g c =
 
 pub returns : goal.returns
 returns g c =
-    let s = start c.args.shape (g.G.Gate.used c.args.gate.now) in
+    let s = (scan_of g.G.Gate.used c.args.session.now).state in
     record {
       ok = tt;
       end = tt;
