@@ -1,5 +1,5 @@
 //! A whole script.
-ghost use Rattle.std.specs.Prelude.{◌≡◌, ◌≢◌, ◌||◌, ◌<◌, ◌+◌, ◌-◌, ◌^◌, ℕ, List, [], Some, min, length, true, false, OnOk, IfOk, IfErr, IsErrOf, vec_len};
+ghost use Rattle.std.specs.Prelude.{◌≡◌, ◌≢◌, ◌||◌, ◌<◌, ◌+◌, ◌-◌, ◌^◌, ℕ, List, [], Some, min, length, true, false, OnOk, IfOk, IfErr, IsErrOf};
 ghost use Rattle.std.specs.Io.KnownBytes.{Appends, Consumes, IsAtEnd, Keeps};
 ghost use Rattle.bw_commands.specs.State.{start};
 ghost use Rattle.bw_shell.specs.Scan.{Scan, TakesBytes};

@@ -1,6 +1,5 @@
 -- The goals of `read_script` that are answered by hand.
-use Rattle.std.proofs.Common.{◌≡◌, ◌∙◌, [], refl, sym, ap, subst, inl, inr, arith, Bool, Result, Ok, Err, IfErr, IsErrOf}
-use Rattle.std.proofs.lemmas.Result.{err_from_is_err_and}
+use Rattle.std.proofs.Common.{◌≡◌, ◌∙◌, [], sym, subst, inl, inr, arith, Bool, Result, Ok, Err, IfErr, IsErrOf}
 use Rattle.bw_streams.specs.declared.fault.RunFault.{RunFault}
 use Rattle.bw_streams.specs.declared.fault.RunFault.TheVariants.{Read, Write, Memory}
 use Rattle.bw_shell.specs.Session.{scan_of}
