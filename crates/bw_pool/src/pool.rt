@@ -54,6 +54,10 @@ fn least_left(parents: &[Option<u32>], drawn: &[u64], ceiling: &[u64], leaf: u32
     let mut least = bound;
     let mut at = Some(leaf);
     while let Some(group) = at {
+        // nothing further up is less
+        if least == 0 {
+            return 0;
+        }
         let row = group as usize;
         least = least.min(ceiling[row] - drawn[row]);
         at = parents[row];
@@ -71,6 +75,9 @@ fn raise(parents: &[Option<u32>], ceiling: &[u64], drawn: &mut [u64], leaf: u32,
     requires room { AllByRecursion (λ g. n ≤ slice_index ceiling.now g - slice_index drawn.old g) (path_up (bare_rows parents.now) leaf) }
     ensures { drawn.new ≡ raised (path_up (bare_rows parents.now) leaf) n drawn.old }
 {
+    if n == 0 {
+        return;
+    }
     let mut at = Some(leaf);
     while let Some(group) = at {
         let row = group as usize;
