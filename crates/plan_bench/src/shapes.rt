@@ -1,5 +1,6 @@
 //! The trees that are planned.
-ghost use Rattle.std.specs.Prelude.{◌<◌};
+ghost use Rattle.std.specs.Prelude.{◌≡◌, ◌<◌, ◌≤◌, length, IfSome};
+ghost use Rattle.plan_bench.specs.Names.{shape_name};
 
 use bw_model::{HostShape, Instance, Row};
 use std::alloc::Global;
@@ -32,7 +33,9 @@ pub const SHAPES: [Shape; 6] = [
 ];
 
 /// What the table calls a shape.
-pub fn name_of(shape: Shape) -> &'static str {
+pub fn name_of(shape: Shape) -> &'static str
+    ensures { result.now ≡ shape_name shape }
+{
     match shape {
         Shape::Flat => "flat",
         Shape::Pairs => "pairs",
@@ -67,8 +70,12 @@ fn parent_of(shape: Shape, g: u32, groups: u32, random: u32) -> u32
     }
 }
 
-/// A tree of so many groups, with weights from 1 to 997 and demands of its leaves from 1 to 59. None where memory was refused.
-pub fn instance_of(alloc: Global, shape: Shape, groups: u32, host: HostShape) -> Option<Instance> {
+/// A tree of so many groups, 1 or more, with weights from 1 to 997 and demands of its leaves from 1 to 59. None where memory was
+/// refused.
+pub fn instance_of(alloc: Global, shape: Shape, groups: u32, host: HostShape) -> Option<Instance>
+    ensures groups { 1 ≤ groups → IfSome result (λ instance. length instance.rows ≡ groups) }
+    ensures host { IfSome result (λ instance. instance.shape ≡ host) }
+{
     let mut rows: Vec<Row> = Vec::new(alloc);
     let root = Row {
         parent: None,

@@ -1,4 +1,6 @@
 //! How long the calls take.
+ghost use Rattle.std.specs.Prelude.{◌≡◌, ◌<◌, ◌^◌, None, IfSome};
+
 use bw_demand::{gather, levels};
 use bw_model::Instance;
 use bw_plan::{plan, plan_levels};
@@ -44,7 +46,10 @@ pub fn time<R: AllocGlobal + Clock + Threads + Sync>(
     instance: &Instance,
     call: Call,
     runs: u32,
-) -> Option<u32> {
+) -> Option<u32>
+    ensures below { IfSome result (λ nanoseconds. nanoseconds < 10 ^ 9) }
+    ensures none { runs ≡ 0 → result ≡ None }
+{
     let mut least = None;
     for _run in 0..runs {
         let start = Instant::now(rt).ok()?;
