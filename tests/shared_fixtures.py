@@ -1,0 +1,65 @@
+"""Options and fixtures of all tests (a pytest plugin, loaded by conftest.py)."""
+import tempfile
+from pathlib import Path
+
+import pytest
+
+import support
+
+
+def pytest_addoption(parser):
+    group = parser.getgroup("arbiter")
+    group.addoption("--program", metavar="PATH", default=support.PROGRAM,
+                    help="native program under test (default: the one that ./build makes)")
+    group.addoption("--library", metavar="PATH", default=support.LIBRARY,
+                    help="shared C library under test, libarbiter.so, with libarbiter.a beside it")
+    group.addoption("--write", action="store_true",
+                    help="put the program's answers into the pages of docs/, to be read by hand")
+
+
+def pytest_report_header(config):
+    return [f"program: {config.getoption('program')}", f"library: {config.getoption('library')}"]
+
+
+def existing(path, option):
+    """The absolute path of a file that an option names, or a failure that says what makes it."""
+    path = Path(path).resolve()
+    if not path.is_file():
+        reason = f"no file {path}: ./build and ./test make it, {option} names another"
+        pytest.fail(reason, pytrace=False)
+    return path
+
+
+@pytest.fixture(scope="session")
+def program(request) -> support.Program:
+    """The native program under test."""
+    return support.Program(existing(request.config.getoption("program"), "--program"))
+
+
+@pytest.fixture(scope="session")
+def command(program) -> support.Program:
+    """`./arbiter`, if that runs the program under test, otherwise the program itself."""
+    own = program.path == str(support.PROGRAM.resolve())
+    return support.Program(support.ROOT / "arbiter") if own else program
+
+
+@pytest.fixture(scope="session")
+def library(request) -> Path:
+    """The shared C library under test. The static one is beside it, with the ending .a."""
+    path = existing(request.config.getoption("library"), "--library")
+    existing(path.with_suffix(".a"), "--library")
+    return path
+
+
+@pytest.fixture(scope="session")
+def refusing() -> str:
+    """The library of refuse.c, to be preloaded: see `support.refused_run`."""
+    with tempfile.TemporaryDirectory() as folder:
+        yield support.build_refusing_library(folder)
+
+
+@pytest.fixture
+def scratch() -> Path:
+    """An empty folder, which is removed after the test."""
+    with tempfile.TemporaryDirectory() as folder:
+        yield Path(folder)
