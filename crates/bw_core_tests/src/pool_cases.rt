@@ -3,7 +3,8 @@
 ghost use Rattle.std.specs.Prelude.{◌≤◌, length};
 
 use crate::rows::{Shown, instance_of};
-use bw_model::{HostShape, Machine};
+use bw_machine::Machine;
+use bw_model::HostShape;
 use bw_pool::{
     Core, CoreEvent, PoolCall, PoolReply, Refusal, Short, SlicePool, drained_workers,
     every_schedule, holdings_add_up, never_past_the_plan, one_drawn_list,

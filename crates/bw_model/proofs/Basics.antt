@@ -315,10 +315,3 @@ bytes_eq-self xs = (bytes_eq-Decides xs xs).1 refl
 -- what two equal options hold
 pub inside : {A : Type 0} {a b : A} → Some a ≡ Some b → a ≡ b
 inside e = cc
-
--- what a function says of the test of two numbers
-pub equal_or_not : {A : Type 0} (f : Bool → A) (a b : ℕ) → ((a ≡ b) × (f (a == b) ≡ f true)) ⊎ ((a ≢ b) × (f (a == b) ≡ f false))
-equal_or_not f a b = elim (cases_eq a b) [
-  | inl e ↦ inl (e, ap f (eq-eqb a b e))
-  | inr n ↦ inr (n, ap f (ne_eqb a b n))
-]

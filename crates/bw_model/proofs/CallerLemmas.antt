@@ -2,7 +2,7 @@
 pub use Rattle.bw_model.proofs.Basics.{sum_below, sum-cons, sum_below-front, sum_below-ap, sum_below-le, sum_below-zero, sum_by-range, sum_by-filter_range}
 pub use Rattle.bw_model.proofs.Basics.{sum_below-change, sum_below-term, and_no, passed, goes_on, no_parent, cancel_le, strong, from_the_last, list_any-range}
 pub use Rattle.bw_model.proofs.Basics.{some_in_range, any-filter, same_map, range_more, listed, zeros, sum_zeros, sum_none, get_or_within, bytes_eq-true}
-pub use Rattle.bw_model.proofs.Basics.{bytes_eq-self, inside, equal_or_not}
+pub use Rattle.bw_model.proofs.Basics.{bytes_eq-self, inside}
 pub use Rattle.bw_model.proofs.Exchange.{level-IsBestSplit, IsBestSplit-unique}
 pub use Rattle.bw_model.proofs.Under.{parent_lt, path_up-top, path_up-step, is_under-top, is_under-step, is_under-self}
 pub use Rattle.bw_model.proofs.Totals.{parent_from_is_child, is_child_from_parent, is_child_no, sum_by-children, leaf_no_child, inner_has_child, total-inner}
@@ -17,7 +17,6 @@ pub use Rattle.bw_model.proofs.Limiting.{limited_total-is, limited-IsGreatestTot
 pub use Rattle.bw_model.proofs.NoGainfulMove.{product-remove, cost-set, lex_at, product-pos, best-IsAtLevel}
 pub use Rattle.bw_model.proofs.Order.{cross_lt_right, IsBelow-trans, IsBelow-irrefl, IsBelow-cases, none-IsAtLevel, step-IsAtLevel, below_less}
 pub use Rattle.bw_model.proofs.Pairwise.{IsPairwise, pairwise-IsBestSplit}
-pub use Rattle.bw_model.proofs.Histories.{replay-snoc, legal-snoc, own_from-snoc, own_from-other, own_entries, own_places}
 pub use Rattle.bw_model.proofs.Paths.{parent_at, depth_le, way_from, way_up, path_up-way_up, reach, depth_of-top, depth_of-step, way_from-step, reach_parent}
 pub use Rattle.bw_model.proofs.Instances.{earlier-AreTreeRows, IsHost-accepted, refused_none-IsInstance, accepted-IsInstance, IsInstance-accepted, capacity_le}
 pub use Rattle.bw_model.proofs.Listing.{is_leaf-length}

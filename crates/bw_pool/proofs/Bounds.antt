@@ -1,7 +1,7 @@
 -- In every history each group has drawn at most its ceiling, and no ceiling is above the opening amount.
 use Rattle.std.proofs.Common.{◌≡◌, ℕ, ◌≤◌, List, [], ◌∷◌, Bool, true, false, cond, Option, None, Some, get_or, refl, arith, leb}
 use Rattle.std.proofs.lemmas.Bool.{leb-true}
-use Rattle.bw_model.specs.History.{replay}
+use Rattle.bw_machine.specs.History.{replay}
 use Rattle.bw_pool.specs.declared.calls.PoolCall.{PoolCall}
 use Rattle.bw_pool.specs.declared.calls.PoolCall.TheVariants.{Draw, GiveBack, Lower, Look}
 use Rattle.bw_pool.specs.declared.calls.Refusal.{Refusal}

@@ -2,7 +2,7 @@
 use Rattle.std.proofs.Common.{◌≡◌, ℕ, ◌+◌, ◌-◌, ◌*◌, ◌<◌, ◌≤◌, ◌⊎◌, inl, inr, min, List, [], ◌∷◌, length, replicate, Bool, true, false, cond, Option, None}
 use Rattle.std.proofs.Common.{Some, get_or, set, refl, sym, ap, ◌∙◌, subst, arith, eqb, ne_eqb, eq-eqb}
 use Rattle.std.proofs.lemmas.Bool.{cases_lt}
-use Rattle.bw_model.specs.History.{replay, IsLegal, own, entry}
+use Rattle.bw_machine.specs.History.{replay, IsLegal, own, entry}
 use Rattle.bw_model.specs.declared.row.Row.{Row}
 use Rattle.bw_model.specs.Groups.{is_leaf, path_up}
 use Rattle.bw_pool.specs.declared.calls.PoolCall.{PoolCall}

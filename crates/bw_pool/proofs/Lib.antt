@@ -9,9 +9,7 @@ mod Drawing
 mod Draws
 mod Holdings
 mod Lists
-mod Places
 mod Returning
-mod Runs
 mod Sound
 mod StepsUp
 mod Trees

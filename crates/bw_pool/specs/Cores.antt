@@ -1,12 +1,12 @@
 -- The state that a Core stands for, and what its fields keep.
 use Rattle.std.specs.Prelude.{◌≡◌, ◌+◌, ◌≤◌, length}
 use Rattle.std.specs.List.{count_by}
-use Rattle.bw_pool.specs.Seats.{CoreState}
-use Rattle.bw_pool.specs.declared.seats.TheConstants.{MAX_SEATS}
+use Rattle.bw_machine.specs.Seats.{CoreState}
+use Rattle.bw_pool.specs.declared.limits.TheConstants.{MAX_SEATS}
 use Rattle.bw_pool.specs.declared.calls.PoolCall.{PoolCall}
 use Rattle.bw_pool.specs.declared.calls.PoolReply.{PoolReply}
 use Rattle.bw_pool.specs.Pool.{PoolState}
-use Rattle.bw_pool.specs.Schedules.{has_called, is_on_its_way}
+use Rattle.bw_machine.specs.Schedules.{has_called, is_on_its_way}
 use Rattle.bw_pool.specs.declared.interleaving.Core.TheInside.{Inside}
 
 -- what the fields stand for

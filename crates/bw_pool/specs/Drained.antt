@@ -3,8 +3,8 @@
 use Rattle.std.specs.Prelude.{◌≡◌, ℕ, ◌+◌, ◌-◌, ◌*◌, ◌==◌, ◌<◌, ◌≤◌, ◌⊎◌, List}
 use Rattle.std.specs.Prelude.{[], ◌∷◌, length, Bool, true, false, Option, None, Some, slice_index, if◌then◌else◌}
 use Rattle.std.specs.List.{list_any}
-use Rattle.bw_model.specs.declared.history.Entry.{Entry}
-use Rattle.bw_model.specs.History.{replay, IsLegal, own}
+use Rattle.bw_machine.specs.declared.history.Entry.{Entry}
+use Rattle.bw_machine.specs.History.{replay, IsLegal, own}
 use Rattle.bw_model.specs.declared.row.Row.{Row}
 use Rattle.bw_model.specs.Groups.{Groups, IsInstance, AreTreeRows, is_leaf, sum_of_children}
 use Rattle.bw_model.specs.Host.{slices_per_processor}

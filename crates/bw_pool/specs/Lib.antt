@@ -3,6 +3,4 @@ pub mod Pool
 pub mod Drained
 pub mod Parents
 pub mod Pools
-pub mod Seats
-pub mod Schedules
 pub mod Cores

@@ -3,8 +3,8 @@
 use Rattle.std.specs.Prelude.{◌≡◌, ℕ, ◌+◌, ◌-◌, ◌*◌, ◌==◌, ◌≤◌, nat_lt, nat_le, min, max, List, []}
 use Rattle.std.specs.Prelude.{◌∷◌, length, sum_by, replicate, true, false, ◌&&◌, ◌<◌, Option, None, Some, slice_index, slice_set, if◌then◌else◌}
 use Rattle.std.specs.List.{range_with_len, AllByRecursion}
-use Rattle.bw_model.specs.declared.history.Entry.{Entry}
-use Rattle.bw_model.specs.History.{replay}
+use Rattle.bw_machine.specs.declared.history.Entry.{Entry}
+use Rattle.bw_machine.specs.History.{replay}
 use Rattle.bw_model.specs.declared.row.Row.{Row}
 use Rattle.bw_model.specs.declared.limits.TheConstants.{MAX_GROUPS, MAX_PROCESSORS, MAX_PER_PROCESSOR}
 use Rattle.bw_model.specs.Groups.{AreTreeRows, path_up, is_leaf, sum_of_children}

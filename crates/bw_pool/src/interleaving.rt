@@ -1,13 +1,13 @@
 //! The interleaving core: the atomic actions of the seats that share a slice pool, played one after another in any order.
 ghost use Rattle.std.specs.Prelude.{◌≡◌, ◌≤◌, ◌<◌, length, slice_get, IfOk, OnErr, OnOk};
-ghost use Rattle.bw_pool.specs.Seats.{start, is_possible, happens, run, takes};
+ghost use Rattle.bw_machine.specs.Seats.{start, is_possible, happens, run, takes};
 ghost use Rattle.bw_pool.specs.Pool.{after, answer, IsWithinCeilings};
-ghost use Rattle.bw_pool.specs.Schedules.{IsOneThread};
+ghost use Rattle.bw_machine.specs.Schedules.{IsOneThread};
 
 use crate::calls::{PoolCall, PoolReply};
+use crate::limits::MAX_SEATS;
 use crate::pool::SlicePool;
-use crate::seats::{CoreEvent, MAX_SEATS, Phase};
-use bw_model::{Entry, Machine};
+use bw_machine::{CoreEvent, Entry, Machine, Phase};
 use std::alloc::{AllocError, Global};
 use std::marker::Model;
 
@@ -22,7 +22,7 @@ pub struct Core {
 }
 
 impl Model for Core {
-    ghost use Rattle.bw_pool.specs.Seats.{CoreState};
+    ghost use Rattle.bw_machine.specs.Seats.{CoreState};
     ghost use Rattle.bw_pool.specs.Pool.{PoolState};
     ghost use Rattle.bw_pool.specs.declared.calls.PoolCall.{PoolCall};
     ghost use Rattle.bw_pool.specs.declared.calls.PoolReply.{PoolReply};

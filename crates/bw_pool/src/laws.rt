@@ -1,15 +1,11 @@
-//! Laws of the pool over every history, and of the core over every schedule: each is the contract of a function that does nothing.
+//! Laws of the pool over every history: each is the contract of a function that does nothing.
 ghost use Rattle.std.specs.Prelude.{◌≡◌, ℕ, List, Bool};
 ghost use Rattle.bw_model.specs.declared.row.Row.{Row};
 ghost use Rattle.bw_model.specs.Groups.{AreTreeRows};
-ghost use Rattle.bw_pool.specs.declared.seats.CoreEvent.{CoreEvent};
 ghost use Rattle.bw_pool.specs.Pool.{NeverPastThePlan, StaysSound, CutsNothing};
 ghost use Rattle.bw_pool.specs.Drained.{IsDrawnOut, DrainedWorkersDrawTheAmounts, DrainedWorkersDrawThePlan};
-ghost use Rattle.bw_pool.specs.Seats.{start, run, takes};
-ghost use Rattle.bw_pool.specs.Schedules.{IsOneThread};
 
-use crate::seats::MAX_SEATS;
-use bw_model::Machine;
+use crate::limits::MAX_SEATS;
 
 /// In every schedule, drained workers leave the amounts at the leaves that are used, and nothing at the others: any amounts of which
 /// each is its children's sum, and so a plan's.
@@ -34,13 +30,6 @@ pub fn never_past_the_plan()
 pub fn holdings_add_up()
     ensures stays { StaysSound }
     ensures cuts { CutsNothing }
-{}
-
-/// After any list of events: at most one seat is inside or done, the history is legal and in ticket order, the machine is its replay,
-/// and each seat's own calls are those for which it took a ticket.
-pub fn every_schedule<M: Machine>()
-    ensures { (m : M) (seats : ℕ) (events : List (CoreEvent M.Call)) →
-        IsOneThread M.after M.answer m (takes M.after M.answer (start seats m) events) (run M.after M.answer (start seats m) events) }
 {}
 
 /// A pool: up to 64 seats, one for each processor. The definitions read the number from the code.

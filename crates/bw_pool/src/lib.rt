@@ -5,14 +5,15 @@
 mod calls;
 mod interleaving;
 mod laws;
+mod limits;
 mod pool;
-mod seats;
 
+pub use bw_machine::{CoreEvent, Phase, every_schedule};
 pub use calls::{PoolCall, PoolReply, Refusal, Short};
 pub use interleaving::Core;
 pub use laws::{
-    drained_workers, every_schedule, holdings_add_up, never_past_the_plan, one_drawn_list,
+    drained_workers, holdings_add_up, never_past_the_plan, one_drawn_list,
     pool_numbers,
 };
+pub use limits::MAX_SEATS;
 pub use pool::SlicePool;
-pub use seats::{CoreEvent, MAX_SEATS, Phase};

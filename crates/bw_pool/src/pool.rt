@@ -8,7 +8,8 @@ ghost use Rattle.bw_pool.specs.Pool.{PoolState, IsSound, gave_back, least, raise
 ghost use Rattle.bw_pool.specs.Pool.{refusal, leaf_refusal, group_refusal, state_after, reply_to, held_by, after, answer};
 
 use crate::calls::{PoolCall, PoolReply, Refusal, Short};
-use bw_model::{Instance, Machine, Row};
+use bw_machine::Machine;
+use bw_model::{Instance, Row};
 use std::alloc::{AllocError, Global};
 use std::marker::Model;
 use std::snapshot::Snapshot;

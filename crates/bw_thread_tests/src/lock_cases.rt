@@ -3,7 +3,7 @@
 ghost use Rattle.std.specs.Prelude.{◌≡◌, ℕ, All, length, None, IfOk, IsSome};
 
 use crate::counter::{Add, Counter, Total};
-use bw_model::{Entry, Machine};
+use bw_machine::{Entry, Machine};
 use bw_ticket::{CallsSpent, CloseFault, Closed, Seat, TicketLock, close, open};
 use std::alloc::{AllocError, Global};
 use std::process::Abort;

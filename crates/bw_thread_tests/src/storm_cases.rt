@@ -3,7 +3,7 @@
 ghost use Rattle.std.specs.Prelude.{◌≡◌, ℕ, All, None, IfOk};
 
 use crate::workers_cases::{pod_and_job, pool_of};
-use bw_model::Entry;
+use bw_machine::Entry;
 use bw_pool::{PoolCall, PoolReply, SlicePool};
 use bw_ticket::{Closed, Seat, TicketLock, close, open};
 use crossbeam_utils::atomic::AtomicCell;

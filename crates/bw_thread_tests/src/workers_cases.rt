@@ -4,7 +4,8 @@ ghost use Rattle.std.specs.Prelude.{◌≡◌, ℕ, ◌==◌, not, true, All, No
 ghost use Rattle.bw_model.specs.Plan.{IsPlan};
 
 use crate::lock_cases::pop_seat;
-use bw_model::{Entry, HostShape, Instance, Row};
+use bw_machine::Entry;
+use bw_model::{HostShape, Instance, Row};
 use bw_plan::{Plan, plan};
 use bw_pool::{PoolCall, PoolReply, Short, SlicePool};
 use bw_ticket::{CallsSpent, Closed, Seat, TicketLock, close, open};

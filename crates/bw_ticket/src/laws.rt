@@ -4,7 +4,7 @@ ghost use Rattle.bw_ticket.specs.Follows.{StepsAreEvents};
 ghost use Rattle.bw_ticket.specs.UnderWay.{NoWakeIsLostInLock};
 
 use crate::limits::{MAX_CALLS, MAX_SEATS};
-use bw_model::Machine;
+use bw_machine::Machine;
 
 /// Each step of a waiting or leaving seat is the event of the waiting protocol of `bw_wake` that has its name: in every state of that protocol
 /// with the seat where its view says, the event can happen, makes of the words what the step makes of the table's, and moves the seat alone, to

@@ -2,11 +2,11 @@
 use Rattle.std.proofs.Common.{◌≡◌, ℕ, zero, suc, ◌+◌, ◌==◌, nat_lt, Bool, true, false, List, [], ◌∷◌, map, length, replicate, set, refl, sym, ap, ◌∙◌}
 use Rattle.std.proofs.Common.{subst, slice_get, slice_set, Some, None, Option, is_some, if◌then◌else◌}
 use Rattle.std.specs.List.{list_any}
-use Rattle.bw_pool.specs.Seats.{CoreState, is_idle, is_done}
-use Rattle.bw_pool.specs.Seats.{happens as core_happens, entered as core_entered, applied as core_applied}
-use Rattle.bw_pool.specs.declared.seats.Phase.{Phase as CorePhase}
-use Rattle.bw_pool.specs.declared.seats.Phase.TheVariants.{Idle as CoreIdle, Waiting as CoreWaiting, Inside as CoreInside}
-use Rattle.bw_pool.specs.declared.seats.CoreEvent.TheVariants.{Take as CoreTake, Enter as CoreEnter, Apply as CoreApply, Leave as CoreLeave}
+use Rattle.bw_machine.specs.Seats.{CoreState, is_idle, is_done}
+use Rattle.bw_machine.specs.Seats.{happens as core_happens, entered as core_entered, applied as core_applied}
+use Rattle.bw_machine.specs.declared.seats.Phase.{Phase as CorePhase}
+use Rattle.bw_machine.specs.declared.seats.Phase.TheVariants.{Idle as CoreIdle, Waiting as CoreWaiting, Inside as CoreInside}
+use Rattle.bw_machine.specs.declared.seats.CoreEvent.TheVariants.{Take as CoreTake, Enter as CoreEnter, Apply as CoreApply, Leave as CoreLeave}
 use Rattle.bw_wake.specs.declared.seats.Phase.{Phase}
 use Rattle.bw_wake.specs.declared.seats.Phase.TheVariants.{Idle, Waiting, Marked, Looked, Asleep, Inside, Done, Served, Owes, Found, Wakes}
 use Rattle.bw_wake.specs.declared.seats.Event.{Event}

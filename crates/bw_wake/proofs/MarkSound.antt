@@ -11,7 +11,7 @@ use Rattle.bw_wake.specs.Protocol.{WaitState, word_of}
 use Rattle.bw_wake.specs.Progress.{one_if, busy, sleeps, will_peek, wakes, count}
 use Rattle.bw_wake.proofs.Sound.{waits, holds, may_sleep, Stands, Sound}
 use Rattle.bw_wake.proofs.Counts.{count_set, count-le, count_le_at, count_at}
-use Rattle.bw_model.proofs.CallerLemmas.{equal_or_not}
+use Rattle.bw_machine.proofs.CallerLemmas.{equal_or_not}
 use Rattle.bw_wake.proofs.Words.{index_here, index_else}
 use Rattle.bw_wake.proofs.WordsApart.{sleeps-waits, may_sleep-waits, from_serving, to_next, window, words_apart}
 

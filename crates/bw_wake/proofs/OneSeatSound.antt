@@ -14,7 +14,7 @@ use Rattle.bw_wake.specs.Protocol.{WaitState, one_less, word_of, mark_at}
 use Rattle.bw_wake.specs.Progress.{one_if, among, busy, sleeps, will_peek, wakes, count}
 use Rattle.bw_wake.proofs.Sound.{waits, holds, may_sleep, Stands, Sound}
 use Rattle.bw_wake.proofs.Counts.{count_set, count-le}
-use Rattle.bw_model.proofs.CallerLemmas.{equal_or_not}
+use Rattle.bw_machine.proofs.CallerLemmas.{equal_or_not}
 use Rattle.bw_wake.proofs.Words.{index_here, index_else}
 use Rattle.bw_wake.proofs.WordsApart.{may_sleep-waits, to_next}
 

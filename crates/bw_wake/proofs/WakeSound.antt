@@ -11,7 +11,7 @@ use Rattle.bw_wake.specs.Protocol.{WaitState, one_less, sleeps_on, start, word_o
 use Rattle.bw_wake.specs.Progress.{one_if, busy, sleeps, will_peek, wakes, count}
 use Rattle.bw_wake.proofs.Sound.{waits, holds, may_sleep, Stands, Sound}
 use Rattle.bw_wake.proofs.Counts.{count_set, count-le, count_at}
-use Rattle.bw_model.proofs.CallerLemmas.{equal_or_not}
+use Rattle.bw_machine.proofs.CallerLemmas.{equal_or_not}
 use Rattle.bw_wake.proofs.WordsApart.{sleeps-waits, from_serving, to_next, words_apart}
 use Rattle.bw_wake.proofs.OneSeatSound.{one_less_none, one_less-will_peek}
 

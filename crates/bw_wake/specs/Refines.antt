@@ -1,11 +1,11 @@
 -- Each event of the waiting protocol is an event of the interleaving core of bw_pool, or none.
 use Rattle.std.specs.Prelude.{◌≡◌, ℕ, map, Option, None, Some, if◌then◌else◌}
-use Rattle.bw_pool.specs.Seats.{CoreState}
-use Rattle.bw_pool.specs.Seats.{start as core_start, happens as core_happens}
-use Rattle.bw_pool.specs.declared.seats.Phase.{Phase as CorePhase}
-use Rattle.bw_pool.specs.declared.seats.Phase.TheVariants.{Idle as CoreIdle, Waiting as CoreWaiting, Inside as CoreInside, Done as CoreDone}
-use Rattle.bw_pool.specs.declared.seats.CoreEvent.{CoreEvent}
-use Rattle.bw_pool.specs.declared.seats.CoreEvent.TheVariants.{Take as CoreTake, Enter as CoreEnter, Apply as CoreApply, Leave as CoreLeave}
+use Rattle.bw_machine.specs.Seats.{CoreState}
+use Rattle.bw_machine.specs.Seats.{start as core_start, happens as core_happens}
+use Rattle.bw_machine.specs.declared.seats.Phase.{Phase as CorePhase}
+use Rattle.bw_machine.specs.declared.seats.Phase.TheVariants.{Idle as CoreIdle, Waiting as CoreWaiting, Inside as CoreInside, Done as CoreDone}
+use Rattle.bw_machine.specs.declared.seats.CoreEvent.{CoreEvent}
+use Rattle.bw_machine.specs.declared.seats.CoreEvent.TheVariants.{Take as CoreTake, Enter as CoreEnter, Apply as CoreApply, Leave as CoreLeave}
 use Rattle.bw_wake.specs.declared.seats.Phase.{Phase}
 use Rattle.bw_wake.specs.declared.seats.Phase.TheVariants.{Idle, Waiting, Marked, Looked, Asleep, Inside, Done, Served, Owes, Found, Wakes}
 use Rattle.bw_wake.specs.declared.seats.Event.{Event}

@@ -2,7 +2,7 @@
 ghost use Rattle.bw_wake.specs.Progress.{NoWakeIsLost, ServedTicketGoesOn, NoneIsStuck, AwakeSeatsCanStep};
 ghost use Rattle.bw_wake.specs.Refines.{RefinesTheCore};
 
-use bw_model::Machine;
+use bw_machine::Machine;
 
 /// With a wake word for each seat, a seat that sleeps with the ticket that is served has its wake-up under way: another seat has yet to
 /// look for its mark, or has seen it, or wakes it next.

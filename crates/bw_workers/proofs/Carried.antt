@@ -4,15 +4,16 @@ use Rattle.std.specs.List.{All, range_with_len}
 use Rattle.std.proofs.Math.Nat.{div-le_of_le-mul}
 use Rattle.std.proofs.lemmas.List.FromFn.{length-map-range_with_len, get_or-map-range_with_len}
 use Rattle.atomic_table.specs.Seated.{TableId}
-use Rattle.bw_model.specs.declared.history.Made.{Made}
+use Rattle.bw_machine.specs.declared.history.Made.{Made}
 use Rattle.bw_model.specs.declared.limits.TheConstants.{MAX_PER_PROCESSOR}
 use Rattle.bw_model.specs.Allocation.{total, IsMost, IsGreatestTotal}
 use Rattle.bw_model.specs.Demand.{AreMaxTotals}
 use Rattle.bw_model.specs.Groups.{Groups, IsInstance}
-use Rattle.bw_model.specs.History.{IsLegal, replay, own, own_from, entry_of, StandIn}
+use Rattle.bw_machine.specs.History.{IsLegal, replay, own, own_from, entry_of, StandIn}
 use Rattle.bw_model.specs.Host.{slices_per_processor}
 use Rattle.bw_model.specs.Plan.{child_weights, IsPlan}
-use Rattle.bw_model.proofs.CallerLemmas.{own_entries, own_places, limited_total-is, mosts, mosts-capped, AreMaxTotals-capped, capped-IsMost}
+use Rattle.bw_machine.proofs.CallerLemmas.{own_entries, own_places}
+use Rattle.bw_model.proofs.CallerLemmas.{limited_total-is, mosts, mosts-capped, AreMaxTotals-capped, capped-IsMost}
 use Rattle.bw_split.proofs.CallerLemmas.{best_is_unmoved}
 use Rattle.bw_plan.specs.Shared.{IsPlanning}
 use Rattle.bw_plan.proofs.CallerLemmas.{plan-IsPlanning}

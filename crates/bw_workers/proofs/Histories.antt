@@ -5,8 +5,8 @@ use Rattle.std.proofs.Common.{refl, sym, ap, ◌∙◌, subst, arith, ne_eqb}
 use Rattle.std.specs.List.{All}
 use Rattle.std.proofs.lemmas.Bool.{true≢false}
 use Rattle.atomic_table.specs.Seated.{TableId}
-use Rattle.bw_model.specs.History.{own, own_from, entry_of}
-use Rattle.bw_model.proofs.CallerLemmas.{own_entries}
+use Rattle.bw_machine.specs.History.{own, own_from, entry_of}
+use Rattle.bw_machine.proofs.CallerLemmas.{own_entries}
 use Rattle.bw_ticket.specs.Holder.{fresh_seat, fresh_seats}
 use Rattle.bw_pool.specs.declared.calls.PoolCall.{PoolCall}
 use Rattle.bw_pool.specs.declared.calls.PoolCall.TheVariants.{Draw, GiveBack}

@@ -5,7 +5,7 @@ use Rattle.std.proofs.Common.{arith, append-nil, append_assoc}
 use Rattle.std.specs.Prelude.{nat_lt}
 use Rattle.std.proofs.lemmas.Bool.{and_parts, and_from, ltb-true, lt-ltb, eq-eqb, or_from, or_left, or_right, true≢false}
 use Rattle.std.proofs.lemmas.Bool.Decides.{eqb_tells}
-use Rattle.bw_model.specs.History.{entry}
+use Rattle.bw_machine.specs.History.{entry}
 use Rattle.bw_model.specs.Groups.{is_leaf}
 use Rattle.bw_pool.specs.declared.calls.PoolCall.TheVariants.{Draw, GiveBack}
 use Rattle.bw_pool.specs.declared.calls.PoolReply.{PoolReply}

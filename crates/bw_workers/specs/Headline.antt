@@ -1,12 +1,12 @@
 -- The work's one sentence as one record, phrase by phrase: of a plan, and of the draws of one period.
 use Rattle.std.specs.Prelude.{◌≡◌, ℕ, ◌<◌, ◌≤◌, List, length, map, take, Bool, false, slice_index}
 use Rattle.std.specs.List.{All}
-use Rattle.bw_model.specs.declared.history.Made.{Made}
+use Rattle.bw_machine.specs.declared.history.Made.{Made}
 use Rattle.bw_model.specs.declared.row.Row.{Row}
 use Rattle.bw_model.specs.Allocation.{IsWithin, IsGreatestTotal}
 use Rattle.bw_model.specs.Demand.{AreMaxTotals, limited_total}
 use Rattle.bw_model.specs.Groups.{Groups, children_of, is_leaf}
-use Rattle.bw_model.specs.History.{IsLegal, replay, own, entry_of, StandIn}
+use Rattle.bw_machine.specs.History.{IsLegal, replay, own, entry_of, StandIn}
 use Rattle.bw_model.specs.Host.{slices_per_processor}
 use Rattle.bw_model.specs.Plan.{child_weights, totals}
 use Rattle.bw_model.specs.Split.{IsBestSplit}

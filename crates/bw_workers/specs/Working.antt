@@ -1,7 +1,7 @@
 -- What a worker does with its seat: the calls that it makes, one after another, and the seat that it hands back.
 use Rattle.std.specs.Prelude.{◌≡◌, ℕ, ◌+◌, ◌≤◌, ◌==◌, nat_lt, List, [], ◌∷◌, ◌++◌, length, map, Bool, true, false, ◌&&◌, None, if◌then◌else◌, ◌⊎◌}
 use Rattle.atomic_table.specs.Seated.{TableId}
-use Rattle.bw_model.specs.History.{entry, entry_of}
+use Rattle.bw_machine.specs.History.{entry, entry_of}
 use Rattle.bw_model.specs.declared.row.Row.{Row}
 use Rattle.bw_model.specs.Groups.{is_leaf}
 use Rattle.bw_ticket.specs.Holder.{Holder}

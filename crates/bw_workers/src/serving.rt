@@ -1,6 +1,6 @@
 //! One period: a lock round the pool, and a worker in a thread of its own for each processor.
 ghost use Rattle.std.specs.Prelude.{◌≡◌, ℕ, ◌+◌, ◌*◌, ◌<◌, ◌≤◌, [], length, All, None, IfOk, slice_index_or};
-ghost use Rattle.bw_model.specs.History.{IsLegal, replay};
+ghost use Rattle.bw_machine.specs.History.{IsLegal, replay};
 ghost use Rattle.bw_model.specs.Host.{slices_per_processor};
 ghost use Rattle.bw_model.specs.Plan.{IsPlan};
 ghost use Rattle.bw_pool.specs.Pool.{after, answer};
@@ -15,7 +15,8 @@ use crate::fault::ServeFault;
 use crate::gate::Gate;
 use crate::worker::work;
 use bw_model::limits::MAX_GROUPS;
-use bw_model::{Entry, Instance};
+use bw_machine::Entry;
+use bw_model::Instance;
 use bw_plan::Plan;
 use bw_pool::{PoolCall, PoolReply, SlicePool};
 use bw_ticket::{Closed, OpenFault, Seat, TicketLock, close, open};

@@ -2,7 +2,7 @@
 use Rattle.std.proofs.Common.{rules, ◌≡◌, ℕ, ◌+◌, ◌*◌, ◌<◌, length, sym, ap, ◌∙◌, subst}
 use Rattle.std.specs.List.{All}
 use Rattle.bw_model.specs.Host.{slices_per_processor}
-use Rattle.bw_model.specs.History.{IsLegal, replay}
+use Rattle.bw_machine.specs.History.{IsLegal, replay}
 use Rattle.bw_pool.specs.Pool.{after, answer}
 use Rattle.bw_pool.specs.Drained.{opening, IsDrawnOut}
 use Rattle.bw_pool.proofs.CallerLemmas.{drained_workers_draw_the_plan, plan_is_planned}

@@ -1,15 +1,15 @@
 -- A seat that makes its call leaves the phases counted.
 use Rattle.std.proofs.Common.{◌≡◌, ◌+◌, ◌++◌, ◌∷◌, [], length, Some, sym, ap, ◌∙◌, slice_get, arith, rules, length-set}
-use Rattle.bw_pool.specs.Seats.{CoreState}
-use Rattle.bw_model.specs.History.{entry}
-use Rattle.bw_model.specs.declared.history.Entry.{Entry}
-use Rattle.bw_pool.specs.declared.seats.Phase.{Phase}
-use Rattle.bw_pool.specs.declared.seats.Phase.TheVariants.{Inside, Done}
+use Rattle.bw_machine.specs.Seats.{CoreState}
+use Rattle.bw_machine.specs.History.{entry}
+use Rattle.bw_machine.specs.declared.history.Entry.{Entry}
+use Rattle.bw_machine.specs.declared.seats.Phase.{Phase}
+use Rattle.bw_machine.specs.declared.seats.Phase.TheVariants.{Inside, Done}
 use Rattle.bw_pool.specs.declared.calls.PoolCall.{PoolCall}
 use Rattle.bw_pool.specs.declared.calls.PoolReply.{PoolReply}
 use Rattle.bw_pool.specs.Pool.{PoolState}
-use Rattle.bw_pool.specs.Schedules.{has_called, is_on_its_way}
-use Rattle.bw_pool.proofs.Places.{count_set, length_snoc}
+use Rattle.bw_machine.specs.Schedules.{has_called, is_on_its_way}
+use Rattle.bw_machine.proofs.CallerLemmas.{count_set, length_snoc}
 use Rattle.bw_pool.proofs.interleaving.Core.apply.Goals as goal
 
 pub invariant_of-self-2 : goal.invariant_of-self-2

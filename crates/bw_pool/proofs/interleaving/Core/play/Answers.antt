@@ -1,13 +1,13 @@
 -- A played schedule is one thread's work, within the ceilings.
 use Rattle.std.proofs.Common.{◌≡◌, ◌∙◌, sym, subst}
 use Rattle.std.proofs.lemmas.List.{at_drop_all}
-use Rattle.bw_pool.specs.Seats.{CoreState, start, run, takes}
+use Rattle.bw_machine.specs.Seats.{CoreState, start, run, takes}
 use Rattle.bw_pool.specs.Pool.{PoolState, after, answer, IsWithinCeilings}
-use Rattle.bw_pool.specs.Schedules.{IsOneThread}
+use Rattle.bw_machine.specs.Schedules.{IsOneThread}
 use Rattle.bw_pool.specs.declared.calls.PoolCall.{PoolCall}
 use Rattle.bw_pool.specs.declared.calls.PoolReply.{PoolReply}
 use Rattle.bw_pool.proofs.Bounds.{never_past_the_plan}
-use Rattle.bw_pool.proofs.Runs.{every_schedule_is_one_thread}
+use Rattle.bw_machine.proofs.CallerLemmas.{every_schedule_is_one_thread}
 use Rattle.bw_pool.proofs.interleaving.Core.play.Goals as goal
 
 pub returns-clause-one_thread : goal.returns-clause-one_thread

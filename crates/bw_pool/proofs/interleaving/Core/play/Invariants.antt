@@ -1,6 +1,6 @@
 -- The events so far and the rest are the whole schedule.
 use Rattle.std.proofs.Common.{◌≡◌, drop}
-use Rattle.bw_pool.specs.Seats.{start, run}
+use Rattle.bw_machine.specs.Seats.{start, run}
 use Rattle.bw_pool.specs.Pool.{after, answer}
 use Rattle.bw_pool.proofs.interleaving.Core.play.Given as goal
 

@@ -1,13 +1,13 @@
 -- A seat that takes a ticket leaves the phases counted.
 use Rattle.std.proofs.Common.{Some, sym, ap, ◌∙◌, slice_get, arith, length-set}
-use Rattle.bw_pool.specs.Seats.{CoreState}
-use Rattle.bw_pool.specs.declared.seats.Phase.{Phase}
-use Rattle.bw_pool.specs.declared.seats.Phase.TheVariants.{Idle, Waiting}
+use Rattle.bw_machine.specs.Seats.{CoreState}
+use Rattle.bw_machine.specs.declared.seats.Phase.{Phase}
+use Rattle.bw_machine.specs.declared.seats.Phase.TheVariants.{Idle, Waiting}
 use Rattle.bw_pool.specs.declared.calls.PoolCall.{PoolCall}
 use Rattle.bw_pool.specs.declared.calls.PoolReply.{PoolReply}
 use Rattle.bw_pool.specs.Pool.{PoolState}
-use Rattle.bw_pool.specs.Schedules.{has_called, is_on_its_way}
-use Rattle.bw_pool.proofs.Places.{count_set}
+use Rattle.bw_machine.specs.Schedules.{has_called, is_on_its_way}
+use Rattle.bw_machine.proofs.CallerLemmas.{count_set}
 use Rattle.bw_pool.proofs.interleaving.Core.take.Goals as goal
 
 pub invariant_of-self : goal.invariant_of-self

@@ -1,12 +1,12 @@
 -- The interleaving core of a machine: many seats, each of which takes a ticket, enters, applies its call and leaves,
 -- in whatever order. `after` is the machine after a call by a seat, and `answer` is what it replies.
 use Rattle.std.specs.Prelude.{ℕ, ◌+◌, ◌==◌, List, [], ◌∷◌, ◌++◌, replicate, Bool, true, false, Option, None, Some, slice_get, slice_set, if◌then◌else◌}
-use Rattle.bw_model.specs.declared.history.Entry.{Entry}
-use Rattle.bw_pool.specs.declared.seats.Phase.{Phase}
-use Rattle.bw_pool.specs.declared.seats.Phase.TheVariants.{Idle, Waiting, Inside, Done}
-use Rattle.bw_pool.specs.declared.seats.CoreEvent.{CoreEvent}
-use Rattle.bw_pool.specs.declared.seats.CoreEvent.TheVariants.{Take, Enter, Apply, Leave}
-use Rattle.bw_model.specs.History.{entry}
+use Rattle.bw_machine.specs.declared.history.Entry.{Entry}
+use Rattle.bw_machine.specs.declared.seats.Phase.{Phase}
+use Rattle.bw_machine.specs.declared.seats.Phase.TheVariants.{Idle, Waiting, Inside, Done}
+use Rattle.bw_machine.specs.declared.seats.CoreEvent.{CoreEvent}
+use Rattle.bw_machine.specs.declared.seats.CoreEvent.TheVariants.{Take, Enter, Apply, Leave}
+use Rattle.bw_machine.specs.History.{entry}
 
 -- the core of a machine M with calls C and replies R
 pub record CoreState (M C R : Type 0) : Type 0 where

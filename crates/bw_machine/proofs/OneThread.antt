@@ -5,16 +5,16 @@ use Rattle.std.proofs.lemmas.Bool.{cases_lt}
 use Rattle.std.proofs.lemmas.Bool.Decides.{eqb_tells}
 use Rattle.std.proofs.lemmas.List.{take-append-le}
 use Rattle.std.specs.List.{count_by}
-use Rattle.bw_model.specs.declared.history.Entry.{Entry}
-use Rattle.bw_pool.specs.declared.seats.Phase.{Phase}
-use Rattle.bw_pool.specs.declared.seats.Phase.TheVariants.{Idle, Waiting, Inside, Done}
-use Rattle.bw_pool.specs.declared.seats.CoreEvent.{CoreEvent}
-use Rattle.bw_pool.specs.declared.seats.CoreEvent.TheVariants.{Take, Enter, Apply, Leave}
-use Rattle.bw_model.specs.History.{own, entry}
-use Rattle.bw_pool.specs.Seats.{CoreState, start, is_idle, is_done, entered, applied, happens, run, takes}
-use Rattle.bw_model.proofs.CallerLemmas.{replay-snoc, legal-snoc}
-use Rattle.bw_pool.specs.Schedules.{is_in_lock, has_called, is_on_its_way, begun, calls_taken, calls_of, IsOneThread}
-use Rattle.bw_pool.proofs.Places.{get_same, get_other, get_kept, get_last, take_next, count_set, count_some, count_none, get_replicate, map_snoc, length_snoc}
+use Rattle.bw_machine.specs.declared.history.Entry.{Entry}
+use Rattle.bw_machine.specs.declared.seats.Phase.{Phase}
+use Rattle.bw_machine.specs.declared.seats.Phase.TheVariants.{Idle, Waiting, Inside, Done}
+use Rattle.bw_machine.specs.declared.seats.CoreEvent.{CoreEvent}
+use Rattle.bw_machine.specs.declared.seats.CoreEvent.TheVariants.{Take, Enter, Apply, Leave}
+use Rattle.bw_machine.specs.History.{own, entry}
+use Rattle.bw_machine.specs.Seats.{CoreState, start, is_idle, is_done, entered, applied, happens, run, takes}
+use Rattle.bw_machine.proofs.Histories.{replay-snoc, legal-snoc}
+use Rattle.bw_machine.specs.Schedules.{is_in_lock, has_called, is_on_its_way, begun, calls_taken, calls_of, IsOneThread}
+use Rattle.bw_machine.proofs.ListsByPlace.{get_same, get_other, get_kept, get_last, take_next, count_set, count_some, count_none, get_replicate, map_snoc, length_snoc}
 
 module _ {C : Type 0} where
   -- the ticket of a seat: it drew it, and it is still to be served or it is served now

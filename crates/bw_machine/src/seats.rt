@@ -1,8 +1,4 @@
 //! How far a seat is with its call, and what may happen to it next.
-use bw_model::limits::MAX_PROCESSORS;
-
-/// The most seats of a core: one for each processor.
-pub const MAX_SEATS: u32 = MAX_PROCESSORS as u32;
 
 /// How far a seat is with its call.
 #[derive(Clone, Copy, Debug, PartialEq)]

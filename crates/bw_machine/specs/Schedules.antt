@@ -1,11 +1,11 @@
 -- What holds of a core after every schedule.
 use Rattle.std.specs.Prelude.{◌≡◌, ℕ, ◌+◌, ◌==◌, ◌≤◌, List, [], ◌∷◌, ◌++◌, length, map, take, Bool, true, false, Option, None, Some, slice_get, if◌then◌else◌}
 use Rattle.std.specs.List.{count_by}
-use Rattle.bw_model.specs.declared.history.Entry.{Entry}
-use Rattle.bw_pool.specs.declared.seats.Phase.{Phase}
-use Rattle.bw_pool.specs.declared.seats.Phase.TheVariants.{Idle, Waiting, Inside, Done}
-use Rattle.bw_model.specs.History.{replay, IsLegal, own}
-use Rattle.bw_pool.specs.Seats.{CoreState}
+use Rattle.bw_machine.specs.declared.history.Entry.{Entry}
+use Rattle.bw_machine.specs.declared.seats.Phase.{Phase}
+use Rattle.bw_machine.specs.declared.seats.Phase.TheVariants.{Idle, Waiting, Inside, Done}
+use Rattle.bw_machine.specs.History.{replay, IsLegal, own}
+use Rattle.bw_machine.specs.Seats.{CoreState}
 
 module _ {C : Type 0} where
   -- whether the seat is inside or done

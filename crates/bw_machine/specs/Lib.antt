@@ -1,0 +1,4 @@
+-- The files of definitions.
+pub mod History
+pub mod Seats
+pub mod Schedules
