@@ -3,23 +3,23 @@ pub use Rattle.bw_model.proofs.Basics.{sum_below, sum-cons, sum_below-front, sum
 pub use Rattle.bw_model.proofs.Basics.{sum_below-change, sum_below-term, and_no, passed, goes_on, no_parent, cancel_le, strong, from_the_last, list_any-range}
 pub use Rattle.bw_model.proofs.Basics.{some_in_range, any-filter, same_map, range_more, listed, zeros, sum_zeros, sum_none, get_or_within, bytes_eq-true}
 pub use Rattle.bw_model.proofs.Basics.{bytes_eq-self, inside}
-pub use Rattle.bw_model.proofs.Exchange.{level-IsBestSplit, IsBestSplit-unique}
-pub use Rattle.bw_model.proofs.Under.{parent_lt, path_up-top, path_up-step, is_under-top, is_under-step, is_under-self}
-pub use Rattle.bw_model.proofs.Totals.{parent_from_is_child, is_child_from_parent, is_child_no, sum_by-children, leaf_no_child, inner_has_child, total-inner}
-pub use Rattle.bw_model.proofs.Bounds.{total-le_bound, bounds-unique, children-le}
-pub use Rattle.bw_model.proofs.Places.{child_at}
-pub use Rattle.bw_model.proofs.Optimum.{get_or-map, IsNoWorse-same, no_children, certified-IsPlan}
-pub use Rattle.bw_model.proofs.Unique.{listed_child, IsPlan-unique}
-pub use Rattle.bw_model.proofs.Reach.{capped, joined, joined_at, length-joined, joined_zero, total-joined, capped_le_want, most_le_want, most_le_limit}
-pub use Rattle.bw_model.proofs.Reach.{reached, capped-IsMost}
-pub use Rattle.bw_model.proofs.Planned.{parent_not_leaf, tight-bound_at, planned-IsPlan}
-pub use Rattle.bw_model.proofs.Limiting.{limited_total-is, limited-IsGreatestTotal}
-pub use Rattle.bw_model.proofs.NoGainfulMove.{product-remove, cost-set, lex_at, product-pos, best-IsAtLevel}
-pub use Rattle.bw_model.proofs.Order.{cross_lt_right, IsBelow-trans, IsBelow-irrefl, IsBelow-cases, none-IsAtLevel, step-IsAtLevel, below_less}
-pub use Rattle.bw_model.proofs.Pairwise.{IsPairwise, pairwise-IsBestSplit}
-pub use Rattle.bw_model.proofs.Paths.{parent_at, depth_le, way_from, way_up, path_up-way_up, reach, depth_of-top, depth_of-step, way_from-step, reach_parent}
-pub use Rattle.bw_model.proofs.Instances.{earlier-AreTreeRows, IsHost-accepted, refused_none-IsInstance, accepted-IsInstance, IsInstance-accepted, capacity_le}
-pub use Rattle.bw_model.proofs.Listing.{is_leaf-length}
-pub use Rattle.bw_model.proofs.ChildSums.{sum_of_children-below, sum_of_children-set, sum_of_children-left, child_le_sum, sum_of_children-zero}
-pub use Rattle.bw_model.proofs.Mosts.{IsMost-unique, mosts, mosts-capped, AreMaxTotals-capped}
+pub use Rattle.bw_model.proofs.split.Exchange.{level-IsBestSplit, IsBestSplit-unique}
+pub use Rattle.bw_model.proofs.tree.Under.{parent_lt, path_up-top, path_up-step, is_under-top, is_under-step, is_under-self}
+pub use Rattle.bw_model.proofs.allocation.Totals.{parent_from_is_child, is_child_from_parent, is_child_no, sum_by-children, leaf_no_child, inner_has_child, total-inner}
+pub use Rattle.bw_model.proofs.plan.Bounds.{total-le_bound, bounds-unique, children-le}
+pub use Rattle.bw_model.proofs.tree.Places.{child_at}
+pub use Rattle.bw_model.proofs.plan.Optimum.{get_or-map, IsNoWorse-same, no_children, certified-IsPlan}
+pub use Rattle.bw_model.proofs.plan.Unique.{listed_child, IsPlan-unique}
+pub use Rattle.bw_model.proofs.allocation.Reach.{capped, joined, joined_at, length-joined, joined_zero, total-joined, capped_le_want, most_le_want, most_le_limit}
+pub use Rattle.bw_model.proofs.allocation.Reach.{reached, capped-IsMost}
+pub use Rattle.bw_model.proofs.plan.Planned.{parent_not_leaf, tight-bound_at, planned-IsPlan}
+pub use Rattle.bw_model.proofs.allocation.Limiting.{limited_total-is, limited-IsGreatestTotal}
+pub use Rattle.bw_model.proofs.split.NoGainfulMove.{product-remove, cost-set, lex_at, product-pos, best-IsAtLevel}
+pub use Rattle.bw_model.proofs.split.Order.{cross_lt_right, IsBelow-trans, IsBelow-irrefl, IsBelow-cases, none-IsAtLevel, step-IsAtLevel, below_less}
+pub use Rattle.bw_model.proofs.split.Pairwise.{IsPairwise, pairwise-IsBestSplit}
+pub use Rattle.bw_model.proofs.tree.Paths.{parent_at, depth_le, way_from, way_up, path_up-way_up, reach, depth_of-top, depth_of-step, way_from-step, reach_parent}
+pub use Rattle.bw_model.proofs.tree.Instances.{earlier-AreTreeRows, IsHost-accepted, refused_none-IsInstance, accepted-IsInstance, IsInstance-accepted, capacity_le}
+pub use Rattle.bw_model.proofs.tree.Listing.{is_leaf-length}
+pub use Rattle.bw_model.proofs.allocation.ChildSums.{sum_of_children-below, sum_of_children-set, sum_of_children-left, child_le_sum, sum_of_children-zero}
+pub use Rattle.bw_model.proofs.allocation.Mosts.{IsMost-unique, mosts, mosts-capped, AreMaxTotals-capped}
 pub use Rattle.bw_model.specs.MarkLaws.{cmp_equal, cmp_greater}

@@ -3,7 +3,7 @@ use Rattle.std.proofs.Common.{◌≡◌, ℕ, ◌<◌, List, Option, None, Some,
 use Rattle.std.specs.Option.{IfSome}
 use Rattle.bw_model.specs.declared.row.Row.{Row}
 use Rattle.bw_model.specs.Groups.{AreTreeRows, parent_of}
-use Rattle.bw_model.proofs.Under.{parent_lt}
+use Rattle.bw_model.proofs.tree.Under.{parent_lt}
 use Rattle.bw_model.proofs.instance.Instance.parent.Goals as goal
 
 before : (rows : List Row) (g : ℕ) → AreTreeRows rows → (o : Option ℕ) → parent_of rows g ≡ o → IfSome o (λ p. p < g)

@@ -6,9 +6,9 @@ use Rattle.std.proofs.lemmas.List.FromFn.{get_or-map-range_with_len}
 use Rattle.bw_model.specs.Groups.{Groups, AreTreeRows, children_of, is_leaf, limit_of, demand_of}
 use Rattle.bw_model.specs.Allocation.{IsMost}
 use Rattle.bw_model.specs.Demand.{AreMaxTotals, want_of}
-use Rattle.bw_model.proofs.Under.{parent_lt}
-use Rattle.bw_model.proofs.Bounds.{children-ap}
-use Rattle.bw_model.proofs.Reach.{capped, capped-IsMost}
+use Rattle.bw_model.proofs.tree.Under.{parent_lt}
+use Rattle.bw_model.proofs.plan.Bounds.{children-ap}
+use Rattle.bw_model.proofs.allocation.Reach.{capped, capped-IsMost}
 
 pub IsMost-unique : (groups : Groups) (g one two : ℕ) → IsMost groups g one → IsMost groups g two → one ≡ two
 IsMost-unique groups g one two is_one is_two =

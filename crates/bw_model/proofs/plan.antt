@@ -1,0 +1,6 @@
+-- Certificates and plans.
+pub mod Bounds
+pub mod Tested
+pub mod Optimum
+pub mod Planned
+pub mod Unique
