@@ -7,15 +7,17 @@ pub use Rattle.bw_model.proofs.split.Exchange.{level-IsBestSplit, IsBestSplit-un
 pub use Rattle.bw_model.proofs.tree.Under.{parent_lt, path_up-top, path_up-step, is_under-top, is_under-step, is_under-self}
 pub use Rattle.bw_model.proofs.allocation.Totals.{parent_from_is_child, is_child_from_parent, is_child_no, sum_by-children, leaf_no_child, inner_has_child, total-inner}
 pub use Rattle.bw_model.proofs.plan.Bounds.{total-le_bound, bounds-unique, children-le}
+pub use Rattle.bw_model.proofs.plan.BoundsCover.{bounds_cover}
 pub use Rattle.bw_model.proofs.tree.Places.{child_at}
 pub use Rattle.bw_model.proofs.plan.Optimum.{get_or-map, IsNoWorse-same, no_children, certified-IsPlan}
 pub use Rattle.bw_model.proofs.plan.Unique.{listed_child, IsPlan-unique}
 pub use Rattle.bw_model.proofs.allocation.Reach.{capped, joined, joined_at, length-joined, joined_zero, total-joined, capped_le_want, most_le_want, most_le_limit}
 pub use Rattle.bw_model.proofs.allocation.Reach.{reached, capped-IsMost}
 pub use Rattle.bw_model.proofs.plan.Planned.{parent_not_leaf, tight-bound_at, planned-IsPlan}
+pub use Rattle.bw_model.proofs.allocation.DemandOutside.{above-top, above-child, demand_outside-is}
 pub use Rattle.bw_model.proofs.allocation.Limiting.{limited_total-is, limited-IsGreatestTotal}
-pub use Rattle.bw_model.proofs.split.NoGainfulMove.{product-remove, cost-set, lex_at, product-pos, best-IsAtLevel}
-pub use Rattle.bw_model.proofs.split.Order.{cross_lt_right, IsBelow-trans, IsBelow-irrefl, IsBelow-cases, none-IsAtLevel, step-IsAtLevel, below_less}
+pub use Rattle.bw_model.proofs.split.NoGainfulMove.{product-remove, cost-set, lex_at, product-pos, moved-IsSplit, move-marks-apart, best-IsAtLevel}
+pub use Rattle.bw_model.proofs.split.Order.{cross_lt_right, IsBelow-trans, IsBelow-irrefl, IsBelow-cases, none-IsAtLevel, step-IsAtLevel, below_less, is_lt-IsBelow, is_le-IsAtMost}
 pub use Rattle.bw_model.proofs.split.Pairwise.{IsPairwise, pairwise-IsBestSplit}
 pub use Rattle.bw_model.proofs.tree.Paths.{parent_at, depth_le, way_from, way_up, path_up-way_up, reach, depth_of-top, depth_of-step, way_from-step, reach_parent}
 pub use Rattle.bw_model.proofs.tree.Instances.{earlier-AreTreeRows, IsHost-accepted, refused_none-IsInstance, accepted-IsInstance, IsInstance-accepted, capacity_le}

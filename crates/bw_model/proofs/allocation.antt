@@ -3,4 +3,5 @@ pub mod Totals
 pub mod ChildSums
 pub mod Mosts
 pub mod Reach
+pub mod DemandOutside
 pub mod Limiting

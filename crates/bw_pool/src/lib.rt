@@ -12,8 +12,7 @@ pub use bw_machine::{CoreEvent, Phase, every_schedule};
 pub use calls::{PoolCall, PoolReply, Refusal, Short};
 pub use interleaving::Core;
 pub use laws::{
-    drained_workers, holdings_add_up, never_past_the_plan, one_drawn_list,
-    pool_numbers,
+    drained_workers, holdings_add_up, never_past_the_plan, one_drawn_list, pool_numbers,
 };
 pub use limits::MAX_SEATS;
 pub use pool::SlicePool;
