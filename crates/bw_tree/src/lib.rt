@@ -2,15 +2,23 @@
 #![tactic(auto)]
 
 mod by_id;
+mod carry;
 mod child_index;
 mod fault;
 mod group;
 mod laws;
 pub mod limits;
+mod names;
+mod paths;
+mod refusals;
 mod setting;
+mod snapshot;
 mod tree;
 
+pub use carry::is_drawn_within;
 pub use fault::TreeFault;
 pub use group::{Group, GroupId};
 pub use laws::{bursts_are_bounded, carries_need_a_burst, new_group_numbers, paths_are_exact};
-pub use tree::{Snapshot, Tree, is_drawn_within, split_front};
+pub use names::split_front;
+pub use snapshot::Snapshot;
+pub use tree::Tree;

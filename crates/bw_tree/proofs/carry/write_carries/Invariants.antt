@@ -1,7 +1,7 @@
 -- What stands at each turn of the loop in `write_carries`.
 use Rattle.std.proofs.Common.{◌≡◌, take}
 use Rattle.bw_tree.specs.Snapshot.{carried, left_over}
-use Rattle.bw_tree.proofs.tree.write_carries.Given as goal
+use Rattle.bw_tree.proofs.carry.write_carries.Given as goal
 
 abbrev pub invariant-loop-i : goal.invariant-loop-i
 invariant-loop-i l = l.groups.entries ≡ carried l.initial.groups.entries (take l.i (left_over l.rows l.drawn))

@@ -4,7 +4,7 @@ use Rattle.indexmap.specs.IndexMap.{set_value_at}
 use Rattle.bw_tree.specs.Groups.{GroupFields}
 use Rattle.bw_tree.specs.Tree.{set_carry}
 use Rattle.bw_tree.proofs.CarryLemmas.{written_at}
-use Rattle.bw_tree.proofs.tree.write_carry.Goals as goal
+use Rattle.bw_tree.proofs.carry.write_carry.Goals as goal
 
 pub returns : goal.returns
 returns c =

@@ -5,7 +5,7 @@ use Rattle.bw_model.specs.Groups.{no_row}
 use Rattle.bw_tree.specs.Groups.{GroupFields}
 use Rattle.bw_tree.specs.Snapshot.{left_over, carried, carried_at}
 use Rattle.bw_tree.proofs.CarryLemmas.{carry_next, length_carried, length_left_over, left_over_at}
-use Rattle.bw_tree.proofs.tree.write_carries.Goals as goal
+use Rattle.bw_tree.proofs.carry.write_carries.Goals as goal
 
 pub write_carry-requires : goal.write_carry-requires
 write_carry-requires c =

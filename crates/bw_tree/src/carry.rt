@@ -1,0 +1,100 @@
+//! Bandwidth: quotas in slices, and what groups carry from one period to the next (sched-bwc.rst, "Burst feature").
+ghost use Rattle.std.specs.Prelude.{◌≡◌, ◌<◌, ◌≤◌, ◌↔◌, true, length, IfSome, IsTrue, false, min};
+ghost use Rattle.bw_model.specs.Quota.{in_slices};
+ghost use Rattle.bw_tree.specs.Groups.{IsSound};
+ghost use Rattle.bw_tree.specs.Snapshot.{quota_slices, period_limit, left_of, left_over, carried};
+ghost use Rattle.bw_tree.specs.Snapshot.{carried_at, IsDrawnWithin};
+
+use crate::group::{Group, GroupId};
+use bw_model::limits::{MAX_BURST_US, MAX_QUOTA_US};
+use bw_model::{HostShape, Row};
+use indexmap::IndexMap;
+
+// The quota of a group in whole slices of the host's period.
+pub(crate) fn quota_slices(group: &Group, shape: HostShape) -> Option<u64>
+    requires { IsSound group.now }
+    ensures value { result ≡ quota_slices shape group.now }
+    ensures bound { IfSome result (λ n. n ≤ MAX_QUOTA_US) }
+{
+    group.quota.slices(shape, group.period)
+}
+
+// The limit of a group with this quota in a period of the host: the quota with what was left over, at most the quota with
+// the burst.
+pub(crate) fn period_limit(group: &Group, quota: Option<u64>, shape: HostShape) -> Option<u64>
+    requires sound { IsSound group.now }
+    requires quota { quota ≡ quota_slices shape group.now }
+    requires bound { IfSome quota (λ n. n ≤ MAX_QUOTA_US) }
+    ensures { result ≡ period_limit shape group.now }
+{
+    let quota = quota?;
+    Some(quota + carried_in(group, shape))
+}
+
+// What a group left over, at most its burst. Where it left nothing or has no burst, nothing is divided.
+fn carried_in(group: &Group, shape: HostShape) -> u64
+    requires { IsSound group.now }
+    ensures value { result ≡ min group.now.carry (in_slices shape group.now.period group.now.burst) }
+    ensures bound { result ≤ MAX_BURST_US }
+{
+    if group.carry == 0 || group.burst == 0 {
+        return 0;
+    }
+    let burst = shape.slices(group.burst, group.period);
+    group.carry.min(burst)
+}
+
+/// Whether no row has drawn more than its limit, as [`Tree::carry_over`] asks: one number of slices for each row.
+pub fn is_drawn_within(rows: &[Row], drawn: &[u64]) -> bool
+    requires { length drawn.now ≡ length rows.now }
+    ensures { IsTrue result ↔ IsDrawnWithin rows.now drawn.now }
+{
+    for i in 0..rows.len() {
+        if is_past(rows[i].limit, drawn[i]) {
+            return false;
+        }
+    }
+    true
+}
+
+// Whether more than the limit was drawn.
+fn is_past(limit: Option<u64>, drawn: u64) -> bool
+    ensures held { result ≡ false → IfSome limit (λ l. drawn ≤ l) }
+    ensures past { result ≡ true → IfSome limit (λ l. drawn ≤ l) → ⊥ }
+{
+    match limit {
+        None => false,
+        Some(limit) => drawn > limit,
+    }
+}
+
+// What is left of a row's limit.
+fn left_of(limit: Option<u64>, drawn: u64) -> u64
+    requires { IfSome limit (λ l. drawn ≤ l) }
+    ensures { result ≡ left_of limit drawn }
+{
+    match limit {
+        None => 0,
+        Some(limit) => limit - drawn,
+    }
+}
+
+// Notes what each row left of its limit, at the group in its place.
+pub(crate) fn write_carries(groups: &mut IndexMap<GroupId, Group>, rows: &[Row], drawn: &[u64])
+    requires rows { length rows.now ≡ length groups.old.entries }
+    requires drawn { length drawn.now ≡ length rows.now }
+    requires within { IsDrawnWithin rows.now drawn.now }
+    ensures { groups.new.entries ≡ carried groups.old.entries (left_over rows.now drawn.now) }
+{
+    for i in 0..rows.len() {
+        write_carry(groups, i, left_of(rows[i].limit, drawn[i]));
+    }
+}
+
+fn write_carry(groups: &mut IndexMap<GroupId, Group>, place: usize, carry: u64)
+    requires { place < length groups.old.entries }
+    ensures { groups.new.entries ≡ carried_at groups.old.entries place carry }
+{
+    let group = &mut groups[place];
+    group.carry = carry;
+}

@@ -1,0 +1,42 @@
+//! Names of groups and the parts of a path.
+ghost use Rattle.std.specs.Prelude.{◌≡◌, ◌==◌, ◌<◌, [], ◌∷◌, length, MatchOption, IfSome};
+ghost use Rattle.std.specs.List.{list_all, slice_split};
+ghost use Rattle.bw_tree.specs.Groups.{is_name, is_name_byte};
+
+use crate::limits::MAX_NAME;
+
+pub(crate) fn is_name(name: &str) -> bool
+    ensures { result ≡ is_name name.now }
+{
+    if name.len() < 1 {
+        return false;
+    }
+    if name.len() > MAX_NAME {
+        return false;
+    }
+    if !are_name_bytes(name.as_bytes()) {
+        return false;
+    }
+    if name == "." {
+        return false;
+    }
+    if name == ".." {
+        return false;
+    }
+    true
+}
+
+fn are_name_bytes(bytes: &[u8]) -> bool
+    ensures { result ≡ list_all is_name_byte bytes.now }
+{
+    bytes.iter().all(|b| *b != b'/' && *b != 0 && *b != b'\n')
+}
+
+/// The first name of a path and what stands after its first `/`; `None` where it has none.
+pub fn split_front(path: &str) -> Option<(&str, &str)>
+    ensures parts { MatchOption result (slice_split (λ b. b == 47) path.now ≡ path.now ∷ [])
+        (λ x. slice_split (λ b. b == 47) path.now ≡ x.0.now ∷ slice_split (λ b. b == 47) x.1.now) }
+    ensures shorter { IfSome result (λ x. length x.1.now < length path.now) }
+{
+    path.split_once('/')
+}

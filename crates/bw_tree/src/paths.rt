@@ -1,0 +1,87 @@
+//! Paths: the group that a path names, and the path of a group.
+ghost use Rattle.std.specs.Prelude.{◌≡◌, ◌==◌, true, ◌++◌, IfOk, IfErr, OnOk, None, Some};
+ghost use Rattle.std.specs.String.{string_bytes};
+ghost use Rattle.bw_tree.specs.Paths.{path_at, names_to};
+ghost use Rattle.std.specs.List.{slice_split, join_with_byte};
+ghost use Rattle.bw_tree.specs.Groups.{has_group, find_path, walk};
+ghost use Rattle.bw_tree.specs.Tree.{IsRefused, path_refusal};
+
+use crate::fault::TreeFault;
+use crate::group::GroupId;
+use crate::names::split_front;
+use crate::tree::Tree;
+use std::alloc::AllocError;
+
+impl Tree {
+    /// The group at a path: `.` for the root, else the names from the root down, joined by `/`. It takes no memory.
+    ///
+    /// # Errors
+    ///
+    /// [`TreeFault::NotFound`] for each other text.
+    pub fn find(&self, path: &str) -> Result<GroupId, TreeFault>
+        ensures found { IfOk result (λ id. find_path self.now.groups path.now ≡ Some id) }
+        ensures none { IfErr result (λ e. (find_path self.now.groups path.now ≡ None) × (e ≡ TreeFault.NotFound)) }
+    {
+        if path == "." {
+            return Ok(0);
+        }
+        self.walk(path).ok_or(TreeFault::NotFound)
+    }
+
+    /// The path of a group: `.` for the root, else the names from the root down, joined by `/`. It is the one path that
+    /// [`Tree::find`] answers with this group.
+    ///
+    /// # Errors
+    ///
+    /// [`TreeFault::NotFound`] where there is no such group, else [`TreeFault::OutOfMemory`].
+    pub fn path_of(&self, id: GroupId) -> Result<String, TreeFault>
+        ensures path { IfOk result (λ path. path_at self.now.groups id ≡ Some (string_bytes path)) }
+        ensures found { IfOk result (λ path. find_path self.now.groups (string_bytes path) ≡ Some id) }
+        ensures refused { IfErr result (IsRefused (path_refusal self.now id)) }
+    {
+        if self.group(id).is_none() {
+            return Err(TreeFault::NotFound);
+        }
+        let alloc = *self.groups.allocator();
+        if id == 0 {
+            return Ok(String::from_str(alloc, ".")?);
+        }
+        let mut path = String::new(alloc);
+        self.push_path(&mut path, id)?;
+        Ok(path)
+    }
+
+    // Adds the names down to a group, joined by `/`.
+    fn push_path(&self, path: &mut String, id: GroupId) -> Result<(), AllocError>
+        requires { has_group self.now.groups id ≡ true }
+        ensures { OnOk result (string_bytes path.new ≡ string_bytes path.old ++ join_with_byte 47 (names_to self.now.groups id)) }
+    {
+        let Some(group) = self.groups.get(&id) else {
+            return Ok(());
+        };
+        let Some(parent) = group.parent else {
+            return Ok(());
+        };
+        if parent != 0 {
+            self.push_path(path, parent)?;
+            path.push('/')?;
+        }
+        path.push_str(group.name.as_str())
+    }
+
+    // The group that is reached from the root by the names of a path.
+    fn walk(&self, path: &str) -> Option<GroupId>
+        ensures { result ≡ walk self.now.groups 0 (slice_split (λ b. b == 47) path.now) }
+    {
+        let mut at = 0;
+        let mut rest = path;
+        while let Some((name, back)) = split_front(rest) {
+            match self.child_of(at, name) {
+                None => return None,
+                Some(id) => at = id,
+            }
+            rest = back;
+        }
+        self.child_of(at, rest)
+    }
+}

@@ -1,0 +1,109 @@
+//! The first refusal of each call of a tree, if any.
+ghost use Rattle.std.specs.Prelude.{◌≡◌, Some, is_some};
+ghost use Rattle.bw_tree.specs.Groups.{group_at, above};
+ghost use Rattle.bw_tree.specs.Tree.{mkdir_refusal, demand_refusal, setting_refusal, rmdir_refusal};
+
+use crate::fault::TreeFault;
+use crate::group::{Group, GroupId};
+use crate::names::is_name;
+use crate::tree::Tree;
+use bw_model::limits::{MAX_DEMAND, MAX_DEPTH, MAX_GROUPS};
+
+impl Tree {
+    // Why a group with this name is refused below a parent.
+    pub(crate) fn mkdir_refusal(&self, parent: GroupId, name: &str) -> Option<TreeFault>
+        ensures { result ≡ mkdir_refusal self.now parent name.now }
+    {
+        let Some(above) = self.group(parent) else {
+            return Some(TreeFault::NotFound);
+        };
+        if !is_name(name) {
+            return Some(TreeFault::BadName);
+        }
+        if above.demand > 0 {
+            return Some(TreeFault::ParentHasDemand);
+        }
+        if self.child_of(parent, name).is_some() {
+            return Some(TreeFault::Exists);
+        }
+        if self.is_deep(parent, above) {
+            return Some(TreeFault::TooDeep);
+        }
+        if self.groups.len() >= MAX_GROUPS {
+            return Some(TreeFault::TreeFull);
+        }
+        if self.next_id == u64::MAX {
+            return Some(TreeFault::IdsSpent);
+        }
+        None
+    }
+
+    // Why a group is not removed.
+    pub(crate) fn rmdir_refusal(&self, id: GroupId) -> Option<TreeFault>
+        ensures { result ≡ rmdir_refusal self.now id }
+    {
+        let Some(group) = self.group(id) else {
+            return Some(TreeFault::NotFound);
+        };
+        if id == 0 {
+            return Some(TreeFault::RootFixed);
+        }
+        if self.has_children(id) {
+            return Some(TreeFault::HasChildren);
+        }
+        if group.demand > 0 {
+            return Some(TreeFault::HasDemand);
+        }
+        None
+    }
+
+    // Why a demand is refused.
+    pub(crate) fn demand_refusal(&self, id: GroupId, demand: u64) -> Option<TreeFault>
+        ensures { result ≡ demand_refusal self.now id demand }
+    {
+        if self.group(id).is_none() {
+            return Some(TreeFault::NotFound);
+        }
+        if id == 0 {
+            return Some(TreeFault::RootFixed);
+        }
+        if demand > MAX_DEMAND {
+            return Some(TreeFault::DemandTooLarge);
+        }
+        if demand > 0 && self.has_children(id) {
+            return Some(TreeFault::InnerDemand);
+        }
+        None
+    }
+
+    // Why a weight, a limit, a period or a burst is refused.
+    pub(crate) fn setting_refusal(&self, id: GroupId) -> Option<TreeFault>
+        ensures { result ≡ setting_refusal self.now id }
+    {
+        if self.group(id).is_none() {
+            return Some(TreeFault::NotFound);
+        }
+        if id == 0 {
+            return Some(TreeFault::RootFixed);
+        }
+        None
+    }
+
+    // Whether as many levels lie above a group as may lie above any. Its caller has found it, so the climb begins above it.
+    fn is_deep(&self, id: GroupId, group: &Group) -> bool
+        requires { group_at self.now.groups id ≡ Some group.now }
+        ensures { result ≡ is_some (above self.now.groups MAX_DEPTH id) }
+    {
+        let mut above = group.parent;
+        for _ in 1..MAX_DEPTH {
+            let Some(at) = above else {
+                return false;
+            };
+            let Some(next) = self.group(at) else {
+                return false;
+            };
+            above = next.parent;
+        }
+        above.is_some()
+    }
+}

@@ -1,0 +1,123 @@
+//! The groups of a tree as an instance on a host.
+ghost use Rattle.std.specs.Prelude.{◌≡◌, ◌≤◌, length, nat_eq, IfSome, IfOk, IfErr, Some};
+ghost use Rattle.std.specs.List.{IsDistinct};
+ghost use Rattle.bw_model.specs.Groups.{IsInstance};
+ghost use Rattle.bw_tree.specs.Groups.{IsSound};
+ghost use Rattle.std.specs.Map.{keys_of};
+ghost use Rattle.bw_tree.specs.Snapshot.{instance_of, rows_of, base_of, row_above, row_of};
+ghost use Rattle.bw_tree.specs.Snapshot.{quota_slices};
+
+use crate::carry::{period_limit, quota_slices};
+use crate::fault::TreeFault;
+use crate::group::{Group, GroupId};
+use crate::tree::Tree;
+use bw_model::limits::MAX_QUOTA_US;
+use bw_model::{HostShape, Instance, Row};
+use std::alloc::AllocError;
+
+/// The groups of a tree as they are at one time, in order of creation.
+#[derive(Debug, Drop)]
+pub struct Snapshot {
+    /// A row for each, on a host.
+    pub instance: Instance,
+    /// Their ids.
+    pub ids: Vec<GroupId>,
+    /// Their quotas in whole slices of the host's period, `None` where there is none.
+    pub quotas: Vec<Option<u64>>,
+}
+
+// A row and a quota in slices for each group.
+type Rows = (Vec<Row>, Vec<Option<u64>>);
+
+impl Tree {
+    /// The groups as an instance on a host, a row for each in order of creation, and in the same order their ids and
+    /// their quotas in whole slices of the host's period, `None` where there is none. The limit of a row is the quota with
+    /// what the group left over in the last period, at most the quota with the burst. It costs as much as there are groups.
+    ///
+    /// # Errors
+    ///
+    /// [`TreeFault::OutOfMemory`] alone: the rows of a tree are always an instance.
+    pub fn snapshot(&self, shape: HostShape) -> Result<Snapshot, TreeFault>
+        ensures rows { IfOk result (λ s. s.instance ≡ instance_of self.now shape) }
+        ensures valid { IsInstance (instance_of self.now shape) }
+        ensures ids { IfOk result (λ s. s.ids.items ≡ keys_of self.now.groups) }
+        ensures quotas { IfOk result (λ s. s.quotas.items ≡ base_of self.now.groups shape) }
+        ensures count { IfOk result (λ s. (length s.ids.items ≡ length s.instance.rows) × (length s.quotas.items ≡ length s.instance.rows)) }
+        ensures distinct { IfOk result (λ s. IsDistinct nat_eq s.ids.items) }
+        ensures err { IfErr result (λ e. e ≡ TreeFault.OutOfMemory) }
+    {
+        let alloc = *self.groups.allocator();
+        // its contract says that the host is in range
+        let _slice_us = shape.slice_us();
+        let ids = self.ids()?;
+        let (rows, quotas) = self.rows(ids.as_slice(), shape)?;
+        let instance = Instance::of_valid(alloc, rows, shape)?;
+        Ok(Snapshot {
+            instance,
+            ids,
+            quotas,
+        })
+    }
+
+    fn ids(&self) -> Result<Vec<GroupId>, AllocError>
+        ensures keys { IfOk result (λ ids. ids.items ≡ keys_of self.now.groups) }
+        ensures distinct { IsDistinct nat_eq (keys_of self.now.groups) }
+    {
+        self.groups
+            .keys()
+            .copied()
+            .collect(*self.groups.allocator())
+    }
+
+    // A row for each group, and the quota of each in whole slices. Each quota is turned into slices once.
+    fn rows(&self, ids: &[GroupId], shape: HostShape) -> Result<Rows, AllocError>
+        requires { ids.now ≡ keys_of self.now.groups }
+        ensures rows { IfOk result (λ r. r.0.items ≡ rows_of self.now.groups shape) }
+        ensures base { IfOk result (λ r. r.1.items ≡ base_of self.now.groups shape) }
+    {
+        let alloc = *self.groups.allocator();
+        let mut rows = Vec::with_capacity(alloc, self.groups.len())?;
+        let mut base = Vec::with_capacity(alloc, self.groups.len())?;
+        for group in self.groups.values() {
+            let quota = quota_slices(group, shape);
+            let row = self.row_of(group, quota, ids, shape);
+            rows.push(row)?;
+            base.push(quota)?;
+        }
+        Ok((rows, base))
+    }
+
+    // The row of a group with this quota in whole slices.
+    fn row_of(&self, group: &Group, quota: Option<u64>, ids: &[GroupId], shape: HostShape) -> Row
+        requires sound { IsSound group.now }
+        requires quota { quota ≡ quota_slices shape group.now }
+        requires bound { IfSome quota (λ n. n ≤ MAX_QUOTA_US) }
+        requires ids { ids.now ≡ keys_of self.now.groups }
+        ensures { result ≡ row_of self.now.groups shape group.now }
+    {
+        let parent = match group.parent {
+            None => None,
+            Some(id) => self.place_of(ids, id),
+        };
+        Row {
+            parent,
+            weight: group.weight,
+            limit: period_limit(group, quota, shape),
+            demand: group.demand,
+        }
+    }
+
+    // The row number of a group. Its id is that number where no group before it was removed, and only else is it looked up.
+    fn place_of(&self, ids: &[GroupId], id: GroupId) -> Option<u32>
+        requires { ids.now ≡ keys_of self.now.groups }
+        ensures { result ≡ row_above self.now.groups (Some id) }
+    {
+        if id < self.groups.len() as u64 && ids[id as usize] == id {
+            return Some(id as u32);
+        }
+        match self.groups.get_index_of(&id) {
+            None => None,
+            Some(place) => Some(place as u32),
+        }
+    }
+}
