@@ -1,10 +1,10 @@
 //! The first refusal of each call of a tree, if any.
-ghost use Rattle.std.specs.Prelude.{◌≡◌, Some, is_some};
-ghost use Rattle.bw_tree.specs.Groups.{group_at, above};
+ghost use Rattle.std.specs.Prelude.{◌≡◌, ℕ, is_some};
+ghost use Rattle.bw_tree.specs.Groups.{above, group_at, parent_of};
 ghost use Rattle.bw_tree.specs.Tree.{mkdir_refusal, demand_refusal, setting_refusal, rmdir_refusal};
 
 use crate::fault::TreeFault;
-use crate::group::{Group, GroupId};
+use crate::group::GroupId;
 use crate::names::is_name;
 use crate::tree::Tree;
 use bw_model::limits::{MAX_DEMAND, MAX_DEPTH, MAX_GROUPS};
@@ -26,7 +26,7 @@ impl Tree {
         if self.child_of(parent, name).is_some() {
             return Some(TreeFault::Exists);
         }
-        if self.is_deep(parent, above) {
+        if self.is_deepest(above.parent) {
             return Some(TreeFault::TooDeep);
         }
         if self.groups.len() >= MAX_GROUPS {
@@ -89,12 +89,12 @@ impl Tree {
         None
     }
 
-    // Whether as many levels lie above a group as may lie above any. Its caller has found it, so the climb begins above it.
-    fn is_deep(&self, id: GroupId, group: &Group) -> bool
-        requires { group_at self.now.groups id ≡ Some group.now }
-        ensures { result ≡ is_some (above self.now.groups MAX_DEPTH id) }
+    // Whether a group with this parent is as deep as a group may be.
+    fn is_deepest(&self, parent: Option<GroupId>) -> bool
+        ensures { (id : ℕ) → parent_of (group_at self.now.groups id) ≡ parent →
+            result ≡ is_some (above self.now.groups MAX_DEPTH id) }
     {
-        let mut above = group.parent;
+        let mut above = parent;
         for _ in 1..MAX_DEPTH {
             let Some(at) = above else {
                 return false;
