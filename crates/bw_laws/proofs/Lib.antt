@@ -1,5 +1,4 @@
 -- The files of lemmas.
-mod Bounded
-mod CertAccepted
-mod GivenIds
-mod GivenOnce
+mod CertLemmas
+mod CounterLemmas
+mod IdLemmas

@@ -1,6 +1,4 @@
 -- The files of definitions.
-pub mod BestSplit
-pub mod Bounded
-pub mod Counted
-pub mod Given
-pub mod Joined
+pub mod Cert
+pub mod Counters
+pub mod Ids

@@ -16,7 +16,7 @@ use Rattle.bw_check.specs.declared.verdict.Verdict.TheVariants.{Accepted, Refuse
 use Rattle.bw_tree.specs.Snapshot.{instance_of}
 use Rattle.bw_hierarchy.specs.State.{HierarchyState}
 use Rattle.bw_commands.specs.CertifiedPlan.{IsCertifiedPlan, value_with}
-use Rattle.bw_laws.specs.Joined.{IsVerdictOf, IsAcceptedText}
+use Rattle.bw_laws.specs.Cert.{IsVerdictOf, IsAcceptedText}
 
 -- marks of the same three numbers are one
 same_mark : (a b : Mark) → price_of a ≡ price_of b → a ≡ b

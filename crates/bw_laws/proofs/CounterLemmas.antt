@@ -17,7 +17,7 @@ use Rattle.bw_tree.specs.declared.fault.TreeFault.{TreeFault}
 use Rattle.bw_hierarchy.specs.declared.fault.Fault.{Fault}
 use Rattle.bw_hierarchy.specs.Calls.{mkdir_split, unless, and_then, found_at}
 use Rattle.bw_hierarchy.specs.State.{HierarchyState, with_tree, with_books, delete_of}
-use Rattle.bw_laws.specs.Counted.{AreOfGivenIds, NewGroupsCountNothing}
+use Rattle.bw_laws.specs.Counters.{AreOfGivenIds, NewGroupsCountNothing}
 
 none_some : (x : Stat) → Some x ≡ None → ⊥
 none_some x w = cc

@@ -9,8 +9,8 @@ use Rattle.bw_stat.specs.Books.{forgotten}
 use Rattle.bw_hierarchy.specs.declared.fault.Fault.{Fault}
 use Rattle.bw_hierarchy.specs.Calls.{unless, and_then, found_at}
 use Rattle.bw_hierarchy.specs.State.{HierarchyState, with_tree, with_books, delete_of}
-use Rattle.bw_laws.specs.Given.{Step, Made, Changed, AreSteps, AreRisingFrom, ids_made, IdsAreGivenOnce}
-use Rattle.bw_laws.proofs.GivenIds.{made_at}
+use Rattle.bw_laws.specs.Ids.{Step, Made, Changed, AreSteps, AreRisingFrom, ids_made, IdsAreGivenOnce}
+use Rattle.bw_laws.proofs.CounterLemmas.{made_at}
 
 -- what rises from a number rises from each lower one
 from_lower : (low least : ℕ) (ids : List ℕ) → low ≤ least → AreRisingFrom least ids → AreRisingFrom low ids

@@ -1,6 +1,0 @@
--- The goals of `new_groups_count_nothing` that are answered by hand.
-use Rattle.bw_laws.proofs.GivenIds.{new_groups}
-use Rattle.bw_laws.proofs.counted.new_groups_count_nothing.Goals as goal
-
-pub returns : goal.returns
-returns c = new_groups

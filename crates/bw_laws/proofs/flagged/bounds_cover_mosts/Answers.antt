@@ -1,6 +1,0 @@
--- The goals of `bounds_cover_mosts` that are answered by hand.
-use Rattle.bw_laws.proofs.Bounded.{bounds_cover}
-use Rattle.bw_laws.proofs.flagged.bounds_cover_mosts.Goals as goal
-
-pub returns : goal.returns
-returns c = bounds_cover
