@@ -1,6 +1,6 @@
 -- The files of lemmas.
 mod FileNames
 mod LastSlash
-mod Settings
+mod SettingLemmas
 mod Unwritten
 mod Writes

@@ -5,10 +5,10 @@ ghost use Rattle.bw_hierarchy.specs.Faults.{IsRefusal};
 ghost use Rattle.bw_hierarchy.specs.Builder.{prefixes, found_or_made, ensured, shares_step, cfs_step, built};
 ghost use Rattle.bw_hierarchy.specs.State.{with_tree};
 
-use crate::calls;
 use crate::cgroup::Cgroup;
 use crate::fault::Fault;
 use crate::hierarchy::Hierarchy;
+use crate::{by_path, settings};
 use bw_tree::{GroupId, Tree, split_front};
 use std::alloc::Global;
 
@@ -124,7 +124,7 @@ fn find_or_make(tree: &mut Tree, path: &str) -> Result<GroupId, Fault>
 {
     match tree.find(path) {
         Ok(id) => Ok(id),
-        Err(_) => calls::mkdir(tree, path),
+        Err(_) => by_path::mkdir(tree, path),
     }
 }
 
@@ -152,7 +152,7 @@ fn set_shares(tree: &mut Tree, id: GroupId, shares: Option<u64>) -> Result<(), F
 {
     match shares {
         None => Ok(()),
-        Some(n) => calls::set_shares(tree, id, n),
+        Some(n) => settings::set_shares(tree, id, n),
     }
 }
 
@@ -169,9 +169,9 @@ fn set_cfs(
     match quota {
         None => match period {
             None => Ok(()),
-            Some(n) => calls::set_cfs(tree, id, None, Some(n)),
+            Some(n) => settings::set_cfs(tree, id, None, Some(n)),
         },
-        Some(quota) => calls::set_cfs(tree, id, Some(quota), period),
+        Some(quota) => settings::set_cfs(tree, id, Some(quota), period),
     }
 }
 

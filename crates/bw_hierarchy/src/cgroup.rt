@@ -5,6 +5,7 @@ ghost use Rattle.bw_hierarchy.specs.State.{with_tree, delete_of};
 
 use crate::fault::Fault;
 use crate::hierarchy::Hierarchy;
+use crate::{by_path, settings};
 use bw_tree::GroupId;
 
 /// A group of a hierarchy, by its id.
@@ -36,7 +37,7 @@ impl Cgroup {
         ensures found { IfOk result (λ g. found_at hierarchy.now.tree path.now ≡ Ok g.id) }
         ensures refused { IfErr result (λ e. found_at hierarchy.now.tree path.now ≡ Err e) }
     {
-        let id = hierarchy.find(path)?;
+        let id = by_path::find(&hierarchy.tree, path)?;
         Ok(Cgroup { id })
     }
 
@@ -69,7 +70,7 @@ impl CpuController {
     pub fn shares(&self, hierarchy: &Hierarchy) -> Result<u64, Fault>
         ensures { result ≡ value_at (λ g. g.weight) hierarchy.now.tree self.now.id }
     {
-        hierarchy.shares(self.id)
+        settings::shares(&hierarchy.tree, self.id)
     }
 
     /// Sets the weight, or answers `WeightOutOfRange`.
@@ -79,21 +80,21 @@ impl CpuController {
         ensures refused { IfErr result (λ e. set_shares_of hierarchy.old.tree self.now.id n ≡ Err e) }
         ensures err { OnErr result (hierarchy.new ≡ hierarchy.old) }
     {
-        hierarchy.set_shares(self.id, n)
+        settings::set_shares(&mut hierarchy.tree, self.id, n)
     }
 
     /// The quota in microseconds, -1 for no limit (sched-bwc.rst, "Management").
     pub fn cfs_quota(&self, hierarchy: &Hierarchy) -> Result<i64, Fault>
         ensures { result ≡ value_at (λ g. int_of_quota g.quota) hierarchy.now.tree self.now.id }
     {
-        hierarchy.cfs_quota(self.id)
+        settings::cfs_quota(&hierarchy.tree, self.id)
     }
 
     /// The length of its own period in microseconds (sched-bwc.rst, "Management").
     pub fn cfs_period(&self, hierarchy: &Hierarchy) -> Result<u64, Fault>
         ensures { result ≡ value_at (λ g. g.period) hierarchy.now.tree self.now.id }
     {
-        hierarchy.cfs_period(self.id)
+        settings::cfs_period(&hierarchy.tree, self.id)
     }
 
     /// Sets the quota in microseconds, -1 for no limit, and the length of its own period. A value that is left out stays.
@@ -110,6 +111,6 @@ impl CpuController {
         ensures refused { IfErr result (λ e. set_cfs_of hierarchy.old.tree self.now.id quota period ≡ Err e) }
         ensures err { OnErr result (hierarchy.new ≡ hierarchy.old) }
     {
-        hierarchy.set_cfs(self.id, quota, period)
+        settings::set_cfs(&mut hierarchy.tree, self.id, quota, period)
     }
 }

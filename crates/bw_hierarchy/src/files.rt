@@ -7,9 +7,9 @@ ghost use Rattle.bw_hierarchy.specs.Faults.{IsRefusal, IsMemoryLast};
 ghost use Rattle.bw_hierarchy.specs.GroupFiles.{file_named, is_of_root};
 ghost use Rattle.bw_hierarchy.specs.Files.{file_of, text_of, read_of, weight_write, max_write, burst_write, write_at, write_of};
 
-use crate::calls;
 use crate::fault::Fault;
 use crate::group_file::{GroupFile, file_named};
+use crate::{by_path, settings};
 use bw_files::{
     read_burst, read_max, read_weight, write_burst, write_max, write_stat, write_weight,
 };
@@ -62,7 +62,7 @@ pub(crate) fn read(
     ensures refused { IfErr result (IsRefusal (read_of (record { shape = shape; tree = tree.now; books = books.now }) path.now file.now)) }
     ensures memory { IfErr result (IsMemoryLast (read_of (record { shape = shape; tree = tree.now; books = books.now }) path.now file.now)) }
 {
-    let id = calls::find(tree, path)?;
+    let id = by_path::find(tree, path)?;
     text(alloc, tree, books, id, file)
 }
 
@@ -83,7 +83,7 @@ fn write_max_at(tree: &mut Tree, id: GroupId, text: &[u8]) -> Result<(), Fault>
     ensures err { OnErr result (tree.new ≡ tree.old) }
 {
     let wanted = read_max(text)?;
-    calls::set_max(tree, id, wanted.quota, wanted.period)
+    settings::set_max(tree, id, wanted.quota, wanted.period)
 }
 
 fn write_burst_at(tree: &mut Tree, id: GroupId, text: &[u8]) -> Result<(), Fault>
@@ -93,7 +93,7 @@ fn write_burst_at(tree: &mut Tree, id: GroupId, text: &[u8]) -> Result<(), Fault
     ensures err { OnErr result (tree.new ≡ tree.old) }
 {
     let burst = read_burst(text)?;
-    calls::set_burst(tree, id, burst)
+    settings::set_burst(tree, id, burst)
 }
 
 fn write_at(tree: &mut Tree, id: GroupId, name: &str, text: &[u8]) -> Result<(), Fault>
@@ -118,6 +118,6 @@ pub(crate) fn write(tree: &mut Tree, path: &str, file: &str, text: &[u8]) -> Res
     ensures refused { IfErr result (λ e. write_of tree.old path.now file.now text.now ≡ Err e) }
     ensures err { OnErr result (tree.new ≡ tree.old) }
 {
-    let id = calls::find(tree, path)?;
+    let id = by_path::find(tree, path)?;
     write_at(tree, id, file, text)
 }

@@ -5,7 +5,7 @@ ghost use Rattle.bw_model.specs.Groups.{IsInstance};
 ghost use Rattle.bw_tree.specs.Snapshot.{instance_of, base_of, IsDrawnWithin};
 ghost use Rattle.std.specs.Map.{keys_of};
 ghost use Rattle.bw_hierarchy.specs.Faults.{IsRefusal, IsMemoryLast};
-ghost use Rattle.bw_hierarchy.specs.Calls.{mkdir_of, set_shares_of, set_cfs_of, value_at, int_of_quota, found_at};
+ghost use Rattle.bw_hierarchy.specs.Calls.{mkdir_of};
 ghost use Rattle.bw_hierarchy.specs.Files.{read_of, write_of};
 ghost use Rattle.bw_hierarchy.specs.Builder.{built};
 ghost use Rattle.bw_hierarchy.specs.State.{with_tree, booked_period, new_hierarchy, rmdir_of, delete_of, demand_set_of};
@@ -13,7 +13,7 @@ ghost use Rattle.bw_hierarchy.specs.State.{with_tree, booked_period, new_hierarc
 use crate::builder::build_tree;
 use crate::cgroup::Cgroup;
 use crate::fault::Fault;
-use crate::{calls, files};
+use crate::{by_path, files};
 use bw_demand::Gathered;
 use bw_model::{HostShape, Instance};
 use bw_stat::Books;
@@ -26,7 +26,7 @@ use std::marker::Model;
 pub struct Hierarchy {
     alloc: Global,
     shape: HostShape,
-    tree: Tree,
+    pub(crate) tree: Tree,
     books: Books,
 }
 
@@ -131,7 +131,7 @@ impl Hierarchy {
         ensures memory { IfErr result (IsMemoryLast (mkdir_of self.old.tree path.now)) }
         ensures err { OnErr result (self.new ≡ self.old) }
     {
-        calls::mkdir(&mut self.tree, path)
+        by_path::mkdir(&mut self.tree, path)
     }
 
     /// Takes a group out and forgets its counters: `NotFound`, `RootFixed`, `HasChildren`, `HasDemand`.
@@ -140,7 +140,7 @@ impl Hierarchy {
         ensures refused { IfErr result (λ e. rmdir_of self.old path.now ≡ Err e) }
         ensures err { OnErr result (self.new ≡ self.old) }
     {
-        let id = calls::find(&self.tree, path)?;
+        let id = by_path::find(&self.tree, path)?;
         self.delete(id)
     }
 
@@ -160,7 +160,7 @@ impl Hierarchy {
         ensures refused { IfErr result (λ e. demand_set_of self.old path.now demand ≡ Err e) }
         ensures err { OnErr result (self.new ≡ self.old) }
     {
-        let id = calls::find(&self.tree, path)?;
+        let id = by_path::find(&self.tree, path)?;
         Ok(self.tree.set_demand(id, demand)?)
     }
 
@@ -187,53 +187,6 @@ impl Hierarchy {
         ensures err { OnErr result (self.new ≡ self.old) }
     {
         files::write(&mut self.tree, path, file, text)
-    }
-
-    pub(crate) fn find(&self, path: &str) -> Result<GroupId, Fault>
-        ensures { result ≡ found_at self.now.tree path.now }
-    {
-        calls::find(&self.tree, path)
-    }
-
-    pub(crate) fn shares(&self, id: GroupId) -> Result<u64, Fault>
-        ensures { result ≡ value_at (λ g. g.weight) self.now.tree id }
-    {
-        calls::shares(&self.tree, id)
-    }
-
-    pub(crate) fn cfs_quota(&self, id: GroupId) -> Result<i64, Fault>
-        ensures { result ≡ value_at (λ g. int_of_quota g.quota) self.now.tree id }
-    {
-        calls::cfs_quota(&self.tree, id)
-    }
-
-    pub(crate) fn cfs_period(&self, id: GroupId) -> Result<u64, Fault>
-        ensures { result ≡ value_at (λ g. g.period) self.now.tree id }
-    {
-        calls::cfs_period(&self.tree, id)
-    }
-
-    pub(crate) fn set_shares(&mut self, id: GroupId, n: u64) -> Result<(), Fault>
-        ensures set { OnOk result (set_shares_of self.old.tree id n ≡ Ok self.new.tree) }
-        ensures rest { self.new ≡ with_tree self.old self.new.tree }
-        ensures refused { IfErr result (λ e. set_shares_of self.old.tree id n ≡ Err e) }
-        ensures err { OnErr result (self.new ≡ self.old) }
-    {
-        calls::set_shares(&mut self.tree, id, n)
-    }
-
-    pub(crate) fn set_cfs(
-        &mut self,
-        id: GroupId,
-        quota: Option<i64>,
-        period: Option<u64>,
-    ) -> Result<(), Fault>
-        ensures set { OnOk result (set_cfs_of self.old.tree id quota period ≡ Ok self.new.tree) }
-        ensures rest { self.new ≡ with_tree self.old self.new.tree }
-        ensures refused { IfErr result (λ e. set_cfs_of self.old.tree id quota period ≡ Err e) }
-        ensures err { OnErr result (self.new ≡ self.old) }
-    {
-        calls::set_cfs(&mut self.tree, id, quota, period)
     }
 
     // All that a builder does, or nothing. The copy comes before each test, so `OutOfMemory` may be answered first.

@@ -2,13 +2,14 @@
 #![tactic(auto)]
 
 mod builder;
-mod calls;
+mod by_path;
 mod cgroup;
 mod fault;
 mod files;
 mod group_file;
 mod hierarchy;
 mod laws;
+mod settings;
 
 pub use builder::{CgroupBuilder, CpuResources};
 pub use cgroup::{Cgroup, CpuController, KeptCgroup};

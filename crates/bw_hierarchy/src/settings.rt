@@ -1,4 +1,4 @@
-//! The calls on a tree, by paths and by ids.
+//! The settings of a group of a tree, by its id.
 ghost use Rattle.std.specs.Prelude.{◌≡◌, ◌≤◌, ◌∷◌, [], ◌<◌, length, OnOk, OnErr, IfOk, IfErr, IfSome, MatchOption, Ok, Err, Some, None, Option};
 ghost use Rattle.std.specs.Option.{option_map};
 ghost use Rattle.std.specs.List.{slice_split};
@@ -15,35 +15,6 @@ use bw_files::{FileFault, check_period, check_quota, check_weight};
 use bw_model::Quota;
 use bw_model::limits::{MAX_BURST_US, MAX_PERIOD_US, MIN_PERIOD_US};
 use bw_tree::{Group, GroupId, Tree, TreeFault};
-
-pub(crate) fn find(tree: &Tree, path: &str) -> Result<GroupId, Fault>
-    ensures { result ≡ found_at tree.now path.now }
-{
-    Ok(tree.find(path)?)
-}
-
-// The path of the parent and the name.
-fn split_last(path: &str) -> Option<(&str, &str)>
-    ensures { option_map (λ x. (x.0.now, x.1.now)) result ≡ rsplit_once 47 path.now }
-{
-    path.rsplit_once('/')
-}
-
-/// Makes a group at a path.
-pub(crate) fn mkdir(tree: &mut Tree, path: &str) -> Result<GroupId, Fault>
-    ensures made { IfOk result (λ id. mkdir_of tree.old path.now ≡ Ok (id, tree.new)) }
-    ensures refused { IfErr result (IsRefusal (mkdir_of tree.old path.now)) }
-    ensures memory { IfErr result (IsMemoryLast (mkdir_of tree.old path.now)) }
-    ensures err { OnErr result (tree.new ≡ tree.old) }
-{
-    match split_last(path) {
-        None => Ok(tree.mkdir(0, path)?),
-        Some((front, name)) => {
-            let parent = find(tree, front)?;
-            Ok(tree.mkdir(parent, name)?)
-        }
-    }
-}
 
 // The group with this id, where its settings may be read and changed: each but the root.
 fn setting(tree: &Tree, id: GroupId) -> Result<&Group, Fault>

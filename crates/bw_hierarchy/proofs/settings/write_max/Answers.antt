@@ -2,8 +2,8 @@
 use Rattle.std.proofs.Common.{sym, ap, ◌∙◌}
 use Rattle.bw_tree.specs.Tree.{with_setting, set_max, set_quota, set_period}
 use Rattle.bw_tree.proofs.CallerLemmas.{settings_join}
-use Rattle.bw_hierarchy.proofs.Settings.{never_refused}
-use Rattle.bw_hierarchy.proofs.calls.write_max.Goals as goal
+use Rattle.bw_hierarchy.proofs.SettingLemmas.{never_refused}
+use Rattle.bw_hierarchy.proofs.settings.write_max.Goals as goal
 
 pub returns-in_err-set_period-in-Some-clause-never :
     goal.returns-in_err-set_period-in-Some-clause-never

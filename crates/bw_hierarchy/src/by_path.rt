@@ -1,0 +1,38 @@
+//! Groups by their paths.
+ghost use Rattle.std.specs.Prelude.{◌≡◌, OnErr, IfOk, IfErr, Ok};
+ghost use Rattle.std.specs.Option.{option_map};
+ghost use Rattle.std.specs.Path.{rsplit_once};
+ghost use Rattle.bw_hierarchy.specs.Faults.{IsRefusal, IsMemoryLast};
+ghost use Rattle.bw_hierarchy.specs.Calls.{found_at, mkdir_of};
+
+use crate::fault::Fault;
+use bw_tree::{GroupId, Tree};
+
+pub(crate) fn find(tree: &Tree, path: &str) -> Result<GroupId, Fault>
+    ensures { result ≡ found_at tree.now path.now }
+{
+    Ok(tree.find(path)?)
+}
+
+// The path of the parent and the name.
+fn split_last(path: &str) -> Option<(&str, &str)>
+    ensures { option_map (λ x. (x.0.now, x.1.now)) result ≡ rsplit_once 47 path.now }
+{
+    path.rsplit_once('/')
+}
+
+/// Makes a group at a path.
+pub(crate) fn mkdir(tree: &mut Tree, path: &str) -> Result<GroupId, Fault>
+    ensures made { IfOk result (λ id. mkdir_of tree.old path.now ≡ Ok (id, tree.new)) }
+    ensures refused { IfErr result (IsRefusal (mkdir_of tree.old path.now)) }
+    ensures memory { IfErr result (IsMemoryLast (mkdir_of tree.old path.now)) }
+    ensures err { OnErr result (tree.new ≡ tree.old) }
+{
+    match split_last(path) {
+        None => Ok(tree.mkdir(0, path)?),
+        Some((front, name)) => {
+            let parent = find(tree, front)?;
+            Ok(tree.mkdir(parent, name)?)
+        }
+    }
+}
