@@ -1,28 +1,36 @@
-"""A small slow model, written from the definitions and not from the program, with which its answers are compared.
+"""A small slow model, written from the definitions and not from the program.
 
-It has the plan of an instance, certified texts and the verdict on one, and a script's host with its groups.
+The program's answers are compared with it. It has the plan of an instance, certified texts and the
+verdict on one, and a script's host with its groups.
 """
 import re
 
 NUMBER = re.compile(rb"(0|[1-9][0-9]*)\Z")
 LEVEL = re.compile(rb"(0|[1-9][0-9]*)/(0|[1-9][0-9]*)@(0|[1-9][0-9]*)\Z")
 MOST_GROUPS, MOST_DEPTH, MOST_DEMAND, MOST_WEIGHT = 16384, 64, 1000000, 10000
-FAULTS = {1: "BadProcessors", 2: "BadPeriod", 3: "BadSlice", 4: "TooMany", 5: "BadParent", 6: "BadWeight", 7: "TooDeep",
-          8: "InnerDemand", 9: "DemandTooLarge", 10: "RootLimited", 40: "BadLine", 41: "BadField", 42: "CutShort",
-          43: "Trailing", 50: "WrongLength", 51: "OverLimit", 52: "OverDemand", 53: "SumDiffers", 54: "FlagWithoutLimit",
-          55: "NotGreatest", 56: "LevelMissing", 57: "LastMarkAbove", 58: "NextMarkNotAbove"}
+FAULTS = {
+    1: "BadProcessors", 2: "BadPeriod", 3: "BadSlice", 4: "TooMany", 5: "BadParent", 6: "BadWeight",
+    7: "TooDeep", 8: "InnerDemand", 9: "DemandTooLarge", 10: "RootLimited", 40: "BadLine",
+    41: "BadField", 42: "CutShort", 43: "Trailing", 50: "WrongLength", 51: "OverLimit",
+    52: "OverDemand", 53: "SumDiffers", 54: "FlagWithoutLimit", 55: "NotGreatest",
+    56: "LevelMissing", 57: "LastMarkAbove", 58: "NextMarkNotAbove",
+}
 
 
 class Refused(Exception):
-    """A text that is no certified text, or a certificate that does not hold; a group's row is told with the latter."""
+    """A text that is no certified text, or a certificate that does not hold at a group's row."""
 
     def __init__(self, number, row=None):
         super().__init__(number)
-        self.line = f"error {number} {FAULTS[number]}\n" if row is None else f"refused {number} {FAULTS[number]} {row}\n"
+        fault = f"{number} {FAULTS[number]}"
+        self.line = f"error {fault}\n" if row is None else f"refused {fault} {row}\n"
 
 
 class Row:
-    """One group of an instance: its parent's row or None, weight, limit in slices or None, and demand in slices."""
+    """One group of an instance: row of its parent or None, weight, limit or None, and demand.
+
+    Limit and demand are in slices.
+    """
 
     def __init__(self, parent, weight=100, limit=None, demand=0):
         self.parent, self.weight, self.limit, self.demand = parent, weight, limit, demand
@@ -30,7 +38,10 @@ class Row:
 
 
 class Instance:
-    """Rows from the root on, each parent before its children, and the slices of a period on all processors."""
+    """Rows from the root on, each parent before its children, and the capacity.
+
+    The capacity is the slices of a period on all processors.
+    """
 
     def __init__(self, rows, capacity):
         self.rows, self.capacity = rows, capacity
@@ -45,11 +56,15 @@ class Instance:
         return self.rows[row].limit if row else self.capacity
 
     def wants(self):
-        """What each group could use: a leaf its demand, another the sum of what its children can use within limits."""
+        """What each group could use: a leaf its demand, another the sum over its children.
+
+        Each child counts with what it could use within its limit.
+        """
         wants = [row.demand for row in self.rows]
         for number in range(len(self.rows) - 1, -1, -1):
             if self.rows[number].children:
-                wants[number] = sum(self.within(wants, child) for child in self.rows[number].children)
+                children = self.rows[number].children
+                wants[number] = sum(self.within(wants, child) for child in children)
         return wants
 
     def within(self, wants, row):
@@ -62,8 +77,11 @@ class Instance:
         return limit is not None and limit < wants[row]
 
     def total(self):
-        """The greatest total: the limiting groups, which are tight and have no tight group above them, with their limits
-        in row order, and the demands of the leaves outside them."""
+        """The greatest total: limiting groups with their limits, in row order, and the rest.
+
+        A limiting group is tight and has no tight group above it. The rest is the sum of the
+        demands of the leaves outside these groups.
+        """
         wants, limiting, rest, free = self.wants(), [], 0, [False] * len(self.rows)
         for number, row in enumerate(self.rows):
             if row.parent is not None and not free[row.parent]:
@@ -76,8 +94,11 @@ class Instance:
         return limiting, rest
 
     def plan(self):
-        """The amount of each group: the root's is the greatest total, and each group's goes to its children slice by
-        slice, each to the child whose next slice costs least by weight; of equal ones to the first."""
+        """The amount of each group: that of the root is the greatest total.
+
+        Each group's amount goes to its children slice by slice, each to the child whose next slice
+        costs least by weight, and on a tie to the first of these.
+        """
         wants = self.wants()
         limiting, rest = self.total()
         amounts = [0] * len(self.rows)
@@ -94,7 +115,10 @@ class Instance:
         return amounts
 
     def certificate(self, amounts):
-        """The flags, each tight group's, and the levels: in a group that has something, its children's greatest last mark."""
+        """The flags, one for each tight group, and the levels.
+
+        The level of a group that has something is the greatest last mark of its children.
+        """
         wants = self.wants()
         flags = [self.is_tight(wants, number) for number in range(len(self.rows))]
         levels = [None] * len(self.rows)
@@ -114,13 +138,17 @@ def is_below(mark, other):
 
 
 def certified_text(host, instance, amounts, flags, levels):
-    """The one spelling of an instance with amounts and a certificate; `host` has processors, period and slice."""
+    """The one spelling of an instance with amounts and a certificate.
+
+    `host` has processors, period and slice.
+    """
     lines = ["bw 1 %d %d %d" % host + f" {len(instance.rows)}\n"]
     for number, row in enumerate(instance.rows):
         parent = "-" if row.parent is None else row.parent
         limit = "max" if row.limit is None else row.limit
         level = "-" if levels[number] is None else "%d/%d@%d" % levels[number]
-        lines.append(f"{parent} {row.weight} {limit} {row.demand} {amounts[number]} {int(flags[number])} {level}\n")
+        given = f"{amounts[number]} {int(flags[number])} {level}"
+        lines.append(f"{parent} {row.weight} {limit} {row.demand} {given}\n")
     return "".join(lines).encode()
 
 
@@ -179,7 +207,10 @@ def capacity_of(processors, period, slice_us):
 
 
 def is_tree(rows):
-    return rows and rows[0].parent is None and all(row.parent is not None and row.parent < number for number, row in enumerate(rows) if number)
+    if not rows or rows[0].parent is not None:
+        return False
+    others = list(enumerate(rows))[1:]
+    return all(row.parent is not None and row.parent < number for number, row in others)
 
 
 def instance_of(rows, capacity):
@@ -253,7 +284,7 @@ def faults_of(instance, amounts, flags, levels):
 
 
 def line_for(text):
-    """The line that a check of this text prints, and the instance and the amounts where it is a certified text."""
+    """The line that a check of this text prints, and the instance and the amounts if it has them."""
     try:
         instance, amounts, flags, levels = read_certified(text)
     except Refused as refused:
@@ -267,7 +298,8 @@ class Group:
     """A group of a script's host."""
 
     def __init__(self, path):
-        self.path, self.weight, self.quota, self.period, self.burst, self.demand, self.carry = path, 100, None, 100000, 0, 0, 0
+        self.path, self.weight, self.quota, self.period, self.burst = path, 100, None, 100000, 0
+        self.demand = self.carry = 0
         self.usage = self.periods = self.throttled = self.withheld = 0
 
 
@@ -286,9 +318,11 @@ class Host:
         return micros * period // (group.period * slice_us)
 
     def instance(self):
-        places, rows = {group.path: number for number, group in enumerate(self.groups)}, []
+        places = {group.path: number for number, group in enumerate(self.groups)}
+        rows = []
         for group in self.groups:
-            parent = None if group.path == "." else places[group.path.rpartition("/")[0] or "."]
+            above = group.path.rpartition("/")[0] or "."
+            parent = None if group.path == "." else places[above]
             limit = None
             if group.quota is not None:
                 quota = self.slices(group, group.quota)
@@ -316,23 +350,27 @@ class Host:
     def write(self, path, file, first, second=None):
         group = self.group(path)
         if file == "cpu.max":
-            group.quota, group.period = None if first == "max" else int(first), int(second or group.period)
+            group.quota = None if first == "max" else int(first)
+            group.period = int(second or group.period)
         else:
             setattr(group, "weight" if file == "cpu.weight" else "burst", int(first))
         return "ok\n"
 
     def total(self):
         limiting, rest = self.instance().total()
+        total = sum(limit for _, limit in limiting) + rest
         lines = [f"limit {limit} {self.groups[number].path}\n" for number, limit in limiting]
-        return "".join([f"total {sum(limit for _, limit in limiting) + rest}\n", *lines, f"demand {rest}\n"])
+        return "".join([f"total {total}\n", *lines, f"demand {rest}\n"])
 
     def plan(self):
-        return "".join(f"{amount} {group.path}\n" for amount, group in zip(self.instance().plan(), self.groups))
+        amounts = self.instance().plan()
+        return "".join(f"{amount} {group.path}\n" for amount, group in zip(amounts, self.groups))
 
     def cert(self):
         instance = self.instance()
         amounts = instance.plan()
-        return certified_text(self.numbers, instance, amounts, *instance.certificate(amounts)).decode()
+        certificate = instance.certificate(amounts)
+        return certified_text(self.numbers, instance, amounts, *certificate).decode()
 
     def period(self):
         instance, slice_us = self.instance(), self.numbers[2]
@@ -349,5 +387,6 @@ class Host:
     def report(self):
         lines = ["          usage_usec    periods  throttled       throttled_usec group\n"]
         for group in self.groups:
-            lines.append("%20d %10d %10d %20d" % (group.usage, group.periods, group.throttled, group.withheld) + f" {group.path}\n")
+            counts = (group.usage, group.periods, group.throttled, group.withheld)
+            lines.append("%20d %10d %10d %20d" % counts + f" {group.path}\n")
         return "".join(lines)

@@ -13,6 +13,8 @@ def pytest_addoption(parser):
                     help="native program under test (default: the one that ./build makes)")
     group.addoption("--library", metavar="PATH", default=support.LIBRARY,
                     help="shared C library under test, libarbiter.so, with libarbiter.a beside it")
+    group.addoption("--memory-tests", metavar="PATH", default=support.MEMORY_TESTS,
+                    help="program of tests that repeat each call that was refused memory")
     group.addoption("--write", action="store_true",
                     help="put the program's answers into the pages of docs/, to be read by hand")
 

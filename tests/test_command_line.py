@@ -4,6 +4,7 @@ Proofs speak of readers and writers. These tests show the program itself on real
 devices.
 """
 import os
+import re
 import time
 
 import pytest
@@ -57,6 +58,12 @@ burst_usec 0
 TWO_CERTIFIED = CERTIFIED["two groups"]
 
 
+# All options, and words behind them.
+ALL_OPTIONS = ["run", "--processors", "2", "--period", "100000", "--slice", "5000"]
+EIGHT_WORDS = [*ALL_OPTIONS, "frob"]
+TEN_WORDS = [*ALL_OPTIONS, "--processors", "3", "frob"]
+
+
 class Part(bytes):
     """A part of a longer text, such as a help text."""
 
@@ -96,7 +103,10 @@ CASES = [
     ("help has the exit statuses", ["--help"], b"", Part(b"  3  the certified text was refused\n"), b"", 0),
     ("help of run", ["run", "--help"], b"", Part(b"--processors"), b"", 0),
     ("help of run has the commands", ["run", "--help"], b"", Part(b"  write P FILE TEXT   FILE is cpu.weight, cpu.max or cpu.max.burst\n"), b"", 0),
-    ("version", ["--version"], b"", Part(b"arbiter"), b"", 0),
+    ("eight words, the last one too many", EIGHT_WORDS, b"total\n", b"", Part(b"frob"), 2),
+    ("ten words, an option twice and one too many", TEN_WORDS, b"total\n", b"", Part(b"arbiter"), 2),
+    ("an option twice", ["run", "--slice", "1000", "--slice", "1000"], b"total\n", b"", Part(b"arbiter"), 2),
+    ("an option twice, the second one bad", ["run", "--slice", "1000", "--slice", "999"], b"total\n", b"", Part(b"arbiter"), 2),
 ]
 
 
@@ -114,6 +124,16 @@ def ends_as(ended, out, err, status, what):
                          ids=[row[0] for row in CASES])
 def test_words_and_answers(command, words, given, out, err, status):
     ends_as(command.run(words, given), out, err, status, words)
+
+
+def test_version(command):
+    """The version is that of the one constant in the code."""
+    sources = sorted((ROOT / "crates/bw_words/src").rglob("*.rt"))
+    text = "".join(path.read_text(encoding="utf-8") for path in sources)
+    versions = re.findall(r'\bconst VERSION: &(?:\'static )?str = "([^"]+)";', text)
+    same(len(versions), 1, "constants VERSION in crates/bw_words/src")
+    assert re.fullmatch(r"\d+\.\d+\.\d+", versions[0]), versions
+    same(command.run(["--version"]), (0, f"arbiter {versions[0]}\n".encode(), b""))
 
 
 JOBS = [("run", TWO_GROUPS), ("check", TWO_CERTIFIED)]

@@ -3,168 +3,198 @@
 
 usage: wrong_bodies.py CLONE [NAME..]     tries all bodies of tests/wrong_bodies, or those named
 
-CLONE is made from this repository where it is not there; what is proved in it is kept for the next body. A body is a
-file of lines:
+CLONE is made from this repository if it does not exist. What is proved in it is kept for the next
+body. A body is a file of lines:
 
   what: the wrong body in a sentence
   by: the clause or test that refuses it
   check: CRATE PATH..     `rt check --only PATH ..` in crates/CRATE has to end with status 1, or
   try: CRATE              `rt try --test` in crates/CRATE has to fail, or
-  cases: FILE..           the body is proved, and of `./build` and files of cases in tests/ one of the files has to fail, or
-  run: WORDS..            the program, built with checks and not proved, is given the words and the lines that follow
+  tests: FILE..           the body is proved, and after `./build` a test of these files of tests/
+                          has to fail, or
+  run: WORDS..            the program, built with checks and not proved, is given the words and the
+                          lines that follow
   in: LINE                a line of its standard input
-  says: TEXT              stands in what it says with the body, and not without it
+  says: TEXT              a line that it prints with the body, and not without it
   file: PATH              what follows changes this file
-  old: TEXT               stands there exactly once (space at both ends is not a part of it)
+  old: TEXT               a text that the file has exactly once, without space at its ends
   new: TEXT               the wrong body, in its place
-  neutral: TEXT           a right body in the same place, which has to be proved or to pass (optional)
+  neutral: TEXT           a right body in the same place, which has to be proved or to pass; this
+                          line can be left out
 
-It is no part of ./test: a body costs from ten seconds to two minutes, one with a build some minutes.
+A body costs from ten seconds to two minutes, one with a build some minutes. ./test does not run it.
 """
+import argparse
 import os
 import signal
 import subprocess
 import sys
+from dataclasses import dataclass
 from pathlib import Path
+from typing import Optional
 
 HERE = Path(__file__).resolve().parent
 BODIES = HERE / "wrong_bodies"
-# A build of all crates on a loaded machine takes most of an hour.
+# Time limit of a command, in seconds. On a busy machine a build of all crates takes most of an
+# hour.
 SECONDS = 5400
+# The status of a command that judged nothing.
+NO_VERDICT = 2
+# Words that begin the lines of a first open goal or of a failed test.
+MARKS = ("did not prove", "not proved that", "FAILED", "failed", "error", "goal")
+
+
+@dataclass
+class Edit:
+    """One change of a file."""
+
+    file: str
+    old: str
+    new: str = ""
+    neutral: Optional[str] = None
 
 
 class Body:
-    def __init__(self, path):
+    """A wrong body, as its file describes it."""
+
+    def __init__(self, path: Path):
         self.name = path.stem
-        self.what = self.by = ""
-        self.kind, self.words = "", []
-        self.lines, self.says = [], ""
-        self.edits = []
-        file = None
-        for line in path.read_text().splitlines():
+        self.what = self.by = self.kind = self.says = ""
+        self.words, self.lines, self.edits = [], [], []
+        file = ""
+        for line in path.read_text(encoding="utf-8").splitlines():
             word, _, rest = line.partition(":")
             rest = rest.strip()
-            if word == "what":
-                self.what = rest
-            elif word == "by":
-                self.by = rest
-            elif word in ("check", "try", "cases", "run"):
+            if word in ("what", "by", "says"):
+                setattr(self, word, rest)
+            elif word in ("check", "try", "tests", "run"):
                 self.kind, self.words = word, rest.split()
             elif word == "in":
                 self.lines.append(rest)
-            elif word == "says":
-                self.says = rest
             elif word == "file":
                 file = rest
             elif word == "old":
-                self.edits.append({"file": file, "old": rest, "new": "", "neutral": None})
+                self.edits.append(Edit(file, rest))
             elif word in ("new", "neutral"):
-                self.edits[-1][word] = rest
+                setattr(self.edits[-1], word, rest)
             elif line.strip():
-                raise SystemExit(f"{path.name}: what is '{line}'?")
+                raise SystemExit(f"{path.name}: unknown line '{line}'")
         if not (self.kind and self.edits):
             raise SystemExit(f"{path.name}: no command or no change")
 
-    def has_neutral(self):
-        # what a run says is told wrong by what it says without the body
-        return self.kind == "run" or any(edit["neutral"] is not None for edit in self.edits)
+    def has_neutral(self) -> bool:
+        """Whether a right body is tried, too. A run is compared with one of the right program."""
+        return self.kind == "run" or any(edit.neutral is not None for edit in self.edits)
 
 
-def changed(clone, body, key):
-    """The texts of the body's files with its changes, by their paths."""
+def changed_files(clone: Path, body: Body, kind: str) -> dict:
+    """The texts of the body's files with its changes, `new` or `neutral` ones, by their paths."""
     texts = {}
     for edit in body.edits:
-        path = clone / edit["file"]
-        text = texts.get(path) or path.read_text()
-        if text.count(edit["old"]) != 1:
-            raise SystemExit(f"{body.name}: '{edit['old']}' stands {text.count(edit['old'])} times in {edit['file']}")
-        new = edit[key] if edit[key] is not None else edit["old"]
-        texts[path] = text.replace(edit["old"], new)
+        path = clone / edit.file
+        text = texts.get(path) or path.read_text(encoding="utf-8")
+        count = text.count(edit.old)
+        if count != 1:
+            raise SystemExit(f"{body.name}: {edit.file} has '{edit.old}' {count} times")
+        change = getattr(edit, kind)
+        texts[path] = text.replace(edit.old, edit.old if change is None else change)
     return texts
 
 
-def run(clone, body):
-    """The status of the body's command, and what it said."""
+def command_of(body: Body):
+    """The command of a body, and the folder in which it runs."""
     if body.kind == "check":
-        command = ["rt", "check"]
-        for path in body.words[1:]:
-            command += ["--only", path]
-        folder = clone / "crates" / body.words[0]
-    elif body.kind == "try":
-        command = ["rt", "try", "--test"]
-        folder = clone / "crates" / body.words[0]
-    elif body.kind == "run":
-        command = ["rt", "try", "--", *body.words]
-        folder = clone / "crates" / "arbiter"
-    else:
-        command = ["bash", "-c", "./build || exit 2; " + " && ".join(f"python3 tests/{file}" for file in body.words)]
-        folder = clone
+        only = [word for path in body.words[1:] for word in ("--only", path)]
+        return ["rt", "check", *only], f"crates/{body.words[0]}"
+    if body.kind == "try":
+        return ["rt", "try", "--test"], f"crates/{body.words[0]}"
+    if body.kind == "run":
+        return ["rt", "try", "--", *body.words], "crates/arbiter"
+    files = " ".join(f"tests/{file}" for file in body.words)
+    pytest = f"/usr/bin/python3 -m pytest -q {files}"
+    return ["bash", "-c", f"./build || exit {NO_VERDICT}; {pytest}"], "."
+
+
+def run(clone: Path, body: Body):
+    """The status of the body's command, and its output. 0: nothing was refused."""
+    command, folder = command_of(body)
     lines = "".join(f"{line}\n" for line in body.lines).encode()
     # in a process group of its own, so that what it started ends with it
-    with subprocess.Popen(command, cwd=folder, stdin=subprocess.PIPE, stdout=subprocess.PIPE, stderr=subprocess.STDOUT, start_new_session=True) as talk:
+    options = {"stdin": subprocess.PIPE, "stdout": subprocess.PIPE, "stderr": subprocess.STDOUT,
+               "cwd": clone / folder, "start_new_session": True}
+    with subprocess.Popen(command, **options) as process:
         try:
-            said = talk.communicate(lines, timeout=SECONDS)[0].decode(errors="replace")
+            output = process.communicate(lines, timeout=SECONDS)[0].decode(errors="replace")
         except subprocess.TimeoutExpired:
-            os.killpg(talk.pid, signal.SIGKILL)
-            talk.communicate()
-            return 2, f"error: no end in {SECONDS} seconds"
+            os.killpg(process.pid, signal.SIGKILL)
+            process.communicate()
+            return NO_VERDICT, f"error: no end in {SECONDS} seconds"
     if body.kind == "run":
-        if "checked: ended" not in said:
-            return 2, said
-        return int(body.says in said.splitlines()), said
-    return talk.returncode, said
+        if "checked: ended" not in output:
+            return NO_VERDICT, output
+        return int(body.says in output.splitlines()), output
+    return process.returncode, output
 
 
-def tried(clone, body, key):
-    texts = changed(clone, body, key)
-    kept = {path: path.read_text() for path in texts}
+def run_changed(clone: Path, body: Body, kind: str):
+    """Runs the body's command on its changed files, and puts the files back."""
+    texts = changed_files(clone, body, kind)
+    kept = {path: path.read_text(encoding="utf-8") for path in texts}
     try:
         for path, text in texts.items():
-            path.write_text(text)
+            path.write_text(text, encoding="utf-8")
         return run(clone, body)
     finally:
         for path, text in kept.items():
-            path.write_text(text)
+            path.write_text(text, encoding="utf-8")
 
 
-def first_goal(said):
+def is_refused(body: Body, status: int) -> bool:
+    """Whether the status says that the body is refused."""
+    # tests of a crate that fail can end in other ways than with 1
+    return status not in (0, NO_VERDICT) if body.kind == "try" else status == 1
+
+
+def first_goal(output: str) -> str:
+    """The line of the output that says most of the reason."""
     # the lines of what macros write name `thiserror`
-    lines = [line.strip() for line in said.splitlines() if not line.startswith("by-macro:")]
-    for mark in ("did not prove", "not proved that", "FAILED", "failed", "error", "goal"):
-        for line in lines:
-            if mark in line:
-                return line[:150]
-    return ""
+    lines = [line.strip() for line in output.splitlines() if not line.startswith("by-macro:")]
+    return next((line[:150] for mark in MARKS for line in lines if mark in line), "")
+
+
+def judge(clone: Path, body: Body, neutral_runs: dict):
+    """Whether a body is refused and a right one in its place is not, the status, and a remark."""
+    status, output = run_changed(clone, body, "new")
+    refused, remark = is_refused(body, status), first_goal(output)
+    if refused and body.has_neutral():
+        # several bodies are compared with one run of the unchanged program
+        key = (*body.words, *body.lines, body.says) if body.kind == "run" else body.name
+        if key not in neutral_runs:
+            neutral_runs[key] = run_changed(clone, body, "neutral")
+        neutral, output = neutral_runs[key]
+        if neutral != 0:
+            reason = first_goal(output)
+            return False, status, f"a neutral body is refused too ({neutral}): {reason}"
+    return refused, status, remark
 
 
 def main():
-    if len(sys.argv) < 2:
-        raise SystemExit(__doc__)
-    clone = Path(sys.argv[1]).resolve()
+    parser = argparse.ArgumentParser(description=__doc__.partition("\n")[0])
+    parser.add_argument("clone", metavar="CLONE", type=Path, help="scratch clone, made if needed")
+    parser.add_argument("names", metavar="NAME", nargs="*", help="body of tests/wrong_bodies")
+    options = parser.parse_args()
+    clone = options.clone.resolve()
     if not clone.exists():
         subprocess.run(["git", "clone", "-q", str(HERE.parent), str(clone)], check=True)
-    paths = sorted(BODIES.glob("*.body"))
-    if len(sys.argv) > 2:
-        paths = [BODIES / f"{name}.body" for name in sys.argv[2:]]
+    named = [BODIES / f"{name}.body" for name in options.names]
     passed = failed = 0
-    # what the program as it stands says to the words and lines of a run
-    runs = {}
-    for path in paths:
+    neutral_runs = {}
+    for path in named or sorted(BODIES.glob("*.body")):
         body = Body(path)
-        status, said = tried(clone, body, "new")
-        # status 1 is 'not proved' of a check, and a wrong answer of a run; a test that fails may end in other ways, but never
-        # in 2 ('judged nothing')
-        right = status == 1 if body.kind in ("check", "run") else status not in (0, 2)
-        note = first_goal(said)
-        if right and body.has_neutral():
-            asked = (*body.words, *body.lines, body.says) if body.kind == "run" else body.name
-            if asked not in runs:
-                runs[asked] = tried(clone, body, "neutral")
-            neutral, said = runs[asked]
-            if neutral != 0:
-                right, note = False, f"a neutral body is refused too ({neutral}): {first_goal(said)}"
-        passed, failed = (passed + 1, failed) if right else (passed, failed + 1)
-        print(f"{'ok' if right else 'FAILED'}: {body.name}: {body.what}: status {status}, by {body.by}: {note}", flush=True)
+        right, status, remark = judge(clone, body, neutral_runs)
+        passed, failed = passed + right, failed + (not right)
+        verdict = f"{'ok' if right else 'FAILED'}: {body.name}: {body.what}"
+        print(f"{verdict}: status {status}, by {body.by}: {remark}", flush=True)
     print(f"{passed} passed, {failed} failed")
     sys.exit(failed > 0)
 
