@@ -38,7 +38,7 @@ def pytest_generate_tests(metafunc):
 
 
 class Sweeps:
-    """The sweeps of a program's tests, each made once."""
+    """The sweeps of a program's tests, each run once."""
 
     def __init__(self, path, refusing):
         self.program, self.refusing, self.found = Program(path), refusing, {}
@@ -48,11 +48,11 @@ class Sweeps:
         if name not in self.found:
             ended, letters = refused_run(self.program, self.refusing, [name], b"", TELL_ALL=1)
             same(ended, PASSED, "without a refusal")
-            made = letters.count(b"m")
-            others = range(FIRST + 1, made + 1)
-            numbers = [*range(1, min(FIRST, made) + 1), *others[::max(1, len(others) // SPREAD)]]
+            count = letters.count(b"m")
+            others = range(FIRST + 1, count + 1)
+            numbers = [*range(1, min(FIRST, count) + 1), *others[::max(1, len(others) // SPREAD)]]
             runs = refused_each(self.program, self.refusing, [name], b"", numbers)
-            self.found[name] = (runs, made)
+            self.found[name] = (runs, count)
         return self.found[name]
 
 
@@ -65,9 +65,9 @@ def sweeps(request, refusing):
 
 
 def test_each_allocation_refused(sweeps, memory_test):
-    runs, made = sweeps.of(memory_test)
+    runs, count = sweeps.of(memory_test)
     wrong = {number: ended for number, ended in sorted(runs.items()) if ended != PASSED}
-    print(f"{memory_test}: {len(runs)} of {made} allocations refused")
+    print(f"{memory_test}: {len(runs)} of {count} allocations refused")
     for number, ended in wrong.items():
         same(ended, PASSED, f"{len(wrong)} of {len(runs)} runs, the first with allocation {number}")
 
@@ -75,6 +75,6 @@ def test_each_allocation_refused(sweeps, memory_test):
 def test_enough_allocations_refused(sweeps):
     names = names_in(sweeps.program.path)
     refused = sum(len(sweeps.of(name)[0]) for name in names)
-    made = sum(sweeps.of(name)[1] for name in names)
-    print(f"{len(names)} tests, {refused} of {made} allocations refused")
+    count = sum(sweeps.of(name)[1] for name in names)
+    print(f"{len(names)} tests, {refused} of {count} allocations refused")
     assert refused >= LEAST_REFUSED

@@ -147,12 +147,12 @@ def test_run(program, refusing, name):
 def test_plan_in_pieces(program, refusing):
     """The plan of the wide tree, some of its allocations refused: it answers 71, or the same."""
     words = ["run", *WIDE_HOST]
-    made = "".join(f"mkdir {path}\n" for path in ["g0", "g1", *WIDE_LEAVES])
-    made += "".join(f"demand {leaf} 20\n" for leaf in WIDE_LEAVES)
+    tree = "".join(f"mkdir {path}\n" for path in ["g0", "g1", *WIDE_LEAVES])
+    tree += "".join(f"demand {leaf} 20\n" for leaf in WIDE_LEAVES)
     plan = "64000 .\n32000 g0\n32000 g1\n"
     plan += "".join(f"{16 if at < 2560 else 15} {leaf}\n" for at, leaf in enumerate(WIDE_LEAVES))
-    before, script = made.encode(), made.encode() + b"plan\n"
-    answers = b"ok\n" * made.count("\n")
+    before, script = tree.encode(), tree.encode() + b"plan\n"
+    answers = b"ok\n" * tree.count("\n")
     same(program.run(words, script), (0, answers + plan.encode(), b""))
     first, last = [refused_run(program, refusing, words, lines, TELL_ALL=1)[1].count(b"m")
                    for lines in (before, script)]

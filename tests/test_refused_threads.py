@@ -209,7 +209,7 @@ def chain_and_pairs():
     return script + "plan\n", "ok\n" * script.count("\n") + plan
 
 
-@pytest.mark.parametrize("starts", ["made", "refused"])
+@pytest.mark.parametrize("starts", ["started", "refused"])
 def test_chain_beside_pairs(program, refusing, starts):
     """The plan of a deep and wide tree, by several threads, and with all their starts refused."""
     script, answers = chain_and_pairs()
