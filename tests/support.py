@@ -61,6 +61,10 @@ def difference(found, wanted) -> str:
         begin = max(0, at - 20)
         where = f" from {begin} on" if begin else ""
         return f"{found[begin:at + 200]!r} and not {wanted[begin:at + 200]!r}{where}"
+    if isinstance(found, list) and isinstance(wanted, list):
+        length = min(len(found), len(wanted))
+        at = next((at for at in range(length) if found[at] != wanted[at]), length)
+        return f"from item {at} on {str(found[at:])[:200]} and not {str(wanted[at:])[:200]}"
     return f"{str(found)[:300]} and not {str(wanted)[:300]}"
 
 
