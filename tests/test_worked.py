@@ -257,6 +257,19 @@ def test_two_periods_of_a_full_tree_of_limits(program):
     answers_each(program, FOUR_PROCESSORS, encoded(lines))
 
 
+def test_answers_above_4_mib(program):
+    """A plan and a report of 16383 groups with names of 255 bytes, each longer than 4 MiB."""
+    names = [f"{number:05}" + "n" * 250 for number in range(16383)]
+    plan = "\n".join(f"{amount} {path}" for path, amount in [(".", 1), (names[0], 1)])
+    plan += "".join(f"\n0 {name}" for name in names[1:])
+    groups = [(".", 5000, 1, 0, 0), (names[0], 5000, 1, 0, 0)]
+    whole = report(groups + [(name, 0, 1, 0, 0) for name in names[1:]])
+    assert len(plan) > 2**22 and len(whole) > 2**22
+    lines = [(f"mkdir {name}", "ok") for name in names] + [(f"demand {names[0]} 1", "ok")]
+    lines += [("plan", plan), ("period", "served 1"), ("report", whole)]
+    answers_each(program, [], encoded(lines))
+
+
 def test_limits_above_10_to_the_15(program):
     """A quota of 10^15 slices with as large a burst: after a period the limit is nearly twice it.
 
