@@ -1,0 +1,281 @@
+"""README, docs/ and the other pages at the top, held to the sources and to the rules of prose.
+
+What the pages' scripts and commands print is held by test_documents.py; README's is held here.
+"""
+import os
+import re
+import shutil
+import subprocess
+from pathlib import Path
+
+import pytest
+
+import support
+from support import ROOT, run, same
+
+TOP_PAGES = ["README.md", "CONTRIBUTING.md", "CHANGELOG.md"]
+PAGES = TOP_PAGES + [f"docs/{path.name}" for path in sorted((ROOT / "docs").glob("*.md"))]
+# Pages without a sentence of more than 30 words. Of others one in 50 may be longer.
+SHORT = ("README.md", "docs/ARCHITECTURE.md", "docs/USING.md")
+GREATEST_WORDS = 30
+# Pages whose references to clauses and definitions are held to the sources.
+REFERRING = ("docs/PROVED.md", "docs/ARCHITECTURE.md")
+REFERENCE = re.compile(r"`(?:(\w+)/)?((?:\w+/)*\w+\.(rt|antt)):(\w+)(?:\.(\w+))?`(?: of (\w+))?")
+LINK = re.compile(r"\]\(([^)#\s]+)(#[^)]*)?\)")
+# A heading of another page: [USING.md](USING.md), 'The files'
+HEADING = re.compile(r"\]\(([^)#\s]+\.md)\), '((?:[^'\"]|\"[^\"]*\")+)'")
+
+
+def text_of(page: str) -> str:
+    return (ROOT / page).read_text(encoding="utf-8")
+
+
+def crates() -> list:
+    """The crates of crates.txt."""
+    lines = text_of("crates.txt").splitlines()
+    return [line.split(":")[0].split()[0] for line in lines if line and not line.startswith("#")]
+
+
+# Links
+
+
+@pytest.mark.parametrize("page", PAGES)
+def test_links(page):
+    """Each file that a page points to is there."""
+    for target, _ in LINK.findall(text_of(page)):
+        if "://" not in target:
+            assert ((ROOT / page).parent / target).exists(), target
+
+
+@pytest.mark.parametrize("page", PAGES)
+def test_headings(page):
+    """Each heading of another page that a page names is there."""
+    for target, heading in HEADING.findall(text_of(page)):
+        found = ((ROOT / page).parent / target).read_text(encoding="utf-8")
+        assert re.search(rf"^#+ {re.escape(heading)}$", found, re.M), f"{target}, '{heading}'"
+
+
+def test_pages_that_are_named():
+    """Each page that any file of the repository names is there."""
+    words = ["git", "grep", "-ohIE", r"\bdocs/[A-Z]+\.md\b"]
+    ended = run(words, cwd=ROOT)
+    same((ended.status, ended.err), (0, b""), "git grep")
+    named = set(ended.out.decode().split())
+    assert len(named) > 10
+    same(sorted(page for page in named if not (ROOT / page).exists()), [], "pages that are not")
+
+
+# Clauses and definitions
+
+
+def function_clauses(text: str, name: str) -> list:
+    """The labels of the clauses of each function of this name: "" for one without a label."""
+    lines, found = text.splitlines(), []
+    for at, line in enumerate(lines):
+        head = re.match(rf'( *)(?:pub(?:\(\w+\))? )?(?:[\w"]+ )*fn {name}\b', line)
+        if head is None:
+            continue
+        # The contract is indented. Its end is the brace of the body, or the next item.
+        ends = re.compile(rf" {{0,{len(head[1])}}}[^ )]")
+        labels = []
+        for later in [] if line.endswith("{") else lines[at + 1:]:
+            if ends.match(later):
+                break
+            labels += re.findall(r"^ *ensures(?: (\w+))? \{", later)
+        found.append(labels)
+    return found
+
+
+def is_in_code(text: str, name: str, clause: str) -> bool:
+    """Whether a function of this name has a clause of this label, or one clause if none is given."""
+    contracts = function_clauses(text, name)
+    if clause:
+        return any(clause in labels for labels in contracts)
+    return any(labels == [""] for labels in contracts)
+
+
+def is_in_specs(text: str, name: str, field: str) -> bool:
+    """Whether a name is defined, and a record of that name has the field."""
+    words = r"(?:pub |unfoldable |foldable |abbrev |record |data )*"
+    head = re.search(rf"^ *{words}{name}\b[^=\n]*(?::|where)", text, re.M)
+    if head is None or not field:
+        return head is not None
+    block = re.split(r"^\S", text[head.end():], maxsplit=1, flags=re.M)[0]
+    return re.search(rf"^ +(?:pub )?{field} *:", block, re.M) is not None
+
+
+def references(page: str) -> list:
+    """The references of a page: crate, file, kind of file, name, clause or field, and as written."""
+    crate, found = "", []
+    known = crates()
+    for line in text_of(page).splitlines():
+        if line.startswith("## "):
+            crate = line[3:].strip()
+        for match in REFERENCE.finditer(line):
+            first, file, kind, name, clause, other = match.groups()
+            if first and first not in known:
+                first, file = "", f"{first}/{file}"
+            found.append((first or other or crate, file, kind, name, clause, match.group()))
+    return found
+
+
+def is_there(crate, file, kind, name, clause) -> bool:
+    """Whether a reference has its clause or definition. A function without a label has one clause."""
+    path = ROOT / "crates" / crate / ("src" if kind == "rt" else "specs") / file
+    if not path.is_file():
+        return False
+    text = path.read_text(encoding="utf-8")
+    return (is_in_code if kind == "rt" else is_in_specs)(text, name, clause)
+
+
+def is_function(crate, file, kind, name, clause) -> bool:
+    """Whether a reference without a label names a function."""
+    path = ROOT / "crates" / crate / "src" / file
+    return kind == "rt" and not clause and path.is_file() and bool(
+        function_clauses(path.read_text(encoding="utf-8"), name))
+
+
+@pytest.mark.parametrize("page", REFERRING)
+def test_references(page):
+    """Each clause and each definition that a page names is in the file that it names."""
+    found = references(page)
+    assert len(found) >= 40
+    wrong = [(reference[0], reference[-1]) for reference in found
+             if not is_there(*reference[:-1])
+             and not (page == "docs/ARCHITECTURE.md" and is_function(*reference[:-1]))]
+    same(wrong, [], "references to nothing")
+
+
+def test_files_of_rules():
+    """Each lemma file, wrong body and file of cases that ARCHITECTURE names is there."""
+    text = text_of("docs/ARCHITECTURE.md")
+    proofs = re.findall(r"`(\w+/proofs/(?:\w+/)*\w+\.antt)`", text)
+    assert len(proofs) >= 20
+    same([path for path in proofs if not (ROOT / "crates" / path).exists()], [], "lemma files")
+    others = re.findall(r"`(\w+\.(?:edit|body|txt))`", text)
+    there = {"crates.txt"} | {path.name for folder in ("must-fail", "wrong_bodies", "worked")
+             for path in [*ROOT.glob(f"crates/*/{folder}/*"), *ROOT.glob(f"tests/{folder}/*")]}
+    assert len(others) >= 20
+    same([name for name in others if name not in there], [], "wrong bodies and cases")
+
+
+def test_references_are_refused():
+    """The check of a reference tells what is there from what is not."""
+    assert is_there("bw_check", "lib.rt", "rt", "check", "plan")
+    assert is_there("bw_model", "Plan.antt", "antt", "IsPlan", "best")
+    assert not is_there("bw_check", "lib.rt", "rt", "check", None)
+    assert not is_there("bw_check", "lib.rt", "rt", "check", "plans")
+    assert not is_there("bw_check", "lib.rt", "rt", "checks", "plan")
+    assert not is_there("bw_model", "Plan.antt", "antt", "IsPlan", "worst")
+    assert not is_there("bw_model", "Plan.antt", "antt", "IsPlans", None)
+    assert not is_there("bw_model", "Planned.antt", "antt", "IsPlan", None)
+
+
+def test_each_crate_is_described():
+    """PROVED has a section for each crate, or names it in bold. ARCHITECTURE names each crate."""
+    proved, architecture = text_of("docs/PROVED.md"), text_of("docs/ARCHITECTURE.md")
+    for crate in crates():
+        assert f"\n## {crate}\n" in proved or f"**{crate}**" in proved, crate
+        assert re.search(rf"\b{crate}\b", architecture), crate
+
+
+def test_proofs_are_listed():
+    """PROOFS is what its script prints."""
+    same(run([ROOT / "scripts/proofs"]).out.decode(), text_of("docs/PROOFS.md"), "scripts/proofs")
+
+
+# Prose
+
+
+def blocks_of_prose(text: str) -> list:
+    """Paragraphs and items of lists, without code, tables and headings."""
+    text = re.sub(r"^```.*?^```$", "", text, flags=re.M | re.S)
+    blocks, now = [], []
+    for line in [*text.splitlines(), ""]:
+        line = re.sub(r"^ *>", "", line)
+        is_item = re.match(r" *(?:[-*]|\d+\.) ", line)
+        if not line.strip() or is_item or re.match(r"#|\||    |!\[", line):
+            blocks.append(" ".join(now))
+            now = [line[is_item.end():]] if is_item else []
+        else:
+            now.append(line.strip())
+    return [block for block in blocks if block.strip()]
+
+
+def sentences(text: str) -> list:
+    """The sentences of a page. What stands in backquotes is one word."""
+    found = []
+    for block in blocks_of_prose(text):
+        block = re.sub(r"\[([^\]]*)\]\([^)]*\)", r"\1", re.sub(r"`[^`]+`", "CODE", block))
+        block = block.replace("**", "").replace(" .. ", " ")
+        found += re.split(r"(?<=[.!?])['\")]*\s+(?=[A-Z0-9'\"(])", block)
+    return [sentence for sentence in found if sentence.strip()]
+
+
+def long_sentences(page: str) -> list:
+    words = re.compile(r"[\w][\w'.,/^-]*")
+    return [each for each in sentences(text_of(page)) if len(words.findall(each)) > GREATEST_WORDS]
+
+
+@pytest.mark.parametrize("page", SHORT)
+def test_sentences_are_short(page):
+    """No sentence of the pages for newcomers has more than 30 words."""
+    same(long_sentences(page), [], "long sentences")
+
+
+def test_few_sentences_are_long():
+    """Of the sentences of all other pages fewer than one in 50 has more than 30 words."""
+    others = [page for page in PAGES if page not in SHORT]
+    long = [(page, each) for page in others for each in long_sentences(page)]
+    count = sum(len(sentences(text_of(page))) for page in others)
+    assert 50 * len(long) < count, f"{len(long)} of {count}: {long}"
+
+
+def test_long_sentence_is_found():
+    text = "A short one.\n\n- " + "word " * 31 + "end. Another.\n\n| a table | " + "word " * 40 + "|\n"
+    same([len(each.split()) for each in sentences(text)], [3, 32, 1], "words")
+
+
+# README
+
+
+def test_readme_is_short():
+    text = text_of("README.md")
+    assert text.count("\n") <= 130
+    assert len(text.encode()) <= 8192
+
+
+def readme_commands() -> list:
+    """The commands of README with their answers."""
+    return re.findall(r"^```command\n(.*?)^```\n\n```answer\n(.*?)^```$", text_of("README.md"), re.M | re.S)
+
+
+@pytest.fixture(scope="module")
+def fresh(tmp_path_factory, program) -> Path:
+    """The files of the repository as they are after a clone, with the native program if it is ours."""
+    folder = tmp_path_factory.mktemp("fresh")
+    words = ["git", "ls-files", "-z", "--cached", "--others", "--exclude-standard"]
+    names = subprocess.run(words, cwd=ROOT, check=True, stdout=subprocess.PIPE).stdout
+    for name in names.decode().split("\0"):
+        if name and (ROOT / name).is_file():
+            (folder / name).parent.mkdir(parents=True, exist_ok=True)
+            shutil.copy(ROOT / name, folder / name)
+    if program.path == str(support.PROGRAM.resolve()):
+        out = support.PROGRAM.parent
+        shutil.copytree(out, folder / out.relative_to(ROOT))
+    else:
+        (folder / "arbiter").unlink()
+        (folder / "arbiter").symlink_to(program.path)
+    return folder
+
+
+@pytest.mark.parametrize("command, answer", readme_commands(), ids=lambda text: text.split("\n")[0])
+def test_readme_command(fresh, command, answer):
+    """A command of README in a fresh clone, in an environment of PATH and HOME alone."""
+    environment = {"PATH": os.environ["PATH"], "HOME": str(fresh.parent)}
+    ended = run(["bash", "-c", command], cwd=fresh, env=environment)
+    same(ended, (0, answer.encode(), b""), command.split("\n")[0])
+
+
+def test_readme_has_commands():
+    assert len(readme_commands()) >= 2
