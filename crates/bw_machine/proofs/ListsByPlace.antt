@@ -1,22 +1,26 @@
 -- Lists by place.
-use Rattle.std.proofs.Common.{◌≡◌, ◌≢◌, ℕ, zero, suc, ◌+◌, ◌<◌, List, [], ◌∷◌, ◌++◌, length, take, map, replicate, Bool, true, false, cond, Some, set}
+use Rattle.std.proofs.Common.{◌≡◌, ◌≢◌, ℕ, zero, suc, ◌+◌, ◌<◌, List, [], ◌∷◌, ◌++◌, length, take}
+use Rattle.std.proofs.Common.{map, replicate, Bool, true, false, cond, Some, set}
 use Rattle.std.proofs.Common.{slice_get, refl, ap, arith}
 use Rattle.std.proofs.lemmas.List.Sums.{sum_by-cons}
 use Rattle.std.specs.List.{count_by}
 
-pub get_same : {X : Type 0} (xs : List X) (i : ℕ) (x y : X) → slice_get xs i ≡ Some x → slice_get (set xs i y) i ≡ Some y
+pub get_same : {X : Type 0} (xs : List X) (i : ℕ) (x y : X) → slice_get xs i ≡ Some x
+    → slice_get (set xs i y) i ≡ Some y
 get_same [] i x y is = absurd (cc is)
 get_same (z ∷ xs) zero x y is = refl
 get_same (z ∷ xs) (suc i) x y is = get_same xs i x y is
 
-pub get_other : {X : Type 0} (xs : List X) (i j : ℕ) (y : X) → j ≢ i → slice_get (set xs i y) j ≡ slice_get xs j
+pub get_other : {X : Type 0} (xs : List X) (i j : ℕ) (y : X) → j ≢ i
+    → slice_get (set xs i y) j ≡ slice_get xs j
 get_other [] i j y ne = refl
 get_other (z ∷ xs) zero zero y ne = absurd (ne refl)
 get_other (z ∷ xs) zero (suc j) y ne = refl
 get_other (z ∷ xs) (suc i) zero y ne = refl
 get_other (z ∷ xs) (suc i) (suc j) y ne = get_other xs i j y (λ e. ne (ap suc e))
 
-pub get_kept : {X : Type 0} (xs : List X) (y : X) (i : ℕ) (x : X) → slice_get xs i ≡ Some x → slice_get (xs ++ y ∷ []) i ≡ Some x
+pub get_kept : {X : Type 0} (xs : List X) (y : X) (i : ℕ) (x : X) → slice_get xs i ≡ Some x
+    → slice_get (xs ++ y ∷ []) i ≡ Some x
 get_kept [] y i x is = absurd (cc is)
 get_kept (z ∷ xs) y zero x is = is
 get_kept (z ∷ xs) y (suc i) x is = get_kept xs y i x is
@@ -25,31 +29,37 @@ pub get_last : {X : Type 0} (xs : List X) (y : X) → slice_get (xs ++ y ∷ [])
 get_last [] y = refl
 get_last (z ∷ xs) y = get_last xs y
 
-pub take_next : {X : Type 0} (xs : List X) (i : ℕ) (x : X) → slice_get xs i ≡ Some x → take (suc i) xs ≡ take i xs ++ x ∷ []
+pub take_next : {X : Type 0} (xs : List X) (i : ℕ) (x : X) → slice_get xs i ≡ Some x
+    → take (suc i) xs ≡ take i xs ++ x ∷ []
 take_next [] i x is = absurd (cc is)
 take_next (z ∷ xs) zero x is = let e : z ≡ x = cc is in ap (λ w. w ∷ []) e
 take_next (z ∷ xs) (suc i) x is = ap (λ ys. z ∷ ys) (take_next xs i x is)
 
-pub count_cons : {X : Type 0} (p : X → Bool) (x : X) (xs : List X) → count_by p (x ∷ xs) ≡ cond {A = ℕ} (p x) 1 0 + count_by p xs
+pub count_cons : {X : Type 0} (p : X → Bool) (x : X) (xs : List X)
+    → count_by p (x ∷ xs) ≡ cond {A = ℕ} (p x) 1 0 + count_by p xs
 count_cons p x xs = sum_by-cons (λ y. cond {A = ℕ} (p y) 1 0) x xs
 
 -- how many pass, where one changes
-pub count_set : {X : Type 0} (p : X → Bool) (xs : List X) (i : ℕ) (x y : X) → slice_get xs i ≡ Some x
+pub count_set : {X : Type 0} (p : X → Bool) (xs : List X) (i : ℕ) (x y : X)
+    → slice_get xs i ≡ Some x
     → count_by p (set xs i y) + cond {A = ℕ} (p x) 1 0 ≡ count_by p xs + cond {A = ℕ} (p y) 1 0
 count_set p [] i x y is = absurd (cc is)
 count_set p (z ∷ xs) zero x y is =
     let e : z ≡ x = cc is in
-    let same : cond {A = ℕ} (p z) 1 0 ≡ cond {A = ℕ} (p x) 1 0 = ap (λ w. cond {A = ℕ} (p w) 1 0) e in
+    let same : cond {A = ℕ} (p z) 1 0
+    ≡ cond {A = ℕ} (p x) 1 0 = ap (λ w. cond {A = ℕ} (p w) 1 0) e in
     omega (arith, count_cons p y xs, count_cons p z xs)
 count_set p (z ∷ xs) (suc i) x y is =
     let ih = count_set p xs i x y is in
     omega (arith, count_cons p z (set xs i y), count_cons p z xs)
 
 -- where some pass, one does
-pub count_some : {X : Type 0} (p : X → Bool) (xs : List X) → 0 < count_by p xs → (i : ℕ) × (x : X) × (slice_get xs i ≡ Some x) × (p x ≡ true)
+pub count_some : {X : Type 0} (p : X → Bool) (xs : List X) → 0 < count_by p xs
+    → (i : ℕ) × (x : X) × (slice_get xs i ≡ Some x) × (p x ≡ true)
 count_some p [] some = absurd (omega arith)
 count_some {X} p (z ∷ xs) some = decide (p z) refl (λ more. count_some p xs more) where
-  decide : (b : Bool) → p z ≡ b → (0 < count_by p xs → (i : ℕ) × (x : X) × (slice_get xs i ≡ Some x) × (p x ≡ true))
+  decide : (b : Bool) → p z ≡ b
+      → (0 < count_by p xs → (i : ℕ) × (x : X) × (slice_get xs i ≡ Some x) × (p x ≡ true))
       → (i : ℕ) × (x : X) × (slice_get (z ∷ xs) i ≡ Some x) × (p x ≡ true)
   decide true e ih = (0, z, refl, e)
   decide false e ih =
@@ -57,7 +67,8 @@ count_some {X} p (z ∷ xs) some = decide (p z) refl (λ more. count_some p xs m
       let rest = ih (omega (arith, count_cons p z xs)) in
       (suc rest.0, rest.1, rest.2, rest.3)
 
-pub count_none : {X : Type 0} (p : X → Bool) (n : ℕ) (x : X) → p x ≡ false → count_by p (replicate n x) ≡ 0
+pub count_none : {X : Type 0} (p : X → Bool) (n : ℕ) (x : X) → p x ≡ false
+    → count_by p (replicate n x) ≡ 0
 count_none p zero x off = refl
 count_none p (suc n) x off' =
     let off : cond {A = ℕ} (p x) 1 0 ≡ 0 = ap (λ b. cond {A = ℕ} b 1 0) off' in
@@ -68,7 +79,8 @@ get_replicate zero i x y is = absurd (cc is)
 get_replicate (suc n) zero x y is = cc is
 get_replicate (suc n) (suc i) x y is = get_replicate n i x y is
 
-pub map_snoc : {X Y : Type 0} (f : X → Y) (xs : List X) (x : X) → map f (xs ++ x ∷ []) ≡ map f xs ++ f x ∷ []
+pub map_snoc : {X Y : Type 0} (f : X → Y) (xs : List X) (x : X)
+    → map f (xs ++ x ∷ []) ≡ map f xs ++ f x ∷ []
 map_snoc f [] x = refl
 map_snoc f (z ∷ xs) x = ap (λ ys. f z ∷ ys) (map_snoc f xs x)
 

@@ -1,5 +1,6 @@
 -- What holds of a core after every schedule.
-use Rattle.std.specs.Prelude.{◌≡◌, ℕ, ◌+◌, ◌==◌, ◌≤◌, List, [], ◌∷◌, ◌++◌, length, map, take, Bool, true, false, Option, None, Some, slice_get, if◌then◌else◌}
+use Rattle.std.specs.Prelude.{◌≡◌, ℕ, ◌+◌, ◌==◌, ◌≤◌, List, [], ◌∷◌, ◌++◌, length, map, take, Bool}
+use Rattle.std.specs.Prelude.{true, false, Option, None, Some, slice_get, if◌then◌else◌}
 use Rattle.std.specs.List.{count_by}
 use Rattle.bw_machine.specs.declared.history.Entry.{Entry}
 use Rattle.bw_machine.specs.declared.seats.Phase.{Phase}
@@ -52,7 +53,8 @@ module _ {C R : Type 0} where
   made_by es = map (λ e. (e.seat, e.call)) es
 
 -- a core whose seats drew these tickets, from a machine m
-pub record IsOneThread {M C R : Type 0} (after : M → ℕ → C → M) (answer : M → ℕ → C → R) (m : M) (tickets : List (ℕ × C)) (s : CoreState M C R) : Type 0 where
+pub record IsOneThread {M C R : Type 0} (after : M → ℕ → C → M) (answer : M → ℕ → C → R) (m : M)
+    (tickets : List (ℕ × C)) (s : CoreState M C R) : Type 0 where
   pub one_in_lock : count_by is_in_lock s.phases ≤ 1
   pub next : s.next ≡ length tickets
   pub entries : length s.history ≡ s.serving + count_by has_called s.phases
@@ -61,5 +63,7 @@ pub record IsOneThread {M C R : Type 0} (after : M → ℕ → C → M) (answer 
   pub ticket_order : made_by s.history ≡ take (length s.history) tickets
   pub legal : IsLegal after answer m s.history
   pub replayed : s.machine ≡ replay after m s.history
-  -- each seat's calls are those of its tickets, each once, without the one that it has begun and not made
-  pub own_calls : (seat : ℕ) → calls_taken seat tickets ≡ calls_of (own seat s.history) ++ begun (slice_get s.phases seat)
+  -- each seat's calls are those of its tickets, each once, without the one that it has begun and
+  -- not made
+  pub own_calls : (seat : ℕ) → calls_taken seat tickets ≡ calls_of (own seat s.history)
+      ++ begun (slice_get s.phases seat)

@@ -1,6 +1,9 @@
--- The interleaving core of a machine: many seats, each of which takes a ticket, enters, applies its call and leaves,
--- in whatever order. `after` is the machine after a call by a seat, and `answer` is what it replies.
-use Rattle.std.specs.Prelude.{ℕ, ◌+◌, ◌==◌, List, [], ◌∷◌, ◌++◌, replicate, Bool, true, false, Option, None, Some, slice_get, slice_set, if◌then◌else◌}
+-- The interleaving core of a machine: many seats, each of which takes a ticket, enters, applies its
+-- call and leaves,
+-- in whatever order. `after` is the machine after a call by a seat, and `answer` is what it
+-- replies.
+use Rattle.std.specs.Prelude.{ℕ, ◌+◌, ◌==◌, List, [], ◌∷◌, ◌++◌, replicate, Bool, true, false}
+use Rattle.std.specs.Prelude.{Option, None, Some, slice_get, slice_set, if◌then◌else◌}
 use Rattle.bw_machine.specs.declared.history.Entry.{Entry}
 use Rattle.bw_machine.specs.declared.seats.Phase.{Phase}
 use Rattle.bw_machine.specs.declared.seats.Phase.TheVariants.{Idle, Waiting, Inside, Done}
@@ -52,7 +55,8 @@ module _ {C : Type 0} where
 module _ {M C R : Type 0} where
   -- nobody has a ticket, and nothing was called
   abbrev pub start : ℕ → M → CoreState M C R
-  start seats m = record { next = 0; serving = 0; phases = replicate seats Idle; machine = m; history = [] }
+  start seats m =
+      record { next = 0; serving = 0; phases = replicate seats Idle; machine = m; history = [] }
 
   -- whether the event can happen; an unknown seat has none
   abbrev pub is_possible : CoreState M C R → CoreEvent C → Bool
@@ -63,14 +67,16 @@ module _ {M C R : Type 0} where
 
   -- the core after Enter, by the seat's phase
   abbrev pub entered : CoreState M C R → ℕ → Option (Phase C) → CoreState M C R
-  entered s seat (Some (Waiting number call)) = if number == s.serving then record s { phases = slice_set s.phases seat (Inside call) } else s
+  entered s seat (Some (Waiting number call)) =
+      if number == s.serving then record s { phases = slice_set s.phases seat (Inside call) } else s
   entered s seat (Some Idle) = s
   entered s seat (Some (Inside call)) = s
   entered s seat (Some Done) = s
   entered s seat None = s
 
   -- the core after Apply, by the seat's phase
-  abbrev pub applied : (M → ℕ → C → M) → (M → ℕ → C → R) → CoreState M C R → ℕ → Option (Phase C) → CoreState M C R
+  abbrev pub applied : (M → ℕ → C → M) → (M → ℕ → C → R) → CoreState M C R → ℕ → Option (Phase C)
+      → CoreState M C R
   applied after answer s seat (Some (Inside call)) = record s {
     phases = slice_set s.phases seat Done;
     machine = after s.machine seat call;
@@ -82,24 +88,34 @@ module _ {M C R : Type 0} where
   applied after answer s seat None = s
 
   -- one event; one that is not possible changes nothing
-  abbrev pub happens : (M → ℕ → C → M) → (M → ℕ → C → R) → CoreState M C R → CoreEvent C → CoreState M C R
+  abbrev pub happens : (M → ℕ → C → M) → (M → ℕ → C → R) → CoreState M C R → CoreEvent C
+      → CoreState M C R
   happens after answer s (Take seat call) =
-      if is_idle (slice_get s.phases seat) then record s { next = s.next + 1; phases = slice_set s.phases seat (Waiting s.next call) } else s
+      if is_idle (slice_get s.phases seat) then record s
+      { next = s.next + 1; phases = slice_set s.phases seat (Waiting s.next call) } else s
   happens after answer s (Enter seat) = entered s seat (slice_get s.phases seat)
   happens after answer s (Apply seat) = applied after answer s seat (slice_get s.phases seat)
   happens after answer s (Leave seat) =
-      if is_done (slice_get s.phases seat) then record s { serving = s.serving + 1; phases = slice_set s.phases seat Idle } else s
+      if is_done (slice_get s.phases seat)
+      then record s { serving = s.serving + 1; phases = slice_set s.phases seat Idle } else s
 
   -- a whole schedule
-  abbrev pub run : (M → ℕ → C → M) → (M → ℕ → C → R) → CoreState M C R → List (CoreEvent C) → CoreState M C R
+  abbrev pub run : (M → ℕ → C → M) → (M → ℕ → C → R) → CoreState M C R → List (CoreEvent C)
+      → CoreState M C R
   run after answer s [] = s
   run after answer s (e ∷ es) = run after answer (happens after answer s e) es
 
-  -- the seat and the call of each Take of the schedule that was possible, in order: the one at k drew ticket k
-  abbrev pub takes : (M → ℕ → C → M) → (M → ℕ → C → R) → CoreState M C R → List (CoreEvent C) → List (ℕ × C)
+  -- the seat and the call of each Take of the schedule that was possible, in order: the one at k
+  -- drew ticket k
+  abbrev pub takes : (M → ℕ → C → M) → (M → ℕ → C → R) → CoreState M C R → List (CoreEvent C)
+      → List (ℕ × C)
   takes after answer s [] = []
   takes after answer s (Take seat call ∷ es) =
-      (if is_idle (slice_get s.phases seat) then (seat, call) ∷ [] else []) ++ takes after answer (happens after answer s (Take seat call)) es
-  takes after answer s (Enter seat ∷ es) = takes after answer (happens after answer s (Enter seat)) es
-  takes after answer s (Apply seat ∷ es) = takes after answer (happens after answer s (Apply seat)) es
-  takes after answer s (Leave seat ∷ es) = takes after answer (happens after answer s (Leave seat)) es
+      (if is_idle (slice_get s.phases seat) then (seat, call) ∷ [] else [])
+      ++ takes after answer (happens after answer s (Take seat call)) es
+  takes after answer s (Enter seat ∷ es) =
+      takes after answer (happens after answer s (Enter seat)) es
+  takes after answer s (Apply seat ∷ es) =
+      takes after answer (happens after answer s (Apply seat)) es
+  takes after answer s (Leave seat ∷ es) =
+      takes after answer (happens after answer s (Leave seat)) es

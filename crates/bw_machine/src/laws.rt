@@ -8,15 +8,20 @@ ghost use Rattle.bw_machine.specs.declared.seats.CoreEvent.{CoreEvent};
 
 use crate::machine::Machine;
 
-/// A seat's calls with their places are its entries of the history, in order, and each stands at its place.
+/// The calls of a seat are its entries of the history, in order, and each is at its index.
 pub fn own_calls_stand<C, R>()
-    ensures entries { (seat : ℕ) (history : List (Entry C R)) → map (entry_of seat) (own_from 0 seat history) ≡ own seat history }
-    ensures places { (seat : ℕ) (history : List (Entry C R)) → StandIn history seat (own_from 0 seat history) }
+    ensures entries { (seat : ℕ) (history : List (Entry C R)) →
+        map (entry_of seat) (own_from 0 seat history) ≡ own seat history }
+    ensures places { (seat : ℕ) (history : List (Entry C R)) →
+        StandIn history seat (own_from 0 seat history) }
 {}
 
-/// After any list of events: at most one seat is inside or done, the history is legal and in ticket order, the machine is its replay,
-/// and each seat's own calls are those for which it took a ticket.
+/// Every schedule is the work of one thread: it leaves what the calls leave in ticket order.
+///
+/// At most one seat is inside or done. The history is legal and in ticket order. The machine is
+/// the replay of the history. Each seat's calls are those for which it took a ticket.
 pub fn every_schedule<M: Machine>()
     ensures { (m : M) (seats : ℕ) (events : List (CoreEvent M.Call)) →
-        IsOneThread M.after M.answer m (takes M.after M.answer (start seats m) events) (run M.after M.answer (start seats m) events) }
+        IsOneThread M.after M.answer m (takes M.after M.answer (start seats m) events)
+        (run M.after M.answer (start seats m) events) }
 {}

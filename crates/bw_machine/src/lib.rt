@@ -1,4 +1,4 @@
-//! Machines that seats share, histories of their calls, and the interleaving core: what any schedule of the seats leaves.
+//! Machines that seats share, the histories of their calls, and the interleaving core of the seats.
 #![tactic(auto)]
 
 mod history;

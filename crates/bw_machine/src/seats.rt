@@ -1,27 +1,27 @@
-//! How far a seat is with its call, and what may happen to it next.
+//! The phases of a seat's call, and the events that change them.
 
-/// How far a seat is with its call.
+/// The phase of a seat's call.
 #[derive(Clone, Copy, Debug, PartialEq)]
 pub enum Phase<C> {
-    /// It has no call.
+    /// No call.
     Idle,
-    /// It has taken the ticket of this number.
+    /// It has drawn the ticket of this number, from 0.
     Waiting { number: u64, call: C },
-    /// Its ticket is served, and nobody else is inside.
+    /// Its ticket is served, and no other seat is inside.
     Inside { call: C },
-    /// Its call is made, and its ticket still served.
+    /// Its call is made, and its ticket is still served.
     Done,
 }
 
 /// One atomic action of one seat.
 #[derive(Clone, Copy, Debug, PartialEq)]
 pub enum CoreEvent<C> {
-    /// An idle seat takes the next ticket for a call.
+    /// An idle seat draws the next ticket for a call.
     Take { seat: u32, call: C },
-    /// A waiting seat whose number is served goes inside.
+    /// A waiting seat whose ticket is served goes inside.
     Enter { seat: u32 },
-    /// The seat inside makes its call: one step of the machine, and one entry of the history.
+    /// The seat inside makes its call: one step of the machine and one entry of the history.
     Apply { seat: u32 },
-    /// A seat that has made its call lets the next ticket be served, and is idle.
+    /// A seat that has made its call serves the next ticket and is idle.
     Leave { seat: u32 },
 }

@@ -1,7 +1,11 @@
--- Sums, lists, options and tests of numbers: what the other proofs use, and what stands on none of them.
-use Rattle.std.proofs.Common.{◌≡◌, ℕ, zero, suc, ◌+◌, ◌*◌, ◌<◌, ◌≤◌, List, [], ◌∷◌, Bool, cond, refl, arith, sym, ap, ◌∙◌, inl, inr, ◌-◌, ◌⊎◌, ◌≢◌, length}
-use Rattle.std.proofs.Common.{get_or, true, false, Option, None, Some, ◌||◌, eqb, ◌==◌, ◌++◌, ◌&&◌, true≢false, replicate, bytes_eq}
-use Rattle.std.proofs.lemmas.Bool.{cases_eq, cond_both, eq-eqb, eqb-true, or_cases, or_right, false_from_ne_true, ne_eqb, cases_Bool, or_left, false≢true}
+-- Sums, lists, options and tests of numbers: what the other proofs use, and what stands on none of
+-- them.
+use Rattle.std.proofs.Common.{◌≡◌, ℕ, zero, suc, ◌+◌, ◌*◌, ◌<◌, ◌≤◌, List, [], ◌∷◌, Bool, cond}
+use Rattle.std.proofs.Common.{refl, arith, sym, ap, ◌∙◌, inl, inr, ◌-◌, ◌⊎◌, ◌≢◌, length}
+use Rattle.std.proofs.Common.{get_or, true, false, Option, None, Some, ◌||◌, eqb, ◌==◌, ◌++◌, ◌&&◌}
+use Rattle.std.proofs.Common.{true≢false, replicate, bytes_eq}
+use Rattle.std.proofs.lemmas.Bool.{cases_eq, cond_both, eq-eqb, eqb-true, or_cases, or_right}
+use Rattle.std.proofs.lemmas.Bool.{false_from_ne_true, ne_eqb, cases_Bool, or_left, false≢true}
 use Rattle.std.specs.Prelude.{sum, sum_by, filter, map}
 use Rattle.std.specs.List.{range_with_len, list_any}
 use Rattle.std.proofs.lemmas.List.Sums.{sum_by-cons}
@@ -23,13 +27,17 @@ sum_below-front zero f = omega arith
 sum_below-front (suc n) f = omega (arith, sum_below-front n f)
 
 -- equal terms have equal sums
-pub sum_below-ap : (n : ℕ) (f g : ℕ → ℕ) → ((k : ℕ) → k < n → f k ≡ g k) → sum_below n f ≡ sum_below n g
+pub sum_below-ap : (n : ℕ) (f g : ℕ → ℕ) → ((k : ℕ) → k < n → f k ≡ g k)
+    → sum_below n f ≡ sum_below n g
 sum_below-ap zero f g e = refl
-sum_below-ap (suc n) f g e = omega (arith, sum_below-ap n f g (λ k h. e k (omega arith)), e n (omega arith))
+sum_below-ap (suc n) f g e =
+    omega (arith, sum_below-ap n f g (λ k h. e k (omega arith)), e n (omega arith))
 
-pub sum_below-le : (n : ℕ) (f g : ℕ → ℕ) → ((k : ℕ) → k < n → f k ≤ g k) → sum_below n f ≤ sum_below n g
+pub sum_below-le : (n : ℕ) (f g : ℕ → ℕ) → ((k : ℕ) → k < n → f k ≤ g k)
+    → sum_below n f ≤ sum_below n g
 sum_below-le zero f g e = omega arith
-sum_below-le (suc n) f g e = omega (arith, sum_below-le n f g (λ k h. e k (omega arith)), e n (omega arith))
+sum_below-le (suc n) f g e =
+    omega (arith, sum_below-le n f g (λ k h. e k (omega arith)), e n (omega arith))
 
 pub sum_below-scaled : (w n : ℕ) (f : ℕ → ℕ) → sum_below n (λ k. w * f k) ≡ w * sum_below n f
 sum_below-scaled w zero f = omega arith
@@ -37,9 +45,11 @@ sum_below-scaled w (suc n) f = omega (arith, sum_below-scaled w n f)
 
 pub sum_below-zero : (n : ℕ) (f : ℕ → ℕ) → ((k : ℕ) → k < n → f k ≡ 0) → sum_below n f ≡ 0
 sum_below-zero zero f e = refl
-sum_below-zero (suc n) f e = omega (arith, sum_below-zero n f (λ k h. e k (omega arith)), e n (omega arith))
+sum_below-zero (suc n) f e =
+    omega (arith, sum_below-zero n f (λ k h. e k (omega arith)), e n (omega arith))
 
-pub sum_below-add : (n : ℕ) (f g : ℕ → ℕ) → sum_below n (λ k. f k + g k) ≡ sum_below n f + sum_below n g
+pub sum_below-add : (n : ℕ) (f g : ℕ → ℕ)
+    → sum_below n (λ k. f k + g k) ≡ sum_below n f + sum_below n g
 sum_below-add zero f g = omega arith
 sum_below-add (suc n) f g = omega (arith, sum_below-add n f g)
 
@@ -48,22 +58,30 @@ pub sum_below-swap : (m n : ℕ) (f : ℕ → ℕ → ℕ) →
     sum_below m (λ i. sum_below n (λ j. f i j)) ≡ sum_below n (λ j. sum_below m (λ i. f i j))
 sum_below-swap zero n f = sym (sum_below-zero n (λ _. 0) (λ _ _. refl))
 sum_below-swap (suc m) n f =
-    omega (arith, sum_below-swap m n f, sum_below-add n (λ j. sum_below m (λ i. f i j)) (λ j. f m j))
+    omega (
+      arith,
+      sum_below-swap m n f,
+      sum_below-add n (λ j. sum_below m (λ i. f i j)) (λ j. f m j),
+    )
 
 -- one term that is not 0
-pub sum_below-one : (n i : ℕ) (f : ℕ → ℕ) → i < n → ((k : ℕ) → k < n → (k ≡ i → ⊥) → f k ≡ 0) → sum_below n f ≡ f i
+pub sum_below-one : (n i : ℕ) (f : ℕ → ℕ) → i < n → ((k : ℕ) → k < n → (k ≡ i → ⊥) → f k ≡ 0)
+    → sum_below n f ≡ f i
 sum_below-one zero i f h e = absurd (omega arith)
 sum_below-one (suc n) i f h e = elim (cases_eq n i) [
   | inl same ↦
-      let front : sum_below n f ≡ 0 = sum_below-zero n f (λ k below. e k (omega arith) (λ eq. omega arith)) in
+      let front : sum_below n f ≡ 0 =
+      sum_below-zero n f (λ k below. e k (omega arith) (λ eq. omega arith)) in
       rw (← same) (omega (arith, front))
   | inr other ↦
-      let front : sum_below n f ≡ f i = sum_below-one n i f (omega (arith, other)) (λ k below. e k (omega arith)) in
+      let front : sum_below n f ≡ f i =
+      sum_below-one n i f (omega (arith, other)) (λ k below. e k (omega arith)) in
       let last : f n ≡ 0 = e n (omega arith) other in
       omega (arith, front, last)
 ]
 
-pub shifted : (f : ℕ → ℕ) (a n : ℕ) → sum_below (suc n) (λ k. f (a + k)) ≡ f a + sum_below n (λ k. f (a + 1 + k))
+pub shifted : (f : ℕ → ℕ) (a n : ℕ)
+    → sum_below (suc n) (λ k. f (a + k)) ≡ f a + sum_below n (λ k. f (a + 1 + k))
 shifted f a n =
     let first : f (a + 0) ≡ f a = ap f (omega arith) in
     omega (
@@ -76,13 +94,20 @@ shifted f a n =
 sum_by-from : (f : ℕ → ℕ) (a n : ℕ) → sum_by f (range_with_len a n) ≡ sum_below n (λ k. f (a + k))
 sum_by-from f a zero = refl
 sum_by-from f a (suc n) =
-    omega (arith, sum_by-cons f a (range_with_len (a + 1) n), sum_by-from f (a + 1) n, shifted f a n)
+    omega (
+      arith,
+      sum_by-cons f a (range_with_len (a + 1) n),
+      sum_by-from f (a + 1) n,
+      shifted f a n,
+    )
 
-sum_by-filter : (p : ℕ → Bool) (f : ℕ → ℕ) (xs : List ℕ) → sum_by f (filter p xs) ≡ sum_by (λ x. cond (p x) (f x) 0) xs
+sum_by-filter : (p : ℕ → Bool) (f : ℕ → ℕ) (xs : List ℕ)
+    → sum_by f (filter p xs) ≡ sum_by (λ x. cond (p x) (f x) 0) xs
 sum_by-filter p f [] = refl
 sum_by-filter p f (x ∷ xs) =
     rw (sum_by-cons (λ y. cond (p y) (f y) 0) x xs)
-    (cond_both (p x) (x ∷ filter p xs) (filter p xs) (λ v. sum_by f v ≡ cond (p x) (f x) 0 + sum_by (λ y. cond (p y) (f y) 0) xs)
+    (cond_both (p x) (x ∷ filter p xs) (filter p xs)
+    (λ v. sum_by f v ≡ cond (p x) (f x) 0 + sum_by (λ y. cond (p y) (f y) 0) xs)
     (λ e. rw e (omega (arith, sum_by-cons f x (filter p xs), sum_by-filter p f xs)))
     (λ e. rw e (omega (arith, sum_by-filter p f xs))))
 
@@ -93,14 +118,17 @@ sum_by-range f n = sum_by-from f 0 n ∙ sum_below-ap n (λ k. f (0 + k)) f (λ 
 -- a sum over those numbers below n that pass the test
 pub sum_by-filter_range : (p : ℕ → Bool) (f : ℕ → ℕ) (n : ℕ) →
     sum_by f (filter p (range_with_len 0 n)) ≡ sum_below n (λ k. cond (p k) (f k) 0)
-sum_by-filter_range p f n = sum_by-filter p f (range_with_len 0 n) ∙ sum_by-range (λ k. cond (p k) (f k) 0) n
+sum_by-filter_range p f n = sum_by-filter p f (range_with_len 0 n)
+    ∙ sum_by-range (λ k. cond (p k) (f k) 0) n
 
 -- sums that differ in one term
-pub sum_below-change : (n g : ℕ) (f h : ℕ → ℕ) → g < n → ((k : ℕ) → (k ≡ g → ⊥) → f k ≡ h k) → sum_below n h + f g ≡ sum_below n f + h g
+pub sum_below-change : (n g : ℕ) (f h : ℕ → ℕ) → g < n → ((k : ℕ) → (k ≡ g → ⊥) → f k ≡ h k)
+    → sum_below n h + f g ≡ sum_below n f + h g
 sum_below-change zero g f h below same = absurd (omega arith)
 sum_below-change (suc n) g f h below same = elim (cases_eq n g) [
   | inl last ↦
-      let front : sum_below n f ≡ sum_below n h = sum_below-ap n f h (λ k b. same k (λ e. omega (arith, e, b, last))) in
+      let front : sum_below n f ≡ sum_below n h =
+      sum_below-ap n f h (λ k b. same k (λ e. omega (arith, e, b, last))) in
       let one : f n ≡ f g = ap f last in
       let two : h n ≡ h g = ap h last in
       omega (arith, front, one, two)
@@ -111,7 +139,8 @@ sum_below-change (suc n) g f h below same = elim (cases_eq n g) [
 ]
 
 -- terms that are no more, of which one is less by so much
-pub sum_below-left : (n g : ℕ) (f h : ℕ → ℕ) → g < n → ((k : ℕ) → f k ≤ h k) → sum_below n f + (h g - f g) ≤ sum_below n h
+pub sum_below-left : (n g : ℕ) (f h : ℕ → ℕ) → g < n → ((k : ℕ) → f k ≤ h k)
+    → sum_below n f + (h g - f g) ≤ sum_below n h
 sum_below-left zero g f h below le = absurd (omega arith)
 sum_below-left (suc n) g f h below le = elim (cases_eq n g) [
   | inl last ↦
@@ -149,7 +178,8 @@ picked_zero false c x none = refl
 picked_zero true false x none = refl
 picked_zero true true x none = none refl
 
-pub picked_same : (b c d : Bool) (x : ℕ) → (b ≡ true → c ≡ d) → cond b (cond c x 0) 0 ≡ cond b (cond d x 0) 0
+pub picked_same : (b c d : Bool) (x : ℕ) → (b ≡ true → c ≡ d)
+    → cond b (cond c x 0) 0 ≡ cond b (cond d x 0) 0
 picked_same false c d x e = refl
 picked_same true c d x e = rw (e refl) refl
 
@@ -174,11 +204,13 @@ or_false true = refl
 or_false false = refl
 
 -- a test that refuses has failed where nothing is refused
-pub passed : {F : Type 0} (b : Bool) (f : F) (r : Option F) → cond b (Some f) r ≡ None → (b ≡ false) × (r ≡ None)
+pub passed : {F : Type 0} (b : Bool) (f : F) (r : Option F) → cond b (Some f) r ≡ None
+    → (b ≡ false) × (r ≡ None)
 passed true f r h = cc
 passed false f r h = (refl, h)
 
-pub goes_on : {F : Type 0} (b : Bool) (f : F) (r : Option F) → b ≡ false → r ≡ None → cond b (Some f) r ≡ None
+pub goes_on : {F : Type 0} (b : Bool) (f : F) (r : Option F) → b ≡ false → r ≡ None
+    → cond b (Some f) r ≡ None
 goes_on true f r h e = absurd (true≢false h)
 goes_on false f r h e = e
 
@@ -208,7 +240,8 @@ from_the_last n P step g h = go n g h (omega arith)
     go (suc steps) m below far = step m below (λ c after within. go steps c within (omega arith))
 
 -- a test that some number of a range passes
-pub list_any-range : (p : ℕ → Bool) (a n k : ℕ) → k < n → p (a + k) ≡ true → list_any p (range_with_len a n) ≡ true
+pub list_any-range : (p : ℕ → Bool) (a n k : ℕ) → k < n → p (a + k) ≡ true
+    → list_any p (range_with_len a n) ≡ true
 list_any-range p a zero k h e = absurd (omega arith)
 list_any-range p a (suc n) zero h e =
     let here : p a ≡ true = ap p (omega arith) ∙ e in
@@ -217,7 +250,8 @@ list_any-range p a (suc n) (suc k) h e =
     or_right (p a) (list_any p (range_with_len (a + 1) n))
     (list_any-range p (a + 1) n k (omega arith) (ap p (omega arith) ∙ e))
 
-pub some_in_range : (p : ℕ → Bool) (a n : ℕ) → list_any p (range_with_len a n) ≡ true → (k : ℕ) × (k < n) × (p (a + k) ≡ true)
+pub some_in_range : (p : ℕ → Bool) (a n : ℕ) → list_any p (range_with_len a n) ≡ true
+    → (k : ℕ) × (k < n) × (p (a + k) ≡ true)
 some_in_range p a zero e = absurd (false≢true e)
 some_in_range p a (suc n) e = elim (or_cases (p a) (list_any p (range_with_len (a + 1) n)) e) [
   | inl h ↦ (0, omega arith, ap p (omega arith) ∙ h)
@@ -225,53 +259,64 @@ some_in_range p a (suc n) e = elim (or_cases (p a) (list_any p (range_with_len (
       (suc more.0, omega (arith, more.1), ap p (omega arith) ∙ more.2)
 ]
 
-pub any_from : (t : ℕ → Bool) (xs : List ℕ) (h : ℕ) → list_any (λ x. eqb x h) xs ≡ true → t h ≡ true → list_any t xs ≡ true
+pub any_from : (t : ℕ → Bool) (xs : List ℕ) (h : ℕ) → list_any (λ x. eqb x h) xs ≡ true → t h ≡ true
+    → list_any t xs ≡ true
 any_from t [] h e p = e
 any_from t (x ∷ xs) h e p = elim (or_cases (eqb x h) (list_any (λ y. eqb y h) xs) e) [
   | inl here ↦ or_left (t x) (list_any t xs) (ap t (eqb-true x h here) ∙ p)
   | inr later ↦ or_right (t x) (list_any t xs) (any_from t xs h later p)
 ]
 
-pub any_find : (t : ℕ → Bool) (xs : List ℕ) → list_any t xs ≡ true → (h : ℕ) × (t h ≡ true) × (list_any (λ x. eqb x h) xs ≡ true)
+pub any_find : (t : ℕ → Bool) (xs : List ℕ) → list_any t xs ≡ true
+    → (h : ℕ) × (t h ≡ true) × (list_any (λ x. eqb x h) xs ≡ true)
 any_find t [] e = absurd (false≢true e)
 any_find t (x ∷ xs) e = elim (or_cases (t x) (list_any t xs) e) [
   | inl here ↦ (x, here, or_left (eqb x x) _ (eq-eqb x x refl))
-  | inr later ↦ let r : (h : ℕ) × (t h ≡ true) × (list_any (λ x. eqb x h) xs ≡ true) = any_find t xs later in
+  | inr later ↦ let r : (h : ℕ) × (t h ≡ true)
+      × (list_any (λ x. eqb x h) xs ≡ true) = any_find t xs later in
       (r.0, r.1, or_right (eqb x r.0) _ r.2)
 ]
 
-pub any-filter : (p q : ℕ → Bool) (xs : List ℕ) → list_any q (filter p xs) ≡ list_any (λ x. p x && q x) xs
+pub any-filter : (p q : ℕ → Bool) (xs : List ℕ)
+    → list_any q (filter p xs) ≡ list_any (λ x. p x && q x) xs
 any-filter p q [] = refl
 any-filter p q (x ∷ xs) = elim (cases_Bool (p x)) [
   | inl e ↦ rw e (ap (λ (b : Bool). q x || b) (any-filter p q xs))
   | inr e ↦ rw e (any-filter p q xs)
 ]
 
-pub same_map : (f h : ℕ → ℕ) (xs : List ℕ) → ((k : ℕ) → k < length xs → f (get_or xs k 0) ≡ h (get_or xs k 0)) → map f xs ≡ map h xs
+pub same_map : (f h : ℕ → ℕ) (xs : List ℕ)
+    → ((k : ℕ) → k < length xs → f (get_or xs k 0) ≡ h (get_or xs k 0)) → map f xs ≡ map h xs
 same_map f h [] e = refl
 same_map f h (x ∷ xs) e = let head : f x ≡ h x = e 0 (omega arith) in
     let rest : map f xs ≡ map h xs = same_map f h xs (λ k below. e (suc k) (omega arith)) in cc
 
-pub filter_none : (p : ℕ → Bool) (xs : List ℕ) → ((k : ℕ) → k < length xs → p (get_or xs k 0) ≡ false) → filter p xs ≡ []
+pub filter_none : (p : ℕ → Bool) (xs : List ℕ)
+    → ((k : ℕ) → k < length xs → p (get_or xs k 0) ≡ false) → filter p xs ≡ []
 filter_none p [] e = refl
-filter_none p (x ∷ xs) e = rw (e 0 (omega arith)) (filter_none p xs (λ k h. e (suc k) (omega arith)))
+filter_none p (x ∷ xs) e =
+    rw (e 0 (omega arith)) (filter_none p xs (λ k h. e (suc k) (omega arith)))
 
 pub range_more : (a n : ℕ) → range_with_len a (n + 1) ≡ range_with_len a n ++ (a + n) ∷ []
 range_more a zero = let e : a ≡ a + 0 = omega arith in ap (λ (k : ℕ). k ∷ []) e
 range_more a (suc n) =
     let e : suc n + 1 ≡ suc (n + 1) = omega arith in
     ap (λ (k : ℕ). range_with_len a k) e
-    ∙ ap (λ xs. a ∷ xs) (range_more (a + 1) n ∙ (let same : a + 1 + n ≡ a + suc n = omega arith in ap (λ (k : ℕ). range_with_len (a + 1) n ++ k ∷ []) same))
+    ∙ ap (λ xs. a ∷ xs)
+    (range_more (a + 1) n ∙ (let same : a + 1 + n ≡ a + suc n =
+    omega arith in ap (λ (k : ℕ). range_with_len (a + 1) n ++ k ∷ []) same))
 
 -- a number of a range that passes stands in the filtered range
 pub listed : (p : ℕ → Bool) (a n i : ℕ) → i < n → p (a + i) ≡ true →
-    (k : ℕ) × (k < length (filter p (range_with_len a n))) × (get_or (filter p (range_with_len a n)) k 0 ≡ a + i)
+    (k : ℕ) × (k < length (filter p (range_with_len a n)))
+    × (get_or (filter p (range_with_len a n)) k 0 ≡ a + i)
 listed p a zero i h e = absurd (omega arith)
 listed p a (suc n) zero h e =
     let here : p a ≡ true = ap p (omega arith) ∙ e in
     rw here (0, omega arith, omega arith)
 listed p a (suc n) (suc i) h e =
-    let r : (k : ℕ) × (k < length (filter p (range_with_len (a + 1) n))) × (get_or (filter p (range_with_len (a + 1) n)) k 0 ≡ a + 1 + i) =
+    let r : (k : ℕ) × (k < length (filter p (range_with_len (a + 1) n)))
+    × (get_or (filter p (range_with_len (a + 1) n)) k 0 ≡ a + 1 + i) =
     listed p (a + 1) n i (omega arith) (ap p (omega arith) ∙ e) in
     elim (cases_Bool (p a)) [
       | inl yes' ↦ rw yes' (suc r.0, omega (arith, r.1), r.2 ∙ omega arith)
@@ -279,8 +324,10 @@ listed p a (suc n) (suc i) h e =
     ]
 
 -- no element passes, and so each one fails
-pub none_at : {X : Type 0} (t : X → Bool) (xs : List X) (i : ℕ) (d : X) → list_any t xs ≡ false → i < length xs → t (get_or xs i d) ≡ false
-none_at t xs i d none within = false_from_ne_true _ (λ e. true≢false (sym (list_any_at t xs i d within e) ∙ none))
+pub none_at : {X : Type 0} (t : X → Bool) (xs : List X) (i : ℕ) (d : X) → list_any t xs ≡ false
+    → i < length xs → t (get_or xs i d) ≡ false
+none_at t xs i d none within =
+    false_from_ne_true _ (λ e. true≢false (sym (list_any_at t xs i d within e) ∙ none))
 
 -- of the numbers that are all 0
 pub zeros : (n k : ℕ) → ◌≡◌ {A = ℕ} (get_or (replicate n 0) k 0) 0
@@ -292,7 +339,8 @@ pub sum_zeros : (n : ℕ) → sum (replicate n 0) ≡ 0
 sum_zeros zero = refl
 sum_zeros (suc n) = sum-cons 0 (replicate n 0) ∙ omega (arith, sum_zeros n)
 
-pub sum_none : (xs : List ℕ) → ((k : ℕ) → k < length xs → get_or xs k 0 ≡ 0) → ◌≡◌ {A = ℕ} (sum xs) 0
+pub sum_none : (xs : List ℕ) → ((k : ℕ) → k < length xs → get_or xs k 0 ≡ 0)
+    → ◌≡◌ {A = ℕ} (sum xs) 0
 sum_none [] h = refl
 sum_none (x ∷ xs) h =
     let head : x ≡ 0 = h 0 (omega arith) in

@@ -1,4 +1,5 @@
--- What the laws of the plan's definitions say: best splits, the order of marks, and the bounds of a certificate.
+-- What the laws of the plan's definitions say: best splits, the order of marks, and the bounds of a
+-- certificate.
 use Rattle.std.specs.Prelude.{◌≡◌, ℕ, ◌<◌, ◌≤◌, ◌↔◌, true, List, length, slice_index}
 use Rattle.std.specs.Ordering.{is_lt, is_le}
 use Rattle.bw_model.specs.declared.mark.Mark.{Mark}

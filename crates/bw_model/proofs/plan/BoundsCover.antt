@@ -1,5 +1,6 @@
 -- The most of a group is not above its bound.
-use Rattle.std.proofs.Common.{◌≡◌, ℕ, ◌<◌, ◌≤◌, List, Bool, true, false, cond, Option, None, Some, length, get_or, arith, ◌∙◌}
+use Rattle.std.proofs.Common.{◌≡◌, ℕ, ◌<◌, ◌≤◌, List, Bool, true, false, cond, Option, None, Some}
+use Rattle.std.proofs.Common.{length, get_or, arith, ◌∙◌}
 use Rattle.std.specs.Prelude.{slice_index, unwrap_or, if◌then◌else◌}
 use Rattle.bw_model.specs.Groups.{Groups, IsInstance, is_leaf, demand_of, limit_of, sum_of_children}
 use Rattle.bw_model.specs.Certificate.{Certified, AreBounds, is_flagged}
@@ -12,13 +13,15 @@ use Rattle.bw_model.proofs.allocation.Mosts.{AreMaxTotals-capped}
 use Rattle.bw_model.proofs.plan.Bounds.{children-le}
 
 -- a limit that is flagged covers what it leaves of a want, and else the want is covered
-covered : (flag : Bool) (limit : Option ℕ) (want rest : ℕ) → want ≤ rest → capped limit want ≤ unwrap_or (if flag then limit else None) rest
+covered : (flag : Bool) (limit : Option ℕ) (want rest : ℕ) → want ≤ rest
+    → capped limit want ≤ unwrap_or (if flag then limit else None) rest
 covered true None want rest le = le
 covered true (Some limit) want rest le = omega arith
 covered false limit want rest le = omega (arith, capped_le_want limit want, le)
 
 -- of two sums the greater one stays so beside the same demand
-beside : (leaf : Bool) (demand low high : ℕ) → low ≤ high → (if leaf then demand else low) ≤ (if leaf then demand else high)
+beside : (leaf : Bool) (demand low high : ℕ) → low ≤ high
+    → (if leaf then demand else low) ≤ (if leaf then demand else high)
 beside true demand low high le = omega arith
 beside false demand low high le = le
 

@@ -6,7 +6,8 @@ use Rattle.bw_model.specs.Groups.{AreTreeRows, parent_of}
 use Rattle.bw_model.proofs.tree.Under.{parent_lt}
 use Rattle.bw_model.proofs.instance.Instance.parent.Goals as goal
 
-before : (rows : List Row) (g : ℕ) → AreTreeRows rows → (o : Option ℕ) → parent_of rows g ≡ o → IfSome o (λ p. p < g)
+before : (rows : List Row) (g : ℕ) → AreTreeRows rows → (o : Option ℕ) → parent_of rows g ≡ o
+    → IfSome o (λ p. p < g)
 before rows g tree None e = tt
 before rows g tree (Some p) e = parent_lt rows tree g p e
 
