@@ -1,7 +1,5 @@
--- The interleaving core of a machine: many seats, each of which takes a ticket, enters, applies its
--- call and leaves,
--- in whatever order. `after` is the machine after a call by a seat, and `answer` is what it
--- replies.
+-- The interleaving core of a machine: seats draw tickets, enter, apply their calls and leave, in
+-- any order. `after` is the machine after a call by a seat, and `answer` is its reply.
 use Rattle.std.specs.Prelude.{ℕ, ◌+◌, ◌==◌, List, [], ◌∷◌, ◌++◌, replicate, Bool, true, false}
 use Rattle.std.specs.Prelude.{Option, None, Some, slice_get, slice_set, if◌then◌else◌}
 use Rattle.bw_machine.specs.declared.history.Entry.{Entry}
@@ -91,13 +89,15 @@ module _ {M C R : Type 0} where
   abbrev pub happens : (M → ℕ → C → M) → (M → ℕ → C → R) → CoreState M C R → CoreEvent C
       → CoreState M C R
   happens after answer s (Take seat call) =
-      if is_idle (slice_get s.phases seat) then record s
-      { next = s.next + 1; phases = slice_set s.phases seat (Waiting s.next call) } else s
+      if is_idle (slice_get s.phases seat)
+      then record s { next = s.next + 1; phases = slice_set s.phases seat (Waiting s.next call) }
+      else s
   happens after answer s (Enter seat) = entered s seat (slice_get s.phases seat)
   happens after answer s (Apply seat) = applied after answer s seat (slice_get s.phases seat)
   happens after answer s (Leave seat) =
       if is_done (slice_get s.phases seat)
-      then record s { serving = s.serving + 1; phases = slice_set s.phases seat Idle } else s
+      then record s { serving = s.serving + 1; phases = slice_set s.phases seat Idle }
+      else s
 
   -- a whole schedule
   abbrev pub run : (M → ℕ → C → M) → (M → ℕ → C → R) → CoreState M C R → List (CoreEvent C)

@@ -1,22 +1,28 @@
 //! Laws of the waiting protocol: each is the contract of a function that does nothing.
-ghost use Rattle.bw_wake.specs.Progress.{NoWakeIsLost, ServedTicketGoesOn, NoneIsStuck, AwakeSeatsCanStep};
+ghost use Rattle.bw_wake.specs.Progress.{NoWakeIsLost, ServedTicketGoesOn, NoneIsStuck};
+ghost use Rattle.bw_wake.specs.Progress.{AwakeSeatsCanStep};
 ghost use Rattle.bw_wake.specs.Refines.{RefinesTheCore};
 
 use bw_machine::Machine;
 
-/// With a wake word for each seat, a seat that sleeps with the ticket that is served has its wake-up under way: another seat has yet to
-/// look for its mark, or has seen it, or wakes it next.
+/// A seat that sleeps with the ticket that is served has its wake-up under way.
+///
+/// Another seat has yet to look for its mark, has seen the mark, or wakes it next. The law assumes
+/// a wake word for each seat.
 pub fn no_wake_is_lost()
     ensures { NoWakeIsLost }
 {}
 
-/// With a wake word for each seat, a drawn ticket that is served is with a seat that is awake or inside, or the wake-up of its seat is
-/// under way.
+/// The seat of a served ticket is awake or inside, or its wake-up is under way.
+///
+/// The law assumes a wake word for each seat.
 pub fn served_ticket_goes_on()
     ensures { ServedTicketGoesOn }
 {}
 
-/// With a wake word for each seat, it never happens that a ticket is drawn and not yet left, and each seat is idle or asleep.
+/// While a ticket is drawn and not yet left, some seat is neither idle nor asleep.
+///
+/// The law assumes a wake word for each seat.
 pub fn none_is_stuck()
     ensures { NoneIsStuck }
 {}
@@ -26,8 +32,8 @@ pub fn awake_seats_can_step()
     ensures { AwakeSeatsCanStep }
 {}
 
-/// Each event of the waiting protocol is an event of the interleaving core of `bw_pool`, over any machine, or none. So what that core keeps
-/// over every schedule holds of seats that wait in this way.
+/// Each event of the waiting protocol is at most one event of the interleaving core, over any
+/// machine. So each law of the core over every schedule holds of seats that wait in this way.
 pub fn refines_the_core<M: Machine>()
     ensures { RefinesTheCore M.after M.answer }
 {}

@@ -1,5 +1,5 @@
-//! How the seats of a ticket lock wait: the core of the waiting protocol, played one event at a time, and its laws, that no wake-up is lost
-//! and that no state is stuck.
+//! The waiting protocol of a ticket lock: its core, which plays one event at a time, and its laws.
+//! No wake-up is lost, and no state is stuck.
 #![tactic(auto)]
 
 mod laws;

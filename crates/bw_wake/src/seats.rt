@@ -1,9 +1,9 @@
-//! Where a seat is in a call of the lock, and what may happen to it next.
+//! The phases of a seat in the waiting protocol, and the events that change them.
 
-/// Where a seat is. A ticket is a number from 0 on.
+/// The phase of a seat. Tickets are numbers from 0.
 #[derive(Clone, Copy, Debug, PartialEq)]
 pub enum Phase {
-    /// It has no ticket and owes nothing.
+    /// It has no ticket and owes no wake.
     Idle,
     /// It has drawn this ticket, and has stored no mark for it yet.
     Waiting(u64),
@@ -17,17 +17,17 @@ pub enum Phase {
     Inside,
     /// It has made its call, and its ticket is still served.
     Done,
-    /// It has let the ticket after this one be served, and has yet to see whether that is drawn.
+    /// It has left with this ticket, and has not yet seen whether the next one is drawn.
     Served(u64),
-    /// It owes the wakes of so many tickets, from this one on.
+    /// It owes wakes: the first ticket, and the number of tickets.
     Owes(u64, u64),
-    /// The same, and it has seen the mark of the first of them.
+    /// It owes wakes, and has seen the mark of the first ticket.
     Found(u64, u64),
-    /// The same, and it has taken that mark away, or has found it gone: the wake is next.
+    /// It owes wakes, and the mark of the first ticket is gone: the wake is next.
     Wakes(u64, u64),
 }
 
-/// One step of one seat.
+/// One atomic step of one seat.
 #[derive(Clone, Copy, Debug, PartialEq)]
 pub enum Event {
     /// An idle seat draws the next ticket.
@@ -36,7 +36,7 @@ pub enum Event {
     Look(u32),
     /// A waiting seat stores the mark of its ticket.
     Mark(u32),
-    /// A seat that has looked after its mark goes to sleep, if its wake word still has the mark.
+    /// A seat that has looked since its mark goes to sleep, if its wake word still has the mark.
     Park(u32),
     /// A sleeping seat wakes for no reason.
     SpuriousWake(u32),
@@ -44,12 +44,14 @@ pub enum Event {
     Apply(u32),
     /// A seat that has made its call adds one to the ticket that is served.
     Leave(u32),
-    /// A seat that has left loads the next ticket to be drawn: if the ticket after its own is not drawn, it owes no wake.
+    /// A seat that has left loads the next ticket to be drawn. If the ticket after its own is not
+    /// drawn, it owes no wake.
     PeekNext(u32),
-    /// A seat that owes wakes loads the wake word of the first ticket: without that ticket's mark, it owes that wake no more.
+    /// A seat that owes wakes loads the wake word of the first ticket. Without that ticket's mark
+    /// it no longer owes that wake.
     PeekWord(u32),
-    /// A seat that has seen the mark takes it away, if it is still there.
+    /// A seat that has seen the mark removes it, if it is still stored.
     TakeMark(u32),
-    /// A seat wakes the other one, which sleeps on the wake word, or nobody, where nobody sleeps on it.
+    /// A seat wakes the other seat, which sleeps on the wake word. It wakes none if none sleeps there.
     Wake(u32, u32),
 }
