@@ -9,7 +9,7 @@ mod NotStuck
 mod OneSeatSound
 mod OneTurn
 mod RunSound
-mod Sound
+mod Invariant
 mod WakeSound
-mod Words
+mod WakeWords
 mod WordsApart

@@ -1,13 +1,20 @@
--- Each event of the waiting protocol is an event of the interleaving core of bw_pool, or none.
+-- Each event of the waiting protocol is an event of the interleaving core, or none.
 use Rattle.std.specs.Prelude.{◌≡◌, ℕ, map, Option, None, Some, if◌then◌else◌}
 use Rattle.bw_machine.specs.Seats.{CoreState}
 use Rattle.bw_machine.specs.Seats.{start as core_start, happens as core_happens}
 use Rattle.bw_machine.specs.declared.seats.Phase.{Phase as CorePhase}
-use Rattle.bw_machine.specs.declared.seats.Phase.TheVariants.{Idle as CoreIdle, Waiting as CoreWaiting, Inside as CoreInside, Done as CoreDone}
+use Rattle.bw_machine.specs.declared.seats.Phase.TheVariants.{Idle as CoreIdle}
+use Rattle.bw_machine.specs.declared.seats.Phase.TheVariants.{Waiting as CoreWaiting}
+use Rattle.bw_machine.specs.declared.seats.Phase.TheVariants.{Inside as CoreInside}
+use Rattle.bw_machine.specs.declared.seats.Phase.TheVariants.{Done as CoreDone}
 use Rattle.bw_machine.specs.declared.seats.CoreEvent.{CoreEvent}
-use Rattle.bw_machine.specs.declared.seats.CoreEvent.TheVariants.{Take as CoreTake, Enter as CoreEnter, Apply as CoreApply, Leave as CoreLeave}
+use Rattle.bw_machine.specs.declared.seats.CoreEvent.TheVariants.{Take as CoreTake}
+use Rattle.bw_machine.specs.declared.seats.CoreEvent.TheVariants.{Enter as CoreEnter}
+use Rattle.bw_machine.specs.declared.seats.CoreEvent.TheVariants.{Apply as CoreApply}
+use Rattle.bw_machine.specs.declared.seats.CoreEvent.TheVariants.{Leave as CoreLeave}
 use Rattle.bw_wake.specs.declared.seats.Phase.{Phase}
-use Rattle.bw_wake.specs.declared.seats.Phase.TheVariants.{Idle, Waiting, Marked, Looked, Asleep, Inside, Done, Served, Owes, Found, Wakes}
+use Rattle.bw_wake.specs.declared.seats.Phase.TheVariants.{Idle, Waiting, Marked, Looked, Asleep}
+use Rattle.bw_wake.specs.declared.seats.Phase.TheVariants.{Inside, Done, Served, Owes, Found, Wakes}
 use Rattle.bw_wake.specs.declared.seats.Event.{Event}
 use Rattle.bw_wake.specs.declared.seats.Event.TheVariants.{Take, Look, Apply, Leave}
 use Rattle.bw_wake.specs.Protocol.{WaitState, start, happens, is_possible}
@@ -36,19 +43,24 @@ module _ {C : Type 0} where
   event_in_core call _ = None
 
 module _ {M C R : Type 0} where
-  -- the interleaving core has the same tickets, and each seat is where it is in the waiting protocol
+  -- the interleaving core has the same tickets, and each seat is where it is in the waiting
+  -- protocol
   pub record Matches (call : C) (s : WaitState) (k : CoreState M C R) : Type 0 where
     pub next : k.next ≡ s.next
     pub serving : k.serving ≡ s.serving
     pub phases : k.phases ≡ map (phase_in_core call) s.phases
 
   -- the interleaving core after an event, if there is one
-  abbrev pub core_after : (M → ℕ → C → M) → (M → ℕ → C → R) → CoreState M C R → Option (CoreEvent C) → CoreState M C R
+  abbrev pub core_after : (M → ℕ → C → M) → (M → ℕ → C → R) → CoreState M C R → Option (CoreEvent C)
+      → CoreState M C R
   core_after after answer k (Some e) = core_happens after answer k e
   core_after after answer k None = k
 
-  -- they match at the start, and still do after each event, if the interleaving core has the event that it is, where it is possible
+  -- they match at the start, and still do after each event, if the interleaving core has the event
+  -- that it is, where it is possible
   pub record RefinesTheCore (after : M → ℕ → C → M) (answer : M → ℕ → C → R) : Type 0 where
-    pub at_start : (call : C) (machine : M) (seats words : ℕ) → Matches call (start seats words) (core_start seats machine)
+    pub at_start : (call : C) (machine : M) (seats words : ℕ)
+        → Matches call (start seats words) (core_start seats machine)
     pub each : (call : C) (s : WaitState) (k : CoreState M C R) (e : Event) → Matches call s k
-        → Matches call (happens s e) (core_after after answer k (if is_possible s e then event_in_core call e else None))
+        → Matches call (happens s e)
+        (core_after after answer k (if is_possible s e then event_in_core call e else None))

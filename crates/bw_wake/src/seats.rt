@@ -52,6 +52,7 @@ pub enum Event {
     PeekWord(u32),
     /// A seat that has seen the mark removes it, if it is still stored.
     TakeMark(u32),
-    /// A seat wakes the other seat, which sleeps on the wake word. It wakes none if none sleeps there.
+    /// A seat wakes the other seat, which sleeps on the wake word. If none sleeps there, it wakes
+    /// none.
     Wake(u32, u32),
 }

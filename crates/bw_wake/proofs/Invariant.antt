@@ -1,7 +1,9 @@
--- The invariant of the waiting protocol: what holds at the start, and after each event if it held before.
+-- The invariant of the waiting protocol: what holds at the start, and after each event if it held
+-- before.
 use Rattle.std.proofs.Common.{◌≡◌, ℕ, ◌+◌, ◌<◌, ◌≤◌, ◌⊎◌, ◌==◌, length}
 use Rattle.bw_wake.specs.declared.seats.Phase.{Phase}
-use Rattle.bw_wake.specs.declared.seats.Phase.TheVariants.{Waiting, Marked, Looked, Asleep, Inside, Done}
+use Rattle.bw_wake.specs.declared.seats.Phase.TheVariants.{Waiting, Marked, Looked, Asleep, Inside}
+use Rattle.bw_wake.specs.declared.seats.Phase.TheVariants.{Done}
 use Rattle.bw_wake.specs.Protocol.{WaitState, mark_at}
 use Rattle.bw_wake.specs.Progress.{one_if, count, sleeps, busy, will_peek, wakes}
 
@@ -48,6 +50,9 @@ pub record Sound (s : WaitState) : Type 0 where
   -- there is a wake word for each seat
   pub words : length s.phases ≤ length s.words
   -- where a seat sleeps with x, its mark stands, or some seat wakes it next
-  pub mark_or_wake : (x : ℕ) → 1 ≤ count (sleeps x) s.phases → Stands s x ⊎ (1 ≤ count (wakes x) s.phases)
-  -- where a seat has looked in vain for the ticket that is served now, and its mark stands, some seat has yet to look for that mark
-  pub peek_owed : 1 ≤ count (may_sleep s.serving) s.phases → Stands s s.serving → 1 ≤ count (will_peek s.serving) s.phases
+  pub mark_or_wake : (x : ℕ) → 1 ≤ count (sleeps x) s.phases
+      → Stands s x ⊎ (1 ≤ count (wakes x) s.phases)
+  -- where a seat has looked in vain for the ticket that is served now, and its mark stands, some
+  -- seat has yet to look for that mark
+  pub peek_owed : 1 ≤ count (may_sleep s.serving) s.phases → Stands s s.serving
+      → 1 ≤ count (will_peek s.serving) s.phases

@@ -1,5 +1,6 @@
 -- What a list of wake words has after one of them is written.
-use Rattle.std.proofs.Common.{◌≡◌, ◌≢◌, ℕ, zero, suc, ◌<◌, List, [], ◌∷◌, length, set, refl, ap, arith, slice_index}
+use Rattle.std.proofs.Common.{◌≡◌, ◌≢◌, ℕ, zero, suc, ◌<◌, List, [], ◌∷◌, length, set, refl, ap}
+use Rattle.std.proofs.Common.{arith, slice_index}
 
 pub index_here : (ws : List ℕ) (i v : ℕ) → i < length ws → slice_index (set ws i v) i ≡ v
 index_here [] i v h = absurd (omega arith)
