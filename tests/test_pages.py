@@ -171,6 +171,31 @@ def test_references_are_refused():
     assert not is_there("bw_model", "Planned.antt", "antt", "IsPlan", None)
 
 
+def definitions() -> list:
+    """The definitions that DEFINITIONS names: crates, file and name."""
+    found, crates_here = [], []
+    for line in text_of("docs/DEFINITIONS.md").splitlines():
+        if line.startswith("#"):
+            crates_here = [crate for crate in crates() if f"`{crate}`" in line]
+        cells = line.strip("|").split("|")
+        if line.startswith("| ") and len(cells) == 2 and re.match(r" `(?:\w+ )?[A-Z]\w+\.", cells[1]):
+            file, where = "", crates_here
+            for crate, first, name in re.findall(r"`(?:(\w+) )?(?:(\w+)\.)?(\w+)`", cells[1]):
+                file = first or file
+                where = [crate] if crate else where
+                found.append((where, file, name))
+    return found
+
+
+def test_definitions():
+    """Each definition that DEFINITIONS names is in its file."""
+    found = definitions()
+    assert len(found) >= 200
+    wrong = [(file, name) for where, file, name in found
+             if not any(is_there(crate, f"{file}.antt", "antt", name, None) for crate in where)]
+    same(wrong, [], "definitions that are not")
+
+
 def test_each_crate_is_described():
     """PROVED has a section for each crate, or names it in bold. ARCHITECTURE names each crate."""
     proved, architecture = text_of("docs/PROVED.md"), text_of("docs/ARCHITECTURE.md")
