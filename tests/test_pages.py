@@ -232,7 +232,7 @@ def sentences(text: str) -> list:
     found = []
     for block in blocks_of_prose(text):
         block = re.sub(r"\[([^\]]*)\]\([^)]*\)", r"\1", re.sub(r"`[^`]+`", "CODE", block))
-        block = block.replace("**", "").replace(" .. ", " ")
+        block = block.replace("*", "").replace(" .. ", " ")
         found += re.split(r"(?<=[.!?])['\")]*\s+(?=[A-Z0-9'\"(])", block)
     return [sentence for sentence in found if sentence.strip()]
 
