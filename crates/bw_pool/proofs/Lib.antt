@@ -1,16 +1,16 @@
 -- The lemmas on pools, drained workers and schedules.
 pub mod CallerLemmas
 mod Amounts
-mod Backs
+mod GiveBackComputed
 mod BareRows
-mod Bounds
+mod Ceilings
 mod Drained
-mod Drawing
-mod Draws
+mod DrawTurn
+mod DrawComputed
 mod Holdings
 mod Lists
-mod Returning
-mod Sound
+mod GiveBackTurn
+mod PoolSound
 mod StepsUp
 mod Trees
 mod Witness

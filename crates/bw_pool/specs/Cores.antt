@@ -11,7 +11,13 @@ use Rattle.bw_pool.specs.declared.interleaving.Core.TheInside.{Inside}
 
 -- what the fields stand for
 abbrev pub core_of : Inside → CoreState PoolState PoolCall PoolReply
-core_of a = record { next = a.next; serving = a.serving; phases = a.phases.items; machine = a.pool; history = a.history.items }
+core_of a = record {
+  next = a.next;
+  serving = a.serving;
+  phases = a.phases.items;
+  machine = a.pool;
+  history = a.history.items;
+}
 
 -- the numbers of tickets and of entries are counts of the seats' phases
 pub record IsCounted (a : Inside) : Type 0 where

@@ -1,53 +1,57 @@
-//! What a seat may ask of the pool, and what the pool replies.
+//! The calls of the pool, and its replies.
 
-/// A call of one seat. A leaf and a group are given by their row, and the other numbers are slices.
+/// A call of one seat. `leaf` and `group` are rows. The other numbers are in slices.
 #[derive(Clone, Copy, Debug, PartialEq)]
 pub enum PoolCall {
-    /// Draws as much as is asked and left, at the leaf, at each of its ancestors and at the seat's processor.
+    /// Draws up to `ask` slices of a leaf: the least of `ask` and of what is left at the leaf, at
+    /// each ancestor and at the seat's processor.
     Draw { leaf: u32, ask: u64 },
-    /// Gives n slices of a leaf back, which the seat holds.
+    /// Gives back `n` slices of a leaf that the seat holds.
     GiveBack { leaf: u32, n: u64 },
-    /// Lowers the ceiling of a group, to no less than what is drawn.
+    /// Lowers the ceiling of a group to `to`, but not below what is drawn.
     Lower { group: u32, to: u64 },
-    /// Asks what a group has drawn, and its ceiling.
+    /// Reads what a group has drawn, and its ceiling.
     Look { group: u32 },
 }
 
-/// What kept a draw below what was asked: the group nearest the leaf that had exactly as much left as was got, else the processor.
+/// The cause of a short draw: the group nearest the leaf that had exactly the drawn slices left, or
+/// else the processor.
 #[derive(Clone, Copy, Debug, PartialEq)]
 pub enum Short {
     /// The group of this row.
     Group(u32),
-    /// No group: the seat's processor had no more slices left in the period.
+    /// The seat's processor had no more slices left in the period.
     Processor,
 }
 
-/// Why a call is refused, in the order of the tests.
+/// Refusals of a call, in the order in which they are tested.
 #[derive(Clone, Copy, Debug, PartialEq)]
 pub enum Refusal {
-    /// A draw by a seat that has no processor.
+    /// A draw by a seat without a processor.
     NoProcessor,
-    /// There is no such row.
+    /// The row does not exist.
     NoGroup,
-    /// A draw from a group with children, or a give-back to one.
+    /// A draw from or a give-back to a group with children.
     NotLeaf,
-    /// A draw or a give-back of no slice.
+    /// A draw or a give-back of 0 slices.
     ZeroAsk,
 }
 
 /// The reply to a call, in slices. A refused call and `NotHeld` change nothing.
 #[derive(Clone, Copy, Debug, PartialEq)]
 pub enum PoolReply {
-    /// To `Draw`: how many slices were got, from 0 to what was asked, and what kept them below that, `None` where all were got.
+    /// To `Draw`: the slices drawn, 0 to what was asked. `short` is the cause if they are fewer.
     Granted { got: u64, short: Option<Short> },
-    /// To `GiveBack`: all n slices were given back.
+    /// To `GiveBack`: all slices were given back.
     Returned,
-    /// To `GiveBack` of more slices than the seat holds of the leaf: it holds so many, and none was given back.
+    /// To `GiveBack` of more slices than the seat holds of the leaf. Nothing was given back.
     NotHeld { held: u64 },
-    /// To `Lower`: the group's ceiling from now on, which is `to`, but no less than what is drawn and no more than it was.
+    /// To `Lower`: the new ceiling of the group. It is `to`, but at least what is drawn and at most
+    /// the old ceiling.
     Lowered { ceiling: u64 },
-    /// To `Look`: the n slices drawn by the group, with those of the groups below it, and its ceiling.
+    /// To `Look`: the `n` slices drawn by the group and the groups below it, and the group's
+    /// ceiling.
     Drawn { n: u64, ceiling: u64 },
-    /// To any call: the first reason to refuse it.
+    /// To any call: its first refusal.
     Refused(Refusal),
 }

@@ -1,4 +1,4 @@
-//! The interleaving core: the atomic actions of the seats that share a slice pool, played one after another in any order.
+//! The interleaving core of a slice pool: plays the atomic actions of its seats in any order.
 ghost use Rattle.std.specs.Prelude.{◌≡◌, ◌≤◌, ◌<◌, length, slice_get, IfOk, OnErr, OnOk};
 ghost use Rattle.bw_machine.specs.Seats.{start, is_possible, happens, run, takes};
 ghost use Rattle.bw_pool.specs.Pool.{after, answer, IsWithinCeilings};
@@ -11,7 +11,7 @@ use bw_machine::{CoreEvent, Entry, Machine, Phase};
 use std::alloc::{AllocError, Global};
 use std::marker::Model;
 
-/// How far each seat is with its call, the pool, and the history of the calls that were made.
+/// The phase of each seat, the pool, and the history of the calls that were made.
 #[derive(Drop)]
 pub struct Core {
     next: u64,
@@ -37,7 +37,7 @@ impl Model for Core {
 }
 
 impl Core {
-    /// The ticket that the next `Take` gets: the number of tickets taken.
+    /// The ticket of the next `Take`: the number of tickets drawn.
     pub fn next(&self) -> u64
         ensures { result ≡ self.now.next }
     {
@@ -116,7 +116,8 @@ impl Core {
 
     fn apply(&mut self, seat: u32) -> Result<bool, AllocError>
         ensures possible { IfOk result (λ b. b ≡ is_possible self.old (CoreEvent.Apply seat)) }
-        ensures state { OnOk result (self.new ≡ happens after answer self.old (CoreEvent.Apply seat)) }
+        ensures state { OnOk result
+            (self.new ≡ happens after answer self.old (CoreEvent.Apply seat)) }
         ensures err { OnErr result (self.new ≡ self.old) }
     {
         let Some(Phase::Inside { call }) = self.phase(seat) else {
@@ -129,8 +130,12 @@ impl Core {
         Ok(true)
     }
 
-    /// One event: true where it was possible and done, and false otherwise, also for an unknown seat, with nothing changed. Fails only
-    /// when out of memory, and nothing is changed then.
+    /// Plays one event. Returns false, and changes nothing, if it is not possible: also for an
+    /// unknown seat.
+    ///
+    /// # Errors
+    ///
+    /// - `AllocError`: an allocation failed. Nothing is changed.
     pub fn event(&mut self, event: CoreEvent<PoolCall>) -> Result<bool, AllocError>
         ensures possible { IfOk result (λ b. b ≡ is_possible self.old event) }
         ensures state { OnOk result (self.new ≡ happens after answer self.old event) }
@@ -144,7 +149,11 @@ impl Core {
         }
     }
 
-    /// A core of so many idle seats over the pool. Fails only when out of memory: the pool is dropped then.
+    /// A core of 1 to 64 idle seats over the pool.
+    ///
+    /// # Errors
+    ///
+    /// - `AllocError`: an allocation failed. The pool is dropped.
     pub fn new(alloc: Global, pool: SlicePool, seats: u32) -> Result<Core, AllocError>
         requires some { 1 ≤ seats }
         requires few { seats ≤ MAX_SEATS }
@@ -160,10 +169,15 @@ impl Core {
         })
     }
 
-    /// A core that has played a whole schedule, one event after another. Whatever the events, it was one thread's work: at most one seat is
-    /// inside or done, the history is legal and in ticket order, the pool is its replay, and each seat's own calls are those for which
-    /// it took a ticket; and no group is past the ceiling that it opened with. Fails only when out of memory: the pool is dropped
-    /// then.
+    /// A core of 1 to 64 seats that has played a whole schedule, event by event.
+    ///
+    /// Every schedule is the work of one thread: at most one seat is inside or done, the history is
+    /// legal and in ticket order, the pool is its replay, and each seat's calls are those for which
+    /// it drew a ticket. No group is past the ceiling that it opened with.
+    ///
+    /// # Errors
+    ///
+    /// - `AllocError`: an allocation failed. The pool is dropped.
     pub fn play(
         alloc: Global,
         pool: SlicePool,
@@ -172,8 +186,10 @@ impl Core {
     ) -> Result<Core, AllocError>
         requires some { 1 ≤ seats }
         requires few { seats ≤ MAX_SEATS }
-        ensures state { IfOk result (λ core. core ≡ run after answer (start seats pool) events.now) }
-        ensures one_thread { IfOk result (λ core. IsOneThread after answer pool (takes after answer (start seats pool) events.now) core) }
+        ensures state { IfOk result (λ core.
+            core ≡ run after answer (start seats pool) events.now) }
+        ensures one_thread { IfOk result (λ core.
+            IsOneThread after answer pool (takes after answer (start seats pool) events.now) core) }
         ensures within { IfOk result (λ core. IsWithinCeilings pool core.machine) }
     {
         // its contract says that the pool is sound

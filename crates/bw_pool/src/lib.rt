@@ -1,5 +1,5 @@
-//! The slice pool of one period: how many slices each group, processor and seat has drawn, and up to which ceilings; and the
-//! interleaving core, which plays every schedule of the seats that share a pool.
+//! The slice pool of one period: the slices drawn by each group, processor and seat, and their
+//! ceilings. The interleaving core plays any schedule of the seats that share a pool.
 #![tactic(auto)]
 
 mod calls;

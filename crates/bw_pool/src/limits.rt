@@ -1,5 +1,5 @@
-//! The limit of seats.
+//! The limits of a pool.
 use bw_model::limits::MAX_PROCESSORS;
 
-/// The most seats of a core: one for each processor.
+/// Greatest number of seats of a core: one for each processor.
 pub const MAX_SEATS: u32 = MAX_PROCESSORS as u32;

@@ -1,11 +1,13 @@
 //! The pool as a machine.
-ghost use Rattle.std.specs.Prelude.{◌≡◌, ℕ, ◌-◌, ◌+◌, ◌<◌, ◌≤◌, ◌^◌, length, slice_index, slice_index_or, false, IfOk, None};
+ghost use Rattle.std.specs.Prelude.{◌≡◌, ℕ, ◌-◌, ◌<◌, ◌≤◌, length, slice_index, slice_index_or};
+ghost use Rattle.std.specs.Prelude.{false, IfOk, None};
 ghost use Rattle.std.specs.List.{AllByRecursion};
 ghost use Rattle.bw_model.specs.Groups.{AreTreeRows, path_up, is_leaf};
 ghost use Rattle.bw_model.specs.Host.{slices_per_processor};
 ghost use Rattle.bw_pool.specs.Parents.{parents_of, bare_rows};
-ghost use Rattle.bw_pool.specs.Pool.{PoolState, IsSound, gave_back, least, raised, lowered, first_with, new_pool};
-ghost use Rattle.bw_pool.specs.Pool.{refusal, leaf_refusal, group_refusal, state_after, reply_to, held_by, after, answer};
+ghost use Rattle.bw_pool.specs.Pool.{IsSound, gave_back, least, raised, lowered, first_with};
+ghost use Rattle.bw_pool.specs.Pool.{new_pool, refusal, leaf_refusal, group_refusal, state_after};
+ghost use Rattle.bw_pool.specs.Pool.{reply_to, held_by};
 
 use crate::calls::{PoolCall, PoolReply, Refusal, Short};
 use bw_machine::Machine;
@@ -14,9 +16,11 @@ use std::alloc::{AllocError, Global};
 use std::marker::Model;
 use std::snapshot::Snapshot;
 
-/// How many slices of one period are drawn, up to which ceilings, and who holds them: the global pool of sched-bwc.rst, from which
-/// each processor draws. The number of a seat is that of its processor. Of each row it keeps what the calls go by: the parent, and
-/// whether it is a leaf. The contracts speak of the rows of the instance, which they read in `groups`, a field of no bytes.
+/// The slices drawn in one period, their ceilings and their holders: the global pool of
+/// sched-bwc.rst, from which each processor draws. The number of a seat is that of its processor.
+///
+/// Of each row the pool keeps the parent, and whether it is a leaf. `groups` is ghost state for the
+/// contracts, which speak of the rows of the instance.
 #[derive(Drop)]
 pub struct SlicePool {
     processors: u32,
@@ -42,15 +46,18 @@ impl Model for SlicePool {
     ghost invariant = { IsPool };
 }
 
-/// The least of the bound and of what is left at the leaf and at each ancestor.
+// The least of the bound and of what is left at the leaf and at each ancestor.
 fn least_left(parents: &[Option<u32>], drawn: &[u64], ceiling: &[u64], leaf: u32, bound: u64) -> u64
     requires tree { AreTreeRows (bare_rows parents.now) }
     requires row { leaf < length parents.now }
     requires drawn { length drawn.now ≡ length parents.now }
     requires ceiling { length ceiling.now ≡ length parents.now }
     requires within { (g : ℕ) → slice_index drawn.now g ≤ slice_index ceiling.now g }
-    ensures value { result ≡ least (λ g. slice_index ceiling.now g - slice_index drawn.now g) (path_up (bare_rows parents.now) leaf) bound }
-    ensures room { AllByRecursion (λ g. result ≤ slice_index ceiling.now g - slice_index drawn.now g) (path_up (bare_rows parents.now) leaf) }
+    ensures value { result ≡ least (λ g. slice_index ceiling.now g - slice_index drawn.now g)
+        (path_up (bare_rows parents.now) leaf) bound }
+    ensures room { AllByRecursion (λ g.
+        result ≤ slice_index ceiling.now g - slice_index drawn.now g)
+        (path_up (bare_rows parents.now) leaf) }
 {
     let mut least = bound;
     let mut at = Some(leaf);
@@ -66,14 +73,16 @@ fn least_left(parents: &[Option<u32>], drawn: &[u64], ceiling: &[u64], leaf: u32
     least
 }
 
-/// Adds n at the leaf and at each ancestor, where each has as much left.
+// Adds n at the leaf and at each ancestor. Each has at least n left.
 fn raise(parents: &[Option<u32>], ceiling: &[u64], drawn: &mut [u64], leaf: u32, n: u64)
     requires tree { AreTreeRows (bare_rows parents.now) }
     requires row { leaf < length parents.now }
     requires one_each { length drawn.old ≡ length parents.now }
     requires ceiling { length ceiling.now ≡ length parents.now }
     requires within { (g : ℕ) → slice_index drawn.old g ≤ slice_index ceiling.now g }
-    requires room { AllByRecursion (λ g. n ≤ slice_index ceiling.now g - slice_index drawn.old g) (path_up (bare_rows parents.now) leaf) }
+    requires room { AllByRecursion (λ g.
+        n ≤ slice_index ceiling.now g - slice_index drawn.old g)
+        (path_up (bare_rows parents.now) leaf) }
     ensures { drawn.new ≡ raised (path_up (bare_rows parents.now) leaf) n drawn.old }
 {
     if n == 0 {
@@ -87,12 +96,13 @@ fn raise(parents: &[Option<u32>], ceiling: &[u64], drawn: &mut [u64], leaf: u32,
     }
 }
 
-/// Takes n away at the leaf and at each ancestor, where each has as much.
+// Subtracts n at the leaf and at each ancestor. Each has drawn at least n.
 fn lower(parents: &[Option<u32>], drawn: &mut [u64], leaf: u32, n: u64)
     requires tree { AreTreeRows (bare_rows parents.now) }
     requires row { leaf < length parents.now }
     requires one_each { length drawn.old ≡ length parents.now }
-    requires enough { AllByRecursion (λ g. n ≤ slice_index drawn.old g) (path_up (bare_rows parents.now) leaf) }
+    requires enough { AllByRecursion (λ g. n ≤ slice_index drawn.old g)
+        (path_up (bare_rows parents.now) leaf) }
     ensures { drawn.new ≡ lowered (path_up (bare_rows parents.now) leaf) n drawn.old }
 {
     let mut at = Some(leaf);
@@ -103,7 +113,7 @@ fn lower(parents: &[Option<u32>], drawn: &mut [u64], leaf: u32, n: u64)
     }
 }
 
-/// The group nearest the leaf that has exactly so much left, else the processor.
+// The group nearest the leaf that has exactly `got` left, or else the processor.
 fn nearest_with(
     parents: &[Option<u32>],
     drawn: &[u64],
@@ -116,7 +126,8 @@ fn nearest_with(
     requires drawn { length drawn.now ≡ length parents.now }
     requires ceiling { length ceiling.now ≡ length parents.now }
     requires within { (g : ℕ) → slice_index drawn.now g ≤ slice_index ceiling.now g }
-    ensures { result ≡ first_with (λ g. slice_index ceiling.now g - slice_index drawn.now g) got (path_up (bare_rows parents.now) leaf) }
+    ensures { result ≡ first_with (λ g. slice_index ceiling.now g - slice_index drawn.now g) got
+        (path_up (bare_rows parents.now) leaf) }
 {
     let mut at = Some(leaf);
     while let Some(group) = at {
@@ -129,18 +140,19 @@ fn nearest_with(
     Short::Processor
 }
 
-/// The parent of each row.
+// The parent of each row.
 fn parents_of(alloc: Global, rows: &[Row]) -> Result<Vec<Option<u32>>, AllocError>
     ensures { IfOk result (λ v. v.items ≡ parents_of rows.now) }
 {
     rows.iter().map(|row| row.parent).collect(alloc)
 }
 
-/// Whether each row is a leaf.
+// For each row, whether it is a leaf.
 fn leaf_flags(alloc: Global, instance: &Instance, rows: u32) -> Result<Vec<bool>, AllocError>
     requires { rows ≡ length instance.now.rows }
     ensures len { IfOk result (λ v. length v.items ≡ rows) }
-    ensures flags { IfOk result (λ v. (g : ℕ) → g < rows → slice_index_or v.items g false ≡ is_leaf instance.now.rows g) }
+    ensures flags { IfOk result (λ v. (g : ℕ) → g < rows →
+        slice_index_or v.items g false ≡ is_leaf instance.now.rows g) }
 {
     let mut flags = Vec::with_capacity(alloc, rows as usize)?;
     for group in 0..rows {
@@ -150,11 +162,17 @@ fn leaf_flags(alloc: Global, instance: &Instance, rows: u32) -> Result<Vec<bool>
 }
 
 impl SlicePool {
-    /// A pool with nothing drawn or held, and the amounts, one for each row, as ceilings. It takes the room for all holdings, so no call
-    /// on it takes any. Fails only when out of memory.
+    /// A pool with nothing drawn or held. `amounts` are the ceilings, in slices, one for each row.
+    /// No call on the pool allocates.
+    ///
+    /// # Errors
+    ///
+    /// - `AllocError`: an allocation failed.
     pub fn new(alloc: Global, instance: &Instance, amounts: &[u64]) -> Result<SlicePool, AllocError>
         requires { length amounts.now ≡ length instance.now.rows }
-        ensures { IfOk result (λ pool. pool ≡ new_pool instance.now.shape.processors (slices_per_processor instance.now.shape) instance.now.rows amounts.now) }
+        ensures { IfOk result (λ pool. pool ≡
+            new_pool instance.now.shape.processors (slices_per_processor instance.now.shape)
+            instance.now.rows amounts.now) }
     {
         let shape = instance.shape();
         let processors = shape.processors() as u32;
@@ -179,7 +197,7 @@ impl SlicePool {
         })
     }
 
-    /// The slices drawn by each group, with those of the groups below it.
+    /// The slices drawn by each group and the groups below it.
     pub fn all_drawn(&self) -> &[u64]
         ensures value { result.now ≡ self.now.drawn }
         ensures sound { IsSound self.now }
@@ -187,14 +205,14 @@ impl SlicePool {
         self.drawn.as_slice()
     }
 
-    /// The slices drawn by each group, with those of the groups below it, for which the pool is given up.
+    /// The slices drawn by each group and the groups below it. Consumes the pool.
     pub fn into_drawn(self) -> Vec<u64>
         ensures { result.items ≡ self.drawn }
     {
         self.drawn
     }
 
-    /// The slices drawn by a group, with those of the groups below it.
+    /// The slices drawn by a group and the groups below it.
     pub fn drawn(&self, group: u32) -> u64
         requires { group < length self.now.rows }
         ensures { result ≡ slice_index self.now.drawn group }
@@ -202,7 +220,7 @@ impl SlicePool {
         self.drawn[group as usize]
     }
 
-    /// The slices up to which a group may draw.
+    /// The ceiling of a group in slices.
     pub fn ceiling(&self, group: u32) -> u64
         requires { group < length self.now.rows }
         ensures { result ≡ slice_index self.now.ceiling group }
@@ -210,7 +228,7 @@ impl SlicePool {
         self.ceiling[group as usize]
     }
 
-    /// The slices that the seat of a processor has drawn and not given back.
+    /// The slices that the seat of a processor has drawn and not given back, 0 to 1000.
     pub fn by_processor(&self, processor: u32) -> u64
         requires { processor < self.now.processors }
         ensures { result ≡ slice_index self.now.by_processor processor }
@@ -218,7 +236,7 @@ impl SlicePool {
         self.by_processor[processor as usize]
     }
 
-    /// The slices that a seat holds of a leaf: 0 where there is no such seat or row.
+    /// The slices that a seat holds of a leaf, or 0 if there is no such seat or row.
     pub fn held(&self, seat: u32, leaf: u32) -> u64
         ensures { result ≡ held_by self.now seat leaf }
     {
@@ -270,7 +288,7 @@ impl SlicePool {
         }
     }
 
-    /// Draws as much as is asked and left, at the leaf, its ancestors, the processor and the seat's holding.
+    // Draws the least of `ask` and of what is left at the leaf, its ancestors and the processor.
     fn draw(&mut self, seat: u32, leaf: u32, ask: u64) -> PoolReply
         requires { refusal self.old seat (PoolCall.Draw leaf ask) ≡ None }
         ensures state { self.new ≡ state_after self.old seat (PoolCall.Draw leaf ask) }
@@ -291,7 +309,7 @@ impl SlicePool {
         PoolReply::Granted { got, short }
     }
 
-    /// Takes n back from the leaf, its ancestors, the processor and the seat's holding, each of which has as much.
+    // Subtracts n at the leaf, its ancestors, the processor and the seat's holding.
     fn take_back(&mut self, seat: u32, leaf: u32, n: u64)
         requires may { leaf_refusal self.old leaf n ≡ None }
         requires held { n ≤ held_by self.old seat leaf }
@@ -304,7 +322,7 @@ impl SlicePool {
         self.held[place] -= n;
     }
 
-    /// Takes n back, where the seat holds as much of the leaf.
+    // Gives back n slices, if the seat holds as many of the leaf.
     fn give_back(&mut self, seat: u32, leaf: u32, n: u64) -> PoolReply
         requires { refusal self.old seat (PoolCall.GiveBack leaf n) ≡ None }
         ensures state { self.new ≡ state_after self.old seat (PoolCall.GiveBack leaf n) }
@@ -318,7 +336,7 @@ impl SlicePool {
         PoolReply::Returned
     }
 
-    /// Lowers the ceiling of a group, not below what is drawn.
+    // Lowers the ceiling of a group, but not below what is drawn.
     fn lower_ceiling(&mut self, group: u32, to: u64) -> PoolReply
         requires { group_refusal self.old group ≡ None }
         ensures state { (seat : ℕ) → self.new ≡ state_after self.old seat (PoolCall.Lower group to) }

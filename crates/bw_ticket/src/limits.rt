@@ -1,7 +1,7 @@
 //! The limits of a lock.
 
-/// The most seats.
+/// Greatest number of seats of a lock.
 pub const MAX_SEATS: u32 = 64;
 
-/// The most calls of a seat.
+/// Greatest number of calls of a seat.
 pub const MAX_CALLS: u32 = 65536;

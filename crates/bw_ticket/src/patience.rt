@@ -1,23 +1,24 @@
-//! Whether a seat that waits gives the processor away between looks, before it sleeps.
+//! The decision of a waiting seat to yield the processor between looks, before it sleeps.
 //!
-//! A yield among seats that wait too is over within microseconds. One beside other work may last until that has used
-//! up its time slice, some milliseconds, in which all later tickets wait for this seat. Only a clock tells the two apart.
+//! A yield to other waiting seats ends within microseconds. A yield to other work may last for its
+//! time slice, some milliseconds, and all later tickets wait meanwhile. A clock tells the two
+//! apart.
 use std::rt::Clock;
 use std::thread::yield_now;
 use std::time::Instant;
 
-// From how many microseconds on a yield is a long one.
+// Least length of a long yield, in microseconds.
 const LONG_YIELD_MICROSECONDS: u128 = 200;
 
-// How many waits after the first long yield have no yield before they sleep.
+// Number of waits without a yield after the first long yield.
 const WAITS_WITHOUT_YIELD: u32 = 64;
 
-/// What the yields of a seat have shown so far. It decides how a seat waits, and nothing that a call answers.
+/// A seat's record of long yields. It affects how the seat waits, and no reply.
 #[derive(Clone, Copy)]
 pub(crate) struct Patience {
-    // How many of the waits to come have no yield.
+    // Number of coming waits without a yield.
     without_yield: u32,
-    // How many there were after the last long yield.
+    // Number of waits without a yield after the last long yield.
     last: u32,
 }
 
@@ -29,8 +30,8 @@ impl Patience {
         }
     }
 
-    // Gives the processor away once, and says whether it came back soon. After a long yield the seat's next waits have
-    // none, and after each later one twice as many as before.
+    // Yields once, and returns whether the yield was short. After a long yield the seat's next
+    // waits have no yield: 64 of them, and twice as many after each further long yield.
     pub(crate) fn yields<R: Clock>(&mut self, rt: &R) -> bool {
         if self.without_yield > 0 {
             self.without_yield -= 1;
@@ -45,7 +46,7 @@ impl Patience {
     }
 }
 
-// Gives the processor away once. Where the clock cannot be read the yield counts as a long one.
+// Yields once, and returns whether the yield was short. If the clock cannot be read, it was long.
 fn is_short_yield<R: Clock>(rt: &R) -> bool {
     let Ok(before) = Instant::now(rt) else {
         return false;

@@ -1,6 +1,7 @@
 -- The leaves of the first rows.
 use Rattle.bw_model.specs.declared.row.Row.{Row}
-use Rattle.std.proofs.Common.{◌≡◌, ◌≢◌, ℕ, ◌+◌, ◌==◌, inl, inr, List, [], ◌∷◌, ◌++◌, true, false, cond, ◌&&◌, sym, ap, ◌∙◌, arith}
+use Rattle.std.proofs.Common.{◌≡◌, ◌≢◌, ℕ, ◌+◌, ◌==◌, inl, inr, List, [], ◌∷◌, ◌++◌, true, false}
+use Rattle.std.proofs.Common.{cond, ◌&&◌, sym, ap, ◌∙◌, arith}
 use Rattle.std.specs.Prelude.{nat_lt}
 use Rattle.std.proofs.lemmas.Bool.{lt-ltb, le-ltb, cases_lt, and_from, and_left, and_right}
 use Rattle.std.proofs.lemmas.Bool.Decides.{eqb_tells}
@@ -8,16 +9,19 @@ use Rattle.bw_model.specs.Groups.{is_leaf}
 use Rattle.bw_workers.specs.Working.{times}
 
 abbrev pub AreLeavesTo : List Row → ℕ → List ℕ → Type 0
-AreLeavesTo tree n leaves = (x : ℕ) → times x leaves ≡ cond {A = ℕ} (nat_lt x n && is_leaf tree x) 1 0
+AreLeavesTo tree n leaves = (x : ℕ)
+    → times x leaves ≡ cond {A = ℕ} (nat_lt x n && is_leaf tree x) 1 0
 
 later : (a t t' c : ℕ) → t ≡ t' + c → a + t ≡ (a + t') + c
 later a t t' c h = omega arith
 
-times_snoc : (xs : List ℕ) (x y : ℕ) → times x (xs ++ y ∷ []) ≡ times x xs + cond {A = ℕ} (y == x) 1 0
+times_snoc : (xs : List ℕ) (x y : ℕ)
+    → times x (xs ++ y ∷ []) ≡ times x xs + cond {A = ℕ} (y == x) 1 0
 times_snoc [] x y = turned (cond {A = ℕ} (y == x) 1 0) where
   turned : (a : ℕ) → a + 0 ≡ 0 + a
   turned a = omega arith
-times_snoc (z ∷ xs) x y = later (cond {A = ℕ} (z == x) 1 0) (times x (xs ++ y ∷ [])) (times x xs) (cond {A = ℕ} (y == x) 1 0) (times_snoc xs x y)
+times_snoc (z ∷ xs) x y = later (cond {A = ℕ} (z == x) 1 0) (times x (xs ++ y ∷ [])) (times x xs)
+    (cond {A = ℕ} (y == x) 1 0) (times_snoc xs x y)
 
 same_below : (x row : ℕ) → row ≢ x → nat_lt x (row + 1) ≡ nat_lt x row
 same_below x row ne = elim (cases_lt x row) [
@@ -29,23 +33,30 @@ plus_none : (t c : ℕ) → c ≡ 0 → t + c ≡ t
 plus_none t c h = omega arith
 
 pub no_rows : (tree : List Row) → AreLeavesTo tree 0 []
-no_rows tree x = sym (ap (λ b. cond {A = ℕ} b 1 0) (and_left (nat_lt x 0) (is_leaf tree x) (le-ltb x 0 (omega arith))))
+no_rows tree x =
+    sym (ap (λ b. cond {A = ℕ} b 1 0)
+    (and_left (nat_lt x 0) (is_leaf tree x) (le-ltb x 0 (omega arith))))
 
-pub next_leaf : (tree : List Row) (row : ℕ) (leaves : List ℕ) → AreLeavesTo tree row leaves → is_leaf tree row ≡ true →
+pub next_leaf : (tree : List Row) (row : ℕ) (leaves : List ℕ) → AreLeavesTo tree row leaves
+    → is_leaf tree row ≡ true →
     AreLeavesTo tree (row + 1) (leaves ++ row ∷ [])
 next_leaf tree row leaves h is x = elim (eqb_tells row x) [
   | inl e ↦ let before : times x leaves ≡ 0 =
-      h x ∙ ap (λ b. cond {A = ℕ} b 1 0) (and_left (nat_lt x row) (is_leaf tree x) (le-ltb x row (omega (arith, e.1)))) in
+      h x ∙ ap (λ b. cond {A = ℕ} b 1 0)
+      (and_left (nat_lt x row) (is_leaf tree x) (le-ltb x row (omega (arith, e.1)))) in
       let here : cond {A = ℕ} (row == x) 1 0 ≡ 1 = ap (λ b. cond {A = ℕ} b 1 0) e.0 in
       let now : cond {A = ℕ} (nat_lt x (row + 1) && is_leaf tree x) 1 0 ≡ 1 =
-      ap (λ b. cond {A = ℕ} b 1 0) (and_from (nat_lt x (row + 1)) (is_leaf tree x) (lt-ltb x (row + 1) (omega (arith, e.1)))
+      ap (λ b. cond {A = ℕ} b 1 0)
+      (and_from (nat_lt x (row + 1)) (is_leaf tree x) (lt-ltb x (row + 1) (omega (arith, e.1)))
       (ap (is_leaf tree) (sym e.1) ∙ is)) in
       times_snoc leaves x row ∙ (λ i. before i + here i) ∙ sym now
-  | inr e ↦ times_snoc leaves x row ∙ plus_none (times x leaves) (cond {A = ℕ} (row == x) 1 0) (ap (λ b. cond {A = ℕ} b 1 0) e.0) ∙ h x
+  | inr e ↦ times_snoc leaves x row ∙ plus_none (times x leaves) (cond {A = ℕ} (row == x) 1 0)
+      (ap (λ b. cond {A = ℕ} b 1 0) e.0) ∙ h x
       ∙ ap (λ b. cond {A = ℕ} (b && is_leaf tree x) 1 0) (sym (same_below x row e.1))
 ]
 
-pub next_inner : (tree : List Row) (row : ℕ) (leaves : List ℕ) → AreLeavesTo tree row leaves → is_leaf tree row ≡ false → AreLeavesTo tree (row + 1) leaves
+pub next_inner : (tree : List Row) (row : ℕ) (leaves : List ℕ) → AreLeavesTo tree row leaves
+    → is_leaf tree row ≡ false → AreLeavesTo tree (row + 1) leaves
 next_inner tree row leaves h is x = elim (eqb_tells row x) [
   | inl e ↦ let not_leaf : is_leaf tree x ≡ false = ap (is_leaf tree) (sym e.1) ∙ is in
       h x ∙ ap (λ b. cond {A = ℕ} b 1 0) (and_right (nat_lt x row) (is_leaf tree x) not_leaf

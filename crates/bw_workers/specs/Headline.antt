@@ -1,4 +1,5 @@
--- The work's one sentence as one record, phrase by phrase: of a plan, and of the draws of one period.
+-- The work's one sentence as one record, phrase by phrase: of a plan, and of the draws of one
+-- period.
 use Rattle.std.specs.Prelude.{◌≡◌, ℕ, ◌<◌, ◌≤◌, List, length, map, take, Bool, false, slice_index}
 use Rattle.std.specs.List.{All}
 use Rattle.bw_machine.specs.declared.history.Made.{Made}
@@ -20,9 +21,11 @@ use Rattle.bw_pool.specs.Drained.{PoolEntry, Drains, fresh, opening, IsDrawnOut}
 abbrev pub of_children : List Row → List ℕ → ℕ → List ℕ
 of_children rows numbers g = map (slice_index numbers) (children_of rows g)
 
--- an amount for each group, and the history of one period's draws, of which `uses` says at which leaves they are used; `drawn` is what
+-- an amount for each group, and the history of one period's draws, of which `uses` says at which
+-- leaves they are used; `drawn` is what
 -- is drawn of each group in the end
-pub record Headline (uses : ℕ → Bool) (groups : Groups) (amounts : List ℕ) (history : List PoolEntry) (drawn : List ℕ) : Type 0 where
+pub record Headline (uses : ℕ → Bool) (groups : Groups) (amounts : List ℕ)
+    (history : List PoolEntry) (drawn : List ℕ) : Type 0 where
   -- The plan
   pub allocation : List ℕ
   pub plan : amounts ≡ totals groups.rows allocation
@@ -36,23 +39,30 @@ pub record Headline (uses : ℕ → Bool) (groups : Groups) (amounts : List ℕ)
   pub limiting_groups : limited_total groups most ≡ slice_index amounts 0
   -- in every group its split has the least cost of all splits of that amount,
   pub least_cost : (g : ℕ) → g < length groups.rows → is_leaf groups.rows g ≡ false →
-      IsBestSplit (slice_index amounts g) (child_weights groups.rows g) (of_children groups.rows most g) (of_children groups.rows amounts g)
+      IsBestSplit (slice_index amounts g) (child_weights groups.rows g)
+      (of_children groups.rows most g) (of_children groups.rows amounts g)
   -- shown by no gainful one-slice move;
   pub no_gainful_move : (g : ℕ) → g < length groups.rows → is_leaf groups.rows g ≡ false →
-      NoMoveGains (child_weights groups.rows g) (of_children groups.rows most g) (of_children groups.rows amounts g)
+      NoMoveGains (child_weights groups.rows g) (of_children groups.rows most g)
+      (of_children groups.rows amounts g)
   -- and in every interleaving of draws the history is one thread's,
   pub one_thread : IsLegal after answer (opening groups amounts) history
   -- in ticket order: what a caller made stands in the history at the ticket that it drew,
   pub calls : ℕ → List (Made PoolCall PoolReply)
-  pub ticket_order : (caller : ℕ) → caller < groups.shape.processors → StandIn history caller (calls caller)
-  -- each caller's calls once: its entries are its calls, one for one and in their order, and those of no caller are none,
-  pub calls_once : (caller : ℕ) → caller < groups.shape.processors → map (entry_of caller) (calls caller) ≡ own caller history
+  pub ticket_order : (caller : ℕ) → caller < groups.shape.processors
+      → StandIn history caller (calls caller)
+  -- each caller's calls once: its entries are its calls, one for one and in their order, and those
+  -- of no caller are none,
+  pub calls_once : (caller : ℕ) → caller < groups.shape.processors
+      → map (entry_of caller) (calls caller) ≡ own caller history
   pub callers : All (λ e. e.seat < groups.shape.processors) history
   -- no group past its plan, after any of the draws.
-  pub never_past : (draws g : ℕ) → slice_index (replay after (opening groups amounts) (take draws history)).drawn g ≤ slice_index amounts g
+  pub never_past : (draws g : ℕ) → slice_index
+      (replay after (opening groups amounts) (take draws history)).drawn g ≤ slice_index amounts g
   -- So where each caller draws until its processor is spent or no leaf has more for it,
   pub drained : (caller : ℕ) → caller < groups.shape.processors →
-      Drains uses groups.rows (slices_per_processor groups.shape) fresh (map (entry_of caller) (calls caller))
+      Drains uses groups.rows (slices_per_processor groups.shape) fresh
+      (map (entry_of caller) (calls caller))
   -- what is drawn in the end is the plan at the leaves that are used, and nothing at the others.
   pub replayed : drawn ≡ (replay after (opening groups amounts) history).drawn
   pub drawn_out : IsDrawnOut uses groups.rows amounts drawn

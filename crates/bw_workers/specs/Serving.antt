@@ -14,7 +14,8 @@ pub record IsReady (lock_id : TableId) (calls seat_number : ℕ) (seat : PoolSea
 
 -- seat k has number k
 abbrev pub AreReady : TableId → ℕ → List PoolSeat → Type 0
-AreReady lock_id calls seats = (k : ℕ) (d : PoolSeat) → k < length seats → IsReady lock_id calls k (slice_index_or seats k d)
+AreReady lock_id calls seats =
+    (k : ℕ) (d : PoolSeat) → k < length seats → IsReady lock_id calls k (slice_index_or seats k d)
 
 -- seat k is handed back by a drained worker
 abbrev pub AreBack : (ℕ → Bool) → List Row → ℕ → TableId → List PoolSeat → Type 0

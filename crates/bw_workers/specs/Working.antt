@@ -1,5 +1,7 @@
--- What a worker does with its seat: the calls that it makes, one after another, and the seat that it hands back.
-use Rattle.std.specs.Prelude.{◌≡◌, ℕ, ◌+◌, ◌≤◌, ◌==◌, nat_lt, List, [], ◌∷◌, ◌++◌, length, map, Bool, true, false, ◌&&◌, None, if◌then◌else◌, ◌⊎◌}
+-- What a worker does with its seat: the calls that it makes, one after another, and the seat that
+-- it hands back.
+use Rattle.std.specs.Prelude.{◌≡◌, ℕ, ◌+◌, ◌≤◌, ◌==◌, nat_lt, List, [], ◌∷◌, ◌++◌, length, map}
+use Rattle.std.specs.Prelude.{Bool, true, false, ◌&&◌, None, if◌then◌else◌, ◌⊎◌}
 use Rattle.atomic_table.specs.Seated.{TableId}
 use Rattle.bw_machine.specs.History.{entry, entry_of}
 use Rattle.bw_model.specs.declared.row.Row.{Row}
@@ -32,7 +34,8 @@ abbrev pub calls_of : PoolSeat → List PoolEntry
 calls_of seat = map (entry_of seat.number) seat.own
 
 -- one call of the seat, with its reply
-pub record Asks (old : PoolSeat) (call : PoolCall) (reply : PoolReply) (new : PoolSeat) : Type 0 where
+pub record Asks (old : PoolSeat) (call : PoolCall) (reply : PoolReply) (new : PoolSeat)
+    : Type 0 where
   pub lock : new.lock_id ≡ old.lock_id
   pub number : new.number ≡ old.number
   pub idle : new.pending ≡ None
@@ -57,12 +60,15 @@ pub record DropsLeaf (uses : ℕ → Bool) (leaf : ℕ) (old new : PoolSeat) : T
   pub number : new.number ≡ old.number
   pub idle : new.pending ≡ None
   pub left : old.calls_left ≤ new.calls_left + 2
-  pub calls : ((got_one reply ≡ false) × (calls_of new ≡ calls_of old ++ entry old.number (Draw leaf 1) reply ∷ []))
+  pub calls : ((got_one reply ≡ false)
+      × (calls_of new ≡ calls_of old ++ entry old.number (Draw leaf 1) reply ∷ []))
       ⊎ ((uses leaf ≡ false) × (got_one reply ≡ true) × (back : PoolReply)
-      × (calls_of new ≡ calls_of old ++ entry old.number (Draw leaf 1) reply ∷ entry old.number (GiveBack leaf 1) back ∷ []))
+      × (calls_of new ≡ calls_of old
+      ++ entry old.number (Draw leaf 1) reply ∷ entry old.number (GiveBack leaf 1) back ∷ []))
 
 -- what a worker hands back: its idle seat of the lock, whose calls are those of a drained worker
-pub record IsDrainedSeat (uses : ℕ → Bool) (rows : List Row) (per_processor : ℕ) (lock_id : TableId) (seat_number : ℕ) (seat : PoolSeat) : Type 0 where
+pub record IsDrainedSeat (uses : ℕ → Bool) (rows : List Row) (per_processor : ℕ) (lock_id : TableId)
+    (seat_number : ℕ) (seat : PoolSeat) : Type 0 where
   pub lock : seat.lock_id ≡ lock_id
   pub number : seat.number ≡ seat_number
   pub idle : seat.pending ≡ None

@@ -1,23 +1,23 @@
-//! Why a period is not served.
+//! Refusals of `serve`.
 ghost use Rattle.std.specs.Prelude.{◌≡◌};
 ghost use Rattle.bw_workers.specs.Faults.{serve_fault_number, serve_fault_name};
 
 use std::alloc::AllocError;
 use thiserror::Error;
 
-/// Why a period is not served. What the workers drew is lost then.
+/// Refusals of `serve`. What the workers drew is lost.
 #[derive(Clone, Copy, Debug, PartialEq, Eq, Error)]
 pub enum ServeFault {
-    /// A thread was refused. The others ran to their end.
+    /// 70: a thread could not be spawned. The others ran to their end.
     #[error("NotStarted")]
     NotStarted,
-    /// Memory was refused, before, between or after the starts of the threads. Those that were started ran to their end.
+    /// 71: an allocation failed. The threads that were spawned ran to their end.
     #[error("OutOfMemory")]
     OutOfMemory,
 }
 
 impl ServeFault {
-    /// The number that is printed.
+    /// The number of the refusal in output.
     pub fn number(self) -> u8
         ensures { result ≡ serve_fault_number self }
     {
@@ -27,7 +27,7 @@ impl ServeFault {
         }
     }
 
-    /// The name that is printed.
+    /// The name of the refusal in output.
     pub fn name(self) -> &'static str
         ensures { result.now ≡ serve_fault_name self }
     {

@@ -1,23 +1,24 @@
-//! What stands round the draws of the workers, and which leaves use their slices.
+//! The gate: hooks around the draws of the workers, and the leaves that use their slices.
 ghost use Rattle.std.specs.Prelude.{◌≡◌, ℕ, Bool, true};
 
-/// What stands round the draws of the workers, and which leaves use their slices. A worker is named by its processor.
+/// Hooks around the draws of the workers, and the leaves that use their slices. The number of a
+/// worker is that of its processor.
 pub trait Gate: Sync {
-    // Whether the work of a leaf takes its slices: it depends on the gate's value alone.
+    // Whether a leaf uses its slices. It depends on the value of the gate alone.
     ghost used: { Self → ℕ → Bool };
 
     /// Called before a worker's draw number `nth`, from 0.
     fn before(&self, worker: u32, nth: u64);
 
-    /// Called after that draw was answered.
+    /// Called after that draw is answered.
     fn after(&self, worker: u32, nth: u64);
 
-    /// Whether the work of a leaf takes its slices. The planner is not told of it.
+    /// Whether a leaf uses its slices. The planner does not know it.
     fn uses(&self, leaf: u32) -> bool
         ensures { result ≡ used self.now leaf };
 }
 
-/// Does nothing, and uses every leaf.
+/// The gate that does nothing and uses every leaf.
 #[derive(Clone, Copy, Debug)]
 pub struct NoGate;
 

@@ -1,5 +1,5 @@
-//! One period: a lock round the pool, and a worker in a thread of its own for each processor.
-ghost use Rattle.std.specs.Prelude.{◌≡◌, ℕ, ◌+◌, ◌*◌, ◌<◌, ◌≤◌, [], length, All, None, IfOk, slice_index_or};
+//! The draws of one period: a lock round the pool, and a worker thread for each processor.
+ghost use Rattle.std.specs.Prelude.{◌≡◌, ◌+◌, ◌*◌, ◌≤◌, length, IfOk};
 ghost use Rattle.bw_machine.specs.History.{IsLegal, replay};
 ghost use Rattle.bw_model.specs.Host.{slices_per_processor};
 ghost use Rattle.bw_model.specs.Plan.{IsPlan};
@@ -26,14 +26,16 @@ use std::sync::Wait;
 use std::thread;
 use std::thread::{Promise, Threads, join_promised};
 
-/// The calls of all workers in the order in which they were made, and the slices drawn of each group in the end, one number for each row.
+/// The draws of one period.
 #[derive(Drop)]
 pub struct Served {
+    /// The calls of all workers, in the order in which they were made.
     pub history: Vec<Entry<PoolCall, PoolReply>>,
+    /// The slices drawn by each group in the end, one number for each row.
     pub drawn: Vec<u64>,
 }
 
-// What a worker's thread hands back.
+// The promise of a worker's thread: the seat that it returns is drained.
 #[derive(Clone, Copy)]
 struct WorkerPromise<'a, G: Gate> {
     lock: &'a TicketLock<SlicePool>,
@@ -46,8 +48,8 @@ impl<'a, G: Gate> Promise<Seat<SlicePool>> for WorkerPromise<'a, G> {
     ghost use Rattle.bw_model.specs.Host.{slices_per_processor};
     ghost use Rattle.bw_workers.specs.Working.{IsDrainedSeat};
 
-    ghost kept_by = { λ p seat. IsDrainedSeat (G.used p.gate.now) p.instance.now.rows (slices_per_processor p.instance.now.shape)
-        p.lock.now.lock_id p.number seat };
+    ghost kept_by = { λ p seat. IsDrainedSeat (G.used p.gate.now) p.instance.now.rows
+        (slices_per_processor p.instance.now.shape) p.lock.now.lock_id p.number seat };
 }
 
 // The leaves, in row order.
@@ -65,7 +67,7 @@ fn leaves_of(alloc: Global, instance: &Instance) -> Result<Vec<u32>, AllocError>
     Ok(leaves)
 }
 
-// Starts a worker for each seat, and gives the seats back once all have ended.
+// Spawns a worker for each seat, and returns the seats once all workers have ended.
 fn in_threads<G: Gate, R: Threads + Wait + Clock + Sync>(
     rt: &R,
     alloc: Global,
@@ -75,21 +77,26 @@ fn in_threads<G: Gate, R: Threads + Wait + Clock + Sync>(
     leaves: &[u32],
     gate: &G,
 ) -> Result<Vec<Seat<SlicePool>>, ServeFault>
-    requires ready { AreReady lock.now.lock_id (slices_per_processor instance.now.shape + 2 * length leaves.now) seats.items }
+    requires ready { AreReady lock.now.lock_id
+        (slices_per_processor instance.now.shape + 2 * length leaves.now) seats.items }
     requires leaves { IsLeaves instance.now.rows leaves.now }
     requires few { length leaves.now ≤ MAX_GROUPS }
     ensures { IfOk result (λ v. (length v.items ≡ length seats.items) ×
-        AreBack (G.used gate.now) instance.now.rows (slices_per_processor instance.now.shape) lock.now.lock_id v.items) }
+        AreBack (G.used gate.now) instance.now.rows (slices_per_processor instance.now.shape)
+        lock.now.lock_id v.items) }
 {
     thread::scope(
         thread::scope_env(),
         rt,
         |scope| -> Result<Vec<Seat<SlicePool>>, ServeFault>
-            requires ready { AreReady lock.now.lock_id (slices_per_processor instance.now.shape + 2 * length leaves.now) seats.items }
+            requires ready { AreReady lock.now.lock_id
+                (slices_per_processor instance.now.shape + 2 * length leaves.now) seats.items }
             requires leaves { IsLeaves instance.now.rows leaves.now }
             requires few { length leaves.now ≤ MAX_GROUPS }
             ensures { IfOk result (λ v. (length v.items ≡ length seats.items) ×
-                AreBack (G.used gate.entry.now) instance.entry.now.rows (slices_per_processor instance.entry.now.shape) lock.entry.now.lock_id v.items) }
+                AreBack (G.used gate.entry.now) instance.entry.now.rows
+                (slices_per_processor instance.entry.now.shape) lock.entry.now.lock_id
+                v.items) }
         {
             let count = seats.len();
             let mut children = Vec::with_capacity(alloc, count)?;
@@ -102,9 +109,12 @@ fn in_threads<G: Gate, R: Threads + Wait + Clock + Sync>(
                     number: seat.number(),
                 };
                 let run = move || -> Seat<SlicePool>
-                    requires { IsReady lock.now.lock_id (slices_per_processor instance.now.shape + 2 * length mine.items) seat.number seat ×
+                    requires { IsReady lock.now.lock_id
+                        (slices_per_processor instance.now.shape + 2 * length mine.items)
+                        seat.number seat ×
                         IsLeaves instance.now.rows mine.items × (length mine.items ≤ MAX_GROUPS) }
-                    ensures { IsDrainedSeat (G.used gate.entry.now) instance.entry.now.rows (slices_per_processor instance.entry.now.shape)
+                    ensures { IsDrainedSeat (G.used gate.entry.now) instance.entry.now.rows
+                        (slices_per_processor instance.entry.now.shape)
                         lock.entry.now.lock_id seat.number result }
                 { work(rt, lock, seat, instance, mine, gate) };
                 let Ok(child) = scope.spawn_with(promise, run) else {
@@ -120,7 +130,8 @@ fn in_threads<G: Gate, R: Threads + Wait + Clock + Sync>(
     )
 }
 
-// The calls that one worker may need: each slice that it keeps is one draw, and each leaf may answer short, or have a slice given back.
+// Greatest number of calls of one worker: one draw for each slice that it keeps, and for each leaf
+// one draw that is short or given back, and the give-back.
 fn calls_each(instance: &Instance, leaves: &[u32]) -> u32
     requires { length leaves.now ≤ MAX_GROUPS }
     ensures value { result ≡ slices_per_processor instance.now.shape + 2 * length leaves.now }
@@ -132,13 +143,20 @@ fn calls_each(instance: &Instance, leaves: &[u32]) -> u32
     shape.per_processor() as u32 + 2 * leaves.len() as u32
 }
 
-/// Serves one period: opens a lock round a pool of the plan with one seat for each processor, and starts a thread for each, whose worker
-/// draws 1 slice from each leaf in row order, round and round. A slice of a leaf that the gate does not use is given back at once, a
-/// leaf that answered short or was given back is not asked again, and a worker ends with all slices of its processor or with no leaf
-/// left. So what is drawn in the end is the plan at the leaves that are used, in every schedule: `cpu.max` hands slices to processors
-/// as they run (sched-bwc.rst), and the plan decides how many.
+/// Serves one period: opens a lock round a pool of the plan, with one seat for each processor, and
+/// spawns a worker thread for each seat.
 ///
-/// Refused by `NotStarted` where a thread was refused, and when out of memory.
+/// A worker draws 1 slice from each leaf in row order, round and round. It gives back at once a
+/// slice of a leaf that the gate does not use. It does not ask again a leaf that answered short or
+/// whose slice it gave back. It ends with all slices of its processor, or with no leaf left.
+///
+/// In every schedule, what is drawn in the end is the plan at the leaves that are used. `cpu.max`
+/// hands slices to processors as they run (sched-bwc.rst); the plan decides how many.
+///
+/// # Errors
+///
+/// - [`ServeFault::NotStarted`]: a thread could not be spawned.
+/// - [`ServeFault::OutOfMemory`]: an allocation failed.
 pub fn serve<G: Gate, R: Threads + Wait + Clock + Sync>(
     rt: &R,
     alloc: Global,
@@ -147,12 +165,18 @@ pub fn serve<G: Gate, R: Threads + Wait + Clock + Sync>(
     gate: &G,
 ) -> Result<Served, ServeFault>
     requires { IsPlan instance.now plan.now.amounts.items }
-    ensures headline { IfOk result (λ s. Headline (G.used gate.now) instance.now plan.now.amounts.items s.history.items s.drawn.items) }
-    ensures legal { IfOk result (λ s. IsLegal after answer (opening instance.now plan.now.amounts.items) s.history.items) }
-    ensures drained { IfOk result (λ s. AreDrained (G.used gate.now) instance.now.shape.processors (slices_per_processor instance.now.shape)
-        instance.now.rows s.history.items) }
-    ensures replayed { IfOk result (λ s. s.drawn.items ≡ (replay after (opening instance.now plan.now.amounts.items) s.history.items).drawn) }
-    ensures drawn { IfOk result (λ s. IsDrawnOut (G.used gate.now) instance.now.rows plan.now.amounts.items s.drawn.items) }
+    ensures headline { IfOk result (λ s.
+        Headline (G.used gate.now) instance.now plan.now.amounts.items s.history.items
+        s.drawn.items) }
+    ensures legal { IfOk result (λ s.
+        IsLegal after answer (opening instance.now plan.now.amounts.items) s.history.items) }
+    ensures drained { IfOk result (λ s.
+        AreDrained (G.used gate.now) instance.now.shape.processors
+        (slices_per_processor instance.now.shape) instance.now.rows s.history.items) }
+    ensures replayed { IfOk result (λ s. s.drawn.items ≡
+        (replay after (opening instance.now plan.now.amounts.items) s.history.items).drawn) }
+    ensures drawn { IfOk result (λ s.
+        IsDrawnOut (G.used gate.now) instance.now.rows plan.now.amounts.items s.drawn.items) }
 {
     // its contract says that the groups are an instance
     let _rows = instance.rows();

@@ -1,4 +1,4 @@
-//! One worker.
+//! The draws of one worker.
 ghost use Rattle.std.specs.Prelude.{◌≡◌, ℕ, ◌+◌, ◌*◌, ◌<◌, ◌≤◌, [], length, None, MatchBool};
 ghost use Rattle.bw_model.specs.Host.{slices_per_processor};
 ghost use Rattle.bw_pool.specs.Drained.{got_one};
@@ -41,7 +41,8 @@ fn ask<R: Wait + Clock>(
     answer.reply
 }
 
-// Draws one slice of the leaf, and says whether it is kept: one that the leaf doesn't use is given back at once.
+// Draws one slice of the leaf and returns whether it is kept. A slice that the leaf does not use is
+// given back at once.
 fn take_turn<G: Gate, R: Wait + Clock>(
     rt: &R,
     lock: &TicketLock<SlicePool>,
@@ -53,7 +54,8 @@ fn take_turn<G: Gate, R: Wait + Clock>(
     requires lock { seat.old.lock_id ≡ lock.now.lock_id }
     requires idle { seat.old.pending ≡ None }
     requires left { 2 ≤ seat.old.calls_left }
-    ensures { MatchBool result (Keeps (G.used gate.now) leaf seat.old seat.new) (DropsLeaf (G.used gate.now) leaf seat.old seat.new) }
+    ensures { MatchBool result (Keeps (G.used gate.now) leaf seat.old seat.new)
+        (DropsLeaf (G.used gate.now) leaf seat.old seat.new) }
 {
     let worker = seat.number();
     gate.before(worker, nth);
@@ -69,8 +71,9 @@ fn take_turn<G: Gate, R: Wait + Clock>(
     false
 }
 
-/// Draws one slice of each leaf in the order of the list, round and round, until the processor is spent or no leaf is left.
-/// A leaf that had none, or whose slice was given back, isn't asked again.
+/// Draws one slice of each leaf in the order of the list, round and round, until the processor is
+/// spent or no leaf is left. A leaf that had none, or whose slice was given back, is not asked
+/// again.
 pub(crate) fn work<G: Gate, R: Wait + Clock>(
     rt: &R,
     lock: &TicketLock<SlicePool>,
@@ -84,13 +87,16 @@ pub(crate) fn work<G: Gate, R: Wait + Clock>(
     requires fresh { seat.own ≡ [] }
     requires leaves { IsLeaves instance.now.rows leaves.items }
     requires few { length leaves.items ≤ MAX_GROUPS }
-    requires room { slices_per_processor instance.now.shape + 2 * length leaves.items ≤ seat.calls_left }
-    ensures drained { IsDrainedSeat (G.used gate.now) instance.now.rows (slices_per_processor instance.now.shape) lock.now.lock_id seat.number result }
-    ensures few_calls { seat.calls_left ≤ result.calls_left + slices_per_processor instance.now.shape + 2 * length leaves.items }
+    requires room { slices_per_processor instance.now.shape + 2 * length leaves.items ≤
+        seat.calls_left }
+    ensures drained { IsDrainedSeat (G.used gate.now) instance.now.rows
+        (slices_per_processor instance.now.shape) lock.now.lock_id seat.number result }
+    ensures few_calls { seat.calls_left ≤
+        result.calls_left + slices_per_processor instance.now.shape + 2 * length leaves.items }
 {
     let shape = instance.shape();
     let slices = shape.per_processor();
-    // the leaf that is asked next stands first
+    // the next leaf to be asked is first
     let mut leaves = VecDeque::from_vec(leaves);
     let mut kept = 0;
     let mut nth = 0;

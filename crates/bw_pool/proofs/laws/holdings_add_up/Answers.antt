@@ -1,5 +1,5 @@
 -- The holdings add up after every history.
-use Rattle.bw_pool.proofs.Bounds.{stays_sound, cuts_nothing}
+use Rattle.bw_pool.proofs.Ceilings.{stays_sound, cuts_nothing}
 use Rattle.bw_pool.proofs.laws.holdings_add_up.Goals as goal
 
 pub returns-clause-stays : goal.returns-clause-stays

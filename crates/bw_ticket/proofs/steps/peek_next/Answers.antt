@@ -7,5 +7,6 @@ pub load-requires : goal.load-requires
 load-requires g c = let w = c.requires.served in (
   c.requires.table.0,
   omega (arith, c.requires.table.1.0),
-  may_peek_next g.M.Machine.after g.M.Machine.answer _ _ _ c.args.seat.now.me w.0 c.args.served w.1 w.2,
+  may_peek_next g.M.Machine.after g.M.Machine.answer _ _ _ c.args.seat.now.me w.0 c.args.served w.1
+      w.2,
 )

@@ -7,12 +7,14 @@ use Rattle.bw_pool.specs.Pool.{after, answer}
 use Rattle.bw_pool.specs.Drained.{opening, IsDrawnOut}
 use Rattle.bw_pool.proofs.CallerLemmas.{drained_workers_draw_the_plan, plan_is_planned}
 use Rattle.bw_workers.proofs.Carried.{carried}
-use Rattle.bw_workers.proofs.Histories.{drained_history, seats_ready}
+use Rattle.bw_workers.proofs.DrainedHistories.{drained_history, seats_ready}
 use Rattle.bw_workers.proofs.serving.serve.Goals as goal
 
 pub in_threads-requires-clause-ready : goal.in_threads-requires-clause-ready
 in_threads-requires-clause-ready g c κs within =
-    seats_ready c.in-Ok.made.0.lock_id (slices_per_processor c.args.instance.now.shape + 2 * length c.deref-2.result.now) _ _ c.in-Ok.made.1.items
+    seats_ready c.in-Ok.made.0.lock_id
+    (slices_per_processor c.args.instance.now.shape + 2 * length c.deref-2.result.now) _ _
+    c.in-Ok.made.1.items
     c.in-Ok.ensures.seats c.in-Ok.ensures.each.0 (search rules)
 
 pub returns-clause-drained : goal.returns-clause-drained
@@ -21,7 +23,8 @@ returns-clause-drained g c =
     let history = c.in-Ok-close.field-0.history.items in
     let opened : c.in-Ok.made.0.seats ≡ instance.shape.processors = search rules in
     let many : length c.in_ok-seats.seats.items ≡ instance.shape.processors = search rules in
-    drained_history (g.G.Gate.used c.args.gate.now) instance.shape.processors (slices_per_processor instance.shape) instance.rows c.in-Ok.made.0.lock_id
+    drained_history (g.G.Gate.used c.args.gate.now) instance.shape.processors
+    (slices_per_processor instance.shape) instance.rows c.in-Ok.made.0.lock_id
     c.in_ok-seats.seats.items history many c.in_ok-seats.ensures.1 c.in-Ok-close.ensures.own
     (subst (λ (n : ℕ). All (λ e. e.seat < n) history) opened c.in-Ok-close.ensures.callers)
 
@@ -31,9 +34,11 @@ returns-clause-drawn g c =
     let amounts = c.args.plan.now.amounts.items in
     let history = c.in-Ok-close.field-0.history.items in
     let legal : IsLegal after answer (opening instance amounts) history = search rules in
-    let replayed : c.into_drawn-drawn.result.items ≡ (replay after (opening instance amounts) history).drawn = search rules in
+    let replayed : c.into_drawn-drawn.result.items
+    ≡ (replay after (opening instance amounts) history).drawn = search rules in
     subst (IsDrawnOut (g.G.Gate.used c.args.gate.now) instance.rows amounts) (sym replayed)
-    (drained_workers_draw_the_plan (g.G.Gate.used c.args.gate.now) instance amounts history c.rows-rows.ensures.valid c.requires legal
+    (drained_workers_draw_the_plan (g.G.Gate.used c.args.gate.now) instance amounts history
+    c.rows-rows.ensures.valid c.requires legal
     (returns-clause-drained g c))
 
 pub returns-clause-headline : goal.returns-clause-headline
@@ -44,8 +49,10 @@ returns-clause-headline g c =
     let opened : c.in-Ok.made.0.seats ≡ instance.shape.processors = search rules in
     let many : length c.in_ok-seats.seats.items ≡ instance.shape.processors = search rules in
     let legal : IsLegal after answer (opening instance amounts) history = search rules in
-    let replayed : c.into_drawn-drawn.result.items ≡ (replay after (opening instance amounts) history).drawn = search rules in
-    carried (g.G.Gate.used c.args.gate.now) instance amounts c.in-Ok.made.0.lock_id c.in_ok-seats.seats.items history c.into_drawn-drawn.result.items
+    let replayed : c.into_drawn-drawn.result.items
+    ≡ (replay after (opening instance amounts) history).drawn = search rules in
+    carried (g.G.Gate.used c.args.gate.now) instance amounts c.in-Ok.made.0.lock_id
+    c.in_ok-seats.seats.items history c.into_drawn-drawn.result.items
     c.rows-rows.ensures.valid c.requires many c.in_ok-seats.ensures.1 c.in-Ok-close.ensures.own
     (subst (λ (n : ℕ). All (λ e. e.seat < n) history) opened c.in-Ok-close.ensures.callers)
     legal replayed (returns-clause-drawn g c)

@@ -11,13 +11,15 @@ invariant-loop-kept g l = record {
   lock : l.seat.lock_id ≡ l.lock.lock_id;
   number : l.seat.number ≡ l.initial.seat.number;
   idle : l.seat.pending ≡ None;
-  works : IsWorking (g.G.Gate.used l.gate) l.instance.rows (slices_per_processor l.instance.shape) (calls_of l.seat) l.leaves.items l.kept;
+  works : IsWorking (g.G.Gate.used l.gate) l.instance.rows (slices_per_processor l.instance.shape)
+      (calls_of l.seat) l.leaves.items l.kept;
   slices : l.slices ≡ (slices_per_processor l.instance.shape);
   few_slices : l.slices ≤ MAX_PER_PROCESSOR;
   kept : l.kept ≤ l.slices;
   leaves : length l.leaves.items ≤ length l.initial.leaves.items;
   nth : l.nth + length l.leaves.items ≤ l.kept + length l.initial.leaves.items;
-  calls : l.initial.seat.calls_left + 2 * length l.leaves.items ≤ l.seat.calls_left + l.kept + 2 * length l.initial.leaves.items;
+  calls : l.initial.seat.calls_left + 2 * length l.leaves.items
+      ≤ l.seat.calls_left + l.kept + 2 * length l.initial.leaves.items;
 }
 
 abbrev pub decreases-loop-kept : goal.decreases-loop-kept

@@ -15,7 +15,8 @@ invariant_of-self c =
     let xs = c.self.inside.phases.items in
     let x : Phase PoolCall = Waiting c.in-Some-Waiting.number c.in-Some-Waiting.call in
     let y : Phase PoolCall = Inside c.in-Some-Waiting.call in
-    let is = ap (λ (v : CoreState PoolState PoolCall PoolReply). slice_get v.phases c.args.seat) c.self.view_is
+    let is = ap (λ (v : CoreState PoolState PoolCall PoolReply). slice_get v.phases c.args.seat)
+    c.self.view_is
     ∙ (sym c.phase.ensures ∙ (c.in-Some-Waiting.is ∙ ap Some c.in-Some-Waiting.field-0-is)) in
     let left = count_set (has_called {C = PoolCall}) xs c.args.seat x y is in
     let way = count_set (is_on_its_way {C = PoolCall}) xs c.args.seat x y is in

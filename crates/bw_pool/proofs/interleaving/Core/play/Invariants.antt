@@ -5,4 +5,5 @@ use Rattle.bw_pool.specs.Pool.{after, answer}
 use Rattle.bw_pool.proofs.interleaving.Core.play.Given as goal
 
 abbrev pub invariant-loop-event : goal.invariant-loop-event
-invariant-loop-event l = run after answer l.core (drop l.event-index l.events) ≡ run after answer (start l.seats l.fn.pool) l.events
+invariant-loop-event l = run after answer l.core (drop l.event-index l.events)
+    ≡ run after answer (start l.seats l.fn.pool) l.events

@@ -1,9 +1,10 @@
 -- One more started thread keeps what all are to hand back.
 use Rattle.bw_model.specs.Host.{slices_per_processor}
-use Rattle.std.proofs.Common.{rules, arith, ◌≡◌, ℕ, ◌+◌, ◌*◌, length, [], ◌∷◌, ◌++◌, get_or, vec_len, sym, ap, ◌∙◌, subst}
+use Rattle.std.proofs.Common.{rules, arith, ◌≡◌, ℕ, ◌+◌, ◌*◌, length, [], ◌∷◌, ◌++◌, get_or}
+use Rattle.std.proofs.Common.{vec_len, sym, ap, ◌∙◌, subst}
 use Rattle.std.specs.Vec.Iter.{into_iter_items, into_iter_len}
 use Rattle.bw_workers.specs.Serving.{IsReady}
-use Rattle.bw_workers.proofs.Histories.{each_pushed}
+use Rattle.bw_workers.proofs.DrainedHistories.{each_pushed}
 use Rattle.bw_workers.proofs.serving.fn.in_threads.scope.Goals as goal
 
 pub loop-seat-preserved : goal.loop-seat-preserved
@@ -20,7 +21,8 @@ loop-seat-preserved g c =
     let items : new ≡ old ++ child ∷ [] = search rules in
     let m : ℕ = vec_len c.push_reserved.new.self in
     let longer : m ≡ n + 1 = search rules in
-    let fewer : into_iter_len c.loop-seat.seat-iterator ≡ into_iter_len c.next.new.self + 1 = search rules in
+    let fewer : into_iter_len c.loop-seat.seat-iterator ≡ into_iter_len c.next.new.self + 1 =
+    search rules in
     let first : get_or rest 0 seat ≡ seat = search rules in
     let h = was.ready 0 seat (omega (arith, fewer)) in
     let numbered : seat.number ≡ n = ap (λ s. s.number) (sym first) ∙ h.number ∙ omega arith in
@@ -32,20 +34,30 @@ loop-seat-preserved g c =
       few = was.few;
       leaves = was.leaves;
       room = search rules;
-      ready = λ k d lt. let z = was.ready (k + 1) d (omega (arith, fewer, lt)) in let e : n + (k + 1) ≡ m + k = omega (arith, longer) in
+      ready = λ k d lt. let z = was.ready (k + 1) d (omega (arith, fewer, lt)) in
+          let e : n + (k + 1) ≡ m + k = omega (arith, longer) in
           let next : get_or left k d ≡ get_or rest (k + 1) d = search rules in
-          subst (λ s. IsReady c.captures.lock.now.lock_id (slices_per_processor c.captures.instance.now.shape + 2 * length c.captures.leaves.now) (m + k)
+          subst (λ s. IsReady c.captures.lock.now.lock_id
+          (slices_per_processor c.captures.instance.now.shape
+          + 2 * length c.captures.leaves.now) (m + k)
           s) (sym next)
-          (subst (λ (i : ℕ). IsReady c.captures.lock.now.lock_id (slices_per_processor c.captures.instance.now.shape + 2 * length c.captures.leaves.now) i
+          (subst (λ (i : ℕ). IsReady c.captures.lock.now.lock_id
+          (slices_per_processor c.captures.instance.now.shape
+          + 2 * length c.captures.leaves.now) i
           (get_or rest (k + 1) d)) e z);
-      lock = each_pushed old new child n m items old_long new_long (λ k x. x.promise.lock.now.lock_id ≡ c.captures.lock.now.lock_id) was.lock
+      lock = each_pushed old new child n m items old_long new_long
+          (λ k x. x.promise.lock.now.lock_id ≡ c.captures.lock.now.lock_id) was.lock
           (ap (λ p. p.lock.now.lock_id) made);
-      tree = each_pushed old new child n m items old_long new_long (λ k x. x.promise.instance.now.rows ≡ c.captures.instance.now.rows) was.tree
+      tree = each_pushed old new child n m items old_long new_long
+          (λ k x. x.promise.instance.now.rows ≡ c.captures.instance.now.rows) was.tree
           (ap (λ p. p.instance.now.rows) made);
       slices = each_pushed old new child n m items old_long new_long
-          (λ k x. slices_per_processor x.promise.instance.now.shape ≡ slices_per_processor c.captures.instance.now.shape) was.slices
+          (λ k x. slices_per_processor x.promise.instance.now.shape
+          ≡ slices_per_processor c.captures.instance.now.shape) was.slices
           (ap (λ p. slices_per_processor p.instance.now.shape) made);
-      gate = each_pushed old new child n m items old_long new_long (λ k x. x.promise.gate.now ≡ c.captures.gate.now) was.gate (ap (λ p. p.gate.now) made);
-      numbers = each_pushed old new child n m items old_long new_long (λ k x. x.promise.number ≡ k) was.numbers
+      gate = each_pushed old new child n m items old_long new_long
+          (λ k x. x.promise.gate.now ≡ c.captures.gate.now) was.gate (ap (λ p. p.gate.now) made);
+      numbers = each_pushed old new child n m items old_long new_long (λ k x. x.promise.number ≡ k)
+          was.numbers
           (ap (λ p. p.number) made ∙ c.number.ensures ∙ numbered);
     }

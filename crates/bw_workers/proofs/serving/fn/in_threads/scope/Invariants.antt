@@ -1,6 +1,7 @@
 -- What the started threads are to hand back, and the seats that are still to be given out.
 use Rattle.bw_model.specs.Host.{slices_per_processor}
-use Rattle.std.proofs.Common.{◌≡◌, ℕ, ◌+◌, ◌*◌, ◌<◌, ◌≤◌, length, get_or, vec_items, vec_len, vec_capacity}
+use Rattle.std.proofs.Common.{◌≡◌, ℕ, ◌+◌, ◌*◌, ◌<◌, ◌≤◌, length, get_or, vec_items, vec_len}
+use Rattle.std.proofs.Common.{vec_capacity}
 use Rattle.std.specs.Vec.Iter.{into_iter_items, into_iter_len}
 use Rattle.bw_model.specs.declared.limits.TheConstants.{MAX_GROUPS}
 use Rattle.bw_workers.specs.Serving.{IsReady}
@@ -14,11 +15,16 @@ invariant-loop-seat g l = let done = vec_len l.children in let rest = l.seat-ite
   leaves : IsLeaves l.instance.now.rows l.leaves;
   room : done + into_iter_len rest ≤ vec_capacity l.children;
   ready : (k : ℕ) (d : _) → k < into_iter_len rest →
-      IsReady l.lock.now.lock_id (slices_per_processor l.instance.now.shape + 2 * length l.leaves) (done + k) (get_or (into_iter_items rest) k d);
-  lock : (k : ℕ) (d : _) → k < done → (get_or (vec_items l.children) k d).promise.lock.now.lock_id ≡ l.lock.now.lock_id;
-  tree : (k : ℕ) (d : _) → k < done → (get_or (vec_items l.children) k d).promise.instance.now.rows ≡ l.instance.now.rows;
-  slices : (k : ℕ) (d : _) → k < done → slices_per_processor (get_or (vec_items l.children) k d).promise.instance.now.shape ≡ slices_per_processor
+      IsReady l.lock.now.lock_id (slices_per_processor l.instance.now.shape + 2 * length l.leaves)
+      (done + k) (get_or (into_iter_items rest) k d);
+  lock : (k : ℕ) (d : _) → k < done
+      → (get_or (vec_items l.children) k d).promise.lock.now.lock_id ≡ l.lock.now.lock_id;
+  tree : (k : ℕ) (d : _) → k < done
+      → (get_or (vec_items l.children) k d).promise.instance.now.rows ≡ l.instance.now.rows;
+  slices : (k : ℕ) (d : _) → k < done → slices_per_processor
+      (get_or (vec_items l.children) k d).promise.instance.now.shape ≡ slices_per_processor
       l.instance.now.shape;
-  gate : (k : ℕ) (d : _) → k < done → (get_or (vec_items l.children) k d).promise.gate.now ≡ l.gate.now;
+  gate : (k : ℕ) (d : _) → k < done
+      → (get_or (vec_items l.children) k d).promise.gate.now ≡ l.gate.now;
   numbers : (k : ℕ) (d : _) → k < done → (get_or (vec_items l.children) k d).promise.number ≡ k;
 }
