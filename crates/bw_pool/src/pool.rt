@@ -339,7 +339,8 @@ impl SlicePool {
     // Lowers the ceiling of a group, but not below what is drawn.
     fn lower_ceiling(&mut self, group: u32, to: u64) -> PoolReply
         requires { group_refusal self.old group ≡ None }
-        ensures state { (seat : ℕ) → self.new ≡ state_after self.old seat (PoolCall.Lower group to) }
+        ensures state { (seat : ℕ) →
+            self.new ≡ state_after self.old seat (PoolCall.Lower group to) }
         ensures reply { (seat : ℕ) → result ≡ reply_to self.old seat (PoolCall.Lower group to) }
     {
         let row = group as usize;

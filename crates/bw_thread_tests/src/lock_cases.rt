@@ -1,5 +1,5 @@
-//! The ticket lock round a small machine, called from threads.
-//! Where one allocation is refused a case is run once more, so that each holds with any one of its allocations failing.
+//! The ticket lock round a small machine, called from threads. A case with a failed allocation is
+//! run once more, so each passes with any one allocation failing.
 ghost use Rattle.std.specs.Prelude.{◌≡◌, ℕ, All, length, None, IfOk, IsSome};
 
 use crate::counter::{Add, Counter, Total};
@@ -13,16 +13,18 @@ use std::sync::atomic::{AtomicBool, Ordering};
 use std::thread;
 use std::thread::{Threads, join};
 
-// How often a thread looks whether another one has come to some point.
+// Number of looks of a thread that waits for another one.
 const TURNS: u32 = 1_000_000;
 
-// A lock with its seats. Bad numbers of seats or calls fail as refused memory does, but the second time too.
+// A lock with its seats. Any refusal becomes `AllocError`; bad numbers are refused the second time,
+// too.
 fn opened(
     alloc: Global,
     seats: u32,
     calls: u32,
 ) -> Result<(TicketLock<Counter>, Vec<Seat<Counter>>), AllocError>
-    ensures { IfOk result (λ t. All (λ s. s.lock_id ≡ t.0.lock_id) t.1.items × All (λ s. s.pending ≡ None) t.1.items) }
+    ensures { IfOk result (λ t. All (λ s. s.lock_id ≡ t.0.lock_id) t.1.items ×
+        All (λ s. s.pending ≡ None) t.1.items) }
 {
     match open(alloc, Counter::new(), seats, calls) {
         Ok(made) => Ok(made),
@@ -36,9 +38,11 @@ pub(crate) fn pop_seat<M: Machine>(
     lock: &TicketLock<M>,
     seats: &mut Vec<Seat<M>>,
 ) -> Seat<M>
-    requires { All (λ s. s.lock_id ≡ lock.now.lock_id) seats.old.items × All (λ s. s.pending ≡ None) seats.old.items }
+    requires { All (λ s. s.lock_id ≡ lock.now.lock_id) seats.old.items ×
+        All (λ s. s.pending ≡ None) seats.old.items }
     ensures seat { (result.lock_id ≡ lock.now.lock_id) × (result.pending ≡ None) }
-    ensures rest { All (λ s. s.lock_id ≡ lock.now.lock_id) seats.new.items × All (λ s. s.pending ≡ None) seats.new.items }
+    ensures rest { All (λ s. s.lock_id ≡ lock.now.lock_id) seats.new.items ×
+        All (λ s. s.pending ≡ None) seats.new.items }
 {
     let Some(seat) = seats.pop() else {
         panic!(rt; "no seat")
@@ -61,7 +65,8 @@ fn pair(
     Ok((lock, first, second))
 }
 
-// Closes the lock with all its seats, and asserts the total and how many calls were made. Gives these calls.
+// Closes the lock with all its seats, and asserts the total and the number of calls. Returns the
+// calls.
 fn assert_closed(
     rt: &impl Abort,
     lock: TicketLock<Counter>,
@@ -69,7 +74,8 @@ fn assert_closed(
     total: u64,
     calls: usize,
 ) -> Vec<Entry<Add, Total>>
-    requires { All (λ s. s.lock_id ≡ lock.lock_id) seats.items × All (λ s. s.pending ≡ None) seats.items }
+    requires { All (λ s. s.lock_id ≡ lock.lock_id) seats.items ×
+        All (λ s. s.pending ≡ None) seats.items }
     ensures { length result.items ≡ calls }
 {
     let Ok(Closed { machine, history }) = close(lock, seats) else {
@@ -135,8 +141,10 @@ fn add_in_both<R: Threads + Wait + Clock + Sync>(
 
 // One call by each seat, in the order of the list.
 fn add_in_turn<R: Wait + Clock>(rt: &R, lock: &TicketLock<Counter>, seats: &mut Vec<Seat<Counter>>)
-    requires { All (λ s. s.lock_id ≡ lock.now.lock_id) seats.old.items × All (λ s. s.pending ≡ None) seats.old.items }
-    ensures { All (λ s. s.lock_id ≡ lock.now.lock_id) seats.new.items × All (λ s. s.pending ≡ None) seats.new.items }
+    requires { All (λ s. s.lock_id ≡ lock.now.lock_id) seats.old.items ×
+        All (λ s. s.pending ≡ None) seats.old.items }
+    ensures { All (λ s. s.lock_id ≡ lock.now.lock_id) seats.new.items ×
+        All (λ s. s.pending ≡ None) seats.new.items }
 {
     for i in 0..seats.len() {
         let seat = &mut seats[i];
@@ -169,8 +177,10 @@ fn add_three_each<R: Threads + Wait + Clock + Abort + Sync>(
     lock: &TicketLock<Counter>,
     seats: Vec<Seat<Counter>>,
 ) -> Result<Vec<Seat<Counter>>, AllocError>
-    requires { All (λ s. s.lock_id ≡ lock.now.lock_id) seats.items × All (λ s. s.pending ≡ None) seats.items }
-    ensures { IfOk result (λ v. All (λ s. s.lock_id ≡ lock.now.lock_id) v.items × All (λ s. s.pending ≡ None) v.items) }
+    requires { All (λ s. s.lock_id ≡ lock.now.lock_id) seats.items ×
+        All (λ s. s.pending ≡ None) seats.items }
+    ensures { IfOk result (λ v. All (λ s. s.lock_id ≡ lock.now.lock_id) v.items ×
+        All (λ s. s.pending ≡ None) v.items) }
 {
     thread::map_vec(rt, seats, &|seat| add_three(rt, lock, seat))
 }
@@ -192,13 +202,14 @@ fn keep(refused: &AtomicBool, seat: Seat<Counter>) -> Seat<Counter>
     seat
 }
 
-// With a seat missing nothing is closed: the lock and the seats come back.
+// Without one seat nothing is closed: the lock and the seats are handed back.
 fn assert_seats_missing(
     rt: &impl Abort,
     lock: TicketLock<Counter>,
     seats: Vec<Seat<Counter>>,
 ) -> (TicketLock<Counter>, Vec<Seat<Counter>>)
-    requires { All (λ s. s.lock_id ≡ lock.lock_id) seats.items × All (λ s. s.pending ≡ None) seats.items }
+    requires { All (λ s. s.lock_id ≡ lock.lock_id) seats.items ×
+        All (λ s. s.pending ≡ None) seats.items }
     ensures { (result.0 ≡ lock) × (result.1.items ≡ seats.items) }
 {
     let Err(fault) = close(lock, seats) else {
@@ -216,7 +227,8 @@ fn close_too_early(
     seats: Vec<Seat<Counter>>,
     refused: &AtomicBool,
 ) -> (TicketLock<Counter>, Vec<Seat<Counter>>)
-    requires { All (λ s. s.lock_id ≡ lock.lock_id) seats.items × All (λ s. s.pending ≡ None) seats.items }
+    requires { All (λ s. s.lock_id ≡ lock.lock_id) seats.items ×
+        All (λ s. s.pending ≡ None) seats.items }
     ensures { (result.0 ≡ lock) × (result.1.items ≡ seats.items) }
 {
     let (lock, seats) = assert_seats_missing(rt, lock, seats);
@@ -401,16 +413,18 @@ fn assert_fronts(
     second: &mut Seat<Counter>,
     front: u64,
 )
-    requires lock { (first.old.lock_id ≡ lock.now.lock_id) × (second.old.lock_id ≡ lock.now.lock_id) }
+    requires lock { (first.old.lock_id ≡ lock.now.lock_id) ×
+        (second.old.lock_id ≡ lock.now.lock_id) }
     requires idle { (first.old.pending ≡ None) × (second.old.pending ≡ None) }
-    ensures lock { (first.new.lock_id ≡ lock.now.lock_id) × (second.new.lock_id ≡ lock.now.lock_id) }
+    ensures lock { (first.new.lock_id ≡ lock.now.lock_id) ×
+        (second.new.lock_id ≡ lock.now.lock_id) }
     ensures idle { (first.new.pending ≡ None) × (second.new.pending ≡ None) }
 {
     assert!(rt; first.front(lock) == front);
     assert!(rt; second.front(lock) == front);
 }
 
-// The front counts the calls of all seats.
+// `front` counts the calls of all seats.
 fn see_fronts<R: Threads + Wait + Clock + Abort + Sync>(
     rt: &R,
     alloc: Global,
@@ -438,7 +452,9 @@ fn take_first(rt: &impl Abort, lock: &TicketLock<Counter>, seat: &mut Seat<Count
     assert!(rt; seat.front(lock) == 0);
 }
 
-// Seat 1 draws the first ticket and seat 0 the second. The tickets decide, whichever seat asks first.
+// Seat 1 draws the first ticket and seat 0 the second. The order of the tickets decides, not that
+// of
+// `finish`.
 fn hold_tickets<R: Threads + Wait + Clock + Abort + Sync>(
     rt: &R,
     alloc: Global,

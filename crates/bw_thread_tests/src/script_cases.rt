@@ -1,4 +1,5 @@
-//! Scripts whose periods are served under gates. Where memory or a thread was refused a case is run once more.
+//! Scripts whose periods are served under gates. A case with a failed allocation or thread spawn is
+//! run once more.
 use crate::workers_cases::{Without, held_first, meeting};
 use bw_model::HostShape;
 use bw_shell::run_gated;
@@ -30,7 +31,7 @@ fn is_refused(said: &[u8]) -> bool {
         || line == b"error 70 NotStarted".as_slice())
 }
 
-// Runs a script on four processors of 20 slices each where memory and threads are there, and asserts what it writes.
+// Runs a script on four processors of 20 slices each, and asserts its output if nothing failed.
 fn ran<G: Gate, R: AllocGlobal + Threads + Wait + Clock + Abort + Sync>(
     rt: &R,
     script: &str,
@@ -159,7 +160,8 @@ fn fifty_periods_where_one_waits(rt: HostRuntime) -> Result<(), Fail> {
     Ok(())
 }
 
-// The same, where all four workers wait for one another in the first period; the others find them all there.
+// As above, but all four workers wait for one another in the first period. Later periods do not
+// wait.
 fn met_periods<R: AllocGlobal + Threads + Wait + Clock + Abort + Sync>(
     rt: &R,
 ) -> Result<(), AllocError> {

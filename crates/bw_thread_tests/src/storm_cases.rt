@@ -1,5 +1,5 @@
 //! Four seats of one pool at once, each with its own kind of calls.
-//! Where one allocation is refused the case is run once more, so that it holds with any one of its allocations failing.
+//! A case with a failed allocation is run once more, so it passes with any one allocation failing.
 ghost use Rattle.std.specs.Prelude.{◌≡◌, ℕ, All, None, IfOk};
 
 use crate::workers_cases::{pod_and_job, pool_of};
@@ -93,8 +93,10 @@ fn play_all<R: Threads + Wait + Clock + Sync>(
     seats: Vec<Seat<SlicePool>>,
     answered: &AtomicCell<bool>,
 ) -> Result<Vec<Seat<SlicePool>>, AllocError>
-    requires { All (λ s. s.lock_id ≡ lock.now.lock_id) seats.items × All (λ s. s.pending ≡ None) seats.items }
-    ensures { IfOk result (λ v. All (λ s. s.lock_id ≡ lock.now.lock_id) v.items × All (λ s. s.pending ≡ None) v.items) }
+    requires { All (λ s. s.lock_id ≡ lock.now.lock_id) seats.items ×
+        All (λ s. s.pending ≡ None) seats.items }
+    ensures { IfOk result (λ v. All (λ s. s.lock_id ≡ lock.now.lock_id) v.items ×
+        All (λ s. s.pending ≡ None) v.items) }
 {
     let other = AtomicCell::new(false);
     map_vec(

@@ -1,5 +1,5 @@
-//! Workers in threads of their own under gates, and the slice pool behind a lock.
-//! Where one allocation or one thread is refused a case is run once more, so that each holds with any one of these failing.
+//! Workers in threads of their own under gates, and the slice pool behind a lock. A case with a
+//! failed allocation or thread spawn is run once more, so each passes with any one failing.
 ghost use Rattle.std.specs.Prelude.{◌≡◌, ℕ, ◌==◌, not, true, All, None, IfOk};
 ghost use Rattle.bw_model.specs.Plan.{IsPlan};
 
@@ -125,8 +125,8 @@ fn came(point: &AtomicCell<bool>) -> bool {
     false
 }
 
-// Holds the first draw of one worker until a draw of another is answered, and that other worker until the held one's first draw
-// is answered too.
+// Holds the first draw of one worker until a draw of another is answered, and that other worker
+// until the held one's first draw is answered too.
 #[derive(Drop)]
 pub(crate) struct Holds {
     held: u32,
@@ -287,8 +287,8 @@ impl Gate for InTurn {
     }
 }
 
-// The draws of one worker where leaf 1 has 7 slices and leaf 2 has 13: in row order, round and round. The eighth draw of leaf 1
-// is short, and the last one of it.
+// The draws of one worker where leaf 1 has 7 slices and leaf 2 has 13: in row order, round and
+// round. The eighth draw of leaf 1 is short, and the last one of it.
 static ROUND_AND_ROUND: [u32; 21] = [
     1, 2, 1, 2, 1, 2, 1, 2, 1, 2, 1, 2, 1, 2, 1, 2, 2, 2, 2, 2, 2,
 ];
@@ -388,7 +388,8 @@ fn assert_closed<A: Abort>(
     drawn: &[u64],
     calls: usize,
 )
-    requires { All (λ s. s.lock_id ≡ lock.lock_id) seats.items × All (λ s. s.pending ≡ None) seats.items }
+    requires { All (λ s. s.lock_id ≡ lock.lock_id) seats.items ×
+        All (λ s. s.pending ≡ None) seats.items }
 {
     let Ok(Closed { machine, history }) = close(lock, seats) else {
         panic!(rt; "not closed")
@@ -404,7 +405,8 @@ fn leaf_of_three<A: Abort>(
     processors: u64,
     seats: u32,
 ) -> Result<(TicketLock<SlicePool>, Vec<Seat<SlicePool>>), AllocError>
-    ensures { IfOk result (λ t. All (λ s. s.lock_id ≡ t.0.lock_id) t.1.items × All (λ s. s.pending ≡ None) t.1.items) }
+    ensures { IfOk result (λ t. All (λ s. s.lock_id ≡ t.0.lock_id) t.1.items ×
+        All (λ s. s.pending ≡ None) t.1.items) }
 {
     let (instance, plan) = planned(rt, alloc, processors, &LEAF_OF_THREE)?;
     let pool = pool_of(rt, alloc, &instance, &plan)?;
@@ -436,7 +438,8 @@ fn draw_in_two<R: Threads + Wait + Clock + Abort + Sync>(
     Ok(())
 }
 
-// A seat draws 2 of a leaf that has 3 and gives back 3, which it does not hold. Its third call is refused.
+// A seat draws 2 of a leaf that has 3 and gives back 3, which it does not hold. Its third call is
+// refused.
 fn give_back_too_many<R: Wait + Clock + Abort>(rt: &R, alloc: Global) -> Result<(), AllocError> {
     let (lock, mut seats) = leaf_of_three(rt, alloc, 1, 1)?;
     let seat = pop_seat(rt, &lock, &mut seats);

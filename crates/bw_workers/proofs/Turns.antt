@@ -154,10 +154,11 @@ module _ (uses : ℕ → Bool) (tree : List Row) (slices : ℕ) where
             (w.once row) (off row) is).0;
         closed = λ row lt is none. elim (eqb_tells leaf row) [
           | inl h ↦ inl (or_left (leaf == row) (among row w.worker.short) h.0)
-          | inr h ↦ elim (w.closed row lt is (off row ∙ omega (arith, none, not_self leaf row h.0))) [
-            | inl a ↦ inl (or_right (leaf == row) (among row w.worker.short) a)
-            | inr a ↦ inr a
-          ]
+          | inr h ↦ elim (w.closed row lt is
+              (off row ∙ omega (arith, none, not_self leaf row h.0))) [
+                | inl a ↦ inl (or_right (leaf == row) (among row w.worker.short) a)
+                | inr a ↦ inr a
+              ]
         ];
       }
 
@@ -195,10 +196,11 @@ module _ (uses : ℕ → Bool) (tree : List Row) (slices : ℕ) where
             );
         closed = λ row lt is none. elim (eqb_tells leaf row) [
           | inl h ↦ inr (or_left (leaf == row) (among row w.worker.returned) h.0)
-          | inr h ↦ elim (w.closed row lt is (off row ∙ omega (arith, none, not_self leaf row h.0))) [
-            | inl a ↦ inl a
-            | inr a ↦ inr (or_right (leaf == row) (among row w.worker.returned) a)
-          ]
+          | inr h ↦ elim (w.closed row lt is
+              (off row ∙ omega (arith, none, not_self leaf row h.0))) [
+                | inl a ↦ inl a
+                | inr a ↦ inr (or_right (leaf == row) (among row w.worker.returned) a)
+              ]
         ];
       }
 

@@ -21,9 +21,12 @@ use Rattle.bw_pool.specs.Drained.{PoolEntry, Drains, fresh, opening, IsDrawnOut}
 abbrev pub of_children : List Row → List ℕ → ℕ → List ℕ
 of_children rows numbers g = map (slice_index numbers) (children_of rows g)
 
--- an amount for each group, and the history of one period's draws, of which `uses` says at which
--- leaves they are used; `drawn` is what
--- is drawn of each group in the end
+-- what is drawn of each group after these calls on a new pool of the amounts
+abbrev pub drawn_after : Groups → List ℕ → List PoolEntry → List ℕ
+drawn_after groups amounts history = (replay after (opening groups amounts) history).drawn
+
+-- The sentence, of the amounts of a plan and of the history of one period's draws. `uses` tells the
+-- leaves that use their slices. `drawn` is what is drawn of each group in the end.
 pub record Headline (uses : ℕ → Bool) (groups : Groups) (amounts : List ℕ)
     (history : List PoolEntry) (drawn : List ℕ) : Type 0 where
   -- The plan
@@ -38,31 +41,31 @@ pub record Headline (uses : ℕ → Bool) (groups : Groups) (amounts : List ℕ)
   pub mosts : AreMaxTotals groups most
   pub limiting_groups : limited_total groups most ≡ slice_index amounts 0
   -- in every group its split has the least cost of all splits of that amount,
-  pub least_cost : (g : ℕ) → g < length groups.rows → is_leaf groups.rows g ≡ false →
-      IsBestSplit (slice_index amounts g) (child_weights groups.rows g)
+  pub least_cost : (g : ℕ) → g < length groups.rows → is_leaf groups.rows g ≡ false
+      → IsBestSplit (slice_index amounts g) (child_weights groups.rows g)
       (of_children groups.rows most g) (of_children groups.rows amounts g)
   -- shown by no gainful one-slice move;
-  pub no_gainful_move : (g : ℕ) → g < length groups.rows → is_leaf groups.rows g ≡ false →
-      NoMoveGains (child_weights groups.rows g) (of_children groups.rows most g)
-      (of_children groups.rows amounts g)
+  pub no_gainful_move : (g : ℕ) → g < length groups.rows → is_leaf groups.rows g ≡ false
+      → NoMoveGains (child_weights groups.rows g)
+      (of_children groups.rows most g) (of_children groups.rows amounts g)
   -- and in every interleaving of draws the history is one thread's,
   pub one_thread : IsLegal after answer (opening groups amounts) history
-  -- in ticket order: what a caller made stands in the history at the ticket that it drew,
+  -- in ticket order: each call of a caller is in the history at the ticket that the caller drew,
   pub calls : ℕ → List (Made PoolCall PoolReply)
   pub ticket_order : (caller : ℕ) → caller < groups.shape.processors
       → StandIn history caller (calls caller)
-  -- each caller's calls once: its entries are its calls, one for one and in their order, and those
-  -- of no caller are none,
+  -- with each caller's calls once: its entries are its calls, in order, and no entry is without a
+  -- caller,
   pub calls_once : (caller : ℕ) → caller < groups.shape.processors
       → map (entry_of caller) (calls caller) ≡ own caller history
   pub callers : All (λ e. e.seat < groups.shape.processors) history
-  -- no group past its plan, after any of the draws.
-  pub never_past : (draws g : ℕ) → slice_index
-      (replay after (opening groups amounts) (take draws history)).drawn g ≤ slice_index amounts g
+  -- and no group past its plan, after any of the draws.
+  pub never_past : (draws g : ℕ)
+      → slice_index (drawn_after groups amounts (take draws history)) g ≤ slice_index amounts g
   -- So where each caller draws until its processor is spent or no leaf has more for it,
-  pub drained : (caller : ℕ) → caller < groups.shape.processors →
-      Drains uses groups.rows (slices_per_processor groups.shape) fresh
+  pub drained : (caller : ℕ) → caller < groups.shape.processors
+      → Drains uses groups.rows (slices_per_processor groups.shape) fresh
       (map (entry_of caller) (calls caller))
   -- what is drawn in the end is the plan at the leaves that are used, and nothing at the others.
-  pub replayed : drawn ≡ (replay after (opening groups amounts) history).drawn
+  pub replayed : drawn ≡ drawn_after groups amounts history
   pub drawn_out : IsDrawnOut uses groups.rows amounts drawn

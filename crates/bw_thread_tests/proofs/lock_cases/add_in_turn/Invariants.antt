@@ -4,4 +4,5 @@ use Rattle.std.specs.List.{All}
 use Rattle.bw_thread_tests.proofs.lock_cases.add_in_turn.Given as goal
 
 abbrev pub invariant-loop-i : goal.invariant-loop-i
-invariant-loop-i g l = All (λ s. s.lock_id ≡ l.lock.lock_id) l.seats.items × All (λ s. s.pending ≡ None) l.seats.items
+invariant-loop-i g l = All (λ s. s.lock_id ≡ l.lock.lock_id) l.seats.items
+    × All (λ s. s.pending ≡ None) l.seats.items
