@@ -264,7 +264,7 @@ def leaves_other_crates_out(copy):
     """The crates of tests are no part of the program."""
     copy.build()
     others = set(copy.crates) - copy.ours
-    same({"bw_core_tests", "bw_group_tests", "plan_bench"} <= others and not {"bw_shell", "bw_model"} & others, True, f"other crates: {others}")
+    same({"bw_planner_tests", "bw_group_tests", "plan_bench"} <= others and not {"bw_shell", "bw_model"} & others, True, f"other crates: {others}")
     for crate in sorted(others):
         for path in copy.sources(crate):
             copy.write(path, "edited\n")
@@ -561,7 +561,7 @@ def library_where_needed(copy):
     out, err = copy.installs("there", "a second one")
     holds(f"build: {PROGRAM} is current\nbuild: {LIBRARY}.so is current\n", out, "a second one")
     same(err, "", "a second one")
-    for crate, wanted in (("bw_exports", [LIBRARY_PROVED]), ("bw_shell", [PROVED]), ("bw_plan", [PROVED, LIBRARY_PROVED]), ("bw_core_tests", [])):
+    for crate, wanted in (("bw_exports", [LIBRARY_PROVED]), ("bw_shell", [PROVED]), ("bw_plan", [PROVED, LIBRARY_PROVED]), ("bw_planner_tests", [])):
         copy.write(copy.sources(crate)[0], "edited\n")
         copy.installs("there", f"after an edit of {crate}", wanted)
         copy.installs("there", f"again, after an edit of {crate}")

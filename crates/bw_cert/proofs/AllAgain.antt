@@ -13,11 +13,11 @@ use Rattle.bw_model.specs.declared.row.Row.{Row}
 use Rattle.bw_cert.specs.declared.fault.CertFault.{CertFault}
 use Rattle.bw_cert.specs.declared.groups.Certified.{Certified}
 use Rattle.bw_model.specs.Marks.{MarkValue}
-use Rattle.bw_cert.specs.Spelling.{groups_of, Value, lines_of, line, parent_word, limit_word, flag_word, level_word, head_words, group_words, groups_text}
+use Rattle.bw_cert.specs.Spelling.{groups_of, Value, text_lines, line, parent_word, limit_word, flag_word, level_word, head_words, group_words, groups_text}
 use Rattle.bw_cert.specs.Spelling.{spelling, IsSmallRow, IsSmallLevel, IsValue}
 use Rattle.bw_cert.specs.Reading.{ReadsAs, line_at, head_of, group_of, groups_at, certified_of, certified_view}
 use Rattle.bw_cert.proofs.Lines.{line_there}
-use Rattle.bw_cert.proofs.Again.{IsPlain, digits_plain, number_again, parent_again, limit_again, flag_again, level_again, words_again, line_again}
+use Rattle.bw_cert.proofs.WordsAgain.{IsPlain, digits_plain, number_again, parent_again, limit_again, flag_again, level_again, words_again, line_again}
 
 plain_code : (b : ℕ) → 33 ≤ b → IsPlain (b ∷ [])
 plain_code b h = All-from_recursion (λ b. 33 ≤ b) (b ∷ []) (h, tt)
@@ -67,13 +67,13 @@ group_again r a f m row amount level =
     ) refl
 
 one_line : (first : List ℕ) (others : List (List ℕ)) (rest : List ℕ) → AllByRecursion IsPlain (first ∷ others)
-    → line_at (lines_of (line (first ∷ others) ++ rest)) ≡ Ok (join_with_byte 32 (first ∷ others), lines_of rest)
+    → line_at (text_lines (line (first ∷ others) ++ rest)) ≡ Ok (join_with_byte 32 (first ∷ others), text_lines rest)
 one_line first others rest h = line_there (line (first ∷ others) ++ rest) (join_with_byte 32 (first ∷ others)) rest (line_again first others rest h)
 
 groups_again : (rows : List Row) (amounts : List ℕ) (flags : List Bool) (levels : List (Option MarkValue))
     → length amounts ≡ length rows → length flags ≡ length rows → length levels ≡ length rows
     → AllByRecursion IsSmallRow rows → AllByRecursion (λ a. a < 2 ^ 64) amounts → AllByRecursion (λ o. IfSome o IsSmallLevel) levels
-    → groups_at (length rows) (lines_of (groups_text (record { rows = rows; amounts = amounts; flags = flags; levels = levels })))
+    → groups_at (length rows) (text_lines (groups_text (record { rows = rows; amounts = amounts; flags = flags; levels = levels })))
     ≡ Ok (record { rows = rows; amounts = amounts; flags = flags; levels = levels }, [] ∷ [])
 unfolding groups_at
 groups_again [] [] [] [] e1 e2 e3 h1 h2 h3 = refl
@@ -122,7 +122,7 @@ head_again h n host few =
       le-ltb MAX_GROUPS n few,
     ) refl
 
-pub certified_again : (v : Value) → IsValue v → certified_of (lines_of (spelling v)) ≡ Ok v
+pub certified_again : (v : Value) → IsValue v → certified_of (text_lines (spelling v)) ≡ Ok v
 unfolding certified_of
 certified_again v h =
     let host = h.instance.host in
@@ -141,10 +141,10 @@ certified_again v h =
       IsInstance-accepted (groups_of v) h.instance,
     ) refl
 
-pub is_only : (text : List ℕ) (r : Result Certified CertFault) → ReadsAs certified_view r (certified_of (lines_of text)) → (v : Value) → IsValue v
+pub is_only : (text : List ℕ) (r : Result Certified CertFault) → ReadsAs certified_view r (certified_of (text_lines text)) → (v : Value) → IsValue v
     → text ≡ spelling v → ReadsAs certified_view r (Ok v)
 is_only text r given v h e =
-    subst (λ (x : Result Value CertFault). ReadsAs certified_view r x) (ap (λ (t : List ℕ). certified_of (lines_of t)) e ∙ certified_again v h) given
+    subst (λ (x : Result Value CertFault). ReadsAs certified_view r x) (ap (λ (t : List ℕ). certified_of (text_lines t)) e ∙ certified_again v h) given
 
 abbrev read : Value → Result Value CertFault
 read v = Ok v
@@ -153,4 +153,4 @@ read_is : (v w : Value) → read v ≡ read w → v ≡ w
 read_is v w e = cc
 
 pub one_value : (v w : Value) → IsValue v → IsValue w → spelling v ≡ spelling w → v ≡ w
-one_value v w hv hw e = read_is v w (sym (certified_again v hv) ∙ ap (λ (t : List ℕ). certified_of (lines_of t)) e ∙ certified_again w hw)
+one_value v w hv hw e = read_is v w (sym (certified_again v hv) ∙ ap (λ (t : List ℕ). certified_of (text_lines t)) e ∙ certified_again w hw)

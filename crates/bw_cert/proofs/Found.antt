@@ -19,7 +19,7 @@ use Rattle.bw_cert.specs.declared.fault.CertFault.{CertFault}
 use Rattle.bw_cert.specs.declared.fault.CertFault.TheVariants as faults
 use Rattle.bw_cert.specs.declared.groups.Certified.{Certified}
 use Rattle.bw_model.specs.Marks.{MarkValue}
-use Rattle.bw_cert.specs.Spelling.{groups_of, Columns, Value, lines_of, words_of, line, head_words, group_words, groups_text, spelling, IsSmallRow}
+use Rattle.bw_cert.specs.Spelling.{groups_of, Columns, Value, text_lines, words_of, line, head_words, group_words, groups_text, spelling, IsSmallRow}
 use Rattle.bw_cert.specs.Spelling.{IsSmallLevel, IsValue}
 use Rattle.bw_cert.specs.Reading.{◌>>=◌, ReadsAs, number_at, parent_at, limit_at, flag_at, level_in_word, line_at, word_is, host_unless, host_in, head_of}
 use Rattle.bw_cert.specs.Reading.{Group, group_of, with_group, no_groups, groups_at, value_unless, is_over, certified_of, certified_view}
@@ -241,10 +241,10 @@ value_parts : (v w : Value) (o : Option InstanceFault) → value_unless v o ≡ 
 value_parts v w None e = (refl, cc)
 value_parts v w (Some f) e = absurd cc
 
-pub certified_found : (text : List ℕ) (v : Value) → certified_of (lines_of text) ≡ Ok v → IsValue v × (text ≡ spelling v)
+pub certified_found : (text : List ℕ) (v : Value) → certified_of (text_lines text) ≡ Ok v → IsValue v × (text ≡ spelling v)
 unfolding certified_of
 certified_found text v e =
-    let a = bind_ok (line_at (lines_of text))
+    let a = bind_ok (line_at (text_lines text))
     (λ l. head_of (words_of l.0) >>= λ head. groups_at head.1 l.1 >>= λ gs. cond (is_over gs.1) (whole (record { shape = head.0; groups = gs.0 }))
     (Err faults.Trailing)) v e in
     let b = bind_ok (head_of (words_of a.0.0))
@@ -259,10 +259,10 @@ certified_found text v e =
     let groups : join_with_byte 10 a.0.1 ≡ groups_text c.0.0 ++ [] = g.text ∙ ap (λ (t : List ℕ). groups_text c.0.0 ++ t) nothing in
     let words : words_of a.0.0 ≡ head_words b.0.0 (length c.0.0.rows) = head.words ∙ ap (head_words b.0.0) (sym g.rows) in
     let l = line_text a.0.0 (head_words b.0.0 (length c.0.0.rows)) words in
-    let joined : text ≡ join_with_byte 10 (lines_of text) = sym (join_with_byte-slice_split 10 text) in
+    let joined : text ≡ join_with_byte 10 (text_lines text) = sym (join_with_byte-slice_split 10 text) in
     let shown : text ≡ (line (head_words b.0.0 (length c.0.0.rows)) ++ groups_text c.0.0) ++ [] =
-    joined ∙ one_more a.0.0 (head_words b.0.0 (length c.0.0.rows)) (join_with_byte 10 (lines_of text)) (join_with_byte 10 a.0.1) (groups_text c.0.0) [] l
-    (line_found (lines_of text) a.0.0 a.0.1 a.1) groups in
+    joined ∙ one_more a.0.0 (head_words b.0.0 (length c.0.0.rows)) (join_with_byte 10 (text_lines text)) (join_with_byte 10 a.0.1) (groups_text c.0.0) [] l
+    (line_found (text_lines text) a.0.0 a.0.1 a.1) groups in
     subst (λ (x : Value). IsValue x × (text ≡ spelling x)) w.1 (
       record {
         instance = accepted-IsInstance (groups_of v') head.host w.0;
@@ -276,7 +276,7 @@ certified_found text v e =
       shown ∙ append-nil (line (head_words b.0.0 (length c.0.0.rows)) ++ groups_text c.0.0),
     )
 
-pub is_found : (text : List ℕ) (r : Result Certified CertFault) → ReadsAs certified_view r (certified_of (lines_of text))
+pub is_found : (text : List ℕ) (r : Result Certified CertFault) → ReadsAs certified_view r (certified_of (text_lines text))
     → IfOk r (λ c. IsValue (certified_view c) × (text ≡ spelling (certified_view c)))
 is_found text (Ok c) given = certified_found text (certified_view c) given
 is_found text (Err e) given = tt

@@ -6,7 +6,7 @@ use Rattle.std.proofs.lemmas.Bool.Decides.{nat_tests}
 use Rattle.bw_model.specs.Host.{Shape}
 use Rattle.bw_model.specs.Refusal.{refusal}
 use Rattle.bw_cert.specs.declared.fault.CertFault.TheVariants as faults
-use Rattle.bw_cert.specs.Spelling.{Columns, lines_of, words_of}
+use Rattle.bw_cert.specs.Spelling.{Columns, text_lines, words_of}
 use Rattle.bw_cert.specs.Reading.{in_two, line_at, head_of, group_of, groups_at, certified_of, is_over}
 
 pub some_parts : (byte : ℕ) (text : List ℕ) → 0 < length (slice_split (λ b. eqb b byte) text)
@@ -15,8 +15,8 @@ some_parts byte text = omega (arith, length-slice_split (λ b. eqb b byte) text)
 not_zero : (n : ℕ) → 0 < n → eqb n 0 ≡ false
 not_zero n h = grind (arith, nat_tests)
 
-pub line_there : (text line rest : List ℕ) → lines_of text ≡ line ∷ lines_of rest → line_at (lines_of text) ≡ Ok (line, lines_of rest)
-line_there text line rest e = rw e (rw (not_zero (length (lines_of rest)) (some_parts 10 rest)) refl)
+pub line_there : (text line rest : List ℕ) → text_lines text ≡ line ∷ text_lines rest → line_at (text_lines text) ≡ Ok (line, text_lines rest)
+line_there text line rest e = rw e (rw (not_zero (length (text_lines rest)) (some_parts 10 rest)) refl)
 
 first_of_parts : (parts : List (List ℕ)) → 0 < length parts → (part : List ℕ) × (others : List (List ℕ)) × (parts ≡ part ∷ others)
 first_of_parts [] h = absurd (omega arith)
@@ -64,9 +64,9 @@ over_cons true x parts h = over_more parts h
 over_cons false x parts h = onto_some x parts h
 
 -- a text with anything in it has more than the one empty part
-pub not_over : (text : List ℕ) → 0 < length text → is_over (lines_of text) ≡ false
+pub not_over : (text : List ℕ) → 0 < length text → is_over (text_lines text) ≡ false
 not_over [] h = absurd (omega arith)
-not_over (x ∷ xs) h = over_cons (eqb x 10) x (lines_of xs) (some_parts 10 xs)
+not_over (x ∷ xs) h = over_cons (eqb x 10) x (text_lines xs) (some_parts 10 xs)
 
 pub three_parts : (text first second others rest : List ℕ) → words_of text ≡ first ∷ words_of others → words_of others ≡ second ∷ words_of rest
     → length (words_of text) ≡ 2 → ⊥
@@ -78,7 +78,7 @@ pub trailing : (parts after rest : List (List ℕ)) (line : List ℕ) (h : Shape
 unfolding certified_of
 trailing parts after rest line h count groups a b d over = rw (a, b, d, over) refl
 
-pub over : (text : List ℕ) → length text ≡ 0 → is_over (lines_of text) ≡ true
+pub over : (text : List ℕ) → length text ≡ 0 → is_over (text_lines text) ≡ true
 over [] h = refl
 over (x ∷ xs) h = absurd (omega arith)
 

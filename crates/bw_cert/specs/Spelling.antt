@@ -23,8 +23,8 @@ pub record Value : Type 0 where
   pub groups : Columns
 
 -- the parts between newlines: each but the last is a line
-abbrev pub lines_of : List ℕ → List (List ℕ)
-lines_of text = slice_split (λ b. b == 10) text
+abbrev pub text_lines : List ℕ → List (List ℕ)
+text_lines text = slice_split (λ b. b == 10) text
 
 -- the words between single spaces, which may be empty
 abbrev pub words_of : List ℕ → List (List ℕ)

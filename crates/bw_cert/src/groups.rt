@@ -1,11 +1,11 @@
 //! Groups of a certified text, line by line.
 ghost use Rattle.std.specs.Prelude.{◌≡◌};
-ghost use Rattle.bw_cert.specs.Spelling.{lines_of, words_of};
+ghost use Rattle.bw_cert.specs.Spelling.{text_lines, words_of};
 ghost use Rattle.bw_cert.specs.Reading.{ReadsAs, seen, line_at, group_of, groups_at, group_view, columns_view};
 
 use crate::fault::CertFault;
-use crate::fields::group_words;
-use crate::words::{flag, level, limit, number, parent};
+use crate::line_words::group_words;
+use crate::word_values::{flag, level, limit, number, parent};
 use bw_model::limits::MAX_GROUPS;
 use bw_model::{Certificate, Instance, Mark, Row};
 use bw_text::split_line;
@@ -39,7 +39,7 @@ pub(crate) struct Columns {
 
 /// The first line, and what stands after it.
 pub(crate) fn first_line(text: &[u8]) -> Result<(&[u8], &[u8]), CertFault>
-    ensures { seen (λ p. (p.0.now, lines_of p.1.now)) result ≡ line_at (lines_of text.now) }
+    ensures { seen (λ p. (p.0.now, text_lines p.1.now)) result ≡ line_at (text_lines text.now) }
 {
     match split_line(text) {
         None => Err(CertFault::CutShort),
@@ -77,7 +77,7 @@ fn group(line: &[u8]) -> Result<GroupLine, CertFault>
 
 /// So many groups, and what stands after their lines.
 pub(crate) fn groups(alloc: Global, count: u64, text: &[u8]) -> Result<(Columns, &[u8]), CertFault>
-    ensures { ReadsAs (λ p. (columns_view p.0, lines_of p.1.now)) result (groups_at count (lines_of text.now)) }
+    ensures { ReadsAs (λ p. (columns_view p.0, text_lines p.1.now)) result (groups_at count (text_lines text.now)) }
 {
     // the text has less where it is cut short
     let room = count.min(MAX_GROUPS as u64) as usize;

@@ -3,11 +3,11 @@
 
 mod certifying;
 mod fault;
-mod fields;
+mod line_words;
 mod groups;
 mod laws;
 mod reading;
-mod words;
+mod word_values;
 mod writing;
 
 pub use certifying::{certify, certify_gathered};

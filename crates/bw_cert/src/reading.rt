@@ -1,12 +1,12 @@
 //! Certified texts read.
 ghost use Rattle.std.specs.Prelude.{◌≡◌, Ok, IfOk};
-ghost use Rattle.bw_cert.specs.Spelling.{Value, lines_of, words_of, spelling, IsValue};
+ghost use Rattle.bw_cert.specs.Spelling.{Value, text_lines, words_of, spelling, IsValue};
 ghost use Rattle.bw_cert.specs.Reading.{ReadsAs, head_of, host_in, certified_of, certified_view};
 
 use crate::fault::CertFault;
-use crate::fields::head_words;
+use crate::line_words::head_words;
 use crate::groups::{Certified, first_line, groups};
-use crate::words::number;
+use crate::word_values::number;
 use bw_model::limits::MAX_GROUPS;
 use bw_model::{Certificate, HostShape, Instance, InstanceFault};
 use std::alloc::Global;
@@ -45,7 +45,7 @@ fn host(processors: u64, period_us: u64, slice_us: u64) -> Result<HostShape, Cer
 // All of the text.
 #[tactic(auto, unfolding(crate::specs::Reading::certified_of))]
 fn certified(alloc: Global, text: &[u8]) -> Result<Certified, CertFault>
-    ensures { ReadsAs certified_view result (certified_of (lines_of text.now)) }
+    ensures { ReadsAs certified_view result (certified_of (text_lines text.now)) }
 {
     let (line, rest) = first_line(text)?;
     let (shape, count) = head(line)?;
@@ -78,7 +78,7 @@ pub fn read_certified(alloc: Global, text: &[u8]) -> Result<Certified, CertFault
     // What is spelled so is read, unless memory runs out.
     ensures only { (v : Value) → IsValue v → text.now ≡ spelling v → ReadsAs certified_view result (Ok v) }
     // Which fault it is.
-    ensures exact { ReadsAs certified_view result (certified_of (lines_of text.now)) }
+    ensures exact { ReadsAs certified_view result (certified_of (text_lines text.now)) }
 {
     certified(alloc, text)
 }

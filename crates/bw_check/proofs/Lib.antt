@@ -2,7 +2,7 @@
 pub mod CallerLemmas
 mod Verdicts
 mod Gathered
-mod Kept
+mod MarksKept
 mod Bounding
 mod Deciding
 mod Marking

@@ -10,7 +10,7 @@ use Rattle.std.proofs.lemmas.List.Folds.{list_any_more, list_any_at}
 use Rattle.bw_model.specs.declared.row.Row.{Row}
 use Rattle.bw_model.specs.Groups.{AreTreeRows, parent_of, depth_of}
 use Rattle.bw_model.proofs.CallerLemmas.{parent_lt, depth_of-step}
-use Rattle.bw_demand.specs.Levels.{level_of, AreLevels}
+use Rattle.bw_demand.specs.ByDepth.{rows_of_depth, AreByDepth}
 use Rattle.bw_demand.proofs.ByDepth.{level_row, level_rises, level_has}
 
 -- the groups from this depth on
@@ -19,7 +19,7 @@ seen_from rows d c = not (ltb (depth_of rows c) d)
 
 -- and the first k of those at this depth
 abbrev pub seen_at : List Row → ℕ → ℕ → ℕ → Bool
-seen_at rows d k c = seen_from rows (d + 1) c || list_any (λ h. h == c) (take k (level_of rows d))
+seen_at rows d k c = seen_from rows (d + 1) c || list_any (λ h. h == c) (take k (rows_of_depth rows d))
 
 -- one of the first k
 pub among : (xs : List ℕ) (k c : ℕ) → list_any (λ h. h == c) (take k xs) ≡ true → (j : ℕ) × (j < k) × (j < length xs) × (get_or xs j 0 ≡ c)
@@ -33,7 +33,7 @@ among (x ∷ xs) (suc k) c e = elim (or_cases (x == c) (list_any (λ h. h == c) 
 ]
 
 -- before the deepest level
-pub none_seen : (rows : List Row) (levels : List (Vec ℕ Global)) (d : ℕ) → AreLevels rows levels → d ≡ length levels →
+pub none_seen : (rows : List Row) (levels : List (Vec ℕ Global)) (d : ℕ) → AreByDepth rows levels → d ≡ length levels →
     (c : ℕ) → c < length rows → seen_from rows d c ≡ false
 none_seen rows levels d known is c below = rw is (ap not (lt-ltb (depth_of rows c) (length levels) (known.all c below)))
 
@@ -46,45 +46,45 @@ pub first_seen : (rows : List Row) (d c : ℕ) → seen_at rows d 0 c ≡ seen_f
 first_seen rows d c = or-false (seen_from rows (d + 1) c)
 
 -- after the last of a level
-pub last_seen : (rows : List Row) (d k c : ℕ) → c < length rows → length (level_of rows d) ≤ k → seen_from rows d c ≡ seen_at rows d k c
+pub last_seen : (rows : List Row) (d k c : ℕ) → c < length rows → length (rows_of_depth rows d) ≤ k → seen_from rows d c ≡ seen_at rows d k c
 last_seen rows d k c below le =
-    let whole : take k (level_of rows d) ≡ level_of rows d = take_all k (level_of rows d) le in
+    let whole : take k (rows_of_depth rows d) ≡ rows_of_depth rows d = take_all k (rows_of_depth rows d) le in
     rw whole (elim (cases_lt (depth_of rows c) d) [
       | inl lt ↦ ap not (lt-ltb (depth_of rows c) d lt) ∙ sym (rw (lt-ltb (depth_of rows c) (d + 1) (omega arith)) (false_from_ne_true _ (λ e.
-          let r : (j : ℕ) × (j < k) × (j < length (level_of rows d)) × (get_or (level_of rows d) j 0 ≡ c) = among (level_of rows d) k c (rw whole e) in
+          let r : (j : ℕ) × (j < k) × (j < length (rows_of_depth rows d)) × (get_or (rows_of_depth rows d) j 0 ≡ c) = among (rows_of_depth rows d) k c (rw whole e) in
           let at : depth_of rows c ≡ d = rw r.3 at (level_row rows d r.0 r.2).depth in
           omega (arith, at, lt))))
       | inr ge ↦ ap not (le-ltb (depth_of rows c) d ge) ∙ sym (elim (cases_eq (depth_of rows c) d) [
         | inl same ↦ rw (lt-ltb (depth_of rows c) (d + 1) (omega (arith, same)))
-            (let r : (k : ℕ) × (k < length (level_of rows d)) × (get_or (level_of rows d) k 0 ≡ c) = level_has rows d c below same in
-            list_any_at (λ h. h == c) (level_of rows d) r.0 0 r.1 (eq-eqb (get_or (level_of rows d) r.0 0) c r.2))
+            (let r : (k : ℕ) × (k < length (rows_of_depth rows d)) × (get_or (rows_of_depth rows d) k 0 ≡ c) = level_has rows d c below same in
+            list_any_at (λ h. h == c) (rows_of_depth rows d) r.0 0 r.1 (eq-eqb (get_or (rows_of_depth rows d) r.0 0) c r.2))
         | inr other ↦ rw (le-ltb (depth_of rows c) (d + 1) (omega (arith, ge, other))) refl
       ])
     ])
 
 -- one more of a level
-pub next_seen : (rows : List Row) (d k g c : ℕ) → k < length (level_of rows d) → g ≡ get_or (level_of rows d) k 0 →
+pub next_seen : (rows : List Row) (d k g c : ℕ) → k < length (rows_of_depth rows d) → g ≡ get_or (rows_of_depth rows d) k 0 →
     seen_at rows d (k + 1) c ≡ (seen_at rows d k c || eqb g c)
 next_seen rows d k g c lt is =
-    rw is (ap (λ (b : Bool). seen_from rows (d + 1) c || b) (list_any_more (λ h. h == c) (level_of rows d) k 0 lt)
-    ∙ sym (or_assoc (seen_from rows (d + 1) c) (list_any (λ h. h == c) (take k (level_of rows d))) (get_or (level_of rows d) k 0 == c)))
+    rw is (ap (λ (b : Bool). seen_from rows (d + 1) c || b) (list_any_more (λ h. h == c) (rows_of_depth rows d) k 0 lt)
+    ∙ sym (or_assoc (seen_from rows (d + 1) c) (list_any (λ h. h == c) (take k (rows_of_depth rows d))) (get_or (rows_of_depth rows d) k 0 == c)))
 
 -- it had not been seen, nor had the one above it
-pub fresh : (rows : List Row) (d k g : ℕ) → k < length (level_of rows d) → g ≡ get_or (level_of rows d) k 0 → seen_at rows d k g ≡ false
+pub fresh : (rows : List Row) (d k g : ℕ) → k < length (rows_of_depth rows d) → g ≡ get_or (rows_of_depth rows d) k 0 → seen_at rows d k g ≡ false
 fresh rows d k g lt is =
     let at : depth_of rows g ≡ d = ap (depth_of rows) is ∙ (level_row rows d k lt).depth in
     rw (lt-ltb (depth_of rows g) (d + 1) (omega (arith, at))) (false_from_ne_true _ (λ e.
-    let r : (j : ℕ) × (j < k) × (j < length (level_of rows d)) × (get_or (level_of rows d) j 0 ≡ g) = among (level_of rows d) k g e in
-    let up : get_or (level_of rows d) r.0 0 < get_or (level_of rows d) k 0 = level_rises rows d r.0 k r.1 lt in
+    let r : (j : ℕ) × (j < k) × (j < length (rows_of_depth rows d)) × (get_or (rows_of_depth rows d) j 0 ≡ g) = among (rows_of_depth rows d) k g e in
+    let up : get_or (rows_of_depth rows d) r.0 0 < get_or (rows_of_depth rows d) k 0 = level_rises rows d r.0 k r.1 lt in
     omega (arith, up, r.3, is)))
 
-pub parent_unseen : (rows : List Row) → AreTreeRows rows → (d k g p : ℕ) → k < length (level_of rows d) → g ≡ get_or (level_of rows d) k 0 →
+pub parent_unseen : (rows : List Row) → AreTreeRows rows → (d k g p : ℕ) → k < length (rows_of_depth rows d) → g ≡ get_or (rows_of_depth rows d) k 0 →
     parent_of rows g ≡ Some p → seen_at rows d k p ≡ false
 parent_unseen rows tree d k g p lt is e =
     let at : depth_of rows g ≡ d = ap (depth_of rows) is ∙ (level_row rows d k lt).depth in
     let up : depth_of rows g ≡ depth_of rows p + 1 = depth_of-step rows tree g p e in
     rw (lt-ltb (depth_of rows p) (d + 1) (omega (arith, at, up))) (false_from_ne_true _ (λ f.
-    let r : (j : ℕ) × (j < k) × (j < length (level_of rows d)) × (get_or (level_of rows d) j 0 ≡ p) = among (level_of rows d) k p f in
+    let r : (j : ℕ) × (j < k) × (j < length (rows_of_depth rows d)) × (get_or (rows_of_depth rows d) j 0 ≡ p) = among (rows_of_depth rows d) k p f in
     let level : depth_of rows p ≡ d = rw r.3 at (level_row rows d r.0 r.2).depth in
     omega (arith, level, at, up)))
 

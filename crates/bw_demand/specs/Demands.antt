@@ -2,7 +2,7 @@
 use Rattle.std.specs.Prelude.{◌≡◌, ℕ, ◌<◌, List, Bool, false, length, slice_index, slice_index_or}
 use Rattle.bw_model.specs.Groups.{Groups}
 use Rattle.bw_model.specs.Demand.{AreMaxTotals, want_of, is_tight}
-use Rattle.bw_demand.specs.declared.demands.Gathered.{Gathered}
+use Rattle.bw_demand.specs.declared.gathered.Gathered.{Gathered}
 
 -- for each row its want, its most, and whether it is tight
 pub record Demands : Type 0 where

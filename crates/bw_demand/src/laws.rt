@@ -1,12 +1,14 @@
 //! Laws about allocations, each the contract of a function that does nothing.
-ghost use Rattle.bw_demand.specs.Laws.{AmountsAreReached, MostIsUnique, MostIsTheWantCut, AllocationsJoin, BoundsHold};
+ghost use Rattle.bw_demand.specs.Laws.{AmountsAreReached, MostIsUnique, MostIsTheWantCut};
+ghost use Rattle.bw_demand.specs.Laws.{AllocationsJoin, BoundsHold};
 
-/// Every amount from 0 to the most of a group is what some allocation gives it, within what stands at it and below.
+/// Some allocation within the demands and limits at a group and below it gives the group any
+/// amount from 0 to its most.
 pub fn amounts_are_reached()
     ensures { AmountsAreReached }
 {}
 
-/// There is one most of each group: its want, or its limit where that is less.
+/// Each group has one most: its want, or its limit if that is less.
 pub fn most_is_the_want_cut()
     ensures unique { MostIsUnique }
     ensures rule { MostIsTheWantCut }
@@ -17,7 +19,7 @@ pub fn allocations_join()
     ensures { AllocationsJoin }
 {}
 
-/// Flags at any groups show what no allocation can pass.
+/// No allocation passes the bounds that flags at any groups give.
 pub fn bounds_hold()
     ensures { BoundsHold }
 {}

@@ -1,16 +1,17 @@
-//! What the groups of an instance want, and what they can be given.
+//! Demand: what the groups of an instance want, and what they can be given.
 #![tactic(auto)]
 
-mod demands;
+mod by_depth;
+mod by_rows;
 mod depths;
-mod gathering;
+mod gathered;
 mod laws;
 mod limiting_groups;
-mod row_gathering;
+mod one_row;
 
-pub use demands::{Gathered, Limiting};
+pub use by_depth::gather;
+pub use by_rows::gather_rows;
 pub use depths::levels;
-pub use gathering::{gather, gather_levels};
+pub use gathered::{Gathered, Limiting};
 pub use laws::{allocations_join, amounts_are_reached, bounds_hold, most_is_the_want_cut};
 pub use limiting_groups::limiting;
-pub use row_gathering::gather_rows;

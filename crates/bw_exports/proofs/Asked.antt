@@ -20,7 +20,7 @@ use Rattle.bw_model.specs.declared.limits.TheConstants.{MAX_GROUPS}
 use Rattle.std.specs.List.{range_with_len}
 use Rattle.bw_model.proofs.CallerLemmas.{IsHost-accepted, IsInstance-accepted}
 use Rattle.bw_exports.specs.declared.columns.Columns.{Columns}
-use Rattle.bw_exports.specs.declared.asking.Host.{Host}
+use Rattle.bw_exports.specs.declared.asked_instance.Host.{Host}
 use Rattle.bw_exports.specs.Asked.{Table, table_of, shape_of, row_in, rows_in, groups_in, are_even, refusal_number, asked_number, asked_number_with, Answers}
 
 -- uneven columns

@@ -9,7 +9,7 @@ use Rattle.bw_model.specs.Faults.{host_fault_number, instance_fault_number}
 use Rattle.bw_model.specs.Groups.{Groups}
 use Rattle.bw_exports.specs.declared.columns.TheConstants.{NO_PARENT, NO_LIMIT}
 use Rattle.bw_exports.specs.declared.columns.Columns.{Columns}
-use Rattle.bw_exports.specs.declared.asking.Host.{Host}
+use Rattle.bw_exports.specs.declared.asked_instance.Host.{Host}
 
 -- the columns of the rows
 pub record Table : Type 0 where

@@ -8,7 +8,7 @@ use Rattle.bw_model.specs.Certificate.{Certified, IsAccepted}
 use Rattle.bw_cert.specs.Levels as of
 use Rattle.bw_exports.specs.Asked.{Table, asked_number}
 use Rattle.bw_exports.specs.Checked.{Claimed, IsSpelled}
-use Rattle.bw_exports.specs.declared.certified.Found.{Found}
+use Rattle.bw_exports.specs.declared.certify_call.Found.{Found}
 
 -- 1 for a flag, else 0
 abbrev pub flag_number : Bool → ℕ

@@ -1,16 +1,16 @@
 //! The planner as a library for programs in C and in what calls C.
 #![tactic(auto)]
 
-mod asking;
-mod certified;
-mod checks;
+mod asked_instance;
+mod certify_call;
+mod check_call;
 mod claim;
 mod columns;
 mod fault;
 mod front;
-mod limited;
-mod named;
-mod plans;
+mod limiting_call;
+mod name_call;
+mod plan_call;
 mod refusal;
-mod spelled;
-mod texts;
+mod certificate_columns;
+mod check_text_call;

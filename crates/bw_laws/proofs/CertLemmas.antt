@@ -8,7 +8,7 @@ use Rattle.bw_model.specs.declared.mark.Mark.{Mark}
 use Rattle.bw_model.specs.Certificate.{Certified, IsAccepted}
 use Rattle.bw_model.specs.Marks.{price_of}
 use Rattle.bw_cert.specs.Reading.{certified_of}
-use Rattle.bw_cert.specs.Spelling.{Value, lines_of, groups_of}
+use Rattle.bw_cert.specs.Spelling.{Value, text_lines, groups_of}
 use Rattle.bw_cert.proofs.CallerLemmas.{certified_again}
 use Rattle.bw_check.proofs.CallerLemmas.{refused-not-accepted}
 use Rattle.bw_check.specs.declared.verdict.Verdict.{Verdict}
@@ -56,8 +56,8 @@ module _ (h : HierarchyState) (text : List ℕ) (p : IsCertifiedPlan h text) whe
   abbrev value : Value
   value = value_with (instance_of h.tree h.shape) p.amounts p.certificate
 
-  read_again : certified_of (lines_of text) ≡ Ok value
-  read_again = ap (λ t. certified_of (lines_of t)) p.is ∙ certified_again value p.valid
+  read_again : certified_of (text_lines text) ≡ Ok value
+  read_again = ap (λ t. certified_of (text_lines t)) p.is ∙ certified_again value p.valid
 
   only_verdict : (verdict : Verdict) → IsVerdictOf value verdict → verdict ≡ Accepted
   only_verdict Accepted on = refl

@@ -2,7 +2,7 @@
 use Rattle.std.specs.Prelude.{◌≡◌, ℕ, List, Ok}
 use Rattle.bw_hierarchy.specs.State.{HierarchyState}
 use Rattle.bw_cert.specs.Reading.{certified_of}
-use Rattle.bw_cert.specs.Spelling.{Value, groups_of, lines_of}
+use Rattle.bw_cert.specs.Spelling.{Value, groups_of, text_lines}
 use Rattle.bw_check.specs.Verdict.{IsVerdictOn}
 use Rattle.bw_check.specs.declared.verdict.Verdict.{Verdict}
 use Rattle.bw_check.specs.declared.verdict.Verdict.TheVariants.{Accepted}
@@ -15,7 +15,7 @@ IsVerdictOf value verdict = IsVerdictOn (groups_of value) value.groups.amounts v
 -- What a script answers to `cert`, read again as a certified text, is accepted, and no other verdict stands on it.
 pub record IsAcceptedText (text : List ℕ) : Type 0 where
   pub value : Value
-  pub read : certified_of (lines_of text) ≡ Ok value
+  pub read : certified_of (text_lines text) ≡ Ok value
   pub accepted : IsVerdictOf value Accepted
   pub only : (verdict : Verdict) → IsVerdictOf value verdict → verdict ≡ Accepted
 

@@ -1,15 +1,15 @@
 //! The plan of an instance: what each group gets in one period.
 #![tactic(auto)]
 
-mod amounts;
-mod downward;
+mod plan_type;
+mod by_rows;
 mod laws;
-mod level_plan;
+mod by_depth;
 mod share;
-mod siblings;
+mod children;
 
-pub use amounts::Plan;
-pub use downward::plan;
+pub use plan_type::Plan;
+pub use by_rows::plan;
 pub use laws::there_is_one_plan;
-pub use level_plan::{plan_gathered, plan_levels};
-pub use siblings::{ChildValues, child_values, child_weights};
+pub use by_depth::{plan_gathered, plan_levels};
+pub use children::{ChildValues, child_values, child_weights};

@@ -6,7 +6,7 @@ ghost use Rattle.bw_model.specs.Split.{IsBestSplit};
 ghost use Rattle.bw_split.specs.Conditions.{CanSplit};
 ghost use Rattle.bw_plan.specs.Shared.{CanShare, AreBestParts, AreParts, IsGiven};
 
-use crate::siblings::{child_values, child_weights};
+use crate::children::{child_values, child_weights};
 use bw_model::Instance;
 use bw_split::{fits_in, split};
 use std::alloc::{AllocError, Global};

@@ -11,10 +11,10 @@ mod laws;
 mod level;
 mod level_search;
 pub mod limits;
-mod work;
+mod counted;
 
 pub use by_marks::split_by_marks;
 pub use conditions::{can_split, fits_in};
 pub use laws::{no_move_gains, split_numbers};
 pub use level::level_of;
-pub use work::{Work, split, split_counted};
+pub use counted::{Work, split, split_counted};

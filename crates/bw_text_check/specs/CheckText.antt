@@ -4,7 +4,7 @@ use Rattle.std.specs.Fmt.{decimal}
 use Rattle.std.specs.Io.KnownBytes.{Appends, Consumes}
 use Rattle.bw_cert.specs.Faults.{cert_fault_number, cert_fault_name}
 use Rattle.bw_cert.specs.Reading.{certified_of}
-use Rattle.bw_cert.specs.Spelling.{Value, HoldsPlan, groups_of, lines_of}
+use Rattle.bw_cert.specs.Spelling.{Value, HoldsPlan, groups_of, text_lines}
 use Rattle.bw_cert.specs.declared.fault.CertFault.{CertFault}
 use Rattle.bw_check.specs.Faults.{check_fault_number, check_fault_name}
 use Rattle.bw_streams.specs.Answers.{refusal_line}
@@ -46,7 +46,7 @@ IsFindingOf (Err fault) (Faulty found) = found ≡ fault
 
 -- what is found in a text
 abbrev pub IsFinding : List ℕ → Finding → Type 0
-IsFinding text finding = IsFindingOf (certified_of (lines_of text)) finding
+IsFinding text finding = IsFindingOf (certified_of (text_lines text)) finding
 
 -- A text was read whose line was written, and the answer is whether that line is `accepted`.
 pub record Checks (left_old left_new held_old held_new : Option (List ℕ)) (accepted : Bool) : Type 0 where

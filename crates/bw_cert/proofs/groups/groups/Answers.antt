@@ -4,7 +4,7 @@ use Rattle.std.specs.Option.{option_map}
 use Rattle.std.proofs.lemmas.Result.{err_from_is_err_and}
 use Rattle.std.proofs.lemmas.List.{map_push}
 use Rattle.bw_model.specs.Marks.{price_of}
-use Rattle.bw_cert.specs.Spelling.{Columns, lines_of}
+use Rattle.bw_cert.specs.Spelling.{Columns, text_lines}
 use Rattle.bw_cert.specs.Reading.{groups_at, group_view}
 use Rattle.bw_cert.proofs.Loop.{goes_on, line_ends, group_ends, is_done}
 use Rattle.bw_cert.proofs.groups.groups.Goals as goal
@@ -18,8 +18,8 @@ returns-in_err-line c =
       levels = map (option_map price_of) c.loop.levels.items;
     } in
     let p = err_from_is_err_and c.from_residual-in_err-line.result c.from_residual-in_err-line.ensures.1 in
-    rw (p.1, p.2) (line_ends c.in_err-line.field-0.0 front c.args.count c.loop.counter (lines_of c.loop.rest.now)
-    (groups_at c.args.count (lines_of c.args.text.now)) c.loop-test.true (sym c.in_err-line.ensures) c.loop.invariant)
+    rw (p.1, p.2) (line_ends c.in_err-line.field-0.0 front c.args.count c.loop.counter (text_lines c.loop.rest.now)
+    (groups_at c.args.count (text_lines c.args.text.now)) c.loop-test.true (sym c.in_err-line.ensures) c.loop.invariant)
 
 pub returns-in_err-next : goal.returns-in_err-next
 returns-in_err-next c =
@@ -30,8 +30,8 @@ returns-in_err-next c =
       levels = map (option_map price_of) c.loop.levels.items;
     } in
     let p = err_from_is_err_and c.from_residual-in_err-next.result c.from_residual-in_err-next.ensures.1 in
-    rw (p.1, p.2) (group_ends c.in_err-next.field-0.0 front c.args.count c.loop.counter (lines_of c.loop.rest.now)
-    (lines_of c.in_ok-line.after.now) c.in_ok-line.line.now (groups_at c.args.count (lines_of c.args.text.now)) c.loop-test.true
+    rw (p.1, p.2) (group_ends c.in_err-next.field-0.0 front c.args.count c.loop.counter (text_lines c.loop.rest.now)
+    (text_lines c.in_ok-line.after.now) c.in_ok-line.line.now (groups_at c.args.count (text_lines c.args.text.now)) c.loop-test.true
     (sym c.in_ok-line.ensures) (sym c.in_err-next.ensures) c.loop.invariant)
 
 pub loop-preserved : goal.loop-preserved
@@ -49,8 +49,8 @@ loop-preserved c =
       c.in_ok-push-4.ensures.items,
       map_push (option_map price_of) c.loop.levels.items c.in_ok-next.next.level,
     )
-    (goes_on front c.args.count c.loop.counter (lines_of c.loop.rest.now) (lines_of c.in_ok-line.after.now) c.in_ok-line.line.now
-    (group_view c.in_ok-next.next) (groups_at c.args.count (lines_of c.args.text.now)) c.loop-test.true (sym c.in_ok-line.ensures)
+    (goes_on front c.args.count c.loop.counter (text_lines c.loop.rest.now) (text_lines c.in_ok-line.after.now) c.in_ok-line.line.now
+    (group_view c.in_ok-next.next) (groups_at c.args.count (text_lines c.args.text.now)) c.loop-test.true (sym c.in_ok-line.ensures)
     (sym c.in_ok-next.ensures) c.loop.invariant)
 
 pub returns : goal.returns
@@ -61,4 +61,4 @@ returns c =
       flags = c.loop.tight.items;
       levels = map (option_map price_of) c.loop.levels.items;
     } in
-    is_done front c.args.count c.loop.counter (lines_of c.loop.rest.now) (groups_at c.args.count (lines_of c.args.text.now)) c.loop-test.false c.loop.invariant
+    is_done front c.args.count c.loop.counter (text_lines c.loop.rest.now) (groups_at c.args.count (text_lines c.args.text.now)) c.loop-test.false c.loop.invariant

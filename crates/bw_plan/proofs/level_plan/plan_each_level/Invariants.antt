@@ -1,7 +1,0 @@
--- What stands at each turn of the loop in `plan_each_level`.
-use Rattle.std.proofs.Common.{◌-◌}
-use Rattle.bw_plan.specs.Shared.{IsPlanning, is_above}
-use Rattle.bw_plan.proofs.level_plan.plan_each_level.Given as goal
-
-abbrev pub invariant-loop-below : goal.invariant-loop-below
-invariant-loop-below g l = IsPlanning l.instance l.most (is_above l.instance.rows (l.below - 1)) l.amounts.items

@@ -1,8 +1,0 @@
--- The goals of `child_weights` that are answered by hand.
-use Rattle.std.proofs.Common.{length}
-use Rattle.bw_plan.proofs.Shares.{all_below, children_within}
-use Rattle.bw_plan.proofs.siblings.child_weights.Goals as goal
-
-pub weights_of-requires : goal.weights_of-requires
-weights_of-requires c = all_below (length c.rows.result.now) c.children.result.now
-    (rw c.rows.ensures.rows (children_within c.args.instance.now.rows c.args.g c.children.result.now c.children.ensures))
