@@ -3,6 +3,11 @@ use Rattle.std.specs.Prelude.{◌≡◌, ◌⊎◌, ℕ, ◌<◌, ◌≤◌, Lis
 use Rattle.bw_model.specs.declared.limits.TheConstants.{MIN_WEIGHT, MAX_WEIGHT, MAX_CAPACITY}
 use Rattle.bw_split.specs.declared.limits.TheConstants.{MAX_CHILDREN}
 
+-- each weight is in its range
+abbrev pub AreWeights : List ℕ → Type 0
+AreWeights weights =
+    (k : ℕ) → k < length weights → (MIN_WEIGHT ≤ slice_index weights k) × (slice_index weights k ≤ MAX_WEIGHT)
+
 -- weights and maxima that can be split, and an amount that they can take
 pub record CanSplit (amount : ℕ) (weights most : List ℕ) : Type 0 where
   pub one_each : length most ≡ length weights

@@ -8,8 +8,13 @@ use std::alloc::{AllocError, Global};
 use std::cmp::Reverse;
 use std::collections::BinaryHeap;
 
-/// What [`split`](crate::split) answers, by the plain program: each slice goes to the child with the least next mark,
-/// and that child's next mark goes back while it is below its maximum. It fails only when out of memory.
+/// [`split`](crate::split) by the plain program, one slice at a time.
+///
+/// Each slice goes to the child with the least next mark. The child's next mark goes back to the
+/// heap while the child is below its maximum.
+///
+/// # Errors
+/// `AllocError` if memory was refused.
 pub fn split_by_marks(
     alloc: Global,
     amount: u64,
@@ -31,7 +36,7 @@ pub fn split_by_marks(
     }
     let mut parts = vec![in alloc; 0u64; weights.len()]?;
     for _slice in 0..amount {
-        // The least mark: of those of the same cost the one with the least place, so a tie goes to the earlier sibling.
+        // The least mark. Of marks of one cost, a tie, the earlier sibling has the least place.
         match heap.pop() {
             Some(Reverse(mark)) => {
                 let i = mark.place as usize;

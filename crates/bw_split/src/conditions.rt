@@ -5,7 +5,7 @@ ghost use Rattle.bw_split.specs.Conditions.{CanSplit};
 use crate::limits::MAX_CHILDREN;
 use bw_model::limits::{MAX_CAPACITY, MAX_WEIGHT, MIN_WEIGHT};
 
-/// Whether the numbers sum up to no more than the bound. The sum itself may pass 64 bits.
+/// Whether the sum of the numbers is at most the bound. The sum itself may pass 64 bits.
 pub fn fits_in(numbers: &[u64], bound: u64) -> bool
     ensures { IsTrue result ↔ sum numbers.now ≤ bound }
 {
@@ -19,8 +19,10 @@ pub fn fits_in(numbers: &[u64], bound: u64) -> bool
     true
 }
 
-/// Whether `split` may be called: as many maxima as weights, at most [`MAX_CHILDREN`] of them, weights from 1 to
-/// 10000, and an amount of at most 64000 slices that is no more than the sum of the maxima. Takes no memory.
+/// Whether an amount of slices can be split: the condition of [`split`](crate::split).
+///
+/// There are as many maxima as weights, at most [`MAX_CHILDREN`]. Each weight is 1 to 10,000. The
+/// amount is at most 64,000 slices and at most the sum of the maxima.
 pub fn can_split(amount: u64, weights: &[u64], most: &[u64]) -> bool
     ensures { IsTrue result ↔ CanSplit amount weights.now most.now }
 {

@@ -1,10 +1,10 @@
-//! A count that contracts alone see. It takes no bytes, and its calls do nothing at run time.
+//! Ghost state: a count for contracts alone. It has no bytes, and its calls do nothing at run time.
 ghost use Rattle.std.specs.Prelude.{◌≡◌, ◌+◌, ℕ};
 ghost use Rattle.std.specs.Borrow.{ftrue};
 
 use std::marker::Model;
 
-/// How often something was done, from one point on.
+/// Number of times that something was done, from one point on.
 #[derive(Drop)]
 pub(crate) struct Count {
     pub(crate) ghost steps: { ℕ },
@@ -15,14 +15,14 @@ impl Model for Count {
 }
 
 impl Count {
-    /// Nothing is done yet.
+    /// A count of 0.
     pub(crate) fn none() -> Count
         ensures { result.steps ≡ 0 }
     {
         Count {}
     }
 
-    /// Once more.
+    /// One more.
     pub(crate) fn one_more(&self) -> Count
         ensures { result.steps ≡ self.now.steps + 1 }
     {

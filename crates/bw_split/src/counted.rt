@@ -1,17 +1,19 @@
-//! What a split has done, counted for contracts alone.
-ghost use Rattle.std.specs.Prelude.{◌≡◌, ◌+◌, ◌<◌, ◌≤◌, length, IfOk};
+//! The split of an amount, and the count of its rounds and picks, which contracts alone see.
+//!
+//! Only this module can begin a count: `Work::new` is private to it.
+ghost use Rattle.std.specs.Prelude.{◌≡◌, ◌+◌, ◌<◌, ◌≤◌, length, sum, IfOk};
 ghost use Rattle.bw_model.specs.Split.{IsBestSplit};
 ghost use Rattle.bw_split.specs.Conditions.{CanSplit, NeedsNoSearch};
 
 use crate::count::Count;
-use crate::level_search::split_with;
+use crate::level_search::{split_by_level, split_with};
 use crate::limits::MAX_ROUNDS;
 use std::alloc::{AllocError, Global};
 use std::marker::Model;
 
-/// A count of rounds and picks, which contracts see as `rounds` and `picks`. It has no data at run time.
+/// Ghost state: a count of rounds and picks, without data at run time.
 ///
-/// A round is one test of a level on all children, a pick one slice that is given after the search.
+/// A round is one test of a level on all children. A pick is one slice given after the search.
 #[derive(Drop)]
 pub struct Work {
     rounds: Count,
@@ -27,7 +29,7 @@ impl Model for Work {
 }
 
 impl Work {
-    // Nothing is done yet. Only here can a count begin, so a search has the one that it is given.
+    // A count of nothing. Only this module can begin one, so a search adds to the one it is given.
     fn new() -> Work
         ensures rounds { result.rounds ≡ 0 }
         ensures picks { result.picks ≡ 0 }
@@ -38,7 +40,7 @@ impl Work {
         }
     }
 
-    /// A level was tested on all children.
+    /// Counts one test of a level on all children.
     pub(crate) fn add_round(&mut self)
         ensures rounds { self.new.rounds ≡ self.old.rounds + 1 }
         ensures picks { self.new.picks ≡ self.old.picks }
@@ -46,7 +48,7 @@ impl Work {
         self.rounds = self.rounds.one_more();
     }
 
-    /// A slice was given.
+    /// Counts one slice given after the search.
     pub(crate) fn add_pick(&mut self)
         ensures rounds { self.new.rounds ≡ self.old.rounds }
         ensures picks { self.new.picks ≡ self.old.picks + 1 }
@@ -55,9 +57,14 @@ impl Work {
     }
 }
 
-/// What [`split`] answers, and what it has done: a round for each level that was tested on all children, at most
-/// [`MAX_ROUNDS`] of them, and a pick for each slice that was given after the search, at most one a child. An amount
-/// of 0, an only child, and an amount equal to the sum of the maxima cost no round, and all else at least one.
+/// [`split`], with the count of its rounds and picks.
+///
+/// A round is counted for each level that was tested on all children, at most [`MAX_ROUNDS`]. A
+/// pick is counted for each slice that was given after the search, at most one a child. There is no
+/// round if the amount is 0 or the sum of the maxima, or if there is one child; else at least one.
+///
+/// # Errors
+/// `AllocError` if memory was refused.
 pub fn split_counted(
     alloc: Global,
     amount: u64,
@@ -76,11 +83,16 @@ pub fn split_counted(
     (parts, work)
 }
 
-/// Of all lists that sum up to the amount, with no part above its maximum, the one of least cost, and of those the
-/// lexicographically greatest. The cost is the sum of the parts squared, each over its weight. Amounts are in slices;
-/// [`can_split`](crate::can_split) is the test of what may be split. It fails only when out of memory.
+/// The best split of an amount of slices among siblings, one part for each.
 ///
-/// cgroup-v2.rst, "Weights": what is shared out is shared by the ratio of the weights.
+/// Of all lists that add up to the amount, with no part above its maximum, the best one has the
+/// least cost. The cost is the sum of the parts squared, each over its weight. A tie goes to the
+/// list that is lexicographically greatest. [`can_split`](crate::can_split) tests the condition.
+///
+/// cgroup-v2.rst, 'Weights': a parent's resource is distributed by the ratio of the weights.
+///
+/// # Errors
+/// `AllocError` if memory was refused.
 pub fn split(
     alloc: Global,
     amount: u64,
@@ -91,4 +103,21 @@ pub fn split(
     ensures best { IfOk result (λ parts. IsBestSplit amount weights.now most.now parts.items) }
 {
     split_counted(alloc, amount, weights, most).0
+}
+
+/// [`split`] of an amount that is known to be below the sum of the maxima, without adding them up.
+///
+/// # Errors
+/// `AllocError` if memory was refused.
+pub fn split_scarce(
+    alloc: Global,
+    amount: u64,
+    weights: &[u64],
+    most: &[u64],
+) -> Result<Vec<u64>, AllocError>
+    requires can { CanSplit amount weights.now most.now }
+    requires scarce { amount < sum most.now }
+    ensures best { IfOk result (λ parts. IsBestSplit amount weights.now most.now parts.items) }
+{
+    split_by_level(alloc, amount, weights, most, &mut Work::new())
 }

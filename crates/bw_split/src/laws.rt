@@ -4,13 +4,14 @@ ghost use Rattle.bw_split.specs.OneSlice.{UnmovedIsBest, BestIsUnmoved};
 
 use crate::limits::{MAX_CHILDREN, MAX_ROUNDS};
 
-/// The best split is the one in which no move of one slice gains: there is nothing to compare it with but its neighbours.
+/// A split is the best one if and only if no move of one slice between two siblings gains.
 pub fn no_move_gains()
     ensures best { UnmovedIsBest }
     ensures unmoved { BestIsUnmoved }
 {}
 
-/// A split: up to 16383 children, and up to 44 rounds of the search for a level. The definitions read both from the code.
+/// A split has at most 16,383 children, and its search at most 44 rounds. The definitions read both
+/// numbers from the code.
 pub fn split_numbers()
     ensures children { MAX_CHILDREN ≡ 16383 }
     ensures rounds { MAX_ROUNDS ≡ 44 }

@@ -1,20 +1,22 @@
 //! The level of a split: its greatest last mark.
-ghost use Rattle.std.specs.Prelude.{◌≡◌, ◌<◌, ◌≤◌, ℕ, length, slice_index, EachIndex, IfSome, IfNone};
+ghost use Rattle.std.specs.Prelude.{◌≡◌, ◌≤◌, length, slice_index, EachIndex, IfSome, IfNone};
 ghost use Rattle.bw_model.specs.Marks.{price_of};
 ghost use Rattle.bw_model.specs.Split.{IsGreatestLast};
+ghost use Rattle.bw_split.specs.Conditions.{AreWeights};
 
 use crate::limits::MAX_CHILDREN;
 use bw_model::Mark;
-use bw_model::limits::{MAX_CAPACITY, MAX_WEIGHT, MIN_WEIGHT};
+use bw_model::limits::MAX_CAPACITY;
 
-/// The greatest last mark `(2x - 1) / weight` over the parts x above 0, with the child's place; None where there is
-/// none. Parts are in slices, at most 64000 each. Takes no memory.
+/// The level of a split: the greatest last mark `(2x - 1) / weight` over the parts x above 0, with
+/// the child's place; None if all parts are 0. Parts are in slices, 0 to 64,000 each.
 pub fn level_of(parts: &[u64], weights: &[u64]) -> Option<Mark>
     requires weights_each { length weights.now ≡ length parts.now }
     requires few { length parts.now ≤ MAX_CHILDREN }
-    requires weights_in_range { EachIndex weights.now (λ k. (MIN_WEIGHT ≤ slice_index weights.now k) × (slice_index weights.now k ≤ MAX_WEIGHT)) }
+    requires weights_in_range { AreWeights weights.now }
     requires small { EachIndex parts.now (λ k. slice_index parts.now k ≤ MAX_CAPACITY) }
-    ensures greatest { IfSome result (λ mark. IsGreatestLast weights.now parts.now (price_of mark)) }
+    ensures greatest { IfSome result
+        (λ mark. IsGreatestLast weights.now parts.now (price_of mark)) }
     ensures none { IfNone result (EachIndex parts.now (λ k. slice_index parts.now k ≡ 0)) }
 {
     let mut best = None;

@@ -2,7 +2,7 @@
 use Rattle.std.proofs.Common.{◌≡◌, ◌*◌, ◌≤◌}
 use Rattle.bw_model.proofs.CallerLemmas.{sum_below}
 use Rattle.bw_split.proofs.Takes.{each_takes}
-use Rattle.bw_split.proofs.level_search.test_level.Given as goal
+use Rattle.bw_split.proofs.at_level.test_level.Given as goal
 use Rattle.bw_split.specs.declared.limits.TheConstants.{MOST_TAKEN}
 
 abbrev pub invariant-loop-i : goal.invariant-loop-i

@@ -1,8 +1,8 @@
--- What stands at each turn of the loop in `split_with`.
+-- What stands at each turn of the loop in `split_by_level`.
 use Rattle.std.proofs.Common.{◌≡◌, ◌+◌, ◌<◌, ◌≤◌, length}
 use Rattle.bw_split.specs.Conditions.{NeedsNoSearch}
 use Rattle.bw_split.proofs.Picks.{IsGiven}
-use Rattle.bw_split.proofs.level_search.split_with.Given as goal
+use Rattle.bw_split.proofs.level_search.split_by_level.Given as goal
 use Rattle.bw_split.specs.declared.limits.TheConstants.{MAX_ROUNDS}
 
 abbrev pub invariant-loop-slice : goal.invariant-loop-slice

@@ -2,7 +2,7 @@
 use Rattle.std.proofs.Common.{◌≡◌, length, arith, ap, sym, ◌∙◌}
 use Rattle.bw_model.proofs.CallerLemmas.{sum_below}
 use Rattle.bw_split.proofs.Takes.{each_takes, by_all-is}
-use Rattle.bw_split.proofs.level_search.test_level.Goals as goal
+use Rattle.bw_split.proofs.at_level.test_level.Goals as goal
 
 pub returns-clause-all : goal.returns-clause-all
 returns-clause-all c =

@@ -1,0 +1,61 @@
+//! The slices that children take at a level of cost.
+ghost use Rattle.std.specs.Prelude.{◌≡◌, ◌+◌, ◌≤◌, length, IfOk};
+ghost use Rattle.bw_split.specs.Conditions.{AreWeights};
+ghost use Rattle.bw_split.specs.Levels.{taken, taken_by_all, AreTaken};
+
+use crate::counted::Work;
+use crate::limits::{GREATEST_LEVEL, MAX_CHILDREN, MOST_TAKEN, STEPS};
+use bw_model::limits::MAX_WEIGHT;
+use std::alloc::{AllocError, Global};
+
+/// The slices that a child takes at a level: as many as have their mark `(2k - 1) / weight` at or
+/// below the level, and at most its maximum. A level is a number of steps of the cost `1 / STEPS`.
+///
+/// `(2k - 1) / weight <= level / STEPS` says `2k * STEPS <= level * weight + STEPS`. So k is at
+/// most `(level * weight + STEPS) / (2 * STEPS)`, rounded down.
+pub(crate) fn takes(level: u64, weight: u64, most: u64) -> u64
+    requires level_in_range { level ≤ GREATEST_LEVEL }
+    requires weight_in_range { weight ≤ MAX_WEIGHT }
+    ensures taken { result ≡ taken level weight most }
+    ensures fits { result ≤ MOST_TAKEN }
+{
+    ((level * weight + STEPS) / (2 * STEPS)).min(most)
+}
+
+/// The slices that all children take at a level. Only this function adds a round.
+pub(crate) fn test_level(level: u64, weights: &[u64], most: &[u64], work: &mut Work) -> u64
+    requires level_in_range { level ≤ GREATEST_LEVEL }
+    requires one_each { length most.now ≡ length weights.now }
+    requires few { length weights.now ≤ MAX_CHILDREN }
+    requires weights_in_range { AreWeights weights.now }
+    ensures all { result ≡ taken_by_all level weights.now most.now }
+    ensures rounds { work.new.rounds ≡ work.old.rounds + 1 }
+    ensures picks { work.new.picks ≡ work.old.picks }
+{
+    work.add_round();
+    let mut total = 0;
+    for i in 0..weights.len() {
+        total += takes(level, weights[i], most[i]);
+    }
+    total
+}
+
+/// The slices that each child takes at a level.
+pub(crate) fn parts_at(
+    alloc: Global,
+    level: u64,
+    weights: &[u64],
+    most: &[u64],
+) -> Result<Vec<u64>, AllocError>
+    requires level_in_range { level ≤ GREATEST_LEVEL }
+    requires one_each { length most.now ≡ length weights.now }
+    requires weights_in_range { AreWeights weights.now }
+    ensures lengths { IfOk result (λ parts. length parts.items ≡ length weights.now) }
+    ensures taken { IfOk result (λ parts. AreTaken level weights.now most.now parts.items) }
+{
+    let mut parts = vec![in alloc; 0u64; weights.len()]?;
+    for i in 0..weights.len() {
+        parts[i] = takes(level, weights[i], most[i]);
+    }
+    Ok(parts)
+}

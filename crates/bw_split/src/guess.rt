@@ -1,0 +1,105 @@
+//! Guesses of the search for a level. Any guess is right, and a good one saves rounds.
+ghost use Rattle.std.specs.Prelude.{◌≡◌, ◌<◌, ◌≤◌, length, IfSome};
+ghost use Rattle.bw_split.specs.Conditions.{AreWeights};
+
+use crate::at_level::takes;
+use crate::limits::{GREATEST_LEVEL, STEPS};
+use bw_model::limits::{MAX_CAPACITY, MAX_WEIGHT, MIN_WEIGHT};
+
+/// The level at which the amount lies if the total grows evenly between two levels, by how far the
+/// total at each end is from the amount.
+pub(crate) fn even_guess(level: u64, above: u64, short_by: u64, over_by: u64) -> u64
+    requires apart { level ≤ above }
+    requires in_range { above ≤ GREATEST_LEVEL }
+    requires small { short_by ≤ MAX_CAPACITY }
+    ensures { result ≤ above }
+{
+    let share = short_by.saturating_add(over_by).max(1);
+    (level + (above - level) * short_by / share).min(above)
+}
+
+// A mark of a child between two levels: its last one up to the guess, or else its next one. If
+// neither lies between them, the step below the upper level.
+fn mark_near(guess: u64, level: u64, above: u64, weight: u64, most: u64) -> u64
+    requires guess { guess ≤ GREATEST_LEVEL }
+    requires above { 0 < above }
+    requires weight_in_range { (MIN_WEIGHT ≤ weight) × (weight ≤ MAX_WEIGHT) }
+    ensures { result < above }
+{
+    let taken = takes(guess, weight, most);
+    let last = ((2 * taken).saturating_sub(1) * STEPS).div_ceil(weight);
+    let next = ((2 * taken + 1) * STEPS).div_ceil(weight);
+    if level < last && last < above {
+        last
+    } else if next < above {
+        next
+    } else {
+        above - 1
+    }
+}
+
+// The first child that takes more one step below the upper level than at the lower level. So it has
+// a mark between them.
+fn undecided(level: u64, above: u64, weights: &[u64], most: &[u64]) -> Option<usize>
+    requires apart { level < above }
+    requires in_range { above ≤ GREATEST_LEVEL }
+    requires one_each { length most.now ≡ length weights.now }
+    requires weights_in_range { AreWeights weights.now }
+    ensures { IfSome result (λ child. child < length weights.now) }
+{
+    for i in 0..weights.len() {
+        if takes(above - 1, weights[i], most[i]) > takes(level, weights[i], most[i]) {
+            return Some(i);
+        }
+    }
+    None
+}
+
+/// The guess after so many tests in a row that found no new total; after none, the even guess.
+///
+/// Children of one weight, as all with the default weight, have their marks at the same levels. No
+/// even guess finds a place between two of these. So the guess goes to a mark of some child, then
+/// to a mark of an undecided child. Without one, it is the step below the upper level.
+pub(crate) fn guess_after(
+    repeats: u64,
+    guess: u64,
+    level: u64,
+    above: u64,
+    weights: &[u64],
+    most: &[u64],
+    round: u64,
+) -> u64
+    requires guess { guess ≤ above }
+    requires apart { level < above }
+    requires in_range { above ≤ GREATEST_LEVEL }
+    requires one_each { length most.now ≡ length weights.now }
+    requires weights_in_range { AreWeights weights.now }
+    ensures { result ≤ above }
+{
+    let child = match repeats {
+        0 => return guess,
+        1 => (round as usize).checked_rem(weights.len()),
+        _ => undecided(level, above, weights, most),
+    };
+    match child {
+        Some(i) => mark_near(guess, level, above, weights[i], most[i]),
+        None => above - 1,
+    }
+}
+
+/// The distance from the amount that an end has in the next guess. It is less if the end stayed
+/// twice, by the ratio at which the other end's distance fell.
+pub(crate) fn weakened_where(stayed: bool, distance: u64, before: u64, now: u64) -> u64
+    ensures { result ≤ distance }
+{
+    if stayed {
+        (distance.saturating_mul(before) / before.saturating_add(now).max(1)).min(distance)
+    } else {
+        distance
+    }
+}
+
+/// The number of repeats in a row, after one more or none.
+pub(crate) fn counted_on(repeats: u64, again: bool) -> u64 {
+    if again { repeats.saturating_add(1) } else { 0 }
+}
