@@ -132,9 +132,11 @@ module _ (groups : Groups) (valid : IsInstance groups) (most : List ℕ)
       let m : get_or amounts g 0 ≤ get_or most g 0 = at_most done g amounts so_far above below in
       omega (arith, w, m)
 
-  pub can_share : (done : ℕ → Bool) (g : ℕ) (amounts : List ℕ) → g < length groups.rows → IsPlanning groups most done amounts →
+  pub can_share : length most ≡ length groups.rows → (done : ℕ → Bool) (g : ℕ) (amounts : List ℕ) → g < length groups.rows → IsPlanning groups most done amounts →
       ((p : ℕ) → parent_of groups.rows g ≡ Some p → done p ≡ true) → CanShare groups most amounts g
-  can_share done g amounts below so_far above = record {
+  can_share most_each done g amounts below so_far above = record {
+    most_each = most_each;
+    amount_each = so_far.one_each;
     row = below;
     enough = λ inner. enough done g amounts below inner so_far above;
     small = so_far.small g below;

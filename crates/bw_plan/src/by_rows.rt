@@ -1,4 +1,4 @@
-//! The plan, from the root down.
+//! The plan, one row after another from the root down.
 ghost use Rattle.std.specs.Prelude.{IfOk};
 ghost use Rattle.bw_demand.specs.Demands.{demands_of, IsGathered};
 ghost use Rattle.bw_model.specs.Plan.{IsPlan};
@@ -9,9 +9,14 @@ use bw_demand::{Gathered, gather_rows};
 use bw_model::Instance;
 use std::alloc::{AllocError, Global};
 
-/// The one plan of an instance: of all allocations within demands, limits and the capacity, the one with the
-/// greatest total that is best at every group. Each group's children are looked at once, so the time grows as
-/// gathering and the splits do. It fails only when out of memory.
+/// The one plan of an instance, in slices of one period.
+///
+/// Of all allocations within demands, limits and the capacity it has the greatest total, and is the
+/// best split at every group. Each group's children are looked at once. So the time grows as
+/// gathering and the splits do.
+///
+/// # Errors
+/// `AllocError` if memory was refused.
 pub fn plan(alloc: Global, instance: &Instance) -> Result<Plan, AllocError>
     ensures { IfOk result (λ plan. IsPlan instance.now plan.amounts.items) }
 {
@@ -19,7 +24,10 @@ pub fn plan(alloc: Global, instance: &Instance) -> Result<Plan, AllocError>
     plan_rows(alloc, instance, &gathered)
 }
 
-/// As [`plan`], for a caller that has gathered.
+/// [`plan`] for a caller that has gathered the demands.
+///
+/// # Errors
+/// `AllocError` if memory was refused.
 pub fn plan_rows(
     alloc: Global,
     instance: &Instance,

@@ -7,7 +7,7 @@ use bw_model::{Instance, Row};
 use smallvec::SmallVec;
 use std::alloc::{AllocError, Global};
 
-/// One number for each child of a group. Most groups have few children, whose numbers take no memory.
+/// One number for each child of a group. Up to eight numbers are stored in place.
 pub type ChildValues = SmallVec<u64, 8>;
 
 fn weights_of(alloc: Global, rows: &[Row], places: &[u32]) -> Result<ChildValues, AllocError>
@@ -30,7 +30,10 @@ fn values_at(alloc: Global, values: &[u64], places: &[u32]) -> Result<ChildValue
         .collect(alloc)
 }
 
-/// The weights of the children of a group.
+/// The weights of the children of a group, 1 to 10,000 each.
+///
+/// # Errors
+/// `AllocError` if memory was refused.
 pub fn child_weights(alloc: Global, instance: &Instance, g: u32) -> Result<ChildValues, AllocError>
     requires { g < length instance.now.rows }
     ensures { IfOk result (λ weights. weights.items ≡ child_weights instance.now.rows g) }
@@ -38,7 +41,10 @@ pub fn child_weights(alloc: Global, instance: &Instance, g: u32) -> Result<Child
     weights_of(alloc, instance.rows(), instance.children(g))
 }
 
-/// The values of the children of a group, of one value per row.
+/// The values of the children of a group, from one value per row.
+///
+/// # Errors
+/// `AllocError` if memory was refused.
 pub fn child_values(
     alloc: Global,
     instance: &Instance,
@@ -47,7 +53,8 @@ pub fn child_values(
 ) -> Result<ChildValues, AllocError>
     requires row { g < length instance.now.rows }
     requires one_each { length values.now ≡ length instance.now.rows }
-    ensures { IfOk result (λ picked. picked.items ≡ map (slice_index values.now) (children_of instance.now.rows g)) }
+    ensures { IfOk result
+        (λ picked. picked.items ≡ map (slice_index values.now) (children_of instance.now.rows g)) }
 {
     values_at(alloc, values, instance.children(g))
 }

@@ -1,7 +1,7 @@
 //! A law about plans, the contract of a function that does nothing.
 ghost use Rattle.bw_plan.specs.Laws.{ThereIsOnePlan};
 
-/// Each instance has a plan, and no other.
+/// Each instance has exactly one plan.
 pub fn there_is_one_plan()
     ensures { ThereIsOnePlan }
 {}

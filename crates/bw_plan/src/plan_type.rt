@@ -1,6 +1,6 @@
-//! What a plan holds.
+//! The plan of an instance, as a value.
 
-/// What each group gets in one period.
+/// The amounts that the groups get in one period.
 #[derive(Debug, Drop)]
 pub struct Plan {
     /// One amount per row, in slices.

@@ -1,22 +1,24 @@
 //! One group's amount among its children.
-ghost use Rattle.std.specs.Prelude.{◌≡◌, ◌≢◌, ℕ, ◌<◌, ◌≤◌, List, false, length, slice_index, EachIndex, IfOk, OnOk};
+ghost use Rattle.std.specs.Prelude.{◌≡◌, ◌≢◌, ℕ, ◌<◌, false, length, slice_index, EachIndex};
+ghost use Rattle.std.specs.Prelude.{IfOk, OnOk};
 ghost use Rattle.bw_model.specs.Groups.{children_of, is_leaf};
-ghost use Rattle.bw_model.specs.Plan.{child_weights};
-ghost use Rattle.bw_model.specs.Split.{IsBestSplit};
-ghost use Rattle.bw_split.specs.Conditions.{CanSplit};
-ghost use Rattle.bw_plan.specs.Shared.{CanShare, AreBestParts, AreParts, IsGiven};
+ghost use Rattle.bw_plan.specs.Shared.{CanShare, AreBestParts, AreParts, IsGiven, IsSharedOut};
 
 use crate::children::{child_values, child_weights};
 use bw_model::Instance;
-use bw_split::{fits_in, split};
+use bw_split::{fits_in, split, split_scarce};
 use std::alloc::{AllocError, Global};
 
+// Writes each part to its place.
 fn write_parts(amounts: &mut Vec<u64>, places: &[u32], parts: &[u64])
     requires part_each { length parts.now ≡ length places.now }
-    requires within { EachIndex places.now (λ k. slice_index places.now k < length amounts.old.items) }
-    requires apart { (j k : ℕ) → j < k → k < length places.now → slice_index places.now j ≢ slice_index places.now k }
+    requires within { EachIndex places.now
+        (λ k. slice_index places.now k < length amounts.old.items) }
+    requires apart { (j k : ℕ) → j < k → k < length places.now
+        → slice_index places.now j ≢ slice_index places.now k }
     ensures len { length amounts.new.items ≡ length amounts.old.items }
-    ensures written { EachIndex places.now (λ k. slice_index amounts.new.items (slice_index places.now k) ≡ slice_index parts.now k) }
+    ensures written { EachIndex places.now
+        (λ k. slice_index amounts.new.items (slice_index places.now k) ≡ slice_index parts.now k) }
     ensures others { (i : ℕ) → ((k : ℕ) → k < length places.now → slice_index places.now k ≢ i)
         → slice_index amounts.new.items i ≡ slice_index amounts.old.items i }
 {
@@ -25,23 +27,7 @@ fn write_parts(amounts: &mut Vec<u64>, places: &[u32], parts: &[u64])
     }
 }
 
-// The best split of an amount among the children of a group, of the most that each can be given.
-fn split_between(
-    alloc: Global,
-    instance: &Instance,
-    g: u32,
-    amount: u64,
-    mosts: &[u64],
-) -> Result<Vec<u64>, AllocError>
-    requires row { g < length instance.now.rows }
-    requires can_split { CanSplit amount (child_weights instance.now.rows g) mosts.now }
-    ensures { IfOk result (λ parts. IsBestSplit amount (child_weights instance.now.rows g) mosts.now parts.items) }
-{
-    let weights = child_weights(alloc, instance, g)?;
-    split(alloc, amount, weights.as_slice(), mosts)
-}
-
-// The best split of what a group has among its children.
+// The best split of what a group with children has.
 fn split_among(
     alloc: Global,
     instance: &Instance,
@@ -49,8 +35,6 @@ fn split_among(
     amounts: &[u64],
     g: u32,
 ) -> Result<Vec<u64>, AllocError>
-    requires most_each { length most.now ≡ length instance.now.rows }
-    requires amount_each { length amounts.now ≡ length instance.now.rows }
     requires can_share { CanShare instance.now most.now amounts.now g }
     requires inner { is_leaf instance.now.rows g ≡ false }
     ensures { IfOk result (λ parts. AreBestParts instance.now most.now amounts.now g parts.items) }
@@ -58,11 +42,20 @@ fn split_among(
     // its contract says that the weights are in range
     let _rows = instance.rows();
     let mosts = child_values(alloc, instance, most, g)?;
-    split_between(alloc, instance, g, amounts[g as usize], mosts.as_slice())
+    let weights = child_weights(alloc, instance, g)?;
+    split(
+        alloc,
+        amounts[g as usize],
+        weights.as_slice(),
+        mosts.as_slice(),
+    )
 }
 
-/// The parts of what a group has among its children, where it has something and more than one child; else nothing, which
-/// takes no memory.
+/// The parts of what a group has, one for each child in order, in slices. The list is empty, and
+/// takes no memory, if the group has nothing or fewer than two children.
+///
+/// # Errors
+/// `AllocError` if memory was refused.
 pub fn parts_of(
     alloc: Global,
     instance: &Instance,
@@ -70,9 +63,7 @@ pub fn parts_of(
     amounts: &[u64],
     g: u32,
 ) -> Result<Vec<u64>, AllocError>
-    requires most_each { length most.now ≡ length instance.now.rows }
-    requires amount_each { length amounts.now ≡ length instance.now.rows }
-    requires can_share { CanShare instance.now most.now amounts.now g }
+    requires { CanShare instance.now most.now amounts.now g }
     ensures { IfOk result (λ parts. AreParts instance.now most.now amounts.now g parts.items) }
 {
     if amounts[g as usize] == 0 || instance.children(g).len() < 2 {
@@ -81,11 +72,12 @@ pub fn parts_of(
     split_among(alloc, instance, most, amounts, g)
 }
 
-/// Gives the children of a group what it has: all to an only child, and the parts to more of them.
+/// Gives the children of a group what it has: all to an only child, else each its part.
 pub fn give(instance: &Instance, g: u32, parts: &[u64], amounts: &mut Vec<u64>)
     requires row { g < length instance.now.rows }
     requires amount_each { length amounts.old.items ≡ length instance.now.rows }
-    requires part_each { 0 < slice_index amounts.old.items g → 1 < length (children_of instance.now.rows g)
+    requires part_each { 0 < slice_index amounts.old.items g
+        → 1 < length (children_of instance.now.rows g)
         → length parts.now ≡ length (children_of instance.now.rows g) }
     ensures { IsGiven instance.now.rows g parts.now amounts.old.items amounts.new.items }
 {
@@ -100,8 +92,8 @@ pub fn give(instance: &Instance, g: u32, parts: &[u64], amounts: &mut Vec<u64>)
     }
 }
 
-// Splits what a group has among its children, and writes the parts. Where they can be given no more than that, as on a host
-// with time to spare, nothing is to be split.
+// Shares out what a group with children has. Children that fit in with their mosts need no split,
+// as on a host with time to spare.
 #[inline(never)]
 fn share_among(
     alloc: Global,
@@ -110,12 +102,10 @@ fn share_among(
     g: u32,
     amounts: &mut Vec<u64>,
 ) -> Result<(), AllocError>
-    requires most_each { length most.now ≡ length instance.now.rows }
-    requires amount_each { length amounts.old.items ≡ length instance.now.rows }
     requires can_share { CanShare instance.now most.now amounts.old.items g }
     requires inner { is_leaf instance.now.rows g ≡ false }
-    ensures { OnOk result ((parts : List ℕ) × AreParts instance.now most.now amounts.old.items g parts
-        × IsGiven instance.now.rows g parts amounts.old.items amounts.new.items) }
+    ensures { OnOk result
+        (IsSharedOut instance.now most.now g amounts.old.items amounts.new.items) }
 {
     // its contract says that the weights are in range
     let _rows = instance.rows();
@@ -125,13 +115,19 @@ fn share_among(
         give(instance, g, mosts.as_slice(), amounts);
         return Ok(());
     }
-    let parts = split_between(alloc, instance, g, amount, mosts.as_slice())?;
+    let weights = child_weights(alloc, instance, g)?;
+    let parts = split_scarce(alloc, amount, weights.as_slice(), mosts.as_slice())?;
     give(instance, g, parts.as_slice(), amounts);
     Ok(())
 }
 
-/// Splits what a group has among its children, in place. It takes memory only where it has something and several
-/// children, which can be given more than that or are more than eight.
+/// Shares out what a group has among its children, in place.
+///
+/// It takes memory only if the group has something and several children, and these can be given
+/// more than that or are more than eight.
+///
+/// # Errors
+/// `AllocError` if memory was refused.
 #[inline(always)]
 pub fn share_out(
     alloc: Global,
@@ -140,11 +136,9 @@ pub fn share_out(
     g: u32,
     amounts: &mut Vec<u64>,
 ) -> Result<(), AllocError>
-    requires most_each { length most.now ≡ length instance.now.rows }
-    requires amount_each { length amounts.old.items ≡ length instance.now.rows }
-    requires can_share { CanShare instance.now most.now amounts.old.items g }
-    ensures { OnOk result ((parts : List ℕ) × AreParts instance.now most.now amounts.old.items g parts
-        × IsGiven instance.now.rows g parts amounts.old.items amounts.new.items) }
+    requires { CanShare instance.now most.now amounts.old.items g }
+    ensures { OnOk result
+        (IsSharedOut instance.now most.now g amounts.old.items amounts.new.items) }
 {
     if amounts[g as usize] == 0 || instance.children(g).len() < 2 {
         give(instance, g, &[], amounts);

@@ -18,19 +18,19 @@ loop-k-init c =
     (is_above groups.rows c.args.depth) (done_at groups.rows c.args.depth 0) c.args.amounts.now.items
     (λ h _. first_done groups.rows c.args.depth h) c.requires.planning
 
-pub share_out-requires-clause-can_share : goal.share_out-requires-clause-can_share
-share_out-requires-clause-can_share c =
+pub share_out-requires : goal.share_out-requires
+share_out-requires c =
     let groups = c.args.instance.now in
     let valid = c.rows-rows.ensures.valid in
     let most = c.args.most.now in
     let d : ℕ = c.args.depth in
-    let level = c.level_at-level.ensures in
-    let row : ℕ = get_or c.level_at-level.result.now c.loop-k.k 0 in
+    let level = c.rows_at-groups.ensures in
+    let row : ℕ = get_or c.rows_at-groups.result.now c.loop-k.k 0 in
     let here : c.loop-k.k < length (rows_of_depth groups.rows d) = rw level at c.loop-k-test.true in
     let is : row ≡ get_or (rows_of_depth groups.rows d) c.loop-k.k 0 = ap (λ (xs : List ℕ). get_or xs c.loop-k.k 0) level in
-    let inside : row < length groups.rows = level_within groups.rows d c.loop-k.k c.level_at-level.result.now level c.loop-k-test.true in
+    let inside : row < length groups.rows = level_within groups.rows d c.loop-k.k c.rows_at-groups.result.now level c.loop-k-test.true in
     let deep : depth_of groups.rows row ≡ d = ap (depth_of groups.rows) is ∙ (level_row groups.rows d c.loop-k.k here).depth in
-    (can_share groups valid most (AreMaxTotals-capped groups valid.tree most c.requires.mosts)
+    (can_share groups valid most (AreMaxTotals-capped groups valid.tree most c.requires.mosts) c.requires.mosts.one_each
     (done_at groups.rows d c.loop-k.k) row c.loop-k.amounts.items inside c.loop-k.invariant
     (λ p up. parent_done groups.rows valid.tree d c.loop-k.k row p deep up))
 
@@ -40,11 +40,11 @@ loop-k-preserved c =
     let valid = c.rows-rows.ensures.valid in
     let most = c.args.most.now in
     let d : ℕ = c.args.depth in
-    let level = c.level_at-level.ensures in
-    let row : ℕ = get_or c.level_at-level.result.now c.loop-k.k 0 in
+    let level = c.rows_at-groups.ensures in
+    let row : ℕ = get_or c.rows_at-groups.result.now c.loop-k.k 0 in
     let here : c.loop-k.k < length (rows_of_depth groups.rows d) = rw level at c.loop-k-test.true in
     let is : row ≡ get_or (rows_of_depth groups.rows d) c.loop-k.k 0 = ap (λ (xs : List ℕ). get_or xs c.loop-k.k 0) level in
-    let inside : row < length groups.rows = level_within groups.rows d c.loop-k.k c.level_at-level.result.now level c.loop-k-test.true in
+    let inside : row < length groups.rows = level_within groups.rows d c.loop-k.k c.rows_at-groups.result.now level c.loop-k-test.true in
     let deep : depth_of groups.rows row ≡ d = ap (depth_of groups.rows) is ∙ (level_row groups.rows d c.loop-k.k here).depth in
     let shared = c.in_ok-share_out.ensures in
     let parts : AreParts groups most c.loop-k.amounts.items row shared.0 = shared.1 in
@@ -60,7 +60,7 @@ returns c =
     let groups = c.args.instance.now in
     let valid = c.rows-rows.ensures.valid in
     let most = c.args.most.now in
-    let whole : length (rows_of_depth groups.rows c.args.depth) ≤ c.loop-k.k = omega (arith, c.loop-k-test.false, ap (length {A = ℕ}) c.level_at-level.ensures) in
+    let whole : length (rows_of_depth groups.rows c.args.depth) ≤ c.loop-k.k = omega (arith, c.loop-k-test.false, ap (length {A = ℕ}) c.rows_at-groups.ensures) in
     same_done groups valid most (AreMaxTotals-capped groups valid.tree most c.requires.mosts)
     (done_at groups.rows c.args.depth c.loop-k.k) (is_above groups.rows (c.args.depth + 1)) c.loop-k.amounts.items
     (λ h below. last_done groups.rows c.args.depth c.loop-k.k h below whole) c.loop-k.invariant

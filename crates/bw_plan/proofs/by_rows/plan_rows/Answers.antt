@@ -20,15 +20,15 @@ loop-g-init c =
     (length c.rows-count.result.now) c.index.result.now (set c.in_ok-amounts.amounts.items 0 c.index.result.now) long read
     (ap (λ (xs : List ℕ). set xs 0 c.index.result.now) zeros)
 
-pub share_out-requires-clause-can_share : goal.share_out-requires-clause-can_share
-share_out-requires-clause-can_share c =
+pub share_out-requires : goal.share_out-requires
+share_out-requires c =
     let groups = c.args.instance.now in
     let valid = c.rows-count.ensures.valid in
     let most = c.args.gathered.now.most.items in
     let long : length c.rows-count.result.now ≡ length groups.rows = ap (length {A = Row}) c.rows-count.ensures.rows in
     let inside : c.loop-g.g < length groups.rows = omega (arith, long, c.loop-g-test.true) in
     rw c.as_slice-most.ensures.value
-    (can_share groups valid most (AreMaxTotals-capped groups valid.tree most c.requires.mosts)
+    (can_share groups valid most (AreMaxTotals-capped groups valid.tree most c.requires.mosts) c.requires.mosts.one_each
     (rows_before c.loop-g.g) c.loop-g.g c.loop-g.amounts.items inside c.loop-g.invariant (parent_done groups valid.tree c.loop-g.g))
 
 pub loop-g-preserved : goal.loop-g-preserved

@@ -1,6 +1,7 @@
 -- The goals of `share_among` that are answered by hand.
-use Rattle.std.proofs.Common.{◌≡◌, ◌<◌, ◌≤◌, length, get_or, arith, ap, refl, ◌∙◌}
+use Rattle.std.proofs.Common.{◌≡◌, ◌<◌, ◌≤◌, length, get_or, arith, ap, refl, sym, ◌∙◌, inl, inr}
 use Rattle.std.specs.Prelude.{map, slice_index, sum}
+use Rattle.std.proofs.lemmas.Bool.{cases_lt}
 use Rattle.bw_model.specs.Groups.{children_of}
 use Rattle.bw_model.specs.Plan.{child_weights}
 use Rattle.bw_model.proofs.CallerLemmas.{get_or_within}
@@ -16,7 +17,7 @@ returns-then-fits_in c =
     let before = c.args.amounts.now.items in
     let weights = child_weights groups.rows g in
     let mosts = map (slice_index c.args.most.now) (children_of groups.rows g) in
-    let here : g < length before = omega (arith, c.requires.can_share.row, c.requires.amount_each) in
+    let here : g < length before = omega (arith, c.requires.can_share.row, c.requires.can_share.amount_each) in
     let read : c.index-amount.result.now ≡ get_or before g 0 = c.index-amount.ensures ∙ get_or_within before g c.index-amount.result.now here in
     let can : CanSplit (get_or before g 0) weights mosts =
     children-CanSplit groups c.rows-rows.ensures.valid c.args.most.now g (get_or before g 0) weights mosts refl refl
@@ -30,12 +31,20 @@ returns-then-fits_in c =
       c.give.ensures,
     )
 
-pub split_between-requires-clause-can_split : goal.split_between-requires-clause-can_split
-split_between-requires-clause-can_split c =
+pub split_scarce-requires-clause-can : goal.split_scarce-requires-clause-can
+split_scarce-requires-clause-can c =
     let before = c.args.amounts.now.items in
-    let here : c.args.g < length before = omega (arith, c.requires.can_share.row, c.requires.amount_each) in
+    let here : c.args.g < length before = omega (arith, c.requires.can_share.row, c.requires.can_share.amount_each) in
     let read : c.index-amount.result.now ≡ get_or before c.args.g 0 =
     c.index-amount.ensures ∙ get_or_within before c.args.g c.index-amount.result.now here in
     rw read (children-CanSplit c.args.instance.now c.rows-rows.ensures.valid c.args.most.now c.args.g (get_or before c.args.g 0)
-    (child_weights c.args.instance.now.rows c.args.g) c.as_slice-2.result.now refl (c.as_slice-2.ensures ∙ c.in_ok-mosts.ensures)
+    c.as_slice-2.result.now c.as_slice-3.result.now (c.as_slice-2.ensures ∙ c.in_ok-weights.ensures) (c.as_slice-3.ensures ∙ c.in_ok-mosts.ensures)
     (c.requires.can_share.enough c.requires.inner) c.requires.can_share.small)
+
+pub split_scarce-requires-clause-scarce : goal.split_scarce-requires-clause-scarce
+split_scarce-requires-clause-scarce c =
+    let same : sum c.as_slice-3.result.now ≡ sum c.as_slice.result.now = ap sum (c.as_slice-3.ensures ∙ sym c.as_slice.ensures) in
+    elim (cases_lt c.index-amount.result.now (sum c.as_slice.result.now)) [
+      | inl less ↦ omega (arith, less, same)
+      | inr fits ↦ absurd (let held = c.fits_in.ensures.1 fits in let wrong : ⊥ = cc in wrong)
+    ]

@@ -1,4 +1,4 @@
--- The goals of `plan_each_level` that are answered by hand.
+-- The goals of `plan_each_depth` that are answered by hand.
 use Rattle.std.proofs.Common.{◌≡◌, ◌+◌, ◌-◌, ℕ, List, length, get_or, replicate, set, ap, refl, subst, arith, rules}
 use Rattle.bw_model.specs.declared.row.Row.{Row}
 use Rattle.bw_model.specs.Demand.{AreMaxTotals}
@@ -6,7 +6,7 @@ use Rattle.bw_model.proofs.CallerLemmas.{AreMaxTotals-capped}
 use Rattle.bw_plan.specs.Shared.{IsPlanning, is_above}
 use Rattle.bw_plan.proofs.Shares.{begun, all_planned}
 use Rattle.bw_plan.proofs.Done.{none_above, inner_above}
-use Rattle.bw_plan.proofs.by_depth.plan_each_level.Goals as goal
+use Rattle.bw_plan.proofs.by_depth.plan_each_depth.Goals as goal
 
 pub loop-below-init : goal.loop-below-init
 loop-below-init g c =
@@ -24,8 +24,8 @@ loop-below-init g c =
 pub loop-below-preserved : goal.loop-below-preserved
 loop-below-preserved g c =
     let next : c.loop-below.below - 1 + 1 ≡ c.loop-below.below + 1 - 1 = omega arith in
-    subst (λ (n : ℕ). IsPlanning c.args.instance.now c.as_slice-most.result.now (is_above c.args.instance.now.rows n) c.share_level.new.amounts.items) next
-    c.in_ok-share_level.ensures
+    subst (λ (n : ℕ). IsPlanning c.args.instance.now c.as_slice-most.result.now (is_above c.args.instance.now.rows n) c.share_depth.new.amounts.items) next
+    c.in_ok-share_depth.ensures
 
 pub returns : goal.returns
 returns g c =
@@ -35,6 +35,6 @@ returns g c =
     let known : AreMaxTotals groups most = rw c.as_slice-most.ensures.value c.requires.gathered.mosts in
     all_planned groups valid most (AreMaxTotals-capped groups valid.tree most known)
     (is_above groups.rows (c.loop-below.below - 1)) c.loop-below.amounts.items
-    (λ h _ inner. inner_above groups.rows valid.tree c.args.levels.now (c.loop-below.below - 1) c.requires.levels
+    (λ h _ inner. inner_above groups.rows valid.tree c.args.depths.now (c.loop-below.below - 1) c.requires.depths
     (omega (arith, c.loop-below-test.false, c.loop-below.auto.below-end)) h inner)
     c.loop-below.invariant
