@@ -63,6 +63,11 @@ abbrev pub group_words : Row → ℕ → Bool → Option MarkValue → List (Lis
 group_words r amount flag level =
     parent_word r.parent ∷ decimal r.weight ∷ limit_word r.limit ∷ decimal r.demand ∷ decimal amount ∷ flag_word flag ∷ level_word level ∷ []
 
+-- the words of a row, each with the space after it
+abbrev pub row_words : Row → List ℕ
+row_words r = parent_word r.parent ++ codes " " ++ decimal r.weight ++ codes " " ++ limit_word r.limit ++ codes " "
+    ++ decimal r.demand ++ codes " "
+
 -- the words of each group's line
 abbrev pub groups_words : List Row → List ℕ → List Bool → List (Option MarkValue) → List (List (List ℕ))
 groups_words (r ∷ rs) (amount ∷ amounts) (flag ∷ flags) (level ∷ levels) = group_words r amount flag level ∷ groups_words rs amounts flags levels

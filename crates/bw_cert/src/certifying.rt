@@ -13,7 +13,7 @@ use bw_plan::{Plan, child_values, child_weights};
 use bw_split::level_of;
 use std::alloc::{AllocError, Global};
 
-// The level of a group that shares something out.
+// The level of a group, or None if it shares nothing out.
 fn level_at(
     alloc: Global,
     instance: &Instance,
@@ -23,7 +23,8 @@ fn level_at(
     requires row { g < length instance.now.rows }
     requires amount_each { length amounts.now ≡ length instance.now.rows }
     requires small { EachIndex amounts.now (λ k. slice_index amounts.now k ≤ MAX_CAPACITY) }
-    requires whole { is_leaf instance.now.rows g ≡ false → slice_index amounts.now g ≡ sum_of_children instance.now.rows amounts.now g }
+    requires whole { is_leaf instance.now.rows g ≡ false
+        → slice_index amounts.now g ≡ sum_of_children instance.now.rows amounts.now g }
     ensures { IfOk result (IsLevelAt instance.now amounts.now g) }
 {
     if instance.is_leaf(g) {
@@ -40,19 +41,29 @@ fn level_at(
     Ok(level_of(parts.as_slice(), weights.as_slice()))
 }
 
-/// The certificate of an instance's own plan: the tight groups flagged, and the greatest last mark of the children
-/// at each group that shares something out. Time grows as the number of rows. Fails only when out of memory.
+/// The certificate of an instance's own plan.
+///
+/// It flags the tight groups. The level of a group that shares something out is the greatest last
+/// mark of its children. The time grows with the number of rows.
+///
+/// # Errors
+/// `AllocError` if memory was refused.
 pub fn certify(alloc: Global, instance: &Instance, plan: &Plan) -> Result<Certificate, AllocError>
     requires plan { IsPlan instance.now plan.now.amounts.items }
-    ensures certified { IfOk result (λ c. IsAccepted instance.now plan.now.amounts.items (certified_of c)) }
+    ensures certified { IfOk result
+        (λ c. IsAccepted instance.now plan.now.amounts.items (certified_of c)) }
     ensures flags { IfOk result (λ c. AreTightFlags instance.now (certified_of c)) }
-    ensures levels { IfOk result (λ c. AreLevels instance.now plan.now.amounts.items (certified_of c)) }
+    ensures levels { IfOk result
+        (λ c. AreLevels instance.now plan.now.amounts.items (certified_of c)) }
 {
     let gathered = gather_rows(alloc, instance)?;
     certify_gathered(alloc, instance, gathered, plan)
 }
 
-/// As [`certify`], for a caller that has gathered.
+/// [`certify`] for a caller that has gathered the demands.
+///
+/// # Errors
+/// `AllocError` if memory was refused.
 pub fn certify_gathered(
     alloc: Global,
     instance: &Instance,
@@ -61,9 +72,11 @@ pub fn certify_gathered(
 ) -> Result<Certificate, AllocError>
     requires gathered { IsGathered instance.now (demands_of gathered) }
     requires plan { IsPlan instance.now plan.now.amounts.items }
-    ensures certified { IfOk result (λ c. IsAccepted instance.now plan.now.amounts.items (certified_of c)) }
+    ensures certified { IfOk result
+        (λ c. IsAccepted instance.now plan.now.amounts.items (certified_of c)) }
     ensures flags { IfOk result (λ c. AreTightFlags instance.now (certified_of c)) }
-    ensures levels { IfOk result (λ c. AreLevels instance.now plan.now.amounts.items (certified_of c)) }
+    ensures levels { IfOk result
+        (λ c. AreLevels instance.now plan.now.amounts.items (certified_of c)) }
 {
     let amounts = plan.amounts.as_slice();
     let mut levels: Vec<Option<Mark>> = Vec::new(alloc);

@@ -1,4 +1,4 @@
-//! Why a text is no certified text.
+//! The faults of a certified text.
 ghost use Rattle.std.specs.Prelude.{◌≡◌};
 ghost use Rattle.bw_cert.specs.Faults.{cert_fault_number, cert_fault_name};
 
@@ -6,35 +6,36 @@ use bw_model::{HostFault, InstanceFault};
 use std::alloc::{AllocError, AllocFailed};
 use thiserror::Error;
 
-/// What is wrong with a certified text, as it is met from the first line to the last, or that memory ran out.
+/// The first fault of a certified text, read from the first line to the last, or a lack of memory.
 #[derive(Clone, Copy, Debug, PartialEq, Eq, Error)]
 pub enum CertFault {
-    /// The processors, the period or the slice of line 1, the last two in microseconds, are those of no host.
+    /// Line 1 has processors, a period or a slice, the last two in microseconds, of no host.
     #[error("{0}")]
     Host(HostFault),
-    /// Line 1 tells of more than 16384 groups, or the rows of all groups make no instance. Never its `OutOfMemory`.
+    /// Line 1 announces more than 16,384 groups, or the rows make no instance. Never its
+    /// `OutOfMemory`.
     #[error("{0}")]
     Instance(InstanceFault),
-    /// Line 1 has not six words, or the line of a group not seven. Words are what stands between single spaces.
+    /// Line 1 does not have six words, or the line of a group not seven. Single spaces part words.
     #[error("BadLine")]
     BadLine,
-    /// A word is not of its form: no plain number or one too great for its column, a line 1 that does not begin with `bw 1`,
-    /// a flag other than `0` and `1`, a level that is neither `-` nor `NUM/DEN@PLACE` with NUM and DEN above 0.
+    /// A word is not of its form. Line 1 begins with `bw 1`. A number is plain decimal and fits its
+    /// column. A flag is `0` or `1`. A level is `-` or `NUM/DEN@PLACE` with NUM and DEN above 0.
     #[error("BadField")]
     BadField,
     /// Line 1 or the line of a group is missing, or has no newline.
     #[error("CutShort")]
     CutShort,
-    /// More bytes stand after the lines that line 1 tells of.
+    /// Bytes follow the lines that line 1 announces.
     #[error("Trailing")]
     Trailing,
-    /// Memory was refused, which says nothing of the text.
+    /// Memory was refused. The text may have any fault or none.
     #[error("OutOfMemory")]
     OutOfMemory,
 }
 
 impl CertFault {
-    /// The number that is printed.
+    /// The number that is printed: 1 to 10, 40 to 43 or 71.
     pub fn number(self) -> u8
         ensures { result ≡ cert_fault_number self }
     {

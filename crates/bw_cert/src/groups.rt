@@ -1,7 +1,8 @@
 //! Groups of a certified text, line by line.
 ghost use Rattle.std.specs.Prelude.{◌≡◌};
 ghost use Rattle.bw_cert.specs.Spelling.{text_lines, words_of};
-ghost use Rattle.bw_cert.specs.Reading.{ReadsAs, seen, line_at, group_of, groups_at, group_view, columns_view};
+ghost use Rattle.bw_cert.specs.Reading.{ReadsAs, seen, line_at, group_of, groups_at};
+ghost use Rattle.bw_cert.specs.Reading.{group_view, columns_view};
 
 use crate::fault::CertFault;
 use crate::line_words::group_words;
@@ -19,7 +20,7 @@ pub struct Certified {
     pub certificate: Certificate,
 }
 
-// One group with all that its line says.
+// All values of a group's line.
 #[derive(Clone, Copy)]
 struct GroupLine {
     row: Row,
@@ -28,7 +29,7 @@ struct GroupLine {
     level: Option<Mark>,
 }
 
-/// What the groups' lines say, by column.
+/// The values of the groups' lines, by column.
 #[derive(Drop)]
 pub(crate) struct Columns {
     pub(crate) rows: Vec<Row>,
@@ -37,7 +38,7 @@ pub(crate) struct Columns {
     pub(crate) levels: Vec<Option<Mark>>,
 }
 
-/// The first line, and what stands after it.
+/// The first line, and the text after it.
 pub(crate) fn first_line(text: &[u8]) -> Result<(&[u8], &[u8]), CertFault>
     ensures { seen (λ p. (p.0.now, text_lines p.1.now)) result ≡ line_at (text_lines text.now) }
 {
@@ -47,6 +48,7 @@ pub(crate) fn first_line(text: &[u8]) -> Result<(&[u8], &[u8]), CertFault>
     }
 }
 
+// The values of one line.
 #[tactic(auto, unfolding(crate::specs::Reading::group_of))]
 fn group(line: &[u8]) -> Result<GroupLine, CertFault>
     ensures { seen group_view result ≡ group_of (words_of line.now) }
@@ -75,11 +77,12 @@ fn group(line: &[u8]) -> Result<GroupLine, CertFault>
     })
 }
 
-/// So many groups, and what stands after their lines.
+/// So many groups, and the text after their lines.
 pub(crate) fn groups(alloc: Global, count: u64, text: &[u8]) -> Result<(Columns, &[u8]), CertFault>
-    ensures { ReadsAs (λ p. (columns_view p.0, text_lines p.1.now)) result (groups_at count (text_lines text.now)) }
+    ensures { ReadsAs (λ p. (columns_view p.0, text_lines p.1.now)) result
+        (groups_at count (text_lines text.now)) }
 {
-    // the text has less where it is cut short
+    // A text that is cut short has fewer groups.
     let room = count.min(MAX_GROUPS as u64) as usize;
     let mut rows = Vec::with_capacity(alloc, room)?;
     let mut amounts = Vec::with_capacity(alloc, room)?;

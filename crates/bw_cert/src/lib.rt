@@ -1,11 +1,11 @@
-//! Certificates of plans: made for a plan, and carried as text with it.
+//! Certificates of plans, and certified texts, which carry a plan with its certificate.
 #![tactic(auto)]
 
 mod certifying;
 mod fault;
-mod line_words;
 mod groups;
 mod laws;
+mod line_words;
 mod reading;
 mod word_values;
 mod writing;

@@ -1,4 +1,4 @@
-//! Certified texts read.
+//! Reading of certified texts.
 ghost use Rattle.std.specs.Prelude.{◌≡◌, Ok, IfOk};
 ghost use Rattle.bw_cert.specs.Spelling.{Value, text_lines, words_of, spelling, IsValue};
 ghost use Rattle.bw_cert.specs.Reading.{ReadsAs, head_of, host_in, certified_of, certified_view};
@@ -11,7 +11,7 @@ use bw_model::limits::MAX_GROUPS;
 use bw_model::{Certificate, HostShape, Instance, InstanceFault};
 use std::alloc::Global;
 
-// The host, and how many groups follow.
+// The host, and the number of groups that follow.
 #[tactic(auto, unfolding(crate::specs::Reading::head_of))]
 fn head(line: &[u8]) -> Result<(HostShape, u64), CertFault>
     ensures { result ≡ head_of (words_of line.now) }
@@ -42,7 +42,7 @@ fn host(processors: u64, period_us: u64, slice_us: u64) -> Result<HostShape, Cer
     }
 }
 
-// All of the text.
+// Reads all of the text.
 #[tactic(auto, unfolding(crate::specs::Reading::certified_of))]
 fn certified(alloc: Global, text: &[u8]) -> Result<Certified, CertFault>
     ensures { ReadsAs certified_view result (certified_of (text_lines text.now)) }
@@ -68,16 +68,23 @@ fn certified(alloc: Global, text: &[u8]) -> Result<Certified, CertFault>
     })
 }
 
-/// What a text certifies, read in one pass over all of the text.
+/// The instance, amounts and certificate of a text, read in one pass.
 ///
-/// The first refusal that is met is answered, line by line: `CutShort`, `BadLine`, `BadField`; after the first line
-/// those of the host and then `TooMany`; after the last line `Trailing`, then those of the rows.
+/// # Errors
+/// The first of these, except that `OutOfMemory` can replace any if memory was refused:
+/// `CutShort`, then `BadLine`, then `BadField` of line 1;
+/// `Host` of line 1, then `Instance(TooMany)`;
+/// `CutShort`, then `BadLine`, then `BadField` of each further line in order;
+/// `Trailing`;
+/// `Instance` of the rows.
 pub fn read_certified(alloc: Global, text: &[u8]) -> Result<Certified, CertFault>
-    // What is read is spelled so.
-    ensures found { IfOk result (λ c. IsValue (certified_view c) × (text.now ≡ spelling (certified_view c))) }
-    // What is spelled so is read, unless memory runs out.
-    ensures only { (v : Value) → IsValue v → text.now ≡ spelling v → ReadsAs certified_view result (Ok v) }
-    // Which fault it is.
+    // A value that is read has this text as its spelling.
+    ensures found { IfOk result
+        (λ c. IsValue (certified_view c) × (text.now ≡ spelling (certified_view c))) }
+    // A spelling is read as its value, unless memory was refused.
+    ensures only { (v : Value) → IsValue v → text.now ≡ spelling v
+        → ReadsAs certified_view result (Ok v) }
+    // The fault is exactly this.
     ensures exact { ReadsAs certified_view result (certified_of (text_lines text.now)) }
 {
     certified(alloc, text)

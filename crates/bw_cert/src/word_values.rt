@@ -1,14 +1,16 @@
-//! Single words of a certified text.
+//! The values of single words of a certified text. A word not of its form is a `BadField`.
 ghost use Rattle.std.specs.Prelude.{◌≡◌, ◌==◌, ◌∷◌, [], MatchOption, Err};
 ghost use Rattle.std.specs.Option.{option_map};
 ghost use Rattle.std.specs.List.{slice_split};
 ghost use Rattle.bw_model.specs.Marks.{price_of};
-ghost use Rattle.bw_cert.specs.Reading.{seen, number_at, u32_at, parent_at, limit_at, flag_at, level_in_word, in_two};
+ghost use Rattle.bw_cert.specs.Reading.{seen, number_at, u32_at, parent_at, limit_at, flag_at};
+ghost use Rattle.bw_cert.specs.Reading.{level_in_word, in_two};
 
 use crate::fault::CertFault;
 use bw_model::Mark;
 use bw_text::{read_number, split_once};
 
+/// A plain decimal number of 64 bits.
 pub(crate) fn number(word: &[u8]) -> Result<u64, CertFault>
     ensures { result ≡ number_at word.now }
 {
@@ -18,6 +20,7 @@ pub(crate) fn number(word: &[u8]) -> Result<u64, CertFault>
     }
 }
 
+/// A plain decimal number of 32 bits.
 pub(crate) fn u32_number(word: &[u8]) -> Result<u32, CertFault>
     ensures { result ≡ u32_at word.now }
 {
@@ -28,6 +31,7 @@ pub(crate) fn u32_number(word: &[u8]) -> Result<u32, CertFault>
     Ok(n as u32)
 }
 
+/// The row of a parent, `-` for none.
 pub(crate) fn parent(word: &[u8]) -> Result<Option<u32>, CertFault>
     ensures { result ≡ parent_at word.now }
 {
@@ -37,6 +41,7 @@ pub(crate) fn parent(word: &[u8]) -> Result<Option<u32>, CertFault>
     Ok(Some(u32_number(word)?))
 }
 
+/// A limit in slices, `max` for none.
 pub(crate) fn limit(word: &[u8]) -> Result<Option<u64>, CertFault>
     ensures { result ≡ limit_at word.now }
 {
@@ -46,6 +51,7 @@ pub(crate) fn limit(word: &[u8]) -> Result<Option<u64>, CertFault>
     Ok(Some(number(word)?))
 }
 
+/// A flag, `1` or `0`.
 pub(crate) fn flag(word: &[u8]) -> Result<bool, CertFault>
     ensures { result ≡ flag_at word.now }
 {
@@ -58,9 +64,10 @@ pub(crate) fn flag(word: &[u8]) -> Result<bool, CertFault>
     Err(CertFault::BadField)
 }
 
-// The two parts round the one such byte.
+// The parts before and after a byte that the word has once.
 fn split_in_two(word: &[u8], byte: u8) -> Option<(&[u8], &[u8])>
-    ensures { MatchOption result (in_two (slice_split (λ b. b == byte) word.now) ≡ Err CertFault.BadField)
+    ensures { MatchOption result
+        (in_two (slice_split (λ b. b == byte) word.now) ≡ Err CertFault.BadField)
         (λ p. slice_split (λ b. b == byte) word.now ≡ p.0.now ∷ p.1.now ∷ []) }
 {
     let (front, back) = split_once(word, byte)?;
@@ -70,6 +77,7 @@ fn split_in_two(word: &[u8], byte: u8) -> Option<(&[u8], &[u8])>
     }
 }
 
+/// A level `NUM/DEN@PLACE`, `-` for none.
 #[tactic(auto, unfolding(crate::specs::Reading::mark_at))]
 pub(crate) fn level(word: &[u8]) -> Result<Option<Mark>, CertFault>
     ensures { seen (option_map price_of) result ≡ level_in_word word.now }

@@ -1,10 +1,10 @@
-//! Certified texts written.
-ghost use Rattle.std.specs.Prelude.{◌≡◌, ◌++◌, ◌<◌, ◌^◌, length, codes, OnOk, IfOk, IfSome, string_bytes};
-ghost use Rattle.std.specs.Fmt.{decimal};
+//! Writing of certified texts.
+ghost use Rattle.std.specs.Prelude.{◌≡◌, ◌++◌, ◌<◌, ◌^◌, length, OnOk, IfOk, IfSome, string_bytes};
 ghost use Rattle.std.specs.Option.{option_map};
 ghost use Rattle.bw_model.specs.Marks.{price_of};
-ghost use Rattle.bw_cert.specs.Spelling.{parent_word, limit_word, flag_word, level_word, line, head_words, group_words, certified_value, spelling, IsSmallRow};
-ghost use Rattle.bw_cert.specs.Spelling.{IsSmallLevel, IsValue};
+ghost use Rattle.bw_cert.specs.Spelling.{parent_word, limit_word, flag_word, level_word, row_words};
+ghost use Rattle.bw_cert.specs.Spelling.{line, head_words, group_words, certified_value, spelling};
+ghost use Rattle.bw_cert.specs.Spelling.{IsSmallRow, IsSmallLevel, IsValue};
 
 use bw_model::{Certificate, HostShape, Instance, Mark, Row};
 use bw_text::push_number;
@@ -39,7 +39,8 @@ fn push_flag(out: &mut String, flag: bool) -> Result<(), AllocError>
 }
 
 fn push_level(out: &mut String, level: Option<Mark>) -> Result<(), AllocError>
-    ensures { OnOk result (string_bytes out.new ≡ string_bytes out.old ++ level_word (option_map price_of level)) }
+    ensures { OnOk result
+        (string_bytes out.new ≡ string_bytes out.old ++ level_word (option_map price_of level)) }
 {
     match level {
         None => out.push_str("-"),
@@ -54,7 +55,8 @@ fn push_level(out: &mut String, level: Option<Mark>) -> Result<(), AllocError>
 }
 
 fn push_head(out: &mut String, shape: HostShape, count: u64) -> Result<(), AllocError>
-    ensures { OnOk result (string_bytes out.new ≡ string_bytes out.old ++ line (head_words shape count)) }
+    ensures { OnOk result
+        (string_bytes out.new ≡ string_bytes out.old ++ line (head_words shape count)) }
 {
     out.push_str("bw 1 ")?;
     push_number(out, shape.processors())?;
@@ -68,11 +70,9 @@ fn push_head(out: &mut String, shape: HostShape, count: u64) -> Result<(), Alloc
     Ok(())
 }
 
-// What a line says of its row, each word with the space after it.
+// Appends the words of a row, each with the space after it.
 fn push_row(out: &mut String, row: Row) -> Result<(), AllocError>
-    ensures { OnOk result (string_bytes out.new
-        ≡ string_bytes out.old ++ (parent_word row.parent ++ codes " " ++ decimal row.weight ++ codes " " ++ limit_word row.limit ++ codes " "
-        ++ decimal row.demand ++ codes " ")) }
+    ensures { OnOk result (string_bytes out.new ≡ string_bytes out.old ++ row_words row) }
 {
     push_parent(out, row.parent)?;
     out.push_str(" ")?;
@@ -92,7 +92,8 @@ fn push_group(
     flag: bool,
     level: Option<Mark>,
 ) -> Result<(), AllocError>
-    ensures text { OnOk result (string_bytes out.new ≡ string_bytes out.old ++ line (group_words row amount flag (option_map price_of level))) }
+    ensures text { OnOk result (string_bytes out.new
+        ≡ string_bytes out.old ++ line (group_words row amount flag (option_map price_of level))) }
     ensures small_row { IsSmallRow row }
     ensures small_amount { amount < 2 ^ 64 }
     ensures small_level { IfSome (option_map price_of level) IsSmallLevel }
@@ -107,7 +108,10 @@ fn push_group(
     Ok(())
 }
 
-/// The one spelling of an instance with amounts in slices and their certificate, refused for memory alone.
+/// The certified text of an instance, its amounts in slices and their certificate.
+///
+/// # Errors
+/// `AllocError` if memory was refused.
 pub fn write_certified(
     alloc: Global,
     instance: &Instance,
@@ -117,9 +121,11 @@ pub fn write_certified(
     requires amounts { length amounts.now ≡ length instance.now.rows }
     requires flags { length certificate.now.tight.items ≡ length instance.now.rows }
     requires levels { length certificate.now.levels.items ≡ length instance.now.rows }
-    ensures text { IfOk result (λ t. string_bytes t ≡ spelling (certified_value instance.now amounts.now certificate.now)) }
+    ensures text { IfOk result (λ t. string_bytes t
+        ≡ spelling (certified_value instance.now amounts.now certificate.now)) }
     // So the text is read again as this value.
-    ensures valid { OnOk result (IsValue (certified_value instance.now amounts.now certificate.now)) }
+    ensures valid { OnOk result
+        (IsValue (certified_value instance.now amounts.now certificate.now)) }
 {
     let rows = instance.rows();
     let mut out = String::new(alloc);

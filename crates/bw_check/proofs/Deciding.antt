@@ -10,7 +10,7 @@ use Rattle.bw_check.specs.Faults.{check_fault_number}
 use Rattle.bw_check.specs.Verdict.{AreOnePerRow, IsFree, IsRefused}
 use Rattle.bw_check.proofs.Verdicts.{free-IsCertified}
 use Rattle.bw_check.specs.Levels.{AreSmall, IsFirst}
-use Rattle.bw_check.proofs.Marking.{small_amounts}
+use Rattle.bw_check.proofs.SmallAmounts.{small_amounts}
 use Rattle.bw_check.proofs.Bounding.{bounds_exist}
 
 -- the faults of single groups, in order

@@ -5,4 +5,4 @@ mod Gathered
 mod MarksKept
 mod Bounding
 mod Deciding
-mod Marking
+mod SmallAmounts

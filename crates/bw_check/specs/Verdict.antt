@@ -53,7 +53,7 @@ IsNextMarkKept groups amounts certificate bounds c =
     slice_index amounts c < slice_index bounds c →
     IsBelow (price_of level) (next_mark (slice_index amounts c) (weight_of groups.rows c) (sibling_place groups.rows g c))
 
--- that a group doesn't have the fault
+-- a group is free of the fault
 abbrev pub IsFree : Groups → List ℕ → Certified → List ℕ → CheckFault → ℕ → Type 0
 IsFree groups amounts certificate bounds WrongLength g = AreOnePerRow groups amounts certificate
 IsFree groups amounts certificate bounds OverLimit g = IsWithinLimit groups amounts g
@@ -64,6 +64,11 @@ IsFree groups amounts certificate bounds NotGreatest g = slice_index amounts 0 �
 IsFree groups amounts certificate bounds LevelMissing g = HasLevel groups amounts certificate g
 IsFree groups amounts certificate bounds LastMarkAbove c = IsLastMarkKept groups amounts certificate c
 IsFree groups amounts certificate bounds NextMarkNotAbove c = IsNextMarkKept groups amounts certificate bounds c
+
+-- no group has a fault
+abbrev pub AreFree : Groups → List ℕ → Certified → List ℕ → Type 0
+AreFree groups amounts certificate bounds = (fault : CheckFault) (g : ℕ) → g < length groups.rows →
+    IsFree groups amounts certificate bounds fault g
 
 -- the first fault, by its number and then by row
 pub record IsFirstFault (groups : Groups) (amounts : List ℕ) (certificate : Certified) (bounds : List ℕ) (fault : CheckFault) (group : ℕ) : Type 0 where

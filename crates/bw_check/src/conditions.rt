@@ -7,7 +7,8 @@ ghost use Rattle.bw_check.specs.Counts.{AreGathered};
 ghost use Rattle.bw_check.specs.Faults.{check_fault_number};
 ghost use Rattle.bw_check.specs.Levels.{AreSmall, IsFirst};
 ghost use Rattle.bw_check.specs.Tables.{AreTables};
-ghost use Rattle.bw_check.specs.Verdict.{AreOnePerRow, IsWithinLimit, IsWithinDemand, IsChildrenSum, IsFlagLimited, HasLevel, IsFree};
+ghost use Rattle.bw_check.specs.Verdict.{AreOnePerRow, IsWithinLimit, IsWithinDemand};
+ghost use Rattle.bw_check.specs.Verdict.{IsChildrenSum, IsFlagLimited, HasLevel, IsFree};
 
 use crate::fault::CheckFault;
 use crate::marks::{is_last_mark_kept, is_next_mark_kept};
@@ -28,7 +29,8 @@ pub const OF_ROWS: [CheckFault; 8] = [
 
 /// Whether there is one amount, one flag and one level for each row.
 pub fn are_one_per_row(instance: &Instance, amounts: &[u64], certificate: &Certificate) -> bool
-    ensures each { IsTrue result ↔ AreOnePerRow instance.now amounts.now (certified_of certificate.now) }
+    ensures each { IsTrue result
+        ↔ AreOnePerRow instance.now amounts.now (certified_of certificate.now) }
     ensures valid { IsInstance instance.now }
 {
     let count = instance.group_count() as usize;
@@ -56,7 +58,8 @@ fn is_within_demand(instance: &Instance, amounts: &[u64], g: u32) -> bool
 
 fn is_children_sum(instance: &Instance, amounts: &[u64], sums: &[u128], g: u32) -> bool
     requires one_each { length amounts.now ≡ length instance.now.rows }
-    requires summed { AreGathered instance.now.rows (slice_index amounts.now) (length instance.now.rows) sums.now }
+    requires summed { AreGathered instance.now.rows (slice_index amounts.now)
+        (length instance.now.rows) sums.now }
     requires within { g < length instance.now.rows }
     ensures { IsTrue result ↔ IsChildrenSum instance.now amounts.now g }
 {
@@ -80,7 +83,7 @@ fn has_level(instance: &Instance, amounts: &[u64], certificate: &Certificate, g:
     instance.is_leaf(g) || amounts[g as usize] == 0 || certificate.levels[g as usize].is_some()
 }
 
-/// Whether a group is free of a fault. Marks are looked at only where the amounts are small.
+// Whether a group is free of a fault. Marks are read only if the amounts are small.
 fn is_free(
     instance: &Instance,
     amounts: &[u64],
@@ -90,9 +93,11 @@ fn is_free(
     g: u32,
 ) -> bool
     requires tables { AreTables instance.now amounts.now (certified_of certificate.now) tables.now }
-    requires small { check_fault_number LastMarkAbove ≤ check_fault_number fault → AreSmall amounts.now }
+    requires small { check_fault_number LastMarkAbove ≤ check_fault_number fault
+        → AreSmall amounts.now }
     requires within { g < length instance.now.rows }
-    ensures { IsTrue result ↔ IsFree instance.now amounts.now (certified_of certificate.now) tables.now.bounds.items fault g }
+    ensures { IsTrue result ↔ IsFree instance.now amounts.now (certified_of certificate.now)
+        tables.now.bounds.items fault g }
 {
     match fault {
         CheckFault::WrongLength => are_one_per_row(instance, amounts, certificate),
@@ -118,7 +123,7 @@ fn is_free(
     }
 }
 
-/// The first group that has a fault.
+/// The first row of a group that has a fault.
 pub fn first_group(
     instance: &Instance,
     amounts: &[u64],
@@ -127,8 +132,10 @@ pub fn first_group(
     fault: CheckFault,
 ) -> Option<u32>
     requires tables { AreTables instance.now amounts.now (certified_of certificate.now) tables.now }
-    requires small { check_fault_number LastMarkAbove ≤ check_fault_number fault → AreSmall amounts.now }
-    ensures { IsFirst (IsFree instance.now amounts.now (certified_of certificate.now) tables.now.bounds.items fault) (length instance.now.rows) result }
+    requires small { check_fault_number LastMarkAbove ≤ check_fault_number fault
+        → AreSmall amounts.now }
+    ensures { IsFirst (IsFree instance.now amounts.now (certified_of certificate.now)
+        tables.now.bounds.items fault) (length instance.now.rows) result }
 {
     for g in 0..instance.group_count() {
         if !is_free(instance, amounts, certificate, tables, fault, g) {

@@ -1,10 +1,10 @@
-//! Why amounts and their certificate are refused.
+//! The faults of amounts and their certificate.
 ghost use Rattle.std.specs.Prelude.{◌≡◌};
 ghost use Rattle.bw_check.specs.Faults.{check_fault_number, check_fault_name};
 
 use thiserror::Error;
 
-/// The faults, in the order in which they are looked for.
+/// The faults of amounts and their certificate, in the order of the tests.
 #[derive(Clone, Copy, Debug, PartialEq, Eq, Error)]
 pub enum CheckFault {
     /// Not one amount, one flag and one level for each row.
@@ -37,7 +37,7 @@ pub enum CheckFault {
 }
 
 impl CheckFault {
-    /// The number that is printed.
+    /// The number that is printed, 50 to 58.
     pub fn number(self) -> u8
         ensures { result ≡ check_fault_number self }
     {

@@ -9,7 +9,7 @@ ghost use Rattle.bw_check.specs.Verdict.{AreOnePerRow, IsLastMarkKept, IsNextMar
 use bw_model::limits::MAX_CAPACITY;
 use bw_model::{Certificate, Instance, Mark};
 
-// What the last of so many slices costs.
+// The mark of the last of so many slices, 1 to 64,000.
 fn last_mark(slices: u64, weight: u64, place: u32) -> Mark
     requires some { 0 < slices }
     requires small { slices ≤ MAX_CAPACITY }
@@ -23,7 +23,7 @@ fn last_mark(slices: u64, weight: u64, place: u32) -> Mark
     }
 }
 
-// What one slice more costs.
+// The mark of one slice more than so many, 0 to 64,000.
 fn next_mark(slices: u64, weight: u64, place: u32) -> Mark
     requires small { slices ≤ MAX_CAPACITY }
     requires weighed { 0 < weight }
@@ -36,7 +36,7 @@ fn next_mark(slices: u64, weight: u64, place: u32) -> Mark
     }
 }
 
-// The level of a child's parent, where the parent shares something out.
+// The level of a child's parent, or None if the parent has no level or nothing to share out.
 fn level_above(
     instance: &Instance,
     amounts: &[u64],
@@ -59,7 +59,7 @@ fn level_above(
     }
 }
 
-/// Whether the last mark of a child is at most the level above it.
+/// Whether the last mark of a child is at most its parent's level.
 pub fn is_last_mark_kept(
     instance: &Instance,
     amounts: &[u64],
@@ -71,7 +71,8 @@ pub fn is_last_mark_kept(
     requires places { ArePlaces instance.now.rows (length instance.now.rows) places.now }
     requires small { AreSmall amounts.now }
     requires within { c < length instance.now.rows }
-    ensures { IsTrue result ↔ IsLastMarkKept instance.now amounts.now (certified_of certificate.now) c }
+    ensures { IsTrue result
+        ↔ IsLastMarkKept instance.now amounts.now (certified_of certificate.now) c }
 {
     let amount = amounts[c as usize];
     match level_above(instance, amounts, certificate, c) {
@@ -84,7 +85,7 @@ pub fn is_last_mark_kept(
     }
 }
 
-/// Whether the next mark of a child below its bound is above the level above it.
+/// Whether the next mark of a child below its bound is above its parent's level.
 pub fn is_next_mark_kept(
     instance: &Instance,
     amounts: &[u64],
@@ -98,7 +99,8 @@ pub fn is_next_mark_kept(
     requires bounds { length bounds.now ≡ length instance.now.rows }
     requires small { AreSmall amounts.now }
     requires within { c < length instance.now.rows }
-    ensures { IsTrue result ↔ IsNextMarkKept instance.now amounts.now (certified_of certificate.now) bounds.now c }
+    ensures { IsTrue result
+        ↔ IsNextMarkKept instance.now amounts.now (certified_of certificate.now) bounds.now c }
 {
     let amount = amounts[c as usize];
     match level_above(instance, amounts, certificate, c) {

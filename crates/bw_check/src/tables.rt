@@ -1,4 +1,4 @@
-//! What the check reads of each group besides its row, each table made by one pass over the rows.
+//! Tables for the check, of one entry for each group, each made by one pass over the rows.
 ghost use Rattle.std.specs.Prelude.{◌≡◌, ◌+◌, ◌<◌, ◌≤◌, ◌^◌, length, slice_index, IfOk};
 ghost use Rattle.bw_model.specs.Certificate.{certified_of, AreBounds};
 ghost use Rattle.bw_check.specs.Counts.{AreGathered, ArePlaces, bound_over};
@@ -11,17 +11,18 @@ use std::alloc::{AllocError, Global};
 /// One entry for each group.
 #[derive(Drop)]
 pub struct Tables {
-    /// How many of its siblings were created before it.
+    /// The number of its siblings that were created before it.
     pub places: Vec<u32>,
-    /// The sum of its children's amounts.
+    /// The sum of its children's amounts, in slices.
     pub sums: Vec<u128>,
-    /// The most that it can be given, as the flags tell.
+    /// The most slices that it can be given, as the flags say.
     pub bounds: Vec<u128>,
 }
 
 // The place of each group among its siblings.
 fn places(alloc: Global, instance: &Instance) -> Result<Vec<u32>, AllocError>
-    ensures { IfOk result (λ places. ArePlaces instance.now.rows (length instance.now.rows) places.items) }
+    ensures { IfOk result
+        (λ places. ArePlaces instance.now.rows (length instance.now.rows) places.items) }
 {
     let count = instance.group_count();
     let mut places = vec![in alloc; 0u32; count as usize]?;
@@ -43,7 +44,8 @@ fn children_sums(
     amounts: &[u64],
 ) -> Result<Vec<u128>, AllocError>
     requires { length amounts.now ≡ length instance.now.rows }
-    ensures { IfOk result (λ sums. AreGathered instance.now.rows (slice_index amounts.now) (length instance.now.rows) sums.items) }
+    ensures { IfOk result (λ sums. AreGathered instance.now.rows (slice_index amounts.now)
+        (length instance.now.rows) sums.items) }
 {
     let count = instance.group_count();
     let mut sums = vec![in alloc; 0u128; count as usize]?;
@@ -82,7 +84,8 @@ fn bounds(
     certificate: &Certificate,
 ) -> Result<Vec<u128>, AllocError>
     requires { length certificate.now.tight.items ≡ length instance.now.rows }
-    ensures { IfOk result (λ bounds. AreBounds instance.now (certified_of certificate.now) bounds.items) }
+    ensures { IfOk result
+        (λ bounds. AreBounds instance.now (certified_of certificate.now) bounds.items) }
 {
     let count = instance.group_count();
     let mut below = vec![in alloc; 0u128; count as usize]?;
@@ -99,6 +102,9 @@ fn bounds(
 }
 
 /// All tables of the amounts and the certificate.
+///
+/// # Errors
+/// `AllocError` if memory was refused.
 pub fn tables_of(
     alloc: Global,
     instance: &Instance,

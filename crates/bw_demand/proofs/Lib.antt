@@ -2,7 +2,6 @@
 pub mod CallerLemmas
 mod ByDepth
 mod Seen
-mod DemandOutside
 mod WantsGathered
 mod LimitingListed
 mod Joining

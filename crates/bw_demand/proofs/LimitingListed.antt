@@ -12,7 +12,7 @@ use Rattle.bw_model.specs.Groups.{Groups, IsInstance, parent_of, is_leaf, limit_
 use Rattle.bw_model.specs.Allocation.{IsGreatestTotal}
 use Rattle.bw_model.specs.Demand.{is_tight, has_tight_above, limiting_groups, demand_outside}
 use Rattle.bw_model.proofs.CallerLemmas.{parent_lt, limited-IsGreatestTotal, AreMaxTotals-capped, sum_below}
-use Rattle.bw_demand.proofs.DemandOutside.{above-child, above-top, demand_outside-is}
+use Rattle.bw_model.proofs.CallerLemmas.{above-child, above-top, demand_outside-is}
 use Rattle.bw_demand.specs.Demands.{Demands, IsGathered}
 use Rattle.bw_demand.proofs.WantsGathered.{sum_below-bound}
 

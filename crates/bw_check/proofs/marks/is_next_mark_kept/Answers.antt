@@ -5,7 +5,7 @@ use Rattle.bw_model.specs.Groups.{weight_of}
 use Rattle.bw_model.specs.Marks.{MarkValue, price_of, next_mark, IsBelow}
 use Rattle.bw_model.specs.Certificate.{certified_of}
 use Rattle.bw_check.proofs.MarksKept.{each_above, from_above}
-use Rattle.bw_check.proofs.Marking.{is_lt-IsBelow}
+use Rattle.bw_model.proofs.CallerLemmas.{is_lt-IsBelow}
 use Rattle.bw_check.proofs.marks.is_next_mark_kept.Goals as goal
 
 pub returns-else-bounds-c : goal.returns-else-bounds-c

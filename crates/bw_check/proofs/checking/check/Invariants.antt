@@ -4,7 +4,7 @@ use Rattle.bw_check.specs.declared.fault.CheckFault.{CheckFault}
 use Rattle.bw_model.specs.Certificate.{certified_of}
 use Rattle.bw_check.specs.Faults.{check_fault_number}
 use Rattle.bw_check.specs.Verdict.{IsFree}
-use Rattle.bw_check.proofs.check.Given as goal
+use Rattle.bw_check.proofs.checking.check.Given as goal
 
 abbrev pub invariant-loop-fault : goal.invariant-loop-fault
 invariant-loop-fault l = (f : CheckFault) (g : ℕ) → check_fault_number f < 51 + l.fault-index → g < length l.instance.rows →

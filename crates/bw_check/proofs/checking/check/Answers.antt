@@ -4,7 +4,7 @@ use Rattle.bw_model.specs.Certificate.{certified_of, IsAccepted}
 use Rattle.bw_check.proofs.Verdicts.{refused-not-accepted}
 use Rattle.bw_model.proofs.CallerLemmas.{certified-IsPlan}
 use Rattle.bw_check.proofs.Deciding.{wrong_length, refused_at, one_fault_more, small_at, all_free}
-use Rattle.bw_check.proofs.check.Goals as goal
+use Rattle.bw_check.proofs.checking.check.Goals as goal
 
 pub returns-then-not-are_one_per_row : goal.returns-then-not-are_one_per_row
 returns-then-not-are_one_per_row c =
