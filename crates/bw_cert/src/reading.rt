@@ -4,8 +4,8 @@ ghost use Rattle.bw_cert.specs.Spelling.{Value, text_lines, words_of, spelling, 
 ghost use Rattle.bw_cert.specs.Reading.{ReadsAs, head_of, host_in, certified_of, certified_view};
 
 use crate::fault::CertFault;
-use crate::line_words::head_words;
 use crate::groups::{Certified, first_line, groups};
+use crate::line_words::head_words;
 use crate::word_values::number;
 use bw_model::limits::MAX_GROUPS;
 use bw_model::{Certificate, HostShape, Instance, InstanceFault};

@@ -1,14 +1,17 @@
-//! All small instances: the check accepts the certificate of the plan, and refuses all other amounts with any certificate.
+//! All small instances: the check accepts the certificate of the plan, and refuses all other
+//! amounts with any certificate.
 //!
-//! The plan is compared with one found by trying all amounts. Flags are tried all. Levels are tried at groups with
-//! children, since no other is looked at: none, and each mark of an odd numerator up to twice the capacity less 1, of a
-//! weight that occurs, and of a place of a child. Among these is the greatest last mark of any amounts, and where a higher
-//! level is accepted the greatest last mark is too: it is above the same last marks, and below the same next marks.
-//! Amounts above a limit or a demand, or that are not the sums of the children's, are tried with all flags and with the
-//! levels of the plan alone.
+//! The plan is compared with one found by trying all amounts. All flags are tried. Levels are tried
+//! at groups with children alone, since no other level is read. These are none, and each mark of an
+//! odd numerator up to twice the capacity less 1, of a weight that occurs, and of a child's place.
+//! Among them is the greatest last mark of any amounts. If a higher level is accepted, so is the
+//! greatest last mark: it is above the same last marks, and below the same next marks.
 //!
-//! Built natively these tests take about a minute of one processor; the build of `rt try`, which checks each step, takes
-//! some hundred times as long, and ends in time for one and two rows alone.
+//! Amounts above a limit or a demand, or that are not the sums of the children's, are tried with
+//! all flags and with the levels of the plan alone.
+//!
+//! Built natively these tests take about a minute of one processor. The build of `rt try` checks
+//! each step, takes some hundred times as long, and ends in time for one and two rows alone.
 
 use bw_cert::certify;
 use bw_check::{Verdict, check};
@@ -18,8 +21,10 @@ use std::alloc::{AllocError, Global};
 use std::process::Abort;
 use std::test::Fail;
 
-/// Which instances are tried: so many rows, each below the root with any parent before it, a weight from 1, a demand up to
-/// the capacity, and no limit or one up to the capacity. And which amounts: up to the greatest, at each row.
+/// The instances and amounts that are tried.
+///
+/// Each row below the root has any parent before it, a weight from 1, a demand up to the capacity,
+/// and no limit or one up to the capacity. Each row's amount is at most the greatest.
 #[derive(Clone, Copy)]
 struct Size {
     rows: u32,
@@ -326,7 +331,7 @@ fn is_exact_at(
     }
 }
 
-// Asserts it of each instance whose number has this rest. Where memory is refused it is asked again.
+// Asserts it of each instance whose number has this rest, with a second run if memory was refused.
 fn assert_exact(
     rt: &impl Abort,
     alloc: Global,
@@ -378,8 +383,8 @@ fn three_rows(rt: HostRuntime) -> Result<(), Fail> {
     assert_exact(&rt, rt.alloc(), size, 1, 0)
 }
 
-/// Four rows, with weights 1 and 2, demands and limits up to 2, and amounts up to 3. They are tried in four parts, since
-/// together they take long.
+/// Four rows, with weights 1 and 2, demands and limits up to 2, and amounts up to 3. They are tried
+/// in four parts, since together they take long.
 const FOUR_ROWS: Size = Size {
     rows: 4,
     capacity: 2,

@@ -40,9 +40,9 @@ asked_by {one} {two} {these} {those} host columns =
     ∙ ap (λ (c : Columns). asked_number (shape_of two) (table_of c)) columns
 
 -- even columns, and no such host
-pub asked_host : (shape : Shape) (table : Table) (fault : HostFault) → are_even table ≡ true → host_refusal shape ≡ Some fault →
+pub host_refused : (shape : Shape) (table : Table) (fault : HostFault) → are_even table ≡ true → host_refusal shape ≡ Some fault →
     asked_number shape table ≡ host_fault_number fault
-asked_host shape table fault e h =
+host_refused shape table fault e h =
     asked_even shape table e
     ∙ ap (λ (o : Option HostFault). option_map_or host_fault_number o (option_map_or instance_fault_number (refusal (rows_in table)) 0)) h
 

@@ -4,7 +4,7 @@ use Rattle.std.proofs.Common.{◌∙◌, arith}
 use Rattle.std.proofs.lemmas.List.{get_or-map}
 use Rattle.bw_model.specs.declared.mark.Mark.{Mark}
 use Rattle.bw_model.specs.Certificate.{Certified}
-use Rattle.bw_exports.specs.Checked.{IsLevel, IsSpelled}
+use Rattle.bw_exports.specs.Checked.{IsLevel, IsSpelled, claimed_columns}
 use Rattle.bw_exports.specs.Certified.{flag_number, num_of, den_of, place_of_level, columns_of}
 
 flags_again : (flags : List Bool) → flags ≡ map (λ flag. not (flag == 0)) (map flag_number flags)
@@ -37,6 +37,12 @@ columns_spell certificate = record {
     each = λ k within. level_here certificate.levels k within;
   };
 }
+
+pub columns_by : (certificate : Certified) (flags nums dens places : List ℕ) → flags ≡ map flag_number certificate.tight
+    → nums ≡ map num_of certificate.levels →
+    dens ≡ map den_of certificate.levels → places ≡ map place_of_level certificate.levels →
+    claimed_columns flags nums dens places ≡ columns_of certificate
+columns_by certificate flags nums dens places f n d p = rw f (rw n (rw d (rw p refl)))
 
 pub spelled_by : (certificate : Certified) (flags nums dens places : List ℕ) → flags ≡ map flag_number certificate.tight
     → nums ≡ map num_of certificate.levels →

@@ -32,6 +32,15 @@ table_of columns =
 abbrev pub shape_of : Host → Shape
 shape_of host = record { processors = host.processors; period_us = host.period_us; slice_us = host.slice_us }
 
+-- the host of three numbers
+abbrev pub asked_host : ℕ → ℕ → ℕ → Shape
+asked_host processors period_us slice_us = record { processors = processors; period_us = period_us; slice_us = slice_us }
+
+-- the table of four columns
+abbrev pub asked_table : List ℕ → List ℕ → List ℕ → List ℕ → Table
+asked_table parents weights limits demands =
+    record { parents = parents; weights = weights; limits = limits; demands = demands }
+
 -- the parent that a number names: the greatest number of 32 bits names none
 abbrev pub parent_in : ℕ → Option ℕ
 parent_in number = if number == NO_PARENT then None else Some number
@@ -75,6 +84,14 @@ refusal_number groups =
 -- the number that refuses what is asked, 0 where none does: 50 where the columns are of several lengths
 unfoldable pub asked_number : Shape → Table → ℕ
 asked_number shape table = if are_even table then refusal_number (groups_in shape table) else 50
+
+-- the groups that the program's host and columns stand for
+abbrev pub groups_asked : Host → Columns → Groups
+groups_asked host columns = groups_in (shape_of host) (table_of columns)
+
+-- the number that refuses the program's host and columns, 0 where none does
+abbrev pub refusal_of : Host → Columns → ℕ
+refusal_of host columns = asked_number (shape_of host) (table_of columns)
 
 -- what a call may answer that refuses so: that number, or 71 when out of memory
 abbrev pub Answers : ℕ → ℕ → Type 0

@@ -38,10 +38,11 @@ columns_of certificate =
       places = map place_of_level certificate.levels;
     }
 
--- the plan, and columns that spell its certificate: the tight groups flagged, and the greatest last marks of the children
+-- the plan, and the columns of its certificate: the tight groups flagged, and the greatest last marks of the children
 pub record IsCertifiedPlan (groups : Groups) (amounts : List ℕ) (claimed : Claimed) : Type 0 where
   pub plan : IsPlan groups amounts
   pub certificate : Certified
+  pub columns : claimed ≡ columns_of certificate
   pub spelled : IsSpelled claimed certificate
   pub accepted : IsAccepted groups amounts certificate
   pub flags : of.AreTightFlags groups certificate

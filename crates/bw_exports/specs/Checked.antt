@@ -10,7 +10,9 @@ use Rattle.bw_check.specs.Faults.{check_fault_number}
 use Rattle.bw_check.specs.declared.verdict.Verdict.{Verdict}
 use Rattle.bw_check.specs.declared.verdict.Verdict.TheVariants.{Accepted, Refused}
 use Rattle.bw_exports.specs.declared.claim.Claim.{Claim}
-use Rattle.bw_exports.specs.Asked.{Table, asked_number, Answers}
+use Rattle.bw_exports.specs.declared.asked_instance.Host.{Host}
+use Rattle.bw_exports.specs.declared.columns.Columns.{Columns}
+use Rattle.bw_exports.specs.Asked.{Table, shape_of, table_of, asked_number, Answers}
 
 -- a certificate in columns of numbers
 pub record Claimed : Type 0 where
@@ -18,6 +20,10 @@ pub record Claimed : Type 0 where
   pub nums : List ℕ
   pub dens : List ℕ
   pub places : List ℕ
+
+-- the certificate of four columns
+abbrev pub claimed_columns : List ℕ → List ℕ → List ℕ → List ℕ → Claimed
+claimed_columns flags nums dens places = record { flags = flags; nums = nums; dens = dens; places = places }
 
 -- what the program holds of a claim, as lists
 abbrev pub claimed_of : Claim → Claimed
@@ -52,6 +58,10 @@ pub record IsVerdictOnClaim (groups : Groups) (amounts : List ℕ) (claimed : Cl
 -- the number that refuses what is asked and claimed, 0 where none does: 50 where columns differ in length
 unfoldable pub claimed_number : Shape → Table → Claimed → ℕ
 claimed_number shape table claimed = if are_levels_even claimed then asked_number shape table else 50
+
+-- the number that refuses the program's host, columns and claim, 0 where none does
+abbrev pub claim_refusal_of : Host → Columns → Claim → ℕ
+claim_refusal_of host columns claim = claimed_number (shape_of host) (table_of columns) (claimed_of claim)
 
 -- the number of a verdict
 abbrev pub verdict_number : Verdict → ℕ

@@ -1,7 +1,7 @@
-//! What a caller asks about.
+//! The instance of a call.
 ghost use Rattle.std.specs.Prelude.{◌≡◌, true, IfOk, IfErr, OnOk};
 ghost use Rattle.bw_model.specs.Groups.{IsInstance};
-ghost use Rattle.bw_exports.specs.Asked.{shape_of, table_of, groups_in, asked_number, Answers};
+ghost use Rattle.bw_exports.specs.Asked.{groups_asked, refusal_of, Answers};
 ghost use Rattle.bw_exports.specs.Numbers.{number_of_refusal};
 
 use crate::columns::Columns;
@@ -9,7 +9,7 @@ use crate::refusal::Refusal;
 use bw_model::{HostShape, Instance};
 use std::alloc::Global;
 
-/// The numbers of a host, as a caller gives them.
+/// The numbers of a host, as a caller gives them: period and slice in microseconds.
 #[derive(Clone, Copy)]
 pub(crate) struct Host {
     processors: u64,
@@ -18,9 +18,13 @@ pub(crate) struct Host {
 }
 
 impl Host {
-    /// The host of the numbers with which a call begins.
+    /// The host of three numbers.
     pub(crate) fn new(processors: u64, period_us: u64, slice_us: u64) -> Host
-        ensures { result ≡ record { processors = processors; period_us = period_us; slice_us = slice_us } }
+        ensures { result ≡ record {
+          processors = processors;
+          period_us = period_us;
+          slice_us = slice_us;
+        } }
     {
         Host {
             processors,
@@ -30,16 +34,20 @@ impl Host {
     }
 }
 
-/// The instance that a caller asks about; else the first refusal, that of uneven columns before the others.
+/// The instance of a host and its rows.
+///
+/// # Errors
+/// `WrongLength` if the columns differ in length, then the first fault of the host, then the first
+/// fault of the rows.
 pub(crate) fn instance_of(
     alloc: Global,
     host: Host,
     columns: &Columns<'_>,
 ) -> Result<Instance, Refusal>
-    ensures groups { IfOk result (λ i. i ≡ groups_in (shape_of host) (table_of columns.now)) }
+    ensures groups { IfOk result (λ i. i ≡ groups_asked host columns.now) }
     ensures valid { IfOk result IsInstance }
-    ensures none { OnOk result (asked_number (shape_of host) (table_of columns.now) ≡ 0) }
-    ensures err { IfErr result (λ e. Answers (asked_number (shape_of host) (table_of columns.now)) (number_of_refusal e)) }
+    ensures none { OnOk result (refusal_of host columns.now ≡ 0) }
+    ensures err { IfErr result (λ e. Answers (refusal_of host columns.now) (number_of_refusal e)) }
 {
     if !columns.are_even() {
         return Err(Refusal::WrongLength);

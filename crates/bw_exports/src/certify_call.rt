@@ -1,13 +1,16 @@
-//! The planner with a certificate, called from C.
+//! `arbiter_certify`: the planner with a certificate, called from C.
 ghost use Rattle.std.specs.Prelude.{◌≡◌, ◌<◌, ◌∷◌, [], true, length, IfOk, IfErr, OnOk};
-ghost use Rattle.bw_exports.specs.Asked.{shape_of, table_of, groups_in, asked_number, are_of_length, Answers};
-ghost use Rattle.bw_exports.specs.Certified.{IsCertifiedPlan, claimed_in, AreLong, asked_number_where};
+ghost use Rattle.bw_exports.specs.Asked.{groups_asked, refusal_of, are_of_length, Answers};
+ghost use Rattle.bw_exports.specs.Asked.{asked_host, asked_table, groups_in};
+ghost use Rattle.bw_exports.specs.Certified.{IsCertifiedPlan, claimed_in, AreLong};
+ghost use Rattle.bw_exports.specs.Certified.{asked_number_where};
+ghost use Rattle.bw_exports.specs.Checked.{claimed_columns};
 ghost use Rattle.bw_exports.specs.Numbers.{number_of_refusal};
 
 use crate::asked_instance::{Host, instance_of};
+use crate::certificate_columns::{dens, flag_numbers, nums, places};
 use crate::columns::Columns;
 use crate::refusal::Refusal;
-use crate::certificate_columns::{dens, flag_numbers, nums, places};
 use bw_cert::certify;
 use bw_plan::plan;
 use std::alloc::Global;
@@ -22,12 +25,13 @@ struct Found {
     places: Vec<u32>,
 }
 
-// The plan of what is asked, with its certificate.
+// The plan of a host and its rows, with its certificate.
 fn found_in(alloc: Global, host: Host, columns: &Columns<'_>) -> Result<Found, Refusal>
-    ensures held { IfOk result (λ f. IsCertifiedPlan (groups_in (shape_of host) (table_of columns.now)) f.amounts.items (claimed_in f)) }
+    ensures held { IfOk result
+        (λ f. IsCertifiedPlan (groups_asked host columns.now) f.amounts.items (claimed_in f)) }
     ensures long { IfOk result (λ f. AreLong f (length columns.now.parents.now)) }
-    ensures none { OnOk result (asked_number (shape_of host) (table_of columns.now) ≡ 0) }
-    ensures err { IfErr result (λ e. Answers (asked_number (shape_of host) (table_of columns.now)) (number_of_refusal e)) }
+    ensures none { OnOk result (refusal_of host columns.now ≡ 0) }
+    ensures err { IfErr result (λ e. Answers (refusal_of host columns.now) (number_of_refusal e)) }
 {
     let instance = instance_of(alloc, host, columns)?;
     let plan = plan(alloc, &instance)?;
@@ -42,7 +46,7 @@ fn found_in(alloc: Global, host: Host, columns: &Columns<'_>) -> Result<Found, R
     })
 }
 
-// Whether the columns for the answer have so many entries.
+// Whether each column for the answer has so many entries.
 fn are_fit(
     count: usize,
     amounts: &[u64],
@@ -51,7 +55,8 @@ fn are_fit(
     dens: &[u64],
     places: &[u32],
 ) -> bool
-    ensures { result ≡ are_of_length count (amounts.now ∷ flags.now ∷ nums.now ∷ dens.now ∷ places.now ∷ []) }
+    ensures { result ≡ are_of_length count
+        (amounts.now ∷ flags.now ∷ nums.now ∷ dens.now ∷ places.now ∷ []) }
 {
     amounts.len() == count
         && flags.len() == count
@@ -63,9 +68,13 @@ fn are_fit(
 /// The plan of the rows, as [`crate::plan_call::arbiter_plan`] has them, with a certificate that
 /// [`crate::check_call::arbiter_check`] accepts.
 ///
-/// The answer is 0, and the amounts are the plan: a flag is 1 where the group's own limit is below what it wants, else 0,
-/// and `num / den` at `place` is the greatest cost of a child's last slice, 0 for each where the group shares nothing out.
-/// Or it is the number of the refusal, 50 also where a column is not of the rows' length, and each column is as it was.
+/// The answer is 0 if the amounts are the plan and the other columns its certificate. A flag is 1
+/// if the group's own limit is below its want, else 0. The level `num / den` at `place` is the
+/// greatest cost of a child's last slice. All three numbers are 0 if the group shares nothing out.
+/// A refusal leaves each column unchanged.
+///
+/// # Errors
+/// The numbers of `arbiter_plan`, with 50 also if a column does not have the rows' length.
 #[unsafe(no_mangle)]
 pub extern "C" fn arbiter_certify(
     alloc: Global,
@@ -82,13 +91,15 @@ pub extern "C" fn arbiter_certify(
     dens: &mut [u64],
     places: &mut [u32],
 ) -> u32
-    ensures number { Answers (asked_number_where (are_of_length (length parents.now) (amounts.old ∷ flags.old ∷ nums.old ∷ dens.old ∷ places.old ∷ []))
-        (record { processors = processors; period_us = period_us; slice_us = slice_us })
-        (record { parents = parents.now; weights = weights.now; limits = limits.now; demands = demands.now })) result }
+    ensures number { Answers (asked_number_where
+        (are_of_length (length parents.now)
+        (amounts.old ∷ flags.old ∷ nums.old ∷ dens.old ∷ places.old ∷ []))
+        (asked_host processors period_us slice_us)
+        (asked_table parents.now weights.now limits.now demands.now)) result }
     ensures plan { result ≡ 0 → IsCertifiedPlan
-        (groups_in (record { processors = processors; period_us = period_us; slice_us = slice_us })
-        (record { parents = parents.now; weights = weights.now; limits = limits.now; demands = demands.now }))
-        amounts.new (record { flags = flags.new; nums = nums.new; dens = dens.new; places = places.new }) }
+        (groups_in (asked_host processors period_us slice_us)
+        (asked_table parents.now weights.now limits.now demands.now))
+        amounts.new (claimed_columns flags.new nums.new dens.new places.new) }
     ensures amounts_kept { 0 < result → amounts.new ≡ amounts.old }
     ensures flags_kept { 0 < result → flags.new ≡ flags.old }
     ensures nums_kept { 0 < result → nums.new ≡ nums.old }

@@ -1,9 +1,10 @@
-//! The checker, called from C.
+//! `arbiter_check`: the checker, called from C.
 ghost use Rattle.std.specs.Prelude.{◌≡◌, IfOk, IfErr, OnOk};
 ghost use Rattle.bw_model.specs.Plan.{IsPlan};
 ghost use Rattle.bw_check.specs.declared.verdict.Verdict.TheVariants.{Accepted};
-ghost use Rattle.bw_exports.specs.Asked.{shape_of, table_of, groups_in, Answers};
-ghost use Rattle.bw_exports.specs.Checked.{claimed_of, claimed_number, IsVerdictOnClaim, IsOutcome};
+ghost use Rattle.bw_exports.specs.Asked.{groups_asked, asked_host, asked_table, groups_in, Answers};
+ghost use Rattle.bw_exports.specs.Checked.{claimed_of, claimed_number, claimed_columns};
+ghost use Rattle.bw_exports.specs.Checked.{claim_refusal_of, IsVerdictOnClaim, IsOutcome};
 ghost use Rattle.bw_exports.specs.Numbers.{number_of_refusal};
 
 use crate::asked_instance::{Host, instance_of};
@@ -13,7 +14,7 @@ use crate::refusal::Refusal;
 use bw_check::{Verdict, check};
 use std::alloc::Global;
 
-// The verdict on amounts, by what is claimed of them.
+// The verdict on amounts by a claimed certificate.
 fn verdict_of(
     alloc: Global,
     host: Host,
@@ -21,10 +22,13 @@ fn verdict_of(
     amounts: &[u64],
     claim: &Claim<'_>,
 ) -> Result<Verdict, Refusal>
-    ensures verdict { IfOk result (IsVerdictOnClaim (groups_in (shape_of host) (table_of columns.now)) amounts.now (claimed_of claim.now)) }
-    ensures plan { IfOk result (λ v. v ≡ Accepted → IsPlan (groups_in (shape_of host) (table_of columns.now)) amounts.now) }
-    ensures none { OnOk result (claimed_number (shape_of host) (table_of columns.now) (claimed_of claim.now) ≡ 0) }
-    ensures err { IfErr result (λ e. Answers (claimed_number (shape_of host) (table_of columns.now) (claimed_of claim.now)) (number_of_refusal e)) }
+    ensures verdict { IfOk result (IsVerdictOnClaim (groups_asked host columns.now)
+        amounts.now (claimed_of claim.now)) }
+    ensures plan { IfOk result
+        (λ v. v ≡ Accepted → IsPlan (groups_asked host columns.now) amounts.now) }
+    ensures none { OnOk result (claim_refusal_of host columns.now claim.now ≡ 0) }
+    ensures err { IfErr result
+        (λ e. Answers (claim_refusal_of host columns.now claim.now) (number_of_refusal e)) }
 {
     if !claim.is_even() {
         return Err(Refusal::WrongLength);
@@ -34,14 +38,19 @@ fn verdict_of(
     Ok(check(alloc, &instance, amounts, &certificate)?)
 }
 
-/// Whether the flags and levels show that the amounts are the plan of the rows, as [`crate::plan_call::arbiter_plan`] has them.
+/// Whether the flags and levels show that the amounts are the plan of the rows, as
+/// [`crate::plan_call::arbiter_plan`] has them.
 ///
-/// A flag that is not 0 says that the group's own limit is what bounds its amount. The level at a group is `num / den` at
-/// `place`, none where `num` or `den` is 0. Amounts, flags and levels may be any numbers.
+/// A flag that is not 0 says that the group's own limit bounds its amount. The level of a group is
+/// `num / den` at `place`, and none if `num` or `den` is 0. Amounts, flags and levels may be any
+/// numbers.
 ///
-/// The answer is 0, and then the amounts are the plan; or 51 to 58, or 50 for amounts, flags or levels that are not one for
-/// each row, and `row` is the row of the group that has this fault; or the number of the refusal, as there, and the row is
-/// as it was, which it is for 0 too.
+/// The answer is 0 if they do, and then the amounts are the plan. If it is 50 to 58, the number of
+/// a fault of the amounts and their certificate, `row` is the row of the group that has the fault.
+/// `row` is unchanged if the answer is 0 or a refusal.
+///
+/// # Errors
+/// The numbers of `arbiter_plan`, with 50 also if the columns of the levels differ in length.
 #[unsafe(no_mangle)]
 pub extern "C" fn arbiter_check(
     alloc: Global,
@@ -60,15 +69,16 @@ pub extern "C" fn arbiter_check(
     row: &mut u32,
 ) -> u32
     ensures outcome { IsOutcome
-        (claimed_number (record { processors = processors; period_us = period_us; slice_us = slice_us })
-        (record { parents = parents.now; weights = weights.now; limits = limits.now; demands = demands.now })
-        (record { flags = flags.now; nums = nums.now; dens = dens.now; places = places.now }))
-        (groups_in (record { processors = processors; period_us = period_us; slice_us = slice_us })
-        (record { parents = parents.now; weights = weights.now; limits = limits.now; demands = demands.now }))
-        amounts.now (record { flags = flags.now; nums = nums.now; dens = dens.now; places = places.now }) row.old row.new result }
+        (claimed_number (asked_host processors period_us slice_us)
+        (asked_table parents.now weights.now limits.now demands.now)
+        (claimed_columns flags.now nums.now dens.now places.now))
+        (groups_in (asked_host processors period_us slice_us)
+        (asked_table parents.now weights.now limits.now demands.now))
+        amounts.now (claimed_columns flags.now nums.now dens.now places.now)
+        row.old row.new result }
     ensures plan { result ≡ 0 → IsPlan
-        (groups_in (record { processors = processors; period_us = period_us; slice_us = slice_us })
-        (record { parents = parents.now; weights = weights.now; limits = limits.now; demands = demands.now }))
+        (groups_in (asked_host processors period_us slice_us)
+        (asked_table parents.now weights.now limits.now demands.now))
         amounts.now }
 {
     let host = Host::new(processors, period_us, slice_us);

@@ -1,4 +1,4 @@
-//! The checker of certified texts, called from C.
+//! `arbiter_check_text`: the checker of certified texts, called from C.
 ghost use Rattle.std.specs.Prelude.{◌≡◌, IfOk, IfErr};
 ghost use Rattle.bw_check.specs.declared.verdict.Verdict.TheVariants.{Accepted};
 ghost use Rattle.bw_cert.specs.Faults.{cert_fault_number};
@@ -10,7 +10,7 @@ use bw_cert::{CertFault, read_certified};
 use bw_check::{Verdict, check};
 use std::alloc::Global;
 
-// The verdict on what a text certifies.
+// The verdict on a certified text.
 fn verdict_in(alloc: Global, text: &[u8]) -> Result<Verdict, CertFault>
     ensures verdict { IfOk result (IsVerdictIn (certified_of (text_lines text.now))) }
     ensures plan { IfOk result (λ v. v ≡ Accepted → HoldsPlan text.now) }
@@ -25,11 +25,15 @@ fn verdict_in(alloc: Global, text: &[u8]) -> Result<Verdict, CertFault>
     )?)
 }
 
-/// Whether a certified text holds together: the one that `arbiter check` reads.
+/// Whether a certified text shows that its amounts are the plan: the text that `arbiter check`
+/// reads.
 ///
-/// The answer is 0, and then the amounts of the text are the plan of its instance; or 51 to 58, and `row` is the row of the
-/// group that has this fault; or 1 to 10 or 40 to 43 where it is no certified text, 71 where memory was refused, and the row
-/// is as it was, which it is for 0 too.
+/// The answer is 0 if it does, and then the amounts are the plan of the text's instance. If it is
+/// 51 to 58, the number of a fault of the amounts and their certificate, `row` is the row of the
+/// group that has the fault. `row` is unchanged otherwise.
+///
+/// # Errors
+/// The answer is 1 to 10 or 40 to 43 if it is no certified text, 71 if memory was refused.
 #[unsafe(no_mangle)]
 pub extern "C" fn arbiter_check_text(alloc: Global, text: &[u8], row: &mut u32) -> u32
     ensures outcome { IsTextOutcome (certified_of (text_lines text.now)) row.old row.new result }

@@ -1,4 +1,4 @@
-//! A certificate as a caller gives it, column by column.
+//! The certificate that a caller gives, by column.
 ghost use Rattle.std.specs.Prelude.{◌≡◌, ◌==◌, true, not, length, map, IfOk};
 ghost use Rattle.bw_model.specs.Certificate.{certified_of};
 ghost use Rattle.bw_exports.specs.Checked.{claimed_of, AreLevels, are_levels_even, IsSpelled};
@@ -6,7 +6,7 @@ ghost use Rattle.bw_exports.specs.Checked.{claimed_of, AreLevels, are_levels_eve
 use bw_model::{Certificate, Mark};
 use std::alloc::{AllocError, Global};
 
-/// Flags and levels, one entry in each column for each row.
+/// Flags and levels of a claimed certificate, one entry in each column for each row.
 #[derive(Clone, Copy)]
 pub(crate) struct Claim<'a> {
     pub(crate) flags: &'a [u8],
@@ -30,9 +30,11 @@ impl Claim<'_> {
         self.dens.len() == count && self.places.len() == count
     }
 
+    // The levels, None if `num` or `den` is 0.
     fn levels(&self, alloc: Global) -> Result<Vec<Option<Mark>>, AllocError>
         requires { are_levels_even (claimed_of self.now) ≡ true }
-        ensures { IfOk result (λ levels. AreLevels (claimed_of self.now) (length self.now.nums.now) levels.items) }
+        ensures { IfOk result (λ levels. AreLevels (claimed_of self.now)
+            (length self.now.nums.now) levels.items) }
     {
         let mut levels = Vec::new(alloc);
         for k in 0..self.nums.len() {
@@ -44,7 +46,8 @@ impl Claim<'_> {
     /// The certificate of columns of one length.
     pub(crate) fn certificate(&self, alloc: Global) -> Result<Certificate, AllocError>
         requires { are_levels_even (claimed_of self.now) ≡ true }
-        ensures { IfOk result (λ certificate. IsSpelled (claimed_of self.now) (certified_of certificate)) }
+        ensures { IfOk result
+            (λ certificate. IsSpelled (claimed_of self.now) (certified_of certificate)) }
     {
         let tight = flags_of(alloc, self.flags)?;
         let levels = self.levels(alloc)?;

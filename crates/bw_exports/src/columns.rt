@@ -1,17 +1,17 @@
-//! The rows of a tree as a caller gives them, column by column.
+//! The rows of a tree that a caller gives, by column.
 ghost use Rattle.std.specs.Prelude.{◌≡◌, ◌<◌, length, IfOk, true};
 ghost use Rattle.bw_exports.specs.Asked.{table_of, parent_in, limit_in, row_in, rows_in, are_even};
 
 use bw_model::Row;
 use std::alloc::{AllocError, Global};
 
-/// The parent that stands for none.
+/// The number for no parent.
 pub const NO_PARENT: u32 = 4_294_967_295;
 
-/// The limit that stands for none.
+/// The number for no limit.
 pub const NO_LIMIT: u64 = 18_446_744_073_709_551_615;
 
-/// One entry in each column for each row.
+/// Columns of the rows: parents, weights, limits and demands in slices.
 #[derive(Clone, Copy)]
 pub(crate) struct Columns<'a> {
     parents: &'a [u32],
@@ -48,7 +48,12 @@ impl<'a> Columns<'a> {
         limits: &'a [u64],
         demands: &'a [u64],
     ) -> Columns<'a>
-        ensures { result ≡ record { parents = parents.entry; weights = weights.entry; limits = limits.entry; demands = demands.entry } }
+        ensures { result ≡ record {
+          parents = parents.entry;
+          weights = weights.entry;
+          limits = limits.entry;
+          demands = demands.entry;
+        } }
     {
         Columns {
             parents,
@@ -66,6 +71,7 @@ impl<'a> Columns<'a> {
         self.weights.len() == count && self.limits.len() == count && self.demands.len() == count
     }
 
+    // Row g of the columns.
     fn row(&self, g: usize) -> Row
         requires even { are_even (table_of self.now) ≡ true }
         requires within { g < length self.now.parents.now }

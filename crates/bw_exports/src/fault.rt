@@ -6,7 +6,7 @@ use bw_cert::CertFault;
 use bw_check::CheckFault;
 use bw_model::{HostFault, InstanceFault};
 
-/// A fault of what is asked, or of what is claimed of it.
+/// A fault of an instance or a certified text, or of claimed amounts.
 #[derive(Clone, Copy, Debug, PartialEq, Eq)]
 pub(crate) enum Fault {
     /// 1 to 10, 40 to 43 and 71.
@@ -27,7 +27,7 @@ impl Fault {
     }
 }
 
-/// The fault that has this number, if one has.
+/// The fault of a number, or None if no fault has it.
 pub(crate) fn fault_of(number: u32) -> Option<Fault>
     ensures some { IfSome result (λ fault. number_of_fault fault ≡ number) }
     ensures none { IfNone result (IsNoFault number) }

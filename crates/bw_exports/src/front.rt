@@ -1,7 +1,7 @@
-//! Lists written to the front of what a caller gave.
+//! Lists written to the front of a caller's buffer.
 ghost use Rattle.std.specs.Prelude.{◌≡◌, ◌≤◌, ◌++◌, length, drop};
 
-/// Writes all of a list to the front.
+/// Writes all of a list to the front of a buffer.
 pub(crate) fn write_front<T: Copy>(into: &mut [T], list: &[T])
     requires { length list.now ≤ length into.old }
     ensures { into.new ≡ list.now ++ drop (length list.now) into.old }

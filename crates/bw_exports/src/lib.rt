@@ -1,9 +1,11 @@
-//! The planner as a library for programs in C and in what calls C.
+//! The planner as a library for C and for languages that call C. Each call has a file of its name.
 #![tactic(auto)]
 
 mod asked_instance;
+mod certificate_columns;
 mod certify_call;
 mod check_call;
+mod check_text_call;
 mod claim;
 mod columns;
 mod fault;
@@ -12,5 +14,3 @@ mod limiting_call;
 mod name_call;
 mod plan_call;
 mod refusal;
-mod certificate_columns;
-mod check_text_call;

@@ -1,7 +1,8 @@
-//! The planner, called from C.
+//! `arbiter_plan`: the planner, called from C.
 ghost use Rattle.std.specs.Prelude.{◌≡◌, ◌<◌, length, IfOk, IfErr, OnOk};
 ghost use Rattle.bw_model.specs.Plan.{IsPlan};
-ghost use Rattle.bw_exports.specs.Asked.{shape_of, table_of, groups_in, asked_number, asked_number_with, Answers};
+ghost use Rattle.bw_exports.specs.Asked.{groups_asked, refusal_of, Answers};
+ghost use Rattle.bw_exports.specs.Asked.{asked_host, asked_table, groups_in, asked_number_with};
 ghost use Rattle.bw_exports.specs.Numbers.{number_of_refusal};
 
 use crate::asked_instance::{Host, instance_of};
@@ -10,21 +11,21 @@ use crate::refusal::Refusal;
 use bw_plan::{Plan, plan};
 use std::alloc::Global;
 
-// The plan of what is asked.
+// The plan of a host and its rows.
 fn plan_of(alloc: Global, host: Host, columns: &Columns<'_>) -> Result<Plan, Refusal>
-    ensures plan { IfOk result (λ p. IsPlan (groups_in (shape_of host) (table_of columns.now)) p.amounts.items) }
-    ensures none { OnOk result (asked_number (shape_of host) (table_of columns.now) ≡ 0) }
-    ensures err { IfErr result (λ e. Answers (asked_number (shape_of host) (table_of columns.now)) (number_of_refusal e)) }
+    ensures plan { IfOk result (λ p. IsPlan (groups_asked host columns.now) p.amounts.items) }
+    ensures none { OnOk result (refusal_of host columns.now ≡ 0) }
+    ensures err { IfErr result (λ e. Answers (refusal_of host columns.now) (number_of_refusal e)) }
 {
     let instance = instance_of(alloc, host, columns)?;
     Ok(plan(alloc, &instance)?)
 }
 
-// Writes the plan of what is asked to the amounts, which stay as they were where it is refused.
+// Writes the plan of a host and its rows. A refusal leaves the amounts unchanged.
 fn write_plan(alloc: Global, host: Host, columns: &Columns<'_>, amounts: &mut [u64]) -> u32
     requires { length amounts.old ≡ length columns.now.parents.now }
-    ensures number { Answers (asked_number (shape_of host) (table_of columns.now)) result }
-    ensures plan { result ≡ 0 → IsPlan (groups_in (shape_of host) (table_of columns.now)) amounts.new }
+    ensures number { Answers (refusal_of host columns.now) result }
+    ensures plan { result ≡ 0 → IsPlan (groups_asked host columns.now) amounts.new }
     ensures kept { 0 < result → amounts.new ≡ amounts.old }
 {
     match plan_of(alloc, host, columns) {
@@ -38,12 +39,17 @@ fn write_plan(alloc: Global, host: Host, columns: &Columns<'_>, amounts: &mut [u
 
 /// The plan of the rows of a tree, in slices of one period.
 ///
-/// The host has 1 to 64 processors, a period of 1000 to 1000000 microseconds and a slice of at least 1000 microseconds that
-/// divides it. Row g of the columns is a group: the row of its parent, or the greatest number for none; its weight; its
-/// limit in slices, or the greatest number for none; its demand in slices. Columns and amounts are of one length.
+/// The host has 1 to 64 processors, and a period of 1,000 to 1,000,000 microseconds. Its slice is
+/// at least 1,000 microseconds and divides the period. All columns and the amounts have one length.
 ///
-/// The answer is 0, and the amounts are the plan; or the number of the refusal, and the amounts are as they were: 50 for
-/// lengths that differ, then 1 to 3 of the host and 4 to 10 of the rows, 71 where memory was refused.
+/// Row g of the columns is a group: its parent's row, its weight of 1 to 10,000, its limit and its
+/// demand in slices. The greatest number means no parent, or no limit.
+///
+/// The answer is 0 if the amounts are the plan. A refusal leaves the amounts unchanged.
+///
+/// # Errors
+/// The answer is the number of the first refusal: 50 if lengths differ, 1 to 3 of the host, 4 to 10
+/// of the rows, or 71 if memory was refused.
 #[unsafe(no_mangle)]
 pub extern "C" fn arbiter_plan(
     alloc: Global,
@@ -57,11 +63,11 @@ pub extern "C" fn arbiter_plan(
     amounts: &mut [u64],
 ) -> u32
     ensures number { Answers
-        (asked_number_with (length amounts.old) (record { processors = processors; period_us = period_us; slice_us = slice_us })
-        (record { parents = parents.now; weights = weights.now; limits = limits.now; demands = demands.now })) result }
+        (asked_number_with (length amounts.old) (asked_host processors period_us slice_us)
+        (asked_table parents.now weights.now limits.now demands.now)) result }
     ensures plan { result ≡ 0
-        → IsPlan (groups_in (record { processors = processors; period_us = period_us; slice_us = slice_us })
-        (record { parents = parents.now; weights = weights.now; limits = limits.now; demands = demands.now })) amounts.new }
+        → IsPlan (groups_in (asked_host processors period_us slice_us)
+        (asked_table parents.now weights.now limits.now demands.now)) amounts.new }
     ensures kept { 0 < result → amounts.new ≡ amounts.old }
 {
     if amounts.len() != parents.len() {

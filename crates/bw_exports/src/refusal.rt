@@ -1,18 +1,18 @@
-//! Why what a caller asks is refused, and its number.
+//! The refusals of a call, and their numbers.
 ghost use Rattle.std.specs.Prelude.{◌≡◌};
 ghost use Rattle.bw_exports.specs.Numbers.{number_of_refusal};
 
 use bw_model::{HostFault, InstanceFault};
 use std::alloc::AllocError;
 
-/// The refusals, in the order in which the tests are made; memory may be refused at any of them.
+/// The refusals of a call, in the order of the tests.
 #[derive(Clone, Copy, Debug, PartialEq, Eq)]
 pub(crate) enum Refusal {
-    /// 50: not one entry in each array for each row.
+    /// 50: not one entry in each column for each row.
     WrongLength,
     /// 1 to 3.
     Host(HostFault),
-    /// 4 to 10, and 71 where memory was refused.
+    /// 4 to 10, and 71 if memory was refused.
     Instance(InstanceFault),
 }
 

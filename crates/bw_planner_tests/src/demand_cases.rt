@@ -1,4 +1,4 @@
-//! What groups want, what limits them, against worked values.
+//! Wants and limiting groups, against worked values.
 use crate::rows::{Shown, instance_of};
 use bw_demand::{gather, limiting};
 use bw_model::{HostShape, InstanceFault};
@@ -6,7 +6,7 @@ use std::alloc::Global;
 use std::process::Abort;
 use std::test::Fail;
 
-/// So many processors of 20 slices each, rows, and what is gathered of them and limits it.
+/// Processors of 20 slices each, rows, and the demands and limiting groups of these.
 struct Case {
     processors: u64,
     rows: &'static [Shown],

@@ -1,4 +1,4 @@
-//! The levels of a tree, against worked values.
+//! The rows of a tree by their depth, against worked values.
 use crate::rows::{Shown, instance_of};
 use bw_demand::levels;
 use bw_model::{HostShape, InstanceFault};

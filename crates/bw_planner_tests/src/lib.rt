@@ -1,5 +1,5 @@
-//! Tests of the model, the demand, the split and the pool that no script line and no certified text reaches; what one does
-//! reach stands in tests/worked of the repository, which the native program is run on.
+//! Tests of model, demand, split and pool with values that no script line and no certified text
+//! reaches.
 #![tactic(auto)]
 
 #[cfg(test)]

@@ -161,7 +161,8 @@ static CHILDREN: [&[u32]; 5] = [&[1, 3], &[2, 4], &[], &[], &[]];
 
 static PATHS: [&[u32]; 5] = [&[0], &[1, 0], &[2, 1, 0], &[3, 0], &[4, 1, 0]];
 
-/// What the readers tell of one group. They borrow the instance, which a test that owns it would drop at each assertion.
+/// Asserts the answers of the readers for one group. The instance is borrowed: a test that owns it
+/// would drop it at each assertion.
 fn assert_reads(rt: &impl Abort, instance: &Instance, g: u32, children: &[u32], path: &[u32]) {
     assert!(rt; g < instance.group_count());
     assert!(rt; instance.children(g) == children);

@@ -1,5 +1,5 @@
 //! The slice pool by single steps and by its core, against worked replies.
-//! Where one allocation is refused a case is run once more, so that each holds with any one of its allocations failing.
+//! A case runs once more if an allocation is refused. So it holds with any one allocation failing.
 ghost use Rattle.std.specs.Prelude.{◌≤◌, length};
 
 use crate::rows::{Shown, instance_of};
@@ -13,7 +13,7 @@ use std::alloc::{AllocError, Global};
 use std::process::Abort;
 use std::test::Fail;
 
-/// A host with periods of so many microseconds, and groups, with amounts in slices of 5000 microseconds.
+/// A host with slices of 5,000 microseconds, and groups with amounts in slices.
 #[derive(Clone, Copy)]
 struct Setting {
     processors: u64,

@@ -1,4 +1,4 @@
-//! Instances of rows that are written shortly.
+//! Instances of rows in a short form.
 use bw_model::{HostShape, Instance, InstanceFault, Row};
 use std::alloc::Global;
 

@@ -20,7 +20,7 @@ fn assert_split_once(
     Ok(())
 }
 
-/// Asserts that both bodies give these parts. Where memory is refused they are asked again: that left nothing behind.
+/// Asserts that both bodies give these parts, with a second run if memory was refused.
 fn assert_split(
     rt: &impl Abort,
     alloc: Global,
@@ -87,7 +87,7 @@ fn cost_of([a, b, c]: [u64; 3], [x, y, z]: [u64; 3]) -> u64 {
     first.wrapping_add(second).wrapping_add(third)
 }
 
-/// The best split among three children by trying all lists, each after those that are lexicographically below it.
+/// The best split among three children by trying all lists, in lexicographic order.
 fn best_by_trial(amount: u64, weights: [u64; 3], most: [u64; 3]) -> [u64; 3] {
     let mut best = [0; 3];
     let mut least = u64::MAX;

@@ -1,5 +1,5 @@
-//! Times of planning: `plan_bench RUNS` prints a table, each time the least of so many runs, in microseconds.
-//! Without a word it says so, and times nothing.
+//! Times of planning: `plan_bench RUNS` prints a table in microseconds, each the least of so many
+//! runs. Without a word it prints its usage, and times nothing.
 #![tactic(auto)]
 
 mod shapes;
@@ -11,10 +11,10 @@ use std::thread::Threads;
 use std::time::Clock;
 use times::{Call, time};
 
-// So many groups has each tree, with the root.
+// Numbers of groups of the trees, with the root.
 const SIZES: [u32; 3] = [1024, 4096, 16384];
 
-// A whole number of microseconds, and a tenth.
+// Prints a time in microseconds, with tenths.
 fn print_time(rt: &impl Print, nanoseconds: Option<u32>) {
     let _ = match nanoseconds {
         None => print!(rt; " none |"),

@@ -1,11 +1,11 @@
-//! The trees that are planned.
+//! The trees that the bench plans.
 ghost use Rattle.std.specs.Prelude.{◌≡◌, ◌<◌, ◌≤◌, length, IfSome};
 ghost use Rattle.plan_bench.specs.Names.{shape_name};
 
 use bw_model::{HostShape, Instance, Row};
 use std::alloc::Global;
 
-/// How the groups of a tree hang together.
+/// The shape of a tree: who is whose child.
 #[derive(Clone, Copy)]
 pub enum Shape {
     /// All groups are children of the root.
@@ -32,7 +32,7 @@ pub const SHAPES: [Shape; 6] = [
     Shape::Random,
 ];
 
-/// What the table calls a shape.
+/// The name of a shape in the table.
 pub fn name_of(shape: Shape) -> &'static str
     ensures { result.now ≡ shape_name shape }
 {
@@ -46,7 +46,7 @@ pub fn name_of(shape: Shape) -> &'static str
     }
 }
 
-// The next of a row of numbers that look random.
+// The next of a sequence of pseudorandom numbers.
 fn next(random: u64) -> u64 {
     random
         .wrapping_mul(6_364_136_223_846_793_005)
@@ -70,8 +70,8 @@ fn parent_of(shape: Shape, g: u32, groups: u32, random: u32) -> u32
     }
 }
 
-/// A tree of so many groups, 1 or more, with weights from 1 to 997 and demands of its leaves from 1 to 59. None where memory was
-/// refused.
+/// A tree of so many groups, 1 or more, or None if memory was refused. Weights are 1 to 997, and
+/// demands of leaves 1 to 59 slices.
 pub fn instance_of(alloc: Global, shape: Shape, groups: u32, host: HostShape) -> Option<Instance>
     ensures groups { 1 ≤ groups → IfSome result (λ instance. length instance.rows ≡ groups) }
     ensures host { IfSome result (λ instance. instance.shape ≡ host) }

@@ -1,4 +1,4 @@
-//! How long the calls take.
+//! Times of the calls.
 ghost use Rattle.std.specs.Prelude.{◌≡◌, ◌<◌, ◌^◌, None, IfSome};
 
 use bw_demand::{gather, levels};
@@ -7,12 +7,12 @@ use bw_plan::{plan, plan_levels};
 use std::thread::Threads;
 use std::time::{Clock, Instant};
 
-/// What is timed.
+/// A call that is timed.
 #[derive(Clone, Copy)]
 pub enum Call {
     /// `levels`
     Levels,
-    /// `gather`, which makes the levels too
+    /// `gather`, which makes the lists by depth too
     Gathering,
     /// `plan`
     Plan,
@@ -20,7 +20,7 @@ pub enum Call {
     PlanLevels,
 }
 
-// One call. None where memory was refused.
+// Makes one call. None if memory was refused.
 fn make<R: AllocGlobal + Threads + Sync>(rt: &R, instance: &Instance, call: Call) -> Option<()> {
     let alloc = rt.alloc();
     match call {
@@ -40,7 +40,8 @@ fn make<R: AllocGlobal + Threads + Sync>(rt: &R, instance: &Instance, call: Call
     Some(())
 }
 
-/// The least time of so many runs of a call, in nanoseconds, below a second. None where memory or the clock was refused.
+/// The least time of so many runs of a call, in nanoseconds below a second, or None if memory or
+/// the clock was refused.
 pub fn time<R: AllocGlobal + Clock + Threads + Sync>(
     rt: &R,
     instance: &Instance,

@@ -5,7 +5,7 @@ use Rattle.bw_model.specs.Host.{Shape, IsHost}
 use Rattle.bw_model.specs.Groups.{IsInstance}
 use Rattle.bw_model.specs.Refusal.{refusal, IsRefused}
 use Rattle.bw_exports.specs.Asked.{shape_of, table_of, rows_in, are_even}
-use Rattle.bw_exports.proofs.Asked.{asked_uneven, asked_host, asked_none, rows_refused}
+use Rattle.bw_exports.proofs.Asked.{asked_uneven, host_refused, asked_none, rows_refused}
 use Rattle.bw_exports.proofs.asked_instance.instance_of.Goals as goal
 
 pub returns-then-not-are_even-clause-err : goal.returns-then-not-are_even-clause-err
@@ -16,7 +16,7 @@ returns-then-not-are_even-clause-err c =
 pub returns-in-Err-clause-err : goal.returns-in-Err-clause-err
 returns-in-Err-clause-err c =
     let e : are_even (table_of c.args.columns.now) ≡ true = search rules in
-    inl (sym (asked_host (shape_of c.args.host) (table_of c.args.columns.now) c.in-Err.fault e c.in-Err.ensures.err))
+    inl (sym (host_refused (shape_of c.args.host) (table_of c.args.columns.now) c.in-Err.fault e c.in-Err.ensures.err))
 
 pub returns-in-Ok-new-clause-none : goal.returns-in-Ok-new-clause-none
 returns-in-Ok-new-clause-none c =

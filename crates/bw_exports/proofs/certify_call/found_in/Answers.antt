@@ -8,7 +8,7 @@ use Rattle.bw_cert.specs.Levels.{AreTightFlags, AreLevels}
 use Rattle.bw_exports.specs.Asked.{shape_of, table_of, rows_in, groups_in}
 use Rattle.bw_exports.specs.Certified.{flag_number, num_of, den_of, place_of_level}
 use Rattle.bw_exports.proofs.Asked.{rows_length}
-use Rattle.bw_exports.proofs.Spelling.{spelled_by, long_by}
+use Rattle.bw_exports.proofs.Spelling.{columns_by, spelled_by, long_by}
 use Rattle.bw_exports.proofs.certify_call.found_in.Goals as goal
 
 pub returns-clause-held : goal.returns-clause-held
@@ -16,14 +16,17 @@ returns-clause-held c =
     let groups = c.in_ok-instance.ensures.groups in
     let certificate : Certified = certified_of c.in_ok-certificate.certificate in
     let amounts = c.in_ok-plan.plan.amounts.items in
+    let flags = c.in_ok-flag_numbers.ensures ∙ ap (λ (l : List Bool). map flag_number l) c.as_slice.ensures.value in
+    let nums = c.in_ok-nums.ensures ∙ ap (λ (l : List (Option Mark)). map num_of l) c.as_slice-levels.ensures.value in
+    let dens = c.in_ok-dens.ensures ∙ ap (λ (l : List (Option Mark)). map den_of l) c.as_slice-levels.ensures.value in
+    let places = c.in_ok-places.ensures ∙ ap (λ (l : List (Option Mark)). map place_of_level l) c.as_slice-levels.ensures.value in
     record {
       plan = subst (λ (g : Groups). IsPlan g amounts) groups c.in_ok-plan.ensures;
       certificate = certificate;
-      spelled = spelled_by certificate c.in_ok-flag_numbers.field-0.items c.in_ok-nums.field-0.items c.in_ok-dens.field-0.items c.in_ok-places.field-0.items
-          (c.in_ok-flag_numbers.ensures ∙ ap (λ (l : List Bool). map flag_number l) c.as_slice.ensures.value)
-          (c.in_ok-nums.ensures ∙ ap (λ (l : List (Option Mark)). map num_of l) c.as_slice-levels.ensures.value)
-          (c.in_ok-dens.ensures ∙ ap (λ (l : List (Option Mark)). map den_of l) c.as_slice-levels.ensures.value)
-          (c.in_ok-places.ensures ∙ ap (λ (l : List (Option Mark)). map place_of_level l) c.as_slice-levels.ensures.value);
+      columns = columns_by certificate c.in_ok-flag_numbers.field-0.items c.in_ok-nums.field-0.items
+          c.in_ok-dens.field-0.items c.in_ok-places.field-0.items flags nums dens places;
+      spelled = spelled_by certificate c.in_ok-flag_numbers.field-0.items c.in_ok-nums.field-0.items
+          c.in_ok-dens.field-0.items c.in_ok-places.field-0.items flags nums dens places;
       accepted = subst (λ (g : Groups). IsAccepted g amounts certificate) groups c.in_ok-certificate.ensures.certified;
       flags = subst (λ (g : Groups). AreTightFlags g certificate) groups c.in_ok-certificate.ensures.flags;
       levels = subst (λ (g : Groups). AreLevels g amounts certificate) groups c.in_ok-certificate.ensures.levels;
