@@ -1,8 +1,10 @@
 -- The numbers and names of the refusals.
 use Rattle.std.specs.Prelude.{ℕ, List, codes}
-use Rattle.bw_model.specs.Faults.{host_fault_number, host_fault_name, instance_fault_number, instance_fault_name}
+use Rattle.bw_model.specs.Faults.{host_fault_number, host_fault_name, instance_fault_number}
+use Rattle.bw_model.specs.Faults.{instance_fault_name}
 use Rattle.bw_cert.specs.declared.fault.CertFault.{CertFault}
-use Rattle.bw_cert.specs.declared.fault.CertFault.TheVariants.{Host, Instance, BadLine, BadField, CutShort, Trailing, OutOfMemory}
+use Rattle.bw_cert.specs.declared.fault.CertFault.TheVariants.{Host, Instance, BadLine, BadField}
+use Rattle.bw_cert.specs.declared.fault.CertFault.TheVariants.{CutShort, Trailing, OutOfMemory}
 
 abbrev pub cert_fault_number : CertFault → ℕ
 cert_fault_number (Host fault) = host_fault_number fault

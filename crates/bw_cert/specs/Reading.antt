@@ -1,5 +1,6 @@
 -- Reading from the first line to the last, with the first refusal that is met.
-use Rattle.std.specs.Prelude.{◌≡◌, ℕ, zero, suc, ◌^◌, Bool, true, false, ◌&&◌, ◌==◌, nat_lt, List, [], ◌∷◌, length, map, Option, Some, None, Result, Ok, Err}
+use Rattle.std.specs.Prelude.{◌≡◌, ℕ, zero, suc, ◌^◌, Bool, true, false, ◌&&◌, ◌==◌, nat_lt, List}
+use Rattle.std.specs.Prelude.{[], ◌∷◌, length, map, Option, Some, None, Result, Ok, Err}
 use Rattle.std.specs.Prelude.{codes, if◌then◌else◌}
 use Rattle.std.specs.Option.{option_map}
 use Rattle.std.specs.List.{slice_split}
@@ -21,7 +22,8 @@ use Rattle.bw_cert.specs.declared.groups.Columns as declared
 use Rattle.bw_cert.specs.Spelling.{Columns, Value, certified_value, words_of}
 
 infixl 10 ◌>>=◌
-abbrev pub ◌>>=◌ : {A B : Type 0} → Result A CertFault → (A → Result B CertFault) → Result B CertFault
+abbrev pub ◌>>=◌ : {A B : Type 0} → Result A CertFault → (A → Result B CertFault)
+    → Result B CertFault
 (Ok x) >>= f = f x
 (Err e) >>= f = Err e
 
@@ -60,10 +62,12 @@ abbrev pub parent_at : List ℕ → Result (Option ℕ) CertFault
 parent_at word = if bytes_eq word (codes "-") then Ok None else (u32_at word >>= λ n. Ok (Some n))
 
 abbrev pub limit_at : List ℕ → Result (Option ℕ) CertFault
-limit_at word = if bytes_eq word (codes "max") then Ok None else (number_at word >>= λ n. Ok (Some n))
+limit_at word = if bytes_eq word (codes "max") then Ok None
+    else (number_at word >>= λ n. Ok (Some n))
 
 abbrev pub flag_at : List ℕ → Result Bool CertFault
-flag_at word = if bytes_eq word (codes "0") then Ok false else if bytes_eq word (codes "1") then Ok true else Err faults.BadField
+flag_at word = if bytes_eq word (codes "0") then Ok false
+    else if bytes_eq word (codes "1") then Ok true else Err faults.BadField
 
 -- the two parts of what is split in two
 abbrev pub in_two : List (List ℕ) → Result (List ℕ × List ℕ) CertFault
@@ -71,7 +75,8 @@ in_two (a ∷ b ∷ []) = Ok (a, b)
 in_two _ = Err faults.BadField
 
 abbrev pub level_in : ℕ → ℕ → ℕ → Result (Option MarkValue) CertFault
-level_in num den place = if nat_lt 0 num && nat_lt 0 den then Ok (Some (record { num = num; den = den; place = place })) else Err faults.BadField
+level_in num den place = if nat_lt 0 num && nat_lt 0 den
+    then Ok (Some (record { num = num; den = den; place = place })) else Err faults.BadField
 
 -- NUM/DEN@PLACE
 unfoldable pub mark_at : List ℕ → Result (Option MarkValue) CertFault
@@ -134,12 +139,15 @@ group_of (parent ∷ weight ∷ limit ∷ demand ∷ amount ∷ flag ∷ level �
   a ← number_at amount
   f ← flag_at flag
   m ← level_in_word level
-  Ok (record { row = record { parent = p; weight = w; limit = l; demand = d }; amount = a; flag = f; level = m })
+  Ok (record { row = record { parent = p; weight = w; limit = l; demand = d }; amount = a; flag = f;
+      level = m })
 group_of _ = Err faults.BadLine
 
 -- a group in front of others
 abbrev pub with_group : Group → Columns → Columns
-with_group g c = record { rows = g.row ∷ c.rows; amounts = g.amount ∷ c.amounts; flags = g.flag ∷ c.flags; levels = g.level ∷ c.levels }
+with_group g c =
+    record { rows = g.row ∷ c.rows; amounts = g.amount ∷ c.amounts; flags = g.flag ∷ c.flags;
+    levels = g.level ∷ c.levels }
 
 abbrev pub no_groups : Columns
 no_groups = record { rows = []; amounts = []; flags = []; levels = [] }
@@ -168,15 +176,19 @@ certified_of parts = do
   l ← line_at parts
   head ← head_of (words_of l.0)
   gs ← groups_at head.1 l.1
-  if is_over gs.1 then value_unless (record { shape = head.0; groups = gs.0 }) (refusal gs.0.rows) else Err faults.Trailing
+  if is_over gs.1 then value_unless (record { shape = head.0; groups = gs.0 }) (refusal gs.0.rows)
+      else Err faults.Trailing
 
 -- ---- what the program holds
 
 abbrev pub group_view : GroupLine → Group
-group_view g = record { row = g.row; amount = g.amount; flag = g.flag; level = option_map price_of g.level }
+group_view g =
+    record { row = g.row; amount = g.amount; flag = g.flag; level = option_map price_of g.level }
 
 abbrev pub columns_view : declared.Columns → Columns
-columns_view c = record { rows = c.rows.items; amounts = c.amounts.items; flags = c.tight.items; levels = map (option_map price_of) c.levels.items }
+columns_view c =
+    record { rows = c.rows.items; amounts = c.amounts.items; flags = c.tight.items;
+    levels = map (option_map price_of) c.levels.items }
 
 abbrev pub certified_view : Certified → Value
 certified_view c = certified_value c.instance c.amounts.items c.certificate

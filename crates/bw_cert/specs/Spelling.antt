@@ -1,5 +1,6 @@
 -- What a text certifies, and the one spelling of it.
-use Rattle.std.specs.Prelude.{◌≡◌, ℕ, ◌<◌, ◌≤◌, ◌^◌, Bool, true, false, ◌==◌, List, [], ◌∷◌, ◌++◌, length, map, Option, Some, None, IfSome, codes}
+use Rattle.std.specs.Prelude.{◌≡◌, ℕ, ◌<◌, ◌≤◌, ◌^◌, Bool, true, false, ◌==◌, List, [], ◌∷◌, ◌++◌}
+use Rattle.std.specs.Prelude.{length, map, Option, Some, None, IfSome, codes}
 use Rattle.std.specs.List.{slice_split, join_with_byte, flat_map, All}
 use Rattle.std.specs.Fmt.{decimal}
 use Rattle.bw_model.specs.Host.{Shape}
@@ -56,21 +57,26 @@ level_word (Some l) = decimal l.num ++ codes "/" ++ decimal l.den ++ codes "@" +
 
 -- the words of the first line
 abbrev pub head_words : Shape → ℕ → List (List ℕ)
-head_words h count = codes "bw" ∷ codes "1" ∷ decimal h.processors ∷ decimal h.period_us ∷ decimal h.slice_us ∷ decimal count ∷ []
+head_words h count = codes "bw" ∷ codes "1" ∷ decimal h.processors ∷ decimal h.period_us
+    ∷ decimal h.slice_us ∷ decimal count ∷ []
 
 -- the words of a group's line
 abbrev pub group_words : Row → ℕ → Bool → Option MarkValue → List (List ℕ)
 group_words r amount flag level =
-    parent_word r.parent ∷ decimal r.weight ∷ limit_word r.limit ∷ decimal r.demand ∷ decimal amount ∷ flag_word flag ∷ level_word level ∷ []
+    parent_word r.parent ∷ decimal r.weight ∷ limit_word r.limit ∷ decimal r.demand ∷ decimal amount
+        ∷ flag_word flag ∷ level_word level ∷ []
 
 -- the words of a row, each with the space after it
 abbrev pub row_words : Row → List ℕ
-row_words r = parent_word r.parent ++ codes " " ++ decimal r.weight ++ codes " " ++ limit_word r.limit ++ codes " "
+row_words r = parent_word r.parent ++ codes " " ++ decimal r.weight ++ codes " "
+    ++ limit_word r.limit ++ codes " "
     ++ decimal r.demand ++ codes " "
 
 -- the words of each group's line
-abbrev pub groups_words : List Row → List ℕ → List Bool → List (Option MarkValue) → List (List (List ℕ))
-groups_words (r ∷ rs) (amount ∷ amounts) (flag ∷ flags) (level ∷ levels) = group_words r amount flag level ∷ groups_words rs amounts flags levels
+abbrev pub groups_words : List Row → List ℕ → List Bool → List (Option MarkValue)
+    → List (List (List ℕ))
+groups_words (r ∷ rs) (amount ∷ amounts) (flag ∷ flags) (level ∷ levels) =
+    group_words r amount flag level ∷ groups_words rs amounts flags levels
 groups_words _ _ _ _ = []
 
 -- a line for each group
@@ -85,7 +91,8 @@ spelling v = line (head_words v.shape (length v.groups.rows)) ++ groups_text v.g
 abbrev pub certified_value : Groups → List ℕ → Certificate → Value
 certified_value i amounts c = record {
   shape = i.shape;
-  groups = record { rows = i.rows; amounts = amounts; flags = c.tight.items; levels = map (option_map price_of) c.levels.items };
+  groups = record { rows = i.rows; amounts = amounts; flags = c.tight.items;
+      levels = map (option_map price_of) c.levels.items };
 }
 
 -- numbers of 64 bits, and a parent's of 32

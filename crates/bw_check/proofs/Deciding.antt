@@ -1,8 +1,11 @@
 -- The first fault of a certificate, in the order of the tests.
-use Rattle.std.proofs.Common.{◌≡◌, ℕ, zero, suc, ◌+◌, ◌-◌, ◌<◌, ◌≤◌, List, [], ◌∷◌, Some, None, length, get_or, refl, subst, ap, sym, ◌∙◌, arith, inl, inr}
+use Rattle.std.proofs.Common.{◌≡◌, ℕ, zero, suc, ◌+◌, ◌-◌, ◌<◌, ◌≤◌, List, [], ◌∷◌, Some, None}
+use Rattle.std.proofs.Common.{length, get_or, refl, subst, ap, sym, ◌∙◌, arith, inl, inr}
 use Rattle.std.proofs.lemmas.Bool.{cases_eq}
 use Rattle.bw_check.specs.declared.fault.CheckFault.{CheckFault}
-use Rattle.bw_check.specs.declared.fault.CheckFault.TheVariants.{WrongLength, OverLimit, OverDemand, SumDiffers, FlagWithoutLimit, NotGreatest, LevelMissing}
+use Rattle.bw_check.specs.declared.fault.CheckFault.TheVariants.{WrongLength, OverLimit, OverDemand}
+use Rattle.bw_check.specs.declared.fault.CheckFault.TheVariants.{SumDiffers, FlagWithoutLimit}
+use Rattle.bw_check.specs.declared.fault.CheckFault.TheVariants.{NotGreatest, LevelMissing}
 use Rattle.bw_check.specs.declared.fault.CheckFault.TheVariants.{LastMarkAbove, NextMarkNotAbove}
 use Rattle.bw_model.specs.Groups.{Groups, AreTreeRows, IsInstance}
 use Rattle.bw_model.specs.Certificate.{Certified, AreBounds, IsCertified}
@@ -15,7 +18,8 @@ use Rattle.bw_check.proofs.Bounding.{bounds_exist}
 
 -- the faults of single groups, in order
 abbrev pub of_rows : List CheckFault
-of_rows = OverLimit ∷ OverDemand ∷ SumDiffers ∷ FlagWithoutLimit ∷ NotGreatest ∷ LevelMissing ∷ LastMarkAbove ∷ NextMarkNotAbove ∷ []
+of_rows = OverLimit ∷ OverDemand ∷ SumDiffers ∷ FlagWithoutLimit ∷ NotGreatest ∷ LevelMissing
+    ∷ LastMarkAbove ∷ NextMarkNotAbove ∷ []
 
 abbrev fault_at : ℕ → CheckFault
 fault_at k = get_or (WrongLength ∷ of_rows) k WrongLength
@@ -54,8 +58,10 @@ number_lt LastMarkAbove = omega arith
 number_lt NextMarkNotAbove = omega arith
 
 -- a fault is found at its number
-fault_is : (f : CheckFault) (i : ℕ) → check_fault_number f ≡ 51 + i → f ≡ get_or of_rows i WrongLength
-fault_is f i e = let k : check_fault_number f - 50 ≡ suc i = omega (arith, e) in numbered f ∙ ap fault_at k
+fault_is : (f : CheckFault) (i : ℕ) → check_fault_number f ≡ 51 + i
+    → f ≡ get_or of_rows i WrongLength
+fault_is f i e = let k : check_fault_number f - 50 ≡ suc i = omega (arith, e) in
+    numbered f ∙ ap fault_at k
 
 number_at : (i : ℕ) → i < 8 → check_fault_number (get_or of_rows i WrongLength) ≡ 51 + i
 number_at zero h = refl
@@ -68,24 +74,29 @@ number_at (suc (suc (suc (suc (suc (suc zero)))))) h = refl
 number_at (suc (suc (suc (suc (suc (suc (suc zero))))))) h = refl
 number_at (suc (suc (suc (suc (suc (suc (suc (suc i)))))))) h = absurd (omega arith)
 
-module _ (groups : Groups) (amounts : List ℕ) (certificate : Certified) (tree : AreTreeRows groups.rows) where
+module _ (groups : Groups) (amounts : List ℕ) (certificate : Certified)
+    (tree : AreTreeRows groups.rows) where
   -- a wrong length comes before all else
-  pub wrong_length : (AreOnePerRow groups amounts certificate → ⊥) → IsRefused groups amounts certificate WrongLength 0
+  pub wrong_length : (AreOnePerRow groups amounts certificate → ⊥)
+      → IsRefused groups amounts certificate WrongLength 0
   wrong_length wrong = let b = bounds_exist groups certificate tree in record {
     bounds = b.0;
     bounded = b.1;
     first = record {
       within = tree.has_root;
       found = wrong;
-      no_lower = λ f g lt _. absurd (let least : 50 ≤ check_fault_number f = number_ge f in omega (arith, lt, least));
+      no_lower = λ f g lt _.
+          absurd (let least : 50 ≤ check_fault_number f = number_ge f in omega (arith, lt, least));
       no_earlier = λ g lt. absurd (omega (arith, lt));
     };
   }
 
-  module _ (bounds : List ℕ) (are : AreBounds groups certificate bounds) (i : ℕ) (so_far : (f : CheckFault) (g : ℕ) → check_fault_number f < 51 + i →
+  module _ (bounds : List ℕ) (are : AreBounds groups certificate bounds) (i : ℕ)
+      (so_far : (f : CheckFault) (g : ℕ) → check_fault_number f < 51 + i →
       g < length groups.rows → IsFree groups amounts certificate bounds f g) where
     pub refused_at : (group : ℕ) → i < 8 →
-        IsFirst (IsFree groups amounts certificate bounds (get_or of_rows i WrongLength)) (length groups.rows) (Some group) →
+        IsFirst (IsFree groups amounts certificate bounds (get_or of_rows i WrongLength))
+            (length groups.rows) (Some group) →
         IsRefused groups amounts certificate (get_or of_rows i WrongLength) group
     refused_at group at found = record {
       bounds = bounds;
@@ -94,20 +105,26 @@ module _ (groups : Groups) (amounts : List ℕ) (certificate : Certified) (tree 
         within = found.0;
         found = found.1;
         no_lower = λ f g lt within. so_far f g
-            (let number : check_fault_number (get_or of_rows i WrongLength) ≡ 51 + i = number_at i at in omega (arith, lt, number)) within;
+            (let number : check_fault_number (get_or of_rows i WrongLength) ≡ 51 + i =
+                number_at i at in omega (arith, lt, number)) within;
         no_earlier = found.2;
       };
     }
 
-    pub one_fault_more : IsFirst (IsFree groups amounts certificate bounds (get_or of_rows i WrongLength)) (length groups.rows) None →
-        (f : CheckFault) (g : ℕ) → check_fault_number f < 51 + (i + 1) → g < length groups.rows → IsFree groups amounts certificate bounds f g
+    pub one_fault_more
+        : IsFirst (IsFree groups amounts certificate bounds (get_or of_rows i WrongLength))
+        (length groups.rows) None →
+        (f : CheckFault) (g : ℕ) → check_fault_number f < 51 + (i + 1) → g < length groups.rows
+            → IsFree groups amounts certificate bounds f g
     one_fault_more none f g lt within = elim (cases_eq (check_fault_number f) (51 + i)) [
-      | inl same ↦ subst (λ (h : CheckFault). IsFree groups amounts certificate bounds h g) (sym (fault_is f i same)) (none g within)
+      | inl same ↦ subst (λ (h : CheckFault). IsFree groups amounts certificate bounds h g)
+          (sym (fault_is f i same)) (none g within)
       | inr other ↦ so_far f g (omega (arith, lt, other)) within
     ]
 
     -- at the faults of marks the amounts are small
-    pub small_at : IsInstance groups → i < 8 → check_fault_number LastMarkAbove ≤ check_fault_number (get_or of_rows i WrongLength) → AreSmall amounts
+    pub small_at : IsInstance groups → i < 8 → check_fault_number LastMarkAbove
+        ≤ check_fault_number (get_or of_rows i WrongLength) → AreSmall amounts
     small_at valid at late =
         let number : check_fault_number (get_or of_rows i WrongLength) ≡ 51 + i = number_at i at in
         small_amounts groups amounts valid (so_far WrongLength 0 (omega arith) tree.has_root).0
@@ -116,4 +133,5 @@ module _ (groups : Groups) (amounts : List ℕ) (certificate : Certified) (tree 
 
     pub all_free : 8 ≤ i → IsCertified groups amounts certificate bounds
     all_free end = free-IsCertified groups amounts certificate bounds tree are
-        (λ f g within. so_far f g (let least : check_fault_number f < 59 = number_lt f in omega (arith, least, end)) within)
+        (λ f g within. so_far f g (let least : check_fault_number f < 59 =
+            number_lt f in omega (arith, least, end)) within)

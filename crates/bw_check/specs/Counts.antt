@@ -1,5 +1,6 @@
 -- Tables that are gathered row by row.
-use Rattle.std.specs.Prelude.{◌≡◌, ℕ, ◌<◌, List, Some, None, length, sum_by, slice_index, unwrap_or, cond, if◌then◌else◌}
+use Rattle.std.specs.Prelude.{◌≡◌, ℕ, ◌<◌, List, Some, None, length, sum_by, slice_index, unwrap_or}
+use Rattle.std.specs.Prelude.{cond, if◌then◌else◌}
 use Rattle.std.specs.List.{range_with_len}
 use Rattle.bw_model.specs.declared.row.Row.{Row}
 use Rattle.bw_model.specs.Groups.{Groups, parent_of, is_child, is_leaf, demand_of, limit_of}
@@ -17,7 +18,8 @@ pub record AreGathered (rows : List Row) (f : ℕ → ℕ) (n : ℕ) (table : Li
 -- a table with the places of the first n groups among their siblings
 pub record ArePlaces (rows : List Row) (n : ℕ) (places : List ℕ) : Type 0 where
   pub one_each : length places ≡ length rows
-  pub each : (c g : ℕ) → c < n → parent_of rows c ≡ Some g → slice_index places c ≡ sibling_place rows g c
+  pub each : (c g : ℕ) → c < n → parent_of rows c ≡ Some g
+      → slice_index places c ≡ sibling_place rows g c
 
 -- the bound of a group whose children's bounds have this sum
 abbrev pub bound_over : Groups → Certified → ℕ → ℕ → ℕ

@@ -1,5 +1,6 @@
 -- The level above a child.
-use Rattle.std.specs.Prelude.{ℕ, ◌<◌, ◌≤◌, ◌==◌, List, Option, None, Some, slice_index, if◌then◌else◌}
+use Rattle.std.specs.Prelude.{ℕ, ◌<◌, ◌≤◌, ◌==◌, List, Option, None, Some, slice_index}
+use Rattle.std.specs.Prelude.{if◌then◌else◌}
 use Rattle.std.specs.Option.{option_map_or}
 use Rattle.bw_model.specs.declared.limits.TheConstants.{MAX_CAPACITY}
 use Rattle.bw_model.specs.declared.mark.Mark.{Mark}
@@ -9,7 +10,8 @@ use Rattle.bw_model.specs.Certificate.{Certified, level_at}
 -- the level of a child's parent, where the parent shares something out
 abbrev pub level_above : Groups → List ℕ → Certified → ℕ → Option Mark
 level_above groups amounts certificate c =
-    option_map_or (λ g. if slice_index amounts g == 0 then None else level_at certificate g) (parent_of groups.rows c) None
+    option_map_or (λ g. if slice_index amounts g == 0 then None else level_at certificate g)
+        (parent_of groups.rows c) None
 
 -- no amount is above the capacity of the largest host
 abbrev pub AreSmall : List ℕ → Type 0

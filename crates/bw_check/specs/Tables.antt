@@ -7,7 +7,8 @@ use Rattle.bw_check.specs.Counts.{AreGathered, ArePlaces}
 use Rattle.bw_check.specs.Verdict.{AreOnePerRow}
 
 -- the tables are those of the amounts and the certificate, of which there is one of each per row
-pub record AreTables (groups : Groups) (amounts : List ℕ) (certificate : Certified) (tables : Tables) : Type 0 where
+pub record AreTables (groups : Groups) (amounts : List ℕ) (certificate : Certified)
+    (tables : Tables) : Type 0 where
   pub one_per_row : AreOnePerRow groups amounts certificate
   pub placed : ArePlaces groups.rows (length groups.rows) tables.places.items
   pub summed : AreGathered groups.rows (slice_index amounts) (length groups.rows) tables.sums.items

@@ -1,10 +1,12 @@
 -- Which groups a walk from the deepest level up has seen.
-use Rattle.std.proofs.Common.{◌≡◌, ℕ, zero, suc, ◌+◌, ◌<◌, ◌≤◌, ◌==◌, ◌||◌, Bool, true, false, not, true≢false, eqb, ltb, List, [], ◌∷◌, take, length, get_or}
+use Rattle.std.proofs.Common.{◌≡◌, ℕ, zero, suc, ◌+◌, ◌<◌, ◌≤◌, ◌==◌, ◌||◌, Bool, true, false, not}
+use Rattle.std.proofs.Common.{true≢false, eqb, ltb, List, [], ◌∷◌, take, length, get_or}
 use Rattle.std.proofs.Common.{Some, Vec, refl, sym, ap, ◌∙◌, arith, inl, inr}
 use Rattle.std.specs.List.{list_any}
 use Rattle.std.specs.declared.alloc.Global.{Global}
 use Rattle.std.proofs.Math.Bool.{or-false, or_assoc}
-use Rattle.std.proofs.lemmas.Bool.{cases_lt, cases_eq, eq-eqb, ne_eqb, eqb-true, lt-ltb, le-ltb, or_cases, false_from_ne_true}
+use Rattle.std.proofs.lemmas.Bool.{cases_lt, cases_eq, eq-eqb, ne_eqb, eqb-true, lt-ltb, le-ltb}
+use Rattle.std.proofs.lemmas.Bool.{or_cases, false_from_ne_true}
 use Rattle.std.proofs.lemmas.List.{take_all}
 use Rattle.std.proofs.lemmas.List.Folds.{list_any_more, list_any_at}
 use Rattle.bw_model.specs.declared.row.Row.{Row}
@@ -19,10 +21,12 @@ seen_from rows d c = not (ltb (depth_of rows c) d)
 
 -- and the first k of those at this depth
 abbrev pub seen_at : List Row → ℕ → ℕ → ℕ → Bool
-seen_at rows d k c = seen_from rows (d + 1) c || list_any (λ h. h == c) (take k (rows_of_depth rows d))
+seen_at rows d k c = seen_from rows (d + 1) c
+    || list_any (λ h. h == c) (take k (rows_of_depth rows d))
 
 -- one of the first k
-pub among : (xs : List ℕ) (k c : ℕ) → list_any (λ h. h == c) (take k xs) ≡ true → (j : ℕ) × (j < k) × (j < length xs) × (get_or xs j 0 ≡ c)
+pub among : (xs : List ℕ) (k c : ℕ) → list_any (λ h. h == c) (take k xs) ≡ true
+    → (j : ℕ) × (j < k) × (j < length xs) × (get_or xs j 0 ≡ c)
 among xs zero c e = absurd (true≢false (sym e))
 among [] (suc k) c e = absurd (true≢false (sym e))
 among (x ∷ xs) (suc k) c e = elim (or_cases (x == c) (list_any (λ h. h == c) (take k xs)) e) [
@@ -33,9 +37,11 @@ among (x ∷ xs) (suc k) c e = elim (or_cases (x == c) (list_any (λ h. h == c) 
 ]
 
 -- before the deepest level
-pub none_seen : (rows : List Row) (levels : List (Vec ℕ Global)) (d : ℕ) → AreByDepth rows levels → d ≡ length levels →
+pub none_seen : (rows : List Row) (levels : List (Vec ℕ Global)) (d : ℕ) → AreByDepth rows levels
+    → d ≡ length levels →
     (c : ℕ) → c < length rows → seen_from rows d c ≡ false
-none_seen rows levels d known is c below = rw is (ap not (lt-ltb (depth_of rows c) (length levels) (known.all c below)))
+none_seen rows levels d known is c below =
+    rw is (ap not (lt-ltb (depth_of rows c) (length levels) (known.all c below)))
 
 -- after the root
 pub all_seen : (rows : List Row) (d c : ℕ) → d ≡ 0 → seen_from rows d c ≡ true
@@ -46,45 +52,61 @@ pub first_seen : (rows : List Row) (d c : ℕ) → seen_at rows d 0 c ≡ seen_f
 first_seen rows d c = or-false (seen_from rows (d + 1) c)
 
 -- after the last of a level
-pub last_seen : (rows : List Row) (d k c : ℕ) → c < length rows → length (rows_of_depth rows d) ≤ k → seen_from rows d c ≡ seen_at rows d k c
+pub last_seen : (rows : List Row) (d k c : ℕ) → c < length rows → length (rows_of_depth rows d) ≤ k
+    → seen_from rows d c ≡ seen_at rows d k c
 last_seen rows d k c below le =
-    let whole : take k (rows_of_depth rows d) ≡ rows_of_depth rows d = take_all k (rows_of_depth rows d) le in
+    let whole : take k (rows_of_depth rows d) ≡ rows_of_depth rows d =
+        take_all k (rows_of_depth rows d) le in
     rw whole (elim (cases_lt (depth_of rows c) d) [
-      | inl lt ↦ ap not (lt-ltb (depth_of rows c) d lt) ∙ sym (rw (lt-ltb (depth_of rows c) (d + 1) (omega arith)) (false_from_ne_true _ (λ e.
-          let r : (j : ℕ) × (j < k) × (j < length (rows_of_depth rows d)) × (get_or (rows_of_depth rows d) j 0 ≡ c) = among (rows_of_depth rows d) k c (rw whole e) in
+      | inl lt ↦ ap not (lt-ltb (depth_of rows c) d lt)
+          ∙ sym (rw (lt-ltb (depth_of rows c) (d + 1) (omega arith)) (false_from_ne_true _ (λ e.
+          let r : (j : ℕ) × (j < k) × (j < length (rows_of_depth rows d))
+              × (get_or (rows_of_depth rows d) j 0 ≡ c) =
+              among (rows_of_depth rows d) k c (rw whole e) in
           let at : depth_of rows c ≡ d = rw r.3 at (level_row rows d r.0 r.2).depth in
           omega (arith, at, lt))))
       | inr ge ↦ ap not (le-ltb (depth_of rows c) d ge) ∙ sym (elim (cases_eq (depth_of rows c) d) [
         | inl same ↦ rw (lt-ltb (depth_of rows c) (d + 1) (omega (arith, same)))
-            (let r : (k : ℕ) × (k < length (rows_of_depth rows d)) × (get_or (rows_of_depth rows d) k 0 ≡ c) = level_has rows d c below same in
-            list_any_at (λ h. h == c) (rows_of_depth rows d) r.0 0 r.1 (eq-eqb (get_or (rows_of_depth rows d) r.0 0) c r.2))
+            (let r : (k : ℕ) × (k < length (rows_of_depth rows d))
+                × (get_or (rows_of_depth rows d) k 0 ≡ c) = level_has rows d c below same in
+            list_any_at (λ h. h == c) (rows_of_depth rows d) r.0 0 r.1
+                (eq-eqb (get_or (rows_of_depth rows d) r.0 0) c r.2))
         | inr other ↦ rw (le-ltb (depth_of rows c) (d + 1) (omega (arith, ge, other))) refl
       ])
     ])
 
 -- one more of a level
-pub next_seen : (rows : List Row) (d k g c : ℕ) → k < length (rows_of_depth rows d) → g ≡ get_or (rows_of_depth rows d) k 0 →
+pub next_seen : (rows : List Row) (d k g c : ℕ) → k < length (rows_of_depth rows d)
+    → g ≡ get_or (rows_of_depth rows d) k 0 →
     seen_at rows d (k + 1) c ≡ (seen_at rows d k c || eqb g c)
 next_seen rows d k g c lt is =
-    rw is (ap (λ (b : Bool). seen_from rows (d + 1) c || b) (list_any_more (λ h. h == c) (rows_of_depth rows d) k 0 lt)
-    ∙ sym (or_assoc (seen_from rows (d + 1) c) (list_any (λ h. h == c) (take k (rows_of_depth rows d))) (get_or (rows_of_depth rows d) k 0 == c)))
+    rw is (ap (λ (b : Bool). seen_from rows (d + 1) c || b)
+        (list_any_more (λ h. h == c) (rows_of_depth rows d) k 0 lt)
+    ∙ sym (or_assoc (seen_from rows (d + 1) c)
+        (list_any (λ h. h == c) (take k (rows_of_depth rows d)))
+        (get_or (rows_of_depth rows d) k 0 == c)))
 
 -- it had not been seen, nor had the one above it
-pub fresh : (rows : List Row) (d k g : ℕ) → k < length (rows_of_depth rows d) → g ≡ get_or (rows_of_depth rows d) k 0 → seen_at rows d k g ≡ false
+pub fresh : (rows : List Row) (d k g : ℕ) → k < length (rows_of_depth rows d)
+    → g ≡ get_or (rows_of_depth rows d) k 0 → seen_at rows d k g ≡ false
 fresh rows d k g lt is =
     let at : depth_of rows g ≡ d = ap (depth_of rows) is ∙ (level_row rows d k lt).depth in
     rw (lt-ltb (depth_of rows g) (d + 1) (omega (arith, at))) (false_from_ne_true _ (λ e.
-    let r : (j : ℕ) × (j < k) × (j < length (rows_of_depth rows d)) × (get_or (rows_of_depth rows d) j 0 ≡ g) = among (rows_of_depth rows d) k g e in
-    let up : get_or (rows_of_depth rows d) r.0 0 < get_or (rows_of_depth rows d) k 0 = level_rises rows d r.0 k r.1 lt in
+    let r : (j : ℕ) × (j < k) × (j < length (rows_of_depth rows d))
+        × (get_or (rows_of_depth rows d) j 0 ≡ g) = among (rows_of_depth rows d) k g e in
+    let up : get_or (rows_of_depth rows d) r.0 0 < get_or (rows_of_depth rows d) k 0 =
+        level_rises rows d r.0 k r.1 lt in
     omega (arith, up, r.3, is)))
 
-pub parent_unseen : (rows : List Row) → AreTreeRows rows → (d k g p : ℕ) → k < length (rows_of_depth rows d) → g ≡ get_or (rows_of_depth rows d) k 0 →
+pub parent_unseen : (rows : List Row) → AreTreeRows rows → (d k g p : ℕ)
+    → k < length (rows_of_depth rows d) → g ≡ get_or (rows_of_depth rows d) k 0 →
     parent_of rows g ≡ Some p → seen_at rows d k p ≡ false
 parent_unseen rows tree d k g p lt is e =
     let at : depth_of rows g ≡ d = ap (depth_of rows) is ∙ (level_row rows d k lt).depth in
     let up : depth_of rows g ≡ depth_of rows p + 1 = depth_of-step rows tree g p e in
     rw (lt-ltb (depth_of rows p) (d + 1) (omega (arith, at, up))) (false_from_ne_true _ (λ f.
-    let r : (j : ℕ) × (j < k) × (j < length (rows_of_depth rows d)) × (get_or (rows_of_depth rows d) j 0 ≡ p) = among (rows_of_depth rows d) k p f in
+    let r : (j : ℕ) × (j < k) × (j < length (rows_of_depth rows d))
+        × (get_or (rows_of_depth rows d) j 0 ≡ p) = among (rows_of_depth rows d) k p f in
     let level : depth_of rows p ≡ d = rw r.3 at (level_row rows d r.0 r.2).depth in
     omega (arith, level, at, up)))
 
@@ -103,7 +125,8 @@ all_rows n c is = rw is (ap not (le-ltb c 0 (omega arith)))
 -- one row more
 pub next_row : (g c : ℕ) → rows_from g c ≡ (rows_from (g + 1) c || eqb g c)
 next_row g c = elim (cases_lt c g) [
-  | inl lt ↦ ap not (lt-ltb c g lt) ∙ sym (rw (lt-ltb c (g + 1) (omega (arith, lt))) (ne_eqb g c (λ e. omega (arith, e, lt))))
+  | inl lt ↦ ap not (lt-ltb c g lt)
+      ∙ sym (rw (lt-ltb c (g + 1) (omega (arith, lt))) (ne_eqb g c (λ e. omega (arith, e, lt))))
   | inr ge ↦ ap not (le-ltb c g ge) ∙ sym (elim (cases_eq g c) [
     | inl same ↦ rw (lt-ltb c (g + 1) (omega (arith, same))) (eq-eqb g c same)
     | inr other ↦ rw (le-ltb c (g + 1) (omega (arith, ge, other))) refl
@@ -114,7 +137,8 @@ next_row g c = elim (cases_lt c g) [
 pub fresh_row : (g : ℕ) → rows_from (g + 1) g ≡ false
 fresh_row g = no_rows (g + 1) g (omega arith)
 
-pub parent_row_unseen : (rows : List Row) → AreTreeRows rows → (g p : ℕ) → parent_of rows g ≡ Some p → rows_from (g + 1) p ≡ false
+pub parent_row_unseen : (rows : List Row) → AreTreeRows rows → (g p : ℕ) → parent_of rows g ≡ Some p
+    → rows_from (g + 1) p ≡ false
 parent_row_unseen rows tree g p e =
     let up : p < g = parent_lt rows tree g p e in
     no_rows (g + 1) p (omega (arith, up))

@@ -12,12 +12,16 @@ pub record Demands : Type 0 where
 
 -- what the program has gathered, as lists
 abbrev pub demands_of : Gathered → Demands
-demands_of gathered = record { want = gathered.want.items; most = gathered.most.items; tight = gathered.tight.items }
+demands_of gathered =
+    record { want = gathered.want.items; most = gathered.most.items; tight = gathered.tight.items }
 
--- the greatest totals under each group over the allocations, the wants by these, and the groups whose limit is below their want
+-- the greatest totals under each group over the allocations, the wants by these, and the groups
+-- whose limit is below their want
 pub record IsGathered (groups : Groups) (demands : Demands) : Type 0 where
   pub wants_each : length demands.want ≡ length groups.rows
   pub flags_each : length demands.tight ≡ length groups.rows
   pub mosts : AreMaxTotals groups demands.most
-  pub wants : (g : ℕ) → g < length groups.rows → slice_index demands.want g ≡ want_of groups demands.most g
-  pub flags : (g : ℕ) → g < length groups.rows → slice_index_or demands.tight g false ≡ is_tight groups demands.most g
+  pub wants : (g : ℕ) → g < length groups.rows
+      → slice_index demands.want g ≡ want_of groups demands.most g
+  pub flags : (g : ℕ) → g < length groups.rows
+      → slice_index_or demands.tight g false ≡ is_tight groups demands.most g

@@ -1,5 +1,6 @@
 -- What a caller asks, in columns of numbers, and the number that answers it.
-use Rattle.std.specs.Prelude.{◌≡◌, ◌⊎◌, ℕ, Bool, true, ◌==◌, ◌&&◌, List, [], ◌∷◌, Option, Some, None, length, map, slice_index, if◌then◌else◌}
+use Rattle.std.specs.Prelude.{◌≡◌, ◌⊎◌, ℕ, Bool, true, ◌==◌, ◌&&◌, List, [], ◌∷◌, Option, Some}
+use Rattle.std.specs.Prelude.{None, length, map, slice_index, if◌then◌else◌}
 use Rattle.std.specs.List.{range_with_len}
 use Rattle.std.specs.Option.{option_map_or}
 use Rattle.bw_model.specs.declared.row.Row.{Row}
@@ -30,11 +31,13 @@ table_of columns =
 
 -- what the program holds of a host, as its value
 abbrev pub shape_of : Host → Shape
-shape_of host = record { processors = host.processors; period_us = host.period_us; slice_us = host.slice_us }
+shape_of host =
+    record { processors = host.processors; period_us = host.period_us; slice_us = host.slice_us }
 
 -- the host of three numbers
 abbrev pub asked_host : ℕ → ℕ → ℕ → Shape
-asked_host processors period_us slice_us = record { processors = processors; period_us = period_us; slice_us = slice_us }
+asked_host processors period_us slice_us =
+    record { processors = processors; period_us = period_us; slice_us = slice_us }
 
 -- the table of four columns
 abbrev pub asked_table : List ℕ → List ℕ → List ℕ → List ℕ → Table
@@ -74,14 +77,17 @@ are_of_length count (column ∷ columns) = (length column == count) && are_of_le
 
 -- whether the columns are of one length
 abbrev pub are_even : Table → Bool
-are_even table = are_of_length (length table.parents) (table.weights ∷ table.limits ∷ table.demands ∷ [])
+are_even table =
+    are_of_length (length table.parents) (table.weights ∷ table.limits ∷ table.demands ∷ [])
 
 -- the number of the first refusal of a host and its rows, 0 where there is none
 abbrev pub refusal_number : Groups → ℕ
 refusal_number groups =
-    option_map_or host_fault_number (host_refusal groups.shape) (option_map_or instance_fault_number (refusal groups.rows) 0)
+    option_map_or host_fault_number (host_refusal groups.shape)
+        (option_map_or instance_fault_number (refusal groups.rows) 0)
 
--- the number that refuses what is asked, 0 where none does: 50 where the columns are of several lengths
+-- the number that refuses what is asked, 0 where none does: 50 where the columns are of several
+-- lengths
 unfoldable pub asked_number : Shape → Table → ℕ
 asked_number shape table = if are_even table then refusal_number (groups_in shape table) else 50
 
@@ -97,6 +103,8 @@ refusal_of host columns = asked_number (shape_of host) (table_of columns)
 abbrev pub Answers : ℕ → ℕ → Type 0
 Answers refused number = (number ≡ refused) ⊎ (number ≡ 71)
 
--- the same where a list for the answer has so many entries: 50 also where they are not as many as the rows
+-- the same where a list for the answer has so many entries: 50 also where they are not as many as
+-- the rows
 unfoldable pub asked_number_with : ℕ → Shape → Table → ℕ
-asked_number_with count shape table = if count == length table.parents then asked_number shape table else 50
+asked_number_with count shape table =
+    if count == length table.parents then asked_number shape table else 50

@@ -1,5 +1,6 @@
 -- A plan with its certificate, in columns of numbers.
-use Rattle.std.specs.Prelude.{◌≡◌, ℕ, List, Bool, true, false, Option, Some, None, length, map, if◌then◌else◌}
+use Rattle.std.specs.Prelude.{◌≡◌, ℕ, List, Bool, true, false, Option, Some, None, length, map}
+use Rattle.std.specs.Prelude.{if◌then◌else◌}
 use Rattle.bw_model.specs.declared.mark.Mark.{Mark}
 use Rattle.bw_model.specs.Host.{Shape}
 use Rattle.bw_model.specs.Groups.{Groups}
@@ -38,7 +39,8 @@ columns_of certificate =
       places = map place_of_level certificate.levels;
     }
 
--- the plan, and the columns of its certificate: the tight groups flagged, and the greatest last marks of the children
+-- the plan, and the columns of its certificate: the tight groups flagged, and the greatest last
+-- marks of the children
 pub record IsCertifiedPlan (groups : Groups) (amounts : List ℕ) (claimed : Claimed) : Type 0 where
   pub plan : IsPlan groups amounts
   pub certificate : Certified
@@ -50,7 +52,9 @@ pub record IsCertifiedPlan (groups : Groups) (amounts : List ℕ) (claimed : Cla
 
 -- what the program has found, as columns
 abbrev pub claimed_in : Found → Claimed
-claimed_in found = record { flags = found.flags.items; nums = found.nums.items; dens = found.dens.items; places = found.places.items }
+claimed_in found =
+    record { flags = found.flags.items; nums = found.nums.items; dens = found.dens.items;
+    places = found.places.items }
 
 -- one entry for each row in each column
 pub record AreLong (found : Found) (count : ℕ) : Type 0 where
@@ -60,6 +64,7 @@ pub record AreLong (found : Found) (count : ℕ) : Type 0 where
   pub dens : length found.dens.items ≡ count
   pub places : length found.places.items ≡ count
 
--- the number that refuses what is asked, 50 also where the columns for the answer are not of the rows' length
+-- the number that refuses what is asked, 50 also where the columns for the answer are not of the
+-- rows' length
 unfoldable pub asked_number_where : Bool → Shape → Table → ℕ
 asked_number_where fit shape table = if fit then asked_number shape table else 50

@@ -1,5 +1,6 @@
 -- The names of the numbers that are answered.
-use Rattle.std.specs.Prelude.{◌≡◌, ◌⊎◌, ℕ, nat_lt, suc, List, ◌∷◌, ◌++◌, length, drop, if◌then◌else◌}
+use Rattle.std.specs.Prelude.{◌≡◌, ◌⊎◌, ℕ, nat_lt, suc, List, ◌∷◌, ◌++◌, length, drop}
+use Rattle.std.specs.Prelude.{if◌then◌else◌}
 use Rattle.bw_cert.specs.Faults.{cert_fault_number, cert_fault_name}
 use Rattle.bw_check.specs.Faults.{check_fault_number, check_fault_name}
 use Rattle.bw_exports.specs.declared.fault.Fault.{Fault}
@@ -19,11 +20,14 @@ name_of_fault (Claimed fault) = check_fault_name fault
 abbrev pub IsNoFault : ℕ → Type 0
 IsNoFault number = (fault : Fault) → number_of_fault fault ≡ number → ⊥
 
--- the name at the front, a 0 behind it, and then what stood there; all as it was where there is no room for both
+-- the name at the front, a 0 behind it, and then what stood there; all as it was where there is no
+-- room for both
 unfoldable pub with_name : List ℕ → List ℕ → List ℕ
-with_name name before = if nat_lt (length name) (length before) then name ++ (0 ∷ drop (suc (length name)) before) else before
+with_name name before = if nat_lt (length name) (length before)
+    then name ++ (0 ∷ drop (suc (length name)) before) else before
 
--- what is answered of a fault's number: how long its name is, and the name where there is room for it
+-- what is answered of a fault's number: how long its name is, and the name where there is room for
+-- it
 pub record IsNamed (number : ℕ) (before after : List ℕ) (count : ℕ) : Type 0 where
   pub fault : Fault
   pub number_is : number_of_fault fault ≡ number
@@ -38,4 +42,5 @@ pub record IsUnnamed (number : ℕ) (before after : List ℕ) (count : ℕ) : Ty
 
 -- what is answered of a number
 abbrev pub IsNameTold : ℕ → List ℕ → List ℕ → ℕ → Type 0
-IsNameTold number before after count = IsNamed number before after count ⊎ IsUnnamed number before after count
+IsNameTold number before after count =
+    IsNamed number before after count ⊎ IsUnnamed number before after count

@@ -10,7 +10,9 @@ use Rattle.bw_exports.specs.Checked.{verdict_number, verdict_row}
 
 -- the verdict on the instance, the amounts, the flags and the levels that are read in a text
 abbrev pub IsVerdictIn : Result Value CertFault → Verdict → Type 0
-IsVerdictIn (Ok value) verdict = IsVerdictOn (groups_of value) value.groups.amounts value.groups.flags value.groups.levels verdict
+IsVerdictIn (Ok value) verdict =
+    IsVerdictOn (groups_of value) value.groups.amounts value.groups.flags value.groups.levels
+    verdict
 IsVerdictIn (Err fault) verdict = ⊥
 
 -- the number and the row of the verdict
@@ -29,4 +31,5 @@ pub record IsFaultTold (read : Result Value CertFault) (before after number : �
 
 -- what the check of a text answers with its row
 abbrev pub IsTextOutcome : Result Value CertFault → ℕ → ℕ → ℕ → Type 0
-IsTextOutcome read before after number = IsVerdictTold read before after number ⊎ IsFaultTold read before after number
+IsTextOutcome read before after number =
+    IsVerdictTold read before after number ⊎ IsFaultTold read before after number

@@ -1,5 +1,6 @@
 -- What was collected from the rows of a level.
-use Rattle.std.proofs.Common.{◌≡◌, ℕ, List, [], ◌∷◌, length, get_or, map, Ok, Err, Vec, refl, arith, zero, suc, ◌<◌, Bor}
+use Rattle.std.proofs.Common.{◌≡◌, ℕ, List, [], ◌∷◌, length, get_or, map, Ok, Err, Vec, refl, arith}
+use Rattle.std.proofs.Common.{zero, suc, ◌<◌, Bor}
 use Rattle.std.specs.Prelude.{Result, IfOk, MatchResult}
 use Rattle.std.specs.List.{AllZip, Contains}
 use Rattle.std.specs.declared.alloc.Global.{Global}
@@ -8,16 +9,19 @@ use Rattle.rayon.proofs.ToStd.{slice-AllZip}
 
 -- where each answer is an `Ok`, what the rule says of these
 all_ok : {Z V : Type 0} (R : Z → V → Type 0) (zs : List Z) (ys : List V) →
-    AllZip (λ z (x : Result V AllocError). IfOk x (λ v. R z v)) zs (map (λ v. Ok v) ys) → AllZip R zs ys
+    AllZip (λ z (x : Result V AllocError). IfOk x (λ v. R z v)) zs (map (λ v. Ok v) ys)
+        → AllZip R zs ys
 all_ok R [] [] h = tt
 all_ok R [] (y ∷ ys) h = absurd h
 all_ok R (z ∷ zs) [] h = absurd h
 all_ok R (z ∷ zs) (y ∷ ys) h = (h.0, all_ok R zs ys h.1)
 
-pub collected : (R : ℕ → Vec ℕ Global → Type 0) (level : List ℕ) (zs : List (Bor ℕ)) (xs : List (Result (Vec ℕ Global) AllocError))
+pub collected : (R : ℕ → Vec ℕ Global → Type 0) (level : List ℕ) (zs : List (Bor ℕ))
+    (xs : List (Result (Vec ℕ Global) AllocError))
     (r : Result (Vec (Vec ℕ Global) Global) AllocError) → map (λ (z : Bor ℕ). z.now) zs ≡ level →
     AllZip (λ z x. IfOk x (λ v. R z.now v)) zs xs →
-    MatchResult r (λ v. (ys : List (Vec ℕ Global)) × (xs ≡ map (λ y. Ok y) ys) × (v.items ≡ ys)) (λ e. Contains xs (Err e)) →
+    MatchResult r (λ v. (ys : List (Vec ℕ Global)) × (xs ≡ map (λ y. Ok y) ys) × (v.items ≡ ys))
+        (λ e. Contains xs (Err e)) →
     IfOk r (λ v. AllZip R level v.items)
 collected R level zs xs (Err e) shown each found = tt
 collected R level zs xs (Ok v) shown each found =
@@ -25,15 +29,18 @@ collected R level zs xs (Ok v) shown each found =
     (all_ok (λ (z : Bor ℕ) y. R z.now y) zs found.0 (rw found.1 at each)))
 
 -- the answer at a place
-pub at_place : (R : ℕ → Vec ℕ Global → Type 0) (xs : List ℕ) (ys : List (Vec ℕ Global)) (k d : ℕ) (e : Vec ℕ Global) → AllZip R xs ys → k < length xs →
+pub at_place : (R : ℕ → Vec ℕ Global → Type 0) (xs : List ℕ) (ys : List (Vec ℕ Global)) (k d : ℕ)
+    (e : Vec ℕ Global) → AllZip R xs ys → k < length xs →
     R (get_or xs k d) (get_or ys k e)
 at_place R [] ys k d e h lt = absurd (omega arith)
 at_place R (x ∷ xs) [] k d e h lt = absurd h
 at_place R (x ∷ xs) (y ∷ ys) zero d e h lt = h.0
 at_place R (x ∷ xs) (y ∷ ys) (suc k) d e h lt = at_place R xs ys k d e h.1 (omega arith)
 
-pub zip_long : (R : ℕ → Vec ℕ Global → Type 0) (xs : List ℕ) (ys : List (Vec ℕ Global)) → AllZip R xs ys → length ys ≡ length xs
+pub zip_long : (R : ℕ → Vec ℕ Global → Type 0) (xs : List ℕ) (ys : List (Vec ℕ Global))
+    → AllZip R xs ys → length ys ≡ length xs
 zip_long R [] [] h = refl
 zip_long R [] (y ∷ ys) h = absurd h
 zip_long R (x ∷ xs) [] h = absurd h
-zip_long R (x ∷ xs) (y ∷ ys) h = let rest : length ys ≡ length xs = zip_long R xs ys h.1 in omega (arith, rest)
+zip_long R (x ∷ xs) (y ∷ ys) h =
+    let rest : length ys ≡ length xs = zip_long R xs ys h.1 in omega (arith, rest)

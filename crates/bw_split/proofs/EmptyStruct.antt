@@ -15,8 +15,11 @@ empty = vstruct vnil
 abbrev pub Empty : RattleType
 Empty = Struct (record { name = []; args = []; types = []; fields = [] })
 
-module _ {M : Type 1} {𝓤 : Ura M} {𝓛 : Logic 𝓤} {K : Type 0} {Γ : List (Item 𝓤)} {G : Goal 𝓤 𝓛.H} where
+module _ {M : Type 1} {𝓤 : Ura M} {𝓛 : Logic 𝓤} {K : Type 0} {Γ : List (Item 𝓤)}
+    {G : Goal 𝓤 𝓛.H} where
   pub empty_made : K → Step K 𝓛 (‵ (Empty.own_val tt (empty ∷ [])) ∷ Γ) G Γ G
   empty_made t = step (λ s.
       nothing t $ feq_i t (List Val) (empty ∷ []) (empty ∷ []) refl $ fjoin t $
-      fpack t (Valss []) (within (record { name = []; args = []; types = []; fields = [] }) tt (empty ∷ [])) tt $ s)
+      fpack t (Valss [])
+          (within (record { name = []; args = []; types = []; fields = [] }) tt (empty ∷ [])) tt $
+          s)

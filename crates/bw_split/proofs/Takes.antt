@@ -1,14 +1,17 @@
 -- What children take at a level, one by one and together.
-use Rattle.std.proofs.Common.{◌≡◌, ℕ, zero, suc, ◌+◌, ◌*◌, ◌<◌, ◌≤◌, List, [], ◌∷◌, length, get_or, refl, ◌∙◌, add-one, arith, inl, inr}
+use Rattle.std.proofs.Common.{◌≡◌, ℕ, zero, suc, ◌+◌, ◌*◌, ◌<◌, ◌≤◌, List, [], ◌∷◌, length, get_or}
+use Rattle.std.proofs.Common.{refl, ◌∙◌, add-one, arith, inl, inr}
 use Rattle.std.specs.Prelude.{sum, min}
 use Rattle.std.proofs.Math.Nat.{mul-le-mul_left, mul-le-mul_right}
 use Rattle.std.proofs.lemmas.Bool.{cases_order}
-use Rattle.bw_model.proofs.CallerLemmas.{sum_below, sum-cons, sum_below-front, sum_below-le, sum_below-zero, sum_by-range}
+use Rattle.bw_model.proofs.CallerLemmas.{sum_below, sum-cons, sum_below-front, sum_below-le}
+use Rattle.bw_model.proofs.CallerLemmas.{sum_below-zero, sum_by-range}
 use Rattle.bw_split.specs.Levels.{taken, taken_by_all}
 use Rattle.bw_model.specs.declared.limits.TheConstants.{MAX_WEIGHT, MAX_CAPACITY}
 use Rattle.bw_split.specs.declared.limits.TheConstants.{STEPS, GREATEST_LEVEL, MOST_TAKEN}
 
--- what taking x at a level says: the last mark is at or below the level, and a next one below the maximum above it
+-- what taking x at a level says: the last mark is at or below the level, and a next one below the
+-- maximum above it
 pub record IsTaken (level weight most x : ℕ) : Type 0 where
   pub within : x ≤ most
   pub low : (2 * STEPS) * x ≤ level * weight + STEPS
@@ -16,10 +19,12 @@ pub record IsTaken (level weight most x : ℕ) : Type 0 where
 
 pub taken-is : (level weight most : ℕ) → IsTaken level weight most (taken level weight most)
 unfolding taken
-taken-is level weight most = record { within = omega arith; low = omega arith; high = λ h. omega arith }
+taken-is level weight most =
+    record { within = omega arith; low = omega arith; high = λ h. omega arith }
 
 -- a child that could take x takes so many
-pub taken-ge : (level weight most x : ℕ) → x ≤ most → (2 * STEPS) * x ≤ level * weight + STEPS → x ≤ taken level weight most
+pub taken-ge : (level weight most x : ℕ) → x ≤ most → (2 * STEPS) * x ≤ level * weight + STEPS
+    → x ≤ taken level weight most
 unfolding taken
 taken-ge level weight most x within low = omega arith
 
@@ -30,11 +35,13 @@ taken-mono s t weight most h =
     (let b : s * weight ≤ t * weight = mul-le-mul_right weight h in omega (arith, a.low, b))
 
 -- one step of the level is at most one slice
-pub taken-step : (t weight most : ℕ) → weight ≤ MAX_WEIGHT → taken (t + 1) weight most ≤ taken t weight most + 1
+pub taken-step : (t weight most : ℕ) → weight ≤ MAX_WEIGHT
+    → taken (t + 1) weight most ≤ taken t weight most + 1
 unfolding taken
 taken-step t weight most h = omega arith
 
-pub taken-bound : (t weight most : ℕ) → t ≤ GREATEST_LEVEL → weight ≤ MAX_WEIGHT → taken t weight most ≤ MOST_TAKEN
+pub taken-bound : (t weight most : ℕ) → t ≤ GREATEST_LEVEL → weight ≤ MAX_WEIGHT
+    → taken t weight most ≤ MOST_TAKEN
 unfolding taken
 taken-bound t weight most h w = let a : t * weight ≤ GREATEST_LEVEL * MAX_WEIGHT =
     omega (arith, mul-le-mul_right weight h, mul-le-mul_left GREATEST_LEVEL w) in omega (arith, a)
@@ -57,49 +64,62 @@ pub by_all-is : (level : ℕ) (weights most : List ℕ) →
 unfolding taken_by_all
 by_all-is level weights most = sum_by-range (each_takes level weights most) (length weights)
 
-pub by_all-mono : (s t : ℕ) (weights most : List ℕ) → s ≤ t → taken_by_all s weights most ≤ taken_by_all t weights most
+pub by_all-mono : (s t : ℕ) (weights most : List ℕ) → s ≤ t
+    → taken_by_all s weights most ≤ taken_by_all t weights most
 by_all-mono s t weights most h = rw (by_all-is s weights most, by_all-is t weights most)
     (sum_below-le (length weights) (each_takes s weights most) (each_takes t weights most)
     (λ k _. taken-mono s t (get_or weights k 0) (get_or most k 0) h))
 
 pub by_all-zero : (weights most : List ℕ) → taken_by_all 0 weights most ≡ 0
 by_all-zero weights most = by_all-is 0 weights most ∙
-    sum_below-zero (length weights) (each_takes 0 weights most) (λ k _. taken-zero (get_or weights k 0) (get_or most k 0))
+    sum_below-zero (length weights) (each_takes 0 weights most)
+        (λ k _. taken-zero (get_or weights k 0) (get_or most k 0))
 
 -- no child takes a slice at level 1
-pub by_all-one : (weights most : List ℕ) → ((k : ℕ) → k < length weights → get_or weights k 0 ≤ MAX_WEIGHT) → taken_by_all 1 weights most ≡ 0
+pub by_all-one : (weights most : List ℕ)
+    → ((k : ℕ) → k < length weights → get_or weights k 0 ≤ MAX_WEIGHT)
+    → taken_by_all 1 weights most ≡ 0
 by_all-one weights most light = by_all-is 1 weights most ∙
-    sum_below-zero (length weights) (each_takes 1 weights most) (λ k below. taken-one (get_or weights k 0) (get_or most k 0) (light k below))
+    sum_below-zero (length weights) (each_takes 1 weights most)
+        (λ k below. taken-one (get_or weights k 0) (get_or most k 0) (light k below))
 
 pub sum_below-more : (n : ℕ) (f : ℕ → ℕ) → sum_below (n + 1) f ≡ sum_below n f + f n
 sum_below-more n f = rw add-one refl
 
 pub sum-is : (xs : List ℕ) → sum xs ≡ sum_below (length xs) (λ k. get_or xs k 0)
 sum-is [] = refl
-sum-is (x ∷ xs) = sum-cons x xs ∙ omega (arith, sum-is xs, sum_below-front (length xs) (λ k. get_or (x ∷ xs) k 0))
+sum-is (x ∷ xs) = sum-cons x xs
+    ∙ omega (arith, sum-is xs, sum_below-front (length xs) (λ k. get_or (x ∷ xs) k 0))
 
-capped : (n : ℕ) (f g : ℕ → ℕ) → ((k : ℕ) → k < n → min MAX_CAPACITY (g k) ≤ f k) → min MAX_CAPACITY (sum_below n g) ≤ sum_below n f
+capped : (n : ℕ) (f g : ℕ → ℕ) → ((k : ℕ) → k < n → min MAX_CAPACITY (g k) ≤ f k)
+    → min MAX_CAPACITY (sum_below n g) ≤ sum_below n f
 capped zero f g h = omega arith
 capped (suc n) f g h =
-    let a : min MAX_CAPACITY (sum_below n g) ≤ sum_below n f = capped n f g (λ k below. h k (omega arith)) in
+    let a : min MAX_CAPACITY (sum_below n g) ≤ sum_below n f =
+        capped n f g (λ k below. h k (omega arith)) in
     let b : min MAX_CAPACITY (g n) ≤ f n = h n (omega arith) in omega (arith, a, b)
 
 -- at the greatest level the children take every amount that they can
 pub by_all-top : (amount : ℕ) (weights most : List ℕ) → length most ≡ length weights →
-    ((k : ℕ) → k < length weights → 0 < get_or weights k 0) → amount ≤ MAX_CAPACITY → amount ≤ sum most →
+    ((k : ℕ) → k < length weights → 0 < get_or weights k 0) → amount ≤ MAX_CAPACITY
+        → amount ≤ sum most →
     amount ≤ taken_by_all GREATEST_LEVEL weights most
 by_all-top amount weights most e positive small enough = rw (by_all-is GREATEST_LEVEL weights most)
     (let s : sum most ≡ sum_below (length most) (λ k. get_or most k 0) = sum-is most in
     let s' : sum most ≡ sum_below (length weights) (λ k. get_or most k 0) = rw e at s in
-    let c : min MAX_CAPACITY (sum_below (length weights) (λ k. get_or most k 0)) ≤ sum_below (length weights) (each_takes GREATEST_LEVEL weights most) =
+    let c : min MAX_CAPACITY (sum_below (length weights) (λ k. get_or most k 0))
+        ≤ sum_below (length weights) (each_takes GREATEST_LEVEL weights most) =
     capped (length weights) (each_takes GREATEST_LEVEL weights most) (λ k. get_or most k 0)
-    (λ k below. taken-ge GREATEST_LEVEL (get_or weights k 0) (get_or most k 0) (min MAX_CAPACITY (get_or most k 0)) (omega arith)
+    (λ k below. taken-ge GREATEST_LEVEL (get_or weights k 0) (get_or most k 0)
+        (min MAX_CAPACITY (get_or most k 0)) (omega arith)
     (let p : 0 < get_or weights k 0 = positive k below in
-    let q : GREATEST_LEVEL * 1 ≤ GREATEST_LEVEL * get_or weights k 0 = mul-le-mul_left GREATEST_LEVEL p in omega (arith, q)))
+    let q : GREATEST_LEVEL * 1 ≤ GREATEST_LEVEL * get_or weights k 0 =
+        mul-le-mul_left GREATEST_LEVEL p in omega (arith, q)))
     in omega (arith, s', c, small, enough))
 
 -- two marks that lie between two levels a step apart are of one cost
-not_less : (t a p b q : ℕ) → 0 < q → p ≤ MAX_WEIGHT → q ≤ MAX_WEIGHT → t * p < STEPS * a → STEPS * b ≤ (t + 1) * q → a * q < b * p → ⊥
+not_less : (t a p b q : ℕ) → 0 < q → p ≤ MAX_WEIGHT → q ≤ MAX_WEIGHT → t * p < STEPS * a
+    → STEPS * b ≤ (t + 1) * q → a * q < b * p → ⊥
 not_less t a p b q pos hp hq above below less =
     omega (
       arith,
@@ -111,9 +131,11 @@ not_less t a p b q pos hp hq above below less =
       pos,
     )
 
-pub same_cost : (t a p b q : ℕ) → 0 < p → 0 < q → p ≤ MAX_WEIGHT → q ≤ MAX_WEIGHT → t * p < STEPS * a → STEPS * a ≤ (t + 1) * p →
+pub same_cost : (t a p b q : ℕ) → 0 < p → 0 < q → p ≤ MAX_WEIGHT → q ≤ MAX_WEIGHT
+    → t * p < STEPS * a → STEPS * a ≤ (t + 1) * p →
     t * q < STEPS * b → STEPS * b ≤ (t + 1) * q → a * q ≡ b * p
-same_cost t a p b q pp pq hp hq a_above a_below b_above b_below = elim (cases_order (a * q) (b * p)) [
+same_cost t a p b q pp pq hp hq a_above a_below b_above b_below =
+    elim (cases_order (a * q) (b * p)) [
   | inl same ↦ same
   | inr (inl less) ↦ absurd (not_less t a p b q pq hp hq a_above b_below less)
   | inr (inr more) ↦ absurd (not_less t b q a p pp hq hp b_above a_below (omega arith))

@@ -6,13 +6,15 @@ use Rattle.bw_split.specs.declared.limits.TheConstants.{MAX_CHILDREN}
 -- each weight is in its range
 abbrev pub AreWeights : List ℕ → Type 0
 AreWeights weights =
-    (k : ℕ) → k < length weights → (MIN_WEIGHT ≤ slice_index weights k) × (slice_index weights k ≤ MAX_WEIGHT)
+    (k : ℕ) → k < length weights → (MIN_WEIGHT ≤ slice_index weights k)
+        × (slice_index weights k ≤ MAX_WEIGHT)
 
 -- weights and maxima that can be split, and an amount that they can take
 pub record CanSplit (amount : ℕ) (weights most : List ℕ) : Type 0 where
   pub one_each : length most ≡ length weights
   pub few : length weights ≤ MAX_CHILDREN
-  pub weights_in_range : (k : ℕ) → k < length weights → (MIN_WEIGHT ≤ slice_index weights k) × (slice_index weights k ≤ MAX_WEIGHT)
+  pub weights_in_range : (k : ℕ) → k < length weights
+      → (MIN_WEIGHT ≤ slice_index weights k) × (slice_index weights k ≤ MAX_WEIGHT)
   pub enough : amount ≤ sum most
   pub small : amount ≤ MAX_CAPACITY
 

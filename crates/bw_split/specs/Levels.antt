@@ -1,9 +1,11 @@
 -- What the children take at a level.
-use Rattle.std.specs.Prelude.{◌≡◌, ℕ, ◌+◌, ◌*◌, ◌/◌, ◌<◌, ◌≤◌, List, length, sum_by, slice_index, min}
+use Rattle.std.specs.Prelude.{◌≡◌, ℕ, ◌+◌, ◌*◌, ◌/◌, ◌<◌, ◌≤◌, List, length, sum_by, slice_index}
+use Rattle.std.specs.Prelude.{min}
 use Rattle.std.specs.List.{range_with_len}
 use Rattle.bw_split.specs.declared.limits.TheConstants.{STEPS}
 
--- A level is a number of steps of one cost. What a child takes there: so many of its marks (2k - 1) / weight
+-- A level is a number of steps of one cost. What a child takes there: so many of its marks (2k - 1)
+-- / weight
 -- are at or below the level, and no more than its maximum.
 unfoldable pub taken : ℕ → ℕ → ℕ → ℕ
 taken level weight most = min ((level * weight + STEPS) / (2 * STEPS)) most
@@ -11,16 +13,19 @@ taken level weight most = min ((level * weight + STEPS) / (2 * STEPS)) most
 -- what all children take at a level
 unfoldable pub taken_by_all : ℕ → List ℕ → List ℕ → ℕ
 taken_by_all level weights most =
-    sum_by (λ k. taken level (slice_index weights k) (slice_index most k)) (range_with_len 0 (length weights))
+    sum_by (λ k. taken level (slice_index weights k) (slice_index most k))
+        (range_with_len 0 (length weights))
 
 -- each child's part is what it takes at a level
 abbrev pub AreTaken : ℕ → List ℕ → List ℕ → List ℕ → Type 0
 AreTaken level weights most parts =
-    (k : ℕ) → k < length weights → slice_index parts k ≡ taken level (slice_index weights k) (slice_index most k)
+    (k : ℕ) → k < length weights → slice_index parts k
+        ≡ taken level (slice_index weights k) (slice_index most k)
 
 -- a child takes more at a level than its part
 abbrev pub TakesMore : ℕ → List ℕ → List ℕ → List ℕ → ℕ → Type 0
-TakesMore level weights most parts k = slice_index parts k < taken level (slice_index weights k) (slice_index most k)
+TakesMore level weights most parts k =
+    slice_index parts k < taken level (slice_index weights k) (slice_index most k)
 
 -- from one place up to another no child takes more at a level than its part
 abbrev pub NoneTakesMore : ℕ → List ℕ → List ℕ → List ℕ → ℕ → ℕ → Type 0

@@ -170,7 +170,10 @@ fn find_level(amount: u64, weights: &[u64], most: &[u64], work: &mut Work) -> Fo
     let mut repeats = 0;
     let mut reach = WIDEST;
     for round in 0..MAX_ROUNDS {
-        if above - level == 1 || rest == 0 {
+        if above - level == 1 {
+            return Found { level, rest };
+        }
+        if rest == 0 {
             return Found { level, rest };
         }
         reach /= 2;

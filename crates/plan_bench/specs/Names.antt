@@ -1,7 +1,8 @@
 -- What the table calls a shape.
 use Rattle.std.specs.Prelude.{ℕ, List, codes}
 use Rattle.plan_bench.specs.declared.shapes.Shape.{Shape}
-use Rattle.plan_bench.specs.declared.shapes.Shape.TheVariants.{Flat, Pairs, Triples, Bushes, Chains, Random}
+use Rattle.plan_bench.specs.declared.shapes.Shape.TheVariants.{Flat, Pairs, Triples, Bushes, Chains}
+use Rattle.plan_bench.specs.declared.shapes.Shape.TheVariants.{Random}
 
 -- the words of the table for a shape
 abbrev pub shape_name : Shape → List ℕ

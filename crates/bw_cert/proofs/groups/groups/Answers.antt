@@ -17,9 +17,13 @@ returns-in_err-line c =
       flags = c.loop.tight.items;
       levels = map (option_map price_of) c.loop.levels.items;
     } in
-    let p = err_from_is_err_and c.from_residual-in_err-line.result c.from_residual-in_err-line.ensures.1 in
-    rw (p.1, p.2) (line_ends c.in_err-line.field-0.0 front c.args.count c.loop.counter (text_lines c.loop.rest.now)
-    (groups_at c.args.count (text_lines c.args.text.now)) c.loop-test.true (sym c.in_err-line.ensures) c.loop.invariant)
+    let p = err_from_is_err_and c.from_residual-in_err-line.result
+        c.from_residual-in_err-line.ensures.1 in
+    rw (p.1, p.2)
+        (line_ends c.in_err-line.field-0.0 front c.args.count c.loop.counter
+        (text_lines c.loop.rest.now)
+    (groups_at c.args.count (text_lines c.args.text.now)) c.loop-test.true
+        (sym c.in_err-line.ensures) c.loop.invariant)
 
 pub returns-in_err-next : goal.returns-in_err-next
 returns-in_err-next c =
@@ -29,9 +33,13 @@ returns-in_err-next c =
       flags = c.loop.tight.items;
       levels = map (option_map price_of) c.loop.levels.items;
     } in
-    let p = err_from_is_err_and c.from_residual-in_err-next.result c.from_residual-in_err-next.ensures.1 in
-    rw (p.1, p.2) (group_ends c.in_err-next.field-0.0 front c.args.count c.loop.counter (text_lines c.loop.rest.now)
-    (text_lines c.in_ok-line.after.now) c.in_ok-line.line.now (groups_at c.args.count (text_lines c.args.text.now)) c.loop-test.true
+    let p = err_from_is_err_and c.from_residual-in_err-next.result
+        c.from_residual-in_err-next.ensures.1 in
+    rw (p.1, p.2)
+        (group_ends c.in_err-next.field-0.0 front c.args.count c.loop.counter
+        (text_lines c.loop.rest.now)
+    (text_lines c.in_ok-line.after.now) c.in_ok-line.line.now
+        (groups_at c.args.count (text_lines c.args.text.now)) c.loop-test.true
     (sym c.in_ok-line.ensures) (sym c.in_err-next.ensures) c.loop.invariant)
 
 pub loop-preserved : goal.loop-preserved
@@ -49,8 +57,10 @@ loop-preserved c =
       c.in_ok-push-4.ensures.items,
       map_push (option_map price_of) c.loop.levels.items c.in_ok-next.next.level,
     )
-    (goes_on front c.args.count c.loop.counter (text_lines c.loop.rest.now) (text_lines c.in_ok-line.after.now) c.in_ok-line.line.now
-    (group_view c.in_ok-next.next) (groups_at c.args.count (text_lines c.args.text.now)) c.loop-test.true (sym c.in_ok-line.ensures)
+    (goes_on front c.args.count c.loop.counter (text_lines c.loop.rest.now)
+        (text_lines c.in_ok-line.after.now) c.in_ok-line.line.now
+    (group_view c.in_ok-next.next) (groups_at c.args.count (text_lines c.args.text.now))
+        c.loop-test.true (sym c.in_ok-line.ensures)
     (sym c.in_ok-next.ensures) c.loop.invariant)
 
 pub returns : goal.returns
@@ -61,4 +71,5 @@ returns c =
       flags = c.loop.tight.items;
       levels = map (option_map price_of) c.loop.levels.items;
     } in
-    is_done front c.args.count c.loop.counter (text_lines c.loop.rest.now) (groups_at c.args.count (text_lines c.args.text.now)) c.loop-test.false c.loop.invariant
+    is_done front c.args.count c.loop.counter (text_lines c.loop.rest.now)
+        (groups_at c.args.count (text_lines c.args.text.now)) c.loop-test.false c.loop.invariant

@@ -7,5 +7,6 @@ use Rattle.bw_check.specs.Verdict.{IsFree}
 use Rattle.bw_check.proofs.checking.check.Given as goal
 
 abbrev pub invariant-loop-fault : goal.invariant-loop-fault
-invariant-loop-fault l = (f : CheckFault) (g : ℕ) → check_fault_number f < 51 + l.fault-index → g < length l.instance.rows →
+invariant-loop-fault l = (f : CheckFault) (g : ℕ) → check_fault_number f < 51 + l.fault-index
+    → g < length l.instance.rows →
     IsFree l.instance l.amounts (certified_of l.certificate) l.tables.bounds.items f g

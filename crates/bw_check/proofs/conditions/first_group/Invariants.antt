@@ -5,4 +5,5 @@ use Rattle.bw_check.specs.Verdict.{IsFree}
 use Rattle.bw_check.proofs.conditions.first_group.Given as goal
 
 abbrev pub invariant-loop-g : goal.invariant-loop-g
-invariant-loop-g l = (k : ℕ) → k < l.g → IsFree l.instance l.amounts (certified_of l.certificate) l.tables.bounds.items l.fault k
+invariant-loop-g l = (k : ℕ) → k < l.g
+    → IsFree l.instance l.amounts (certified_of l.certificate) l.tables.bounds.items l.fault k

@@ -1,5 +1,6 @@
 -- The goals of `bound_of` that are answered by hand.
-use Rattle.std.proofs.Common.{◌≡◌, ℕ, ◌<◌, Bool, true, false, cond, Option, None, length, refl, ap, sym, ◌∙◌, arith}
+use Rattle.std.proofs.Common.{◌≡◌, ℕ, ◌<◌, Bool, true, false, cond, Option, None, length, refl, ap}
+use Rattle.std.proofs.Common.{sym, ◌∙◌, arith}
 use Rattle.std.proofs.lemmas.List.{get_or_default}
 use Rattle.bw_model.specs.declared.row.Row.{Row}
 use Rattle.bw_model.specs.Groups.{Groups, is_leaf, limit_of, demand_of}
@@ -17,7 +18,8 @@ no_flag b limit e = rw e refl
 
 module _ (groups : Groups) (certificate : Certified) (below g : ℕ)
     (none : cond (is_flagged certificate g) (limit_of groups g) None ≡ None) where
-  at_leaf : is_leaf groups.rows g ≡ true → bound_over groups certificate below g ≡ demand_of groups.rows g
+  at_leaf : is_leaf groups.rows g ≡ true
+      → bound_over groups certificate below g ≡ demand_of groups.rows g
   at_leaf leaf = rw (none, leaf) refl
 
   at_inner : is_leaf groups.rows g ≡ false → bound_over groups certificate below g ≡ below
@@ -34,9 +36,12 @@ returns-then-is_leaf-clause-value c =
     let leaf : is_leaf groups.rows c.args.g ≡ true = sym c.is_leaf.ensures ∙ c.if-is_leaf.true in
     let demand : c.from-then-is_leaf.result ≡ demand_of groups.rows c.args.g =
     c.from-then-is_leaf.ensures ∙ ap (λ (row : Row). row.demand) c.row.ensures in
-    let none : cond (is_flagged certificate c.args.g) (limit_of groups c.args.g) None ≡ None = elim c.if-index.branch [
-      | then-index+in_default w ↦ no_limit (is_flagged certificate c.args.g) (limit_of groups c.args.g) (sym w.limit.ensures ∙ w.in_default.is)
-      | else-index w ↦ no_flag (is_flagged certificate c.args.g) (limit_of groups c.args.g) (sym flag ∙ w.if-index.false)
+    let none : cond (is_flagged certificate c.args.g) (limit_of groups c.args.g) None ≡ None =
+        elim c.if-index.branch [
+      | then-index+in_default w ↦ no_limit (is_flagged certificate c.args.g)
+          (limit_of groups c.args.g) (sym w.limit.ensures ∙ w.in_default.is)
+      | else-index w ↦ no_flag (is_flagged certificate c.args.g) (limit_of groups c.args.g)
+          (sym flag ∙ w.if-index.false)
     ] in
     demand ∙ sym (at_leaf groups certificate c.args.below c.args.g none leaf)
 
@@ -49,8 +54,11 @@ returns-else-is_leaf-clause-value c =
     let flag : c.index.result.now ≡ is_flagged certificate c.args.g =
     c.index.ensures ∙ get_or_default tight c.args.g c.index.result.now false there in
     let inner : is_leaf groups.rows c.args.g ≡ false = sym c.is_leaf.ensures ∙ c.if-is_leaf.false in
-    let none : cond (is_flagged certificate c.args.g) (limit_of groups c.args.g) None ≡ None = elim c.if-index.branch [
-      | then-index+in_default w ↦ no_limit (is_flagged certificate c.args.g) (limit_of groups c.args.g) (sym w.limit.ensures ∙ w.in_default.is)
-      | else-index w ↦ no_flag (is_flagged certificate c.args.g) (limit_of groups c.args.g) (sym flag ∙ w.if-index.false)
+    let none : cond (is_flagged certificate c.args.g) (limit_of groups c.args.g) None ≡ None =
+        elim c.if-index.branch [
+      | then-index+in_default w ↦ no_limit (is_flagged certificate c.args.g)
+          (limit_of groups c.args.g) (sym w.limit.ensures ∙ w.in_default.is)
+      | else-index w ↦ no_flag (is_flagged certificate c.args.g) (limit_of groups c.args.g)
+          (sym flag ∙ w.if-index.false)
     ] in
     sym (at_inner groups certificate c.args.below c.args.g none inner)

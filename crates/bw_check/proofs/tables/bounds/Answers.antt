@@ -1,23 +1,29 @@
 -- The goals of `bounds` that are answered by hand.
-use Rattle.std.proofs.Common.{◌≡◌, ℕ, suc, ◌+◌, ◌-◌, ◌<◌, length, get_or, replicate, ap, subst, sym, ◌∙◌, arith, rules}
+use Rattle.std.proofs.Common.{◌≡◌, ℕ, suc, ◌+◌, ◌-◌, ◌<◌, length, get_or, replicate, ap, subst, sym}
+use Rattle.std.proofs.Common.{◌∙◌, arith, rules}
 use Rattle.std.proofs.lemmas.Grind.{get_or_default_zero}
 use Rattle.bw_model.specs.Certificate.{certified_of}
 use Rattle.bw_check.specs.Counts.{bound_over}
-use Rattle.bw_check.proofs.Bounding.{AreMadeFrom, none_made, none_small, made_top, made_child, small_top, sum_small, small_child, all_made}
+use Rattle.bw_check.proofs.Bounding.{AreMadeFrom, none_made, none_small, made_top, made_child}
+use Rattle.bw_check.proofs.Bounding.{small_top, sum_small, small_child, all_made}
 use Rattle.bw_check.proofs.tables.bounds.Goals as goal
 
 pub loop-g-init : goal.loop-g-init
 loop-g-init c =
     let rows = c.args.instance.now.rows in
     let count : c.group_count-count.result ≡ length rows = c.group_count-count.ensures.count in
-    let below_are : c.in_ok-below.below.items ≡ replicate c.group_count-count.result 0 = search rules in
-    let bounds_are : c.in_ok-bounds.bounds.items ≡ replicate c.group_count-count.result 0 = search rules in
+    let below_are : c.in_ok-below.below.items ≡ replicate c.group_count-count.result 0 =
+        search rules in
+    let bounds_are : c.in_ok-bounds.bounds.items ≡ replicate c.group_count-count.result 0 =
+        search rules in
     let below_all = below_are ∙ ap (λ (n : ℕ). replicate n 0) count in
     let bounds_all = bounds_are ∙ ap (λ (n : ℕ). replicate n 0) count in
     rw count (record {
-      made = none_made c.args.instance.now (certified_of c.args.certificate.now) c.group_count-count.ensures.valid.tree
+      made = none_made c.args.instance.now (certified_of c.args.certificate.now)
+          c.group_count-count.ensures.valid.tree
           c.in_ok-below.below.items c.in_ok-bounds.bounds.items below_all bounds_all;
-      small = none_small c.args.instance.now (certified_of c.args.certificate.now) c.group_count-count.ensures.valid.tree c.in_ok-below.below.items below_all;
+      small = none_small c.args.instance.now (certified_of c.args.certificate.now)
+          c.group_count-count.ensures.valid.tree c.in_ok-below.below.items below_all;
     })
 
 pub overflow_add-sum : goal.overflow_add-sum
@@ -25,14 +31,18 @@ overflow_add-sum c =
     let rows = c.args.instance.now.rows in
     let below = c.loop-g.below.items in
     let next : c.loop-g.g ≡ suc (c.loop-g.g - 1) = omega (arith, c.loop-g-test.true) in
-    let within : c.loop-g.g - 1 < length rows = omega (arith, c.loop-g-test.true, c.loop-g.auto.g, c.group_count-count.ensures.count) in
+    let within : c.loop-g.g - 1 < length rows =
+        omega (arith, c.loop-g-test.true, c.loop-g.auto.g, c.group_count-count.ensures.count) in
     let long : length below ≡ length rows = c.loop-g.invariant.made.summed.one_each in
     let here : c.index.result.now ≡ get_or below (c.loop-g.g - 1) 0 =
-    c.index.ensures ∙ get_or_default_zero below (c.loop-g.g - 1) c.index.result.now (omega (arith, within, long)) in
+    c.index.ensures ∙ get_or_default_zero below (c.loop-g.g - 1) c.index.result.now
+        (omega (arith, within, long)) in
     let before : c.in-Some.parent < c.loop-g.g - 1 = c.in-Some.ensures.before in
     let read : c.index-sum.result.now ≡ get_or below c.in-Some.parent 0 =
-    c.index-sum.ensures ∙ get_or_default_zero below c.in-Some.parent c.index-sum.result.now (omega (arith, within, long, before)) in
-    let fits = sum_small c.args.instance.now c.loop-g.g (c.loop-g.g - 1) c.bound_of-bound.result below next c.loop-g.invariant.small
+    c.index-sum.ensures ∙ get_or_default_zero below c.in-Some.parent c.index-sum.result.now
+        (omega (arith, within, long, before)) in
+    let fits = sum_small c.args.instance.now c.loop-g.g (c.loop-g.g - 1) c.bound_of-bound.result
+        below next c.loop-g.invariant.small
     (omega (arith, c.bound_of-bound.ensures.small, here)) c.in-Some.parent before in
     omega (arith, fits, read, c.group_count-count.ensures.valid.few)
 
@@ -41,25 +51,36 @@ loop-g-preserved-in-Some c =
     let rows = c.args.instance.now.rows in
     let below = c.loop-g.below.items in
     let next : c.loop-g.g ≡ suc (c.loop-g.g - 1) = omega (arith, c.loop-g-test.true) in
-    let within : c.loop-g.g - 1 < length rows = omega (arith, c.loop-g-test.true, c.loop-g.auto.g, c.group_count-count.ensures.count) in
+    let within : c.loop-g.g - 1 < length rows =
+        omega (arith, c.loop-g-test.true, c.loop-g.auto.g, c.group_count-count.ensures.count) in
     let long : length below ≡ length rows = c.loop-g.invariant.made.summed.one_each in
     let here : c.index.result.now ≡ get_or below (c.loop-g.g - 1) 0 =
-    c.index.ensures ∙ get_or_default_zero below (c.loop-g.g - 1) c.index.result.now (omega (arith, within, long)) in
+    c.index.ensures ∙ get_or_default_zero below (c.loop-g.g - 1) c.index.result.now
+        (omega (arith, within, long)) in
     let before : c.in-Some.parent < c.loop-g.g - 1 = c.in-Some.ensures.before in
     let read : c.index-sum.result.now ≡ get_or below c.in-Some.parent 0 =
-    c.index-sum.ensures ∙ get_or_default_zero below c.in-Some.parent c.index-sum.result.now (omega (arith, within, long, before)) in
+    c.index-sum.ensures ∙ get_or_default_zero below c.in-Some.parent c.index-sum.result.now
+        (omega (arith, within, long, before)) in
     let value : c.bound_of-bound.result
-    ≡ bound_over c.args.instance.now (certified_of c.args.certificate.now) (get_or below (c.loop-g.g - 1) 0) (c.loop-g.g - 1) =
-    c.bound_of-bound.ensures.value ∙ ap (λ (x : ℕ). bound_over c.args.instance.now (certified_of c.args.certificate.now) x (c.loop-g.g - 1)) here in
+    ≡ bound_over c.args.instance.now (certified_of c.args.certificate.now)
+        (get_or below (c.loop-g.g - 1) 0) (c.loop-g.g - 1) =
+    c.bound_of-bound.ensures.value
+        ∙ ap (λ (x : ℕ). bound_over c.args.instance.now (certified_of c.args.certificate.now) x
+        (c.loop-g.g - 1)) here in
     let sum = c.index-sum.result.now + c.bound_of-bound.result in
-    let sum_is : c.index-sum.result.now + c.bound_of-bound.result ≡ get_or below c.in-Some.parent 0 + c.bound_of-bound.result =
+    let sum_is : c.index-sum.result.now + c.bound_of-bound.result
+        ≡ get_or below c.in-Some.parent 0 + c.bound_of-bound.result =
     ap (λ (x : ℕ). x + c.bound_of-bound.result) read in
     record {
-      made = made_child c.args.instance.now (certified_of c.args.certificate.now) c.group_count-count.ensures.valid.tree
-          c.loop-g.g (c.loop-g.g - 1) c.bound_of-bound.result below c.loop-g.bounds.items next within c.loop-g.invariant.made value
+      made = made_child c.args.instance.now (certified_of c.args.certificate.now)
+          c.group_count-count.ensures.valid.tree
+          c.loop-g.g (c.loop-g.g - 1) c.bound_of-bound.result below c.loop-g.bounds.items next
+              within c.loop-g.invariant.made value
           c.in-Some.parent sum (sym c.parent.ensures.value ∙ c.in-Some.is) sum_is;
-      small = small_child c.args.instance.now c.loop-g.g (c.loop-g.g - 1) c.bound_of-bound.result below next c.loop-g.invariant.small
-          (omega (arith, c.bound_of-bound.ensures.small, here)) c.in-Some.parent sum before (omega (arith, within, long, before)) sum_is;
+      small = small_child c.args.instance.now c.loop-g.g (c.loop-g.g - 1) c.bound_of-bound.result
+          below next c.loop-g.invariant.small
+          (omega (arith, c.bound_of-bound.ensures.small, here)) c.in-Some.parent sum before
+              (omega (arith, within, long, before)) sum_is;
     }
 
 pub loop-g-preserved : goal.loop-g-preserved
@@ -67,24 +88,34 @@ loop-g-preserved c =
     let rows = c.args.instance.now.rows in
     let below = c.loop-g.below.items in
     let next : c.loop-g.g ≡ suc (c.loop-g.g - 1) = omega (arith, c.loop-g-test.true) in
-    let within : c.loop-g.g - 1 < length rows = omega (arith, c.loop-g-test.true, c.loop-g.auto.g, c.group_count-count.ensures.count) in
+    let within : c.loop-g.g - 1 < length rows =
+        omega (arith, c.loop-g-test.true, c.loop-g.auto.g, c.group_count-count.ensures.count) in
     let long : length below ≡ length rows = c.loop-g.invariant.made.summed.one_each in
     let here : c.index.result.now ≡ get_or below (c.loop-g.g - 1) 0 =
-    c.index.ensures ∙ get_or_default_zero below (c.loop-g.g - 1) c.index.result.now (omega (arith, within, long)) in
+    c.index.ensures ∙ get_or_default_zero below (c.loop-g.g - 1) c.index.result.now
+        (omega (arith, within, long)) in
     let value : c.bound_of-bound.result
-    ≡ bound_over c.args.instance.now (certified_of c.args.certificate.now) (get_or below (c.loop-g.g - 1) 0) (c.loop-g.g - 1) =
-    c.bound_of-bound.ensures.value ∙ ap (λ (x : ℕ). bound_over c.args.instance.now (certified_of c.args.certificate.now) x (c.loop-g.g - 1)) here in
+    ≡ bound_over c.args.instance.now (certified_of c.args.certificate.now)
+        (get_or below (c.loop-g.g - 1) 0) (c.loop-g.g - 1) =
+    c.bound_of-bound.ensures.value
+        ∙ ap (λ (x : ℕ). bound_over c.args.instance.now (certified_of c.args.certificate.now) x
+        (c.loop-g.g - 1)) here in
     record {
-      made = made_top c.args.instance.now (certified_of c.args.certificate.now) c.group_count-count.ensures.valid.tree
-          c.loop-g.g (c.loop-g.g - 1) c.bound_of-bound.result below c.loop-g.bounds.items next within c.loop-g.invariant.made value
+      made = made_top c.args.instance.now (certified_of c.args.certificate.now)
+          c.group_count-count.ensures.valid.tree
+          c.loop-g.g (c.loop-g.g - 1) c.bound_of-bound.result below c.loop-g.bounds.items next
+              within c.loop-g.invariant.made value
           (sym c.parent.ensures.value ∙ c.in_default.is);
-      small = small_top c.args.instance.now c.loop-g.g (c.loop-g.g - 1) c.bound_of-bound.result below next c.loop-g.invariant.small
+      small = small_top c.args.instance.now c.loop-g.g (c.loop-g.g - 1) c.bound_of-bound.result
+          below next c.loop-g.invariant.small
           (omega (arith, c.bound_of-bound.ensures.small, here));
     }
 
 pub returns : goal.returns
 returns c =
     let done : c.loop-g.g ≡ 0 = omega (arith, c.loop-g-test.false) in
-    all_made c.args.instance.now (certified_of c.args.certificate.now) c.group_count-count.ensures.valid.tree c.loop-g.below.items c.loop-g.bounds.items
+    all_made c.args.instance.now (certified_of c.args.certificate.now)
+        c.group_count-count.ensures.valid.tree c.loop-g.below.items c.loop-g.bounds.items
     (subst (λ (g : ℕ). AreMadeFrom c.args.instance.now
-    (certified_of c.args.certificate.now) g c.loop-g.below.items c.loop-g.bounds.items) done c.loop-g.invariant.made)
+    (certified_of c.args.certificate.now) g c.loop-g.below.items c.loop-g.bounds.items) done
+        c.loop-g.invariant.made)

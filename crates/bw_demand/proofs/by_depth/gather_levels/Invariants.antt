@@ -6,10 +6,12 @@ use Rattle.bw_demand.proofs.Seen.{seen_from, seen_at}
 use Rattle.bw_demand.proofs.by_depth.gather_levels.Given as goal
 
 abbrev pub invariant-loop-depth : goal.invariant-loop-depth
-invariant-loop-depth l = IsGathering l.instance (seen_from l.instance.rows l.depth) l.gathered.want.items l.gathered.most.items l.gathered.tight.items
+invariant-loop-depth l = IsGathering l.instance (seen_from l.instance.rows l.depth)
+    l.gathered.want.items l.gathered.most.items l.gathered.tight.items
 
 abbrev pub invariant-loop-k : goal.invariant-loop-k
 invariant-loop-k l = record {
   level : l.level ≡ rows_of_depth l.instance.rows l.depth;
-  gathering : IsGathering l.instance (seen_at l.instance.rows l.depth l.k) l.gathered.want.items l.gathered.most.items l.gathered.tight.items;
+  gathering : IsGathering l.instance (seen_at l.instance.rows l.depth l.k) l.gathered.want.items
+      l.gathered.most.items l.gathered.tight.items;
 }

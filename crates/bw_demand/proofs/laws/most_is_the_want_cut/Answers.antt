@@ -10,5 +10,6 @@ pub returns : goal.returns
 returns c = record {
   unique = IsMost-unique;
   rule = λ groups most valid known g below.
-      AreMaxTotals-capped groups valid.tree most known g below ∙ sym (cut-capped (limit_of groups g) (want_of groups most g));
+      AreMaxTotals-capped groups valid.tree most known g below
+          ∙ sym (cut-capped (limit_of groups g) (want_of groups most g));
 }

@@ -16,10 +16,14 @@ returns-clause-held c =
     let groups = c.in_ok-instance.ensures.groups in
     let certificate : Certified = certified_of c.in_ok-certificate.certificate in
     let amounts = c.in_ok-plan.plan.amounts.items in
-    let flags = c.in_ok-flag_numbers.ensures ∙ ap (λ (l : List Bool). map flag_number l) c.as_slice.ensures.value in
-    let nums = c.in_ok-nums.ensures ∙ ap (λ (l : List (Option Mark)). map num_of l) c.as_slice-levels.ensures.value in
-    let dens = c.in_ok-dens.ensures ∙ ap (λ (l : List (Option Mark)). map den_of l) c.as_slice-levels.ensures.value in
-    let places = c.in_ok-places.ensures ∙ ap (λ (l : List (Option Mark)). map place_of_level l) c.as_slice-levels.ensures.value in
+    let flags = c.in_ok-flag_numbers.ensures
+        ∙ ap (λ (l : List Bool). map flag_number l) c.as_slice.ensures.value in
+    let nums = c.in_ok-nums.ensures
+        ∙ ap (λ (l : List (Option Mark)). map num_of l) c.as_slice-levels.ensures.value in
+    let dens = c.in_ok-dens.ensures
+        ∙ ap (λ (l : List (Option Mark)). map den_of l) c.as_slice-levels.ensures.value in
+    let places = c.in_ok-places.ensures
+        ∙ ap (λ (l : List (Option Mark)). map place_of_level l) c.as_slice-levels.ensures.value in
     record {
       plan = subst (λ (g : Groups). IsPlan g amounts) groups c.in_ok-plan.ensures;
       certificate = certificate;
@@ -27,9 +31,12 @@ returns-clause-held c =
           c.in_ok-dens.field-0.items c.in_ok-places.field-0.items flags nums dens places;
       spelled = spelled_by certificate c.in_ok-flag_numbers.field-0.items c.in_ok-nums.field-0.items
           c.in_ok-dens.field-0.items c.in_ok-places.field-0.items flags nums dens places;
-      accepted = subst (λ (g : Groups). IsAccepted g amounts certificate) groups c.in_ok-certificate.ensures.certified;
-      flags = subst (λ (g : Groups). AreTightFlags g certificate) groups c.in_ok-certificate.ensures.flags;
-      levels = subst (λ (g : Groups). AreLevels g amounts certificate) groups c.in_ok-certificate.ensures.levels;
+      accepted = subst (λ (g : Groups). IsAccepted g amounts certificate) groups
+          c.in_ok-certificate.ensures.certified;
+      flags = subst (λ (g : Groups). AreTightFlags g certificate) groups
+          c.in_ok-certificate.ensures.flags;
+      levels = subst (λ (g : Groups). AreLevels g amounts certificate) groups
+          c.in_ok-certificate.ensures.levels;
     }
 
 pub returns-clause-long : goal.returns-clause-long
@@ -38,18 +45,25 @@ returns-clause-long c =
     let count : ℕ = length c.args.columns.now.parents.now in
     let certificate : Certified = certified_of c.in_ok-certificate.certificate in
     let amounts = c.in_ok-plan.plan.amounts.items in
-    let accepted : IsAccepted (groups_in (shape_of c.args.host) (table_of c.args.columns.now)) amounts certificate =
-    subst (λ (g : Groups). IsAccepted g amounts certificate) groups c.in_ok-certificate.ensures.certified in
-    let rows : length (rows_in (table_of c.args.columns.now)) ≡ count = rows_length (table_of c.args.columns.now) in
+    let accepted : IsAccepted (groups_in (shape_of c.args.host) (table_of c.args.columns.now))
+        amounts certificate =
+    subst (λ (g : Groups). IsAccepted g amounts certificate) groups
+        c.in_ok-certificate.ensures.certified in
+    let rows : length (rows_in (table_of c.args.columns.now)) ≡ count =
+        rows_length (table_of c.args.columns.now) in
     let levels : length certificate.levels ≡ count = accepted.certified.levels_each ∙ rows in
     record {
       amounts = accepted.certified.amounts_each ∙ rows;
       flags = long_by flag_number certificate.tight c.in_ok-flag_numbers.field-0.items count
-          (c.in_ok-flag_numbers.ensures ∙ ap (λ (l : List Bool). map flag_number l) c.as_slice.ensures.value) (accepted.certified.flags_each ∙ rows);
+          (c.in_ok-flag_numbers.ensures ∙ ap (λ (l : List Bool). map flag_number l)
+              c.as_slice.ensures.value) (accepted.certified.flags_each ∙ rows);
       nums = long_by num_of certificate.levels c.in_ok-nums.field-0.items count
-          (c.in_ok-nums.ensures ∙ ap (λ (l : List (Option Mark)). map num_of l) c.as_slice-levels.ensures.value) levels;
+          (c.in_ok-nums.ensures ∙ ap (λ (l : List (Option Mark)). map num_of l)
+              c.as_slice-levels.ensures.value) levels;
       dens = long_by den_of certificate.levels c.in_ok-dens.field-0.items count
-          (c.in_ok-dens.ensures ∙ ap (λ (l : List (Option Mark)). map den_of l) c.as_slice-levels.ensures.value) levels;
+          (c.in_ok-dens.ensures ∙ ap (λ (l : List (Option Mark)). map den_of l)
+              c.as_slice-levels.ensures.value) levels;
       places = long_by place_of_level certificate.levels c.in_ok-places.field-0.items count
-          (c.in_ok-places.ensures ∙ ap (λ (l : List (Option Mark)). map place_of_level l) c.as_slice-levels.ensures.value) levels;
+          (c.in_ok-places.ensures ∙ ap (λ (l : List (Option Mark)). map place_of_level l)
+              c.as_slice-levels.ensures.value) levels;
     }

@@ -4,4 +4,5 @@ use Rattle.bw_plan.specs.Shared.{IsPlanning, is_above}
 use Rattle.bw_plan.proofs.by_depth.plan_each_depth.Given as goal
 
 abbrev pub invariant-loop-below : goal.invariant-loop-below
-invariant-loop-below g l = IsPlanning l.instance l.most (is_above l.instance.rows (l.below - 1)) l.amounts.items
+invariant-loop-below g l =
+    IsPlanning l.instance l.most (is_above l.instance.rows (l.below - 1)) l.amounts.items

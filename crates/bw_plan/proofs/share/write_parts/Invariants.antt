@@ -6,5 +6,6 @@ abbrev pub invariant-loop-k : goal.invariant-loop-k
 invariant-loop-k l = record {
   len : length l.amounts.items ≡ length l.initial.amounts.items;
   written : (j : ℕ) → j < l.k → get_or l.amounts.items (get_or l.places j 0) 0 ≡ get_or l.parts j 0;
-  others : (i : ℕ) → ((j : ℕ) → j < l.k → get_or l.places j 0 ≡ i → ⊥) → get_or l.amounts.items i 0 ≡ get_or l.initial.amounts.items i 0;
+  others : (i : ℕ) → ((j : ℕ) → j < l.k → get_or l.places j 0 ≡ i → ⊥)
+      → get_or l.amounts.items i 0 ≡ get_or l.initial.amounts.items i 0;
 }

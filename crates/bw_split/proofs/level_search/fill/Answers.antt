@@ -14,27 +14,35 @@ loop-i-preserved c =
     let within : c.min-part.result ≤ get_or c.args.most.now c.loop-i.i 0 = omega arith in
     elim c.if-mark-level.branch [
       | then-mark-level w ↦
-          let m = mark_level c.min-part.result (get_or c.args.weights.now c.loop-i.i 0) c.loop-i.level w.div_ceil-level.result
+          let m = mark_level c.min-part.result (get_or c.args.weights.now c.loop-i.i 0)
+              c.loop-i.level w.div_ceil-level.result
           in_range.0 small w.if-mark-level.true w.div_ceil-level.ensures in
           rw w.level-is (record {
             in_range = m.1;
-            open_fits = omega (arith, c.loop-i.invariant.open_fits, c.open_weight-open.ensures, in_range.1);
+            open_fits = omega
+                (arith, c.loop-i.invariant.open_fits, c.open_weight-open.ensures, in_range.1);
             sum_fits = omega (arith, c.loop-i.invariant.sum_fits, small);
-            reached = raised c.loop-i.level w.div_ceil-level.result c.loop-i.sum c.min-part.result c.loop-i.i c.args.weights.now c.args.most.now
+            reached = raised c.loop-i.level w.div_ceil-level.result c.loop-i.sum c.min-part.result
+                c.loop-i.i c.args.weights.now c.args.most.now
                 m.0 within m.2 c.loop-i.invariant.reached;
           })
       | else-mark-level w ↦
           rw w.level-is (record {
             in_range = c.loop-i.invariant.in_range;
-            open_fits = omega (arith, c.loop-i.invariant.open_fits, c.open_weight-open.ensures, in_range.1);
+            open_fits = omega
+                (arith, c.loop-i.invariant.open_fits, c.open_weight-open.ensures, in_range.1);
             sum_fits = omega (arith, c.loop-i.invariant.sum_fits, small);
-            reached = raised c.loop-i.level c.loop-i.level c.loop-i.sum c.min-part.result c.loop-i.i c.args.weights.now c.args.most.now
-                (omega arith) within (omega (arith, w.if-mark-level.false)) c.loop-i.invariant.reached;
+            reached = raised c.loop-i.level c.loop-i.level c.loop-i.sum c.min-part.result c.loop-i.i
+                c.args.weights.now c.args.most.now
+                (omega arith) within (omega (arith, w.if-mark-level.false))
+                    c.loop-i.invariant.reached;
           })
     ]
 
 pub returns-clause-reached : goal.returns-clause-reached
 returns-clause-reached c =
     let all : c.loop-i.i ≡ length c.args.weights.now = omega arith in
-    let same = ap (λ (n : ℕ). sum_below n (each_takes c.loop-i.level c.args.weights.now c.args.most.now)) all in
-    omega (arith, same, by_all-is c.loop-i.level c.args.weights.now c.args.most.now, c.loop-i.invariant.reached)
+    let same = ap (λ (n : ℕ). sum_below n
+        (each_takes c.loop-i.level c.args.weights.now c.args.most.now)) all in
+    omega (arith, same, by_all-is c.loop-i.level c.args.weights.now c.args.most.now,
+        c.loop-i.invariant.reached)

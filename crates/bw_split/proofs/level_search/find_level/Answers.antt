@@ -1,13 +1,13 @@
 -- The goals of `find_level` that are answered by hand.
-use Rattle.std.proofs.Common.{◌≡◌, ◌≤◌, ◌<◌, ◌+◌, ℕ, List, length, get_or, arith, refl, ◌∙◌, inl, inr}
+use Rattle.std.proofs.Common.{◌≡◌, ◌≤◌, ◌<◌, ◌+◌, ℕ, List, length, get_or, arith, refl, ◌∙◌, inl}
+use Rattle.std.proofs.Common.{inr}
 use Rattle.std.proofs.lemmas.Bool.{cases_lt}
 use Rattle.bw_model.specs.declared.limits.TheConstants.{MAX_CAPACITY, MAX_WEIGHT}
 use Rattle.bw_split.specs.Levels.{taken_by_all}
 use Rattle.bw_split.proofs.Takes.{by_all-zero, by_all-one, by_all-mono}
 use Rattle.bw_split.proofs.Search.{next_reach}
 use Rattle.bw_split.proofs.level_search.find_level.Goals as goal
-use Rattle.bw_split.proofs.level_search.find_level.Goals.{then-total-amount, else-total-amount, then-above-level-eq1-via-then-above-level-eq1}
-use Rattle.bw_split.proofs.level_search.find_level.Goals.{then-above-level-eq1-via-else-above-level-eq1+then-rest-eq0-2}
+use Rattle.bw_split.proofs.level_search.find_level.Goals.{then-total-amount, else-total-amount}
 
 pub loop-round-preserved : goal.loop-round-preserved
 loop-round-preserved c =
@@ -57,25 +57,30 @@ pub returns-then-rest-eq0-clause-rest : goal.returns-then-rest-eq0-clause-rest
 returns-then-rest-eq0-clause-rest c = omega (arith, by_all-zero c.args.weights.now c.args.most.now)
 
 -- some amount isn't taken at level 0
-starts : (amount level : ℕ) (weights most : List ℕ) → (amount ≡ 0 → ⊥) → amount ≤ taken_by_all level weights most → 0 < level
+starts : (amount level : ℕ) (weights most : List ℕ) → (amount ≡ 0 → ⊥)
+    → amount ≤ taken_by_all level weights most → 0 < level
 starts amount level weights most some enough = elim (cases_lt 0 level) [
   | inl h ↦ h
-  | inr h ↦ absurd (let up : taken_by_all level weights most ≤ taken_by_all 0 weights most = by_all-mono level 0 weights most h in
+  | inr h ↦ absurd (let up : taken_by_all level weights most
+      ≤ taken_by_all 0 weights most = by_all-mono level 0 weights most h in
       omega (arith, up, some, enough, by_all-zero weights most))
 ]
 
 -- some amount isn't taken at level 1
-above_one : (amount level : ℕ) (weights most : List ℕ) → ((k : ℕ) → k < length weights → get_or weights k 0 ≤ MAX_WEIGHT) →
+above_one : (amount level : ℕ) (weights most : List ℕ)
+    → ((k : ℕ) → k < length weights → get_or weights k 0 ≤ MAX_WEIGHT) →
     (amount ≡ 0 → ⊥) → amount ≤ taken_by_all level weights most → 1 < level
 above_one amount level weights most light some enough = elim (cases_lt 1 level) [
   | inl h ↦ h
-  | inr h ↦ absurd (let up : taken_by_all level weights most ≤ taken_by_all 1 weights most = by_all-mono level 1 weights most h in
+  | inr h ↦ absurd (let up : taken_by_all level weights most
+      ≤ taken_by_all 1 weights most = by_all-mono level 1 weights most h in
       omega (arith, up, some, enough, by_all-one weights most light))
 ]
 
 pub loop-round-init : goal.loop-round-init
 loop-round-init c = record {
-  apart = starts c.args.amount c.upper_level-upper.result.level c.args.weights.now c.args.most.now c.if-rest-eq0.false c.upper_level-upper.ensures.enough;
+  apart = starts c.args.amount c.upper_level-upper.result.level c.args.weights.now c.args.most.now
+      c.if-rest-eq0.false c.upper_level-upper.ensures.enough;
   in_range = c.upper_level-upper.ensures.in_range;
   rest_is = omega (arith, by_all-zero c.args.weights.now c.args.most.now);
   enough = c.upper_level-upper.ensures.enough;
@@ -87,26 +92,27 @@ loop-round-init c = record {
   picks = omega arith;
   first = λ _. (
     above_one c.args.amount c.upper_level-upper.result.level c.args.weights.now c.args.most.now
-        (λ k below. (c.requires.weights_in_range k below).1) c.if-rest-eq0.false c.upper_level-upper.ensures.enough,
+        (λ k below. (c.requires.weights_in_range k below).1) c.if-rest-eq0.false
+            c.upper_level-upper.ensures.enough,
     omega (arith, c.if-rest-eq0.false),
   );
 }
 
 pub returns-then-above-level-eq1-clause-enough : goal.returns-then-above-level-eq1-clause-enough
 returns-then-above-level-eq1-clause-enough c =
-    let inv = c.loop-round.invariant in
-    elim c.then-above-level-eq1.branch [
-      | then-above-level-eq1-via-then-above-level-eq1 w ↦
-          omega (
-            arith,
-            inv.enough,
-            by_all-mono c.loop-round.above (c.loop-round.level + 1) c.args.weights.now c.args.most.now (omega (arith, w.if-above-level-eq1.true)),
-          )
-      | then-above-level-eq1-via-else-above-level-eq1+then-rest-eq0-2 w ↦
-          omega (
-            arith,
-            inv.rest_is,
-            w.if-rest-eq0-2.true,
-            by_all-mono c.loop-round.level (c.loop-round.level + 1) c.args.weights.now c.args.most.now (omega arith),
-          )
-    ]
+    omega (
+      arith,
+      c.loop-round.invariant.enough,
+      by_all-mono c.loop-round.above (c.loop-round.level + 1) c.args.weights.now c.args.most.now
+          (omega (arith, c.if-above-level-eq1.true)),
+    )
+
+pub returns-then-rest-eq0-2-clause-enough : goal.returns-then-rest-eq0-2-clause-enough
+returns-then-rest-eq0-2-clause-enough c =
+    omega (
+      arith,
+      c.loop-round.invariant.rest_is,
+      c.if-rest-eq0-2.true,
+      by_all-mono c.loop-round.level (c.loop-round.level + 1) c.args.weights.now c.args.most.now
+          (omega arith),
+    )

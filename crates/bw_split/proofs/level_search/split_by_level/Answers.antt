@@ -1,6 +1,7 @@
 -- The goals of `split_by_level` that are answered by hand.
-use Rattle.std.proofs.Common.{◌≡◌, ◌<◌, ◌≤◌, ℕ, List, [], ◌∷◌, length, get_or, arith, inl, inr, ◌∙◌, rules}
-use Rattle.std.specs.Prelude.{sum, IfOk}
+use Rattle.std.proofs.Common.{◌≡◌, ◌<◌, ℕ, List, [], ◌∷◌, length, get_or, arith, inl, inr, ◌∙◌}
+use Rattle.std.proofs.Common.{rules}
+use Rattle.std.specs.Prelude.{IfOk}
 use Rattle.std.proofs.lemmas.Result.{IfOk-weaker}
 use Rattle.std.proofs.lemmas.Bool.{cases_lt}
 use Rattle.bw_model.specs.Split.{IsBestSplit}
@@ -11,7 +12,8 @@ use Rattle.bw_split.proofs.Search.{one-IsBestSplit}
 use Rattle.bw_split.proofs.level_search.split_by_level.Goals as goal
 
 -- a search is needed for some amount alone
-amount_left : (amount : ℕ) (weights most : List ℕ) → (NeedsNoSearch amount weights most → ⊥) → 0 < amount
+amount_left : (amount : ℕ) (weights most : List ℕ) → (NeedsNoSearch amount weights most → ⊥)
+    → 0 < amount
 amount_left amount weights most wanted = elim (cases_lt 0 amount) [
   | inl h ↦ h
   | inr h ↦ absurd (wanted (inl (omega (arith, h))))
@@ -19,12 +21,14 @@ amount_left amount weights most wanted = elim (cases_lt 0 amount) [
 
 pub loop-slice-init : goal.loop-slice-init
 loop-slice-init c = record {
-  given = given-none c.find_level-found.result.level c.args.weights.now c.args.most.now c.in_ok-parts.parts.items
+  given = given-none c.find_level-found.result.level c.args.weights.now c.args.most.now
+      c.in_ok-parts.parts.items
       c.in_ok-parts.ensures.lengths c.in_ok-parts.ensures.taken;
   inside = omega arith;
   rounds = omega (arith, c.find_level-found.ensures.rounds);
   picks = omega (arith, c.find_level-found.ensures.picks);
-  searched = λ wanted. let some = amount_left c.args.amount c.args.weights.now c.args.most.now wanted in
+  searched = λ wanted. let some =
+      amount_left c.args.amount c.args.weights.now c.args.most.now wanted in
       omega (arith, c.find_level-found.ensures.searched some);
   no_search = λ plain. elim plain [
     | inl none ↦ omega (arith, c.find_level-found.ensures.no_search none)
@@ -33,35 +37,43 @@ loop-slice-init c = record {
       | inr one ↦ c.if-weights-eq1.false one
     ])
   ];
-  counted = (omega (arith, c.find_level-found.ensures.counted), omega (arith, c.find_level-found.ensures.picks));
+  counted = (omega (arith, c.find_level-found.ensures.counted),
+      omega (arith, c.find_level-found.ensures.picks));
 }
 
 pub unreachable-requires : goal.unreachable-requires
 unreachable-requires c =
     let looked_at : c.deref.result.now ≡ c.loop-slice.parts.items = search rules in
-    not_given c.find_level-found.result.level c.loop-slice._slice c.loop-slice.from c.args.weights.now c.args.most.now
-    c.loop-slice.parts.items c.loop-slice.invariant.given c.find_level-found.result.rest c.args.amount
-    c.find_level-found.ensures.rest c.find_level-found.ensures.enough (omega (arith, c.loop-slice-test.true)) (rw looked_at at c.in-None.ensures.none)
+    not_given c.find_level-found.result.level c.loop-slice._slice c.loop-slice.from
+        c.args.weights.now c.args.most.now
+    c.loop-slice.parts.items c.loop-slice.invariant.given c.find_level-found.result.rest
+        c.args.amount
+    c.find_level-found.ensures.rest c.find_level-found.ensures.enough
+        (omega (arith, c.loop-slice-test.true)) (rw looked_at at c.in-None.ensures.none)
 
 pub loop-slice-preserved : goal.loop-slice-preserved
 loop-slice-preserved c =
     let inv = c.loop-slice.invariant in
     let taker = c.in-Some.ensures.takes in
     let looked_at : c.deref.result.now ≡ c.loop-slice.parts.items = search rules in
-    let there : c.in-Some.i < length c.loop-slice.parts.items = omega (arith, taker.1, inv.given.lengths) in
+    let there : c.in-Some.i < length c.loop-slice.parts.items =
+        omega (arith, taker.1, inv.given.lengths) in
     let read : c.index.result.now ≡ get_or c.loop-slice.parts.items c.in-Some.i 0 =
     c.index.ensures ∙ get_or_within c.loop-slice.parts.items c.in-Some.i c.index.result.now there in
     record {
-      given = given-more c.find_level-found.result.level c.loop-slice._slice c.loop-slice.from c.args.weights.now c.args.most.now
+      given = given-more c.find_level-found.result.level c.loop-slice._slice c.loop-slice.from
+          c.args.weights.now c.args.most.now
           c.loop-slice.parts.items inv.given c.in-Some.i c.with_one_more.result
-          taker.0 taker.1 (c.requires.can.weights_in_range c.in-Some.i taker.1).1 (rw looked_at at taker.2) (rw looked_at at c.in-Some.ensures.first)
+          taker.0 taker.1 (c.requires.can.weights_in_range c.in-Some.i taker.1).1
+              (rw looked_at at taker.2) (rw looked_at at c.in-Some.ensures.first)
           (omega (arith, c.with_one_more.ensures.part, read));
       inside = omega (arith, taker.1);
       rounds = omega (arith, c.with_one_more.ensures.rounds, inv.rounds);
       picks = omega (arith, c.with_one_more.ensures.picks, inv.picks, taker.0);
       searched = λ wanted. omega (arith, c.with_one_more.ensures.rounds, inv.searched wanted);
       no_search = λ plain. c.with_one_more.ensures.rounds ∙ inv.no_search plain;
-      counted = (omega (arith, c.with_one_more.ensures.rounds, inv.counted.0), omega (arith, c.with_one_more.ensures.picks, inv.counted.1));
+      counted = (omega (arith, c.with_one_more.ensures.rounds, inv.counted.0),
+          omega (arith, c.with_one_more.ensures.picks, inv.counted.1));
     }
 
 pub returns-then-weights-eq1-clause-best : goal.returns-then-weights-eq1-clause-best
@@ -69,12 +81,17 @@ returns-then-weights-eq1-clause-best c =
     let copied : IfOk c.to_vec.result (λ v. v.items ≡ c.args.amount ∷ []) = search rules in
     IfOk-weaker c.to_vec.result (λ v. v.items ≡ c.args.amount ∷ [])
     (λ parts. IsBestSplit c.args.amount c.args.weights.now c.args.most.now parts.items)
-    (λ v is. rw is (one-IsBestSplit c.args.amount c.args.weights.now c.args.most.now c.if-weights-eq1.true c.requires.can.one_each
-    (c.requires.can.weights_in_range 0 (omega (arith, c.if-weights-eq1.true))).0 c.requires.can.enough)) copied
+    (λ v is. rw is
+        (one-IsBestSplit c.args.amount c.args.weights.now c.args.most.now c.if-weights-eq1.true
+        c.requires.can.one_each
+    (c.requires.can.weights_in_range 0 (omega (arith, c.if-weights-eq1.true))).0
+        c.requires.can.enough)) copied
 
 pub returns-clause-best : goal.returns-clause-best
 returns-clause-best c =
     let all : c.loop-slice._slice ≡ c.find_level-found.result.rest = omega arith in
-    given-IsBestSplit c.find_level-found.result.level c.loop-slice._slice c.loop-slice.from c.args.weights.now c.args.most.now
-    c.loop-slice.parts.items c.loop-slice.invariant.given c.find_level-found.result.rest c.args.amount
+    given-IsBestSplit c.find_level-found.result.level c.loop-slice._slice c.loop-slice.from
+        c.args.weights.now c.args.most.now
+    c.loop-slice.parts.items c.loop-slice.invariant.given c.find_level-found.result.rest
+        c.args.amount
     c.requires.can.one_each c.requires.can.weights_in_range c.find_level-found.ensures.rest all
