@@ -1,5 +1,6 @@
 -- A number is `0`, or decimal digits of which the first is not `0`. It may have any length.
-use Rattle.std.specs.Prelude.{ℕ, ◌+◌, ◌-◌, ◌*◌, ◌^◌, Bool, ◌&&◌, ◌||◌, not, ◌==◌, nat_lt, List, [], ◌∷◌, length, slice_index, Option, Some, None, Result, Ok}
+use Rattle.std.specs.Prelude.{ℕ, ◌+◌, ◌-◌, ◌*◌, ◌^◌, Bool, ◌&&◌, ◌||◌, not, ◌==◌, nat_lt, List, []}
+use Rattle.std.specs.Prelude.{◌∷◌, length, slice_index, Option, Some, None, Result, Ok}
 use Rattle.std.specs.Prelude.{Err, if◌then◌else◌}
 use Rattle.std.specs.Char.{is_ascii_digit}
 use Rattle.std.specs.List.{list_all}
@@ -8,7 +9,8 @@ use Rattle.bw_text.specs.declared.number.NumberFault.TheVariants.{BadForm, TooGr
 
 -- whether a word is a number
 abbrev pub is_number : List ℕ → Bool
-is_number word = nat_lt 0 (length word) && list_all is_ascii_digit word && (length word == 1 || not (slice_index word 0 == 48))
+is_number word = nat_lt 0 (length word) && list_all is_ascii_digit word
+    && (length word == 1 || not (slice_index word 0 == 48))
 
 -- each digit stands for itself times ten for each digit after it
 abbrev pub value_of_digits : List ℕ → ℕ
@@ -22,11 +24,15 @@ number_spelled word = if is_number word then Some (value_of_digits word) else No
 -- the number that a word spells at 64 bits where it may begin with any digit, or why there is none
 abbrev pub digits_read : List ℕ → Result ℕ NumberFault
 digits_read word =
-    if list_all is_ascii_digit word then (if nat_lt (value_of_digits word) (2 ^ 64) then Ok (value_of_digits word) else Err TooGreat)
+    if list_all is_ascii_digit word
+    then (if nat_lt (value_of_digits word) (2 ^ 64) then Ok (value_of_digits word)
+    else Err TooGreat)
     else Err BadForm
 
 -- the same at 64 bits: why a word is no number, or the number
 abbrev pub number_read : List ℕ → Result ℕ NumberFault
 number_read word =
-    if is_number word then (if nat_lt (value_of_digits word) (2 ^ 64) then Ok (value_of_digits word) else Err TooGreat)
+    if is_number word
+    then (if nat_lt (value_of_digits word) (2 ^ 64) then Ok (value_of_digits word)
+    else Err TooGreat)
     else Err BadForm

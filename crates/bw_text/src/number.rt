@@ -1,22 +1,32 @@
 //! Numbers in decimal digits.
-ghost use Rattle.std.specs.Prelude.{◌≡◌, ℕ, ◌+◌, ◌-◌, ◌*◌, ◌<◌, ◌≤◌, ◌^◌, ◌==◌, ◌&&◌, ◌||◌, not, nat_lt, length, slice_index, List, Ok, MatchOption, if◌then◌else◌};
+ghost use Rattle.std.specs.Prelude.{◌≡◌, ℕ, ◌+◌, ◌-◌, ◌*◌, ◌<◌, ◌≤◌, ◌^◌, ◌==◌, ◌&&◌, ◌||◌, not};
+ghost use Rattle.std.specs.Prelude.{nat_lt, length, slice_index, List, Ok, MatchOption, OnErr};
+ghost use Rattle.std.specs.Prelude.{◌++◌, is_ok, if◌then◌else◌};
+ghost use Rattle.std.specs.Prelude.{string_bytes, string_len, string_capacity};
 ghost use Rattle.std.specs.List.{list_all};
 ghost use Rattle.std.specs.Char.{is_ascii_digit};
 ghost use Rattle.std.specs.Fmt.{decimal};
 ghost use Rattle.bw_text.specs.Number.{digits_read, number_read};
 
+use itoa::Buffer;
+use std::alloc::AllocError;
+
 /// Why a word is no number of 64 bits.
 #[derive(Clone, Copy, Debug, PartialEq, Eq)]
 pub enum NumberFault {
-    /// It isn't spelled as a number.
+    /// The word is not `0` and not digits of which the first is not `0`.
     BadForm,
-    /// It is above `u64::MAX`.
+    /// The number is above `u64::MAX`.
     TooGreat,
 }
 
-/// The number that a word spells: `0`, or decimal digits of which the first is not `0`, at most `u64::MAX`.
+/// Reads a number, 0 to `u64::MAX`: `0`, or decimal digits of which the first is not `0`.
 ///
-/// `BadForm` comes before `TooGreat`.
+/// # Errors
+///
+/// The first that applies:
+/// - [`NumberFault::BadForm`] if the word is no such digits.
+/// - [`NumberFault::TooGreat`] if the number is above `u64::MAX`.
 pub fn read_number(word: &[u8]) -> Result<u64, NumberFault>
     ensures { result ≡ number_read word.now }
 {
@@ -32,22 +42,25 @@ fn are_digits(word: &[u8]) -> bool
     word.iter().all(|b| b.is_ascii_digit())
 }
 
-// Whether a word begins as a number does: with a byte, and with no `0` that others follow.
+// Whether a word is not empty, and no `0` at its front is followed by another byte.
 fn begins_as_number(word: &[u8]) -> bool
-    ensures { result ≡ (nat_lt 0 (length word.now) && (length word.now == 1 || not (slice_index word.now 0 == 48))) }
+    ensures { result
+        ≡ (nat_lt 0 (length word.now)
+        && (length word.now == 1 || not (slice_index word.now 0 == 48))) }
 {
     !word.is_empty() && (word.len() == 1 || word[0] != b'0')
 }
 
-// The number with one digit more.
+// Appends a digit to a number; `None` above `u64::MAX`.
 fn push_digit(n: u64, digit: u8) -> Option<u64>
     requires { (48 ≤ digit) × (digit ≤ 57) }
-    ensures { MatchOption result (2 ^ 64 ≤ n * 10 + (digit - 48)) (λ m. (m ≡ n * 10 + (digit - 48)) × (m < 2 ^ 64)) }
+    ensures { MatchOption result (2 ^ 64 ≤ n * 10 + (digit - 48))
+        (λ m. (m ≡ n * 10 + (digit - 48)) × (m < 2 ^ 64)) }
 {
     n.checked_mul(10)?.checked_add(u64::from(digit - b'0'))
 }
 
-// The number that digits spell. Each byte is looked at once, but where the number is too great.
+// Reads digits in one pass. A number that is too great costs a second pass.
 fn digits_read(word: &[u8]) -> Result<u64, NumberFault>
     ensures { result ≡ digits_read word.now }
 {
@@ -64,9 +77,10 @@ fn digits_read(word: &[u8]) -> Result<u64, NumberFault>
     Ok(n)
 }
 
-// Why a word is refused whose first digits are too great a number: a byte behind them may be no digit.
+// Fault of a word whose first digits are too great a number. A later byte may be no digit.
 fn too_great(word: &[u8]) -> NumberFault
-    ensures { result ≡ (if list_all is_ascii_digit word.now then NumberFault.TooGreat else NumberFault.BadForm) }
+    ensures { result
+        ≡ (if list_all is_ascii_digit word.now then NumberFault.TooGreat else NumberFault.BadForm) }
 {
     if are_digits(word) {
         NumberFault::TooGreat
@@ -75,8 +89,24 @@ fn too_great(word: &[u8]) -> NumberFault
     }
 }
 
-/// What std writes of a number is read as that number, and each number that is read is spelled so.
+/// Appends a number in decimal digits.
+///
+/// # Errors
+///
+/// `AllocError` if the text has too little room and memory is refused. The text is then unchanged.
+pub fn push_number(out: &mut String, n: u64) -> Result<(), AllocError>
+    ensures bytes { string_bytes out.new
+        ≡ (if is_ok result then string_bytes out.old ++ decimal n else string_bytes out.old) }
+    ensures full { OnErr result (string_capacity out.old
+        < string_len out.old + length (decimal n)) }
+{
+    let mut buffer = Buffer::new();
+    out.push_str(buffer.format(n))
+}
+
+/// Law: std's decimal digits of a number are read as it, and a word that is read is those digits.
 pub fn one_spelling()
     ensures written { (n : ℕ) → n < 2 ^ 64 → number_read (decimal n) ≡ Ok n }
-    ensures only { (word : List ℕ) (n : ℕ) → number_read word ≡ Ok n → (word ≡ decimal n) × (n < 2 ^ 64) }
+    ensures only { (word : List ℕ) (n : ℕ) → number_read word ≡ Ok n
+        → (word ≡ decimal n) × (n < 2 ^ 64) }
 {}

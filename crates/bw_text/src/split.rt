@@ -1,5 +1,6 @@
 //! Words between white bytes, and the parts round a byte.
-ghost use Rattle.std.specs.Prelude.{◌≡◌, ℕ, ◌≤◌, ◌<◌, ◌==◌, ◌∷◌, [], not, length, slice_index, MatchOption};
+ghost use Rattle.std.specs.Prelude.{◌≡◌, ℕ, ◌≤◌, ◌<◌, ◌==◌, ◌∷◌, [], not, length, slice_index};
+ghost use Rattle.std.specs.Prelude.{MatchOption};
 ghost use Rattle.std.specs.List.{slice_split};
 ghost use Rattle.bw_text.specs.Words.{is_white, words};
 
@@ -11,7 +12,7 @@ fn is_white(b: u8) -> bool
     b == b' ' || b == b'\t' || b == b'\n'
 }
 
-// How many bytes at the front are white, or how many are not.
+// Number of bytes at the front that are white, or that are not.
 fn run_len(text: &[u8], white: bool) -> usize
     ensures bound { result ≤ length text.now }
     ensures run { (k : ℕ) → k < result → is_white (slice_index text.now k) ≡ white }
@@ -25,9 +26,12 @@ fn run_len(text: &[u8], white: bool) -> usize
     text.len()
 }
 
-/// The first word of a text between spaces, tabs and newlines, and what stands after it.
+/// Returns the first word of a text and the rest; `None` if the text is blank.
+///
+/// Spaces, tabs and newlines end a word.
 pub fn next_word(text: &[u8]) -> Option<(&[u8], &[u8])>
-    ensures { MatchOption result (words text.now ≡ []) (λ p. words text.now ≡ p.0.now ∷ words p.1.now) }
+    ensures { MatchOption result (words text.now ≡ [])
+        (λ p. words text.now ≡ p.0.now ∷ words p.1.now) }
 {
     let (_, text) = text.split_at(run_len(text, true));
     let (word, rest) = text.split_at(run_len(text, false));
@@ -38,10 +42,13 @@ pub fn next_word(text: &[u8]) -> Option<(&[u8], &[u8])>
     }
 }
 
-/// What stands before the first such byte of a text, and what after it.
+/// Splits a text at the first `byte`; `None` if the text does not have it.
+///
+/// A plain loop, for the words of a line. [`split_line`] is for long texts.
 pub fn split_once(text: &[u8], byte: u8) -> Option<(&[u8], &[u8])>
     ensures { MatchOption result (slice_split (λ b. b == byte) text.now ≡ text.now ∷ [])
-        (λ p. slice_split (λ b. b == byte) text.now ≡ p.0.now ∷ slice_split (λ b. b == byte) p.1.now) }
+        (λ p. slice_split (λ b. b == byte) text.now
+        ≡ p.0.now ∷ slice_split (λ b. b == byte) p.1.now) }
 {
     for (i, b) in text.iter().enumerate() {
         if *b == byte {
@@ -51,8 +58,9 @@ pub fn split_once(text: &[u8], byte: u8) -> Option<(&[u8], &[u8])>
     None
 }
 
-/// The first line of a text, and what stands after its newline; `None` where there is none. `memchr` looks at many bytes at
-/// a time, so this is for long texts, and [`split_once`] for the words of a line.
+/// Splits a text at its first newline; `None` if it has none.
+///
+/// `memchr` tests many bytes at a time. It pays off in long texts.
 pub fn split_line(text: &[u8]) -> Option<(&[u8], &[u8])>
     ensures { MatchOption result (slice_split (λ b. b == 10) text.now ≡ text.now ∷ [])
         (λ p. slice_split (λ b. b == 10) text.now ≡ p.0.now ∷ slice_split (λ b. b == 10) p.1.now) }

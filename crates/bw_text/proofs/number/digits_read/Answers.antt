@@ -7,13 +7,20 @@ use Rattle.bw_text.proofs.number.digits_read.Goals as goal
 pub returns-in_default : goal.returns-in_default
 returns-in_default c =
     let digit : is_ascii_digit (get_or c.args.word.now c.loop-b.b-index 0) ≡ true = cc in
-    let next = reading_steps c.args.word.now c.loop-b.b-index c.loop-b.n _ c.loop-b-test.true refl digit c.loop-b.invariant.0 in
-    too_great_read c.args.word.now _ _ c.too_great.result (omega (arith, c.in_default.ensures)) next c.too_great.ensures
+    let next = reading_steps c.args.word.now c.loop-b.b-index c.loop-b.n _ c.loop-b-test.true refl
+    digit c.loop-b.invariant.0 in
+    too_great_read c.args.word.now _ _ c.too_great.result (omega (arith, c.in_default.ensures)) next
+    c.too_great.ensures
 
 pub loop-b-preserved : goal.loop-b-preserved
 loop-b-preserved c =
-    let digit : is_ascii_digit (get_or c.args.word.now c.loop-b.b-index 0) ≡ true = cc in
-    (rw c.in-Some.ensures.0 (reading_steps c.args.word.now c.loop-b.b-index c.loop-b.n _ c.loop-b-test.true refl digit c.loop-b.invariant.0), c.in-Some.ensures.1)
+    let digit : is_ascii_digit (get_or c.args.word.now c.loop-b.b-index 0) ≡ true = cc in (
+      rw c.in-Some.ensures.0
+          (reading_steps c.args.word.now c.loop-b.b-index c.loop-b.n _ c.loop-b-test.true refl digit
+          c.loop-b.invariant.0),
+      c.in-Some.ensures.1,
+    )
 
 pub returns : goal.returns
-returns c = all_read c.args.word.now c.loop-b.b-index c.loop-b.n c.loop-b.invariant.1 c.loop-b-test.false c.loop-b.invariant.0
+returns c = all_read c.args.word.now c.loop-b.b-index c.loop-b.n c.loop-b.invariant.1
+    c.loop-b-test.false c.loop-b.invariant.0

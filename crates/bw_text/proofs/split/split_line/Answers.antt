@@ -11,11 +11,14 @@ not_so false h = refl
 pub returns-in_err-end : goal.returns-in_err-end
 returns-in_err-end c =
     rw c.from_residual.ensures
-    (part_last (λ b. eqb b 10) c.args.text.now (λ k lt. not_so (eqb (get_or c.args.text.now k 0) 10) (c.in_err-end.ensures k (omega arith) lt)))
+    (part_last (λ b. eqb b 10) c.args.text.now
+    (λ k lt. not_so (eqb (get_or c.args.text.now k 0) 10)
+    (c.in_err-end.ensures k (omega arith) lt)))
 
 pub returns : goal.returns
 returns c =
     rw (take_rest c.args.text.now (c.in_ok-end.end + 1))
     (part_ends (λ b. eqb b 10) c.args.text.now c.in_ok-end.end c.in_ok-end.ensures.0.high
-    (λ k lt. not_so (eqb (get_or c.args.text.now k 0) 10) (c.in_ok-end.ensures.0.before k (omega arith) lt))
+    (λ k lt. not_so (eqb (get_or c.args.text.now k 0) 10)
+    (c.in_ok-end.ensures.0.before k (omega arith) lt))
     c.in_ok-end.ensures.1)
