@@ -1,7 +1,9 @@
 -- The numbers and names of the refusals.
 use Rattle.std.specs.Prelude.{ℕ, List, codes}
 use Rattle.bw_files.specs.declared.fault.FileFault.{FileFault}
-use Rattle.bw_files.specs.declared.fault.FileFault.TheVariants.{BadNumber, WeightOutOfRange, QuotaTooSmall, QuotaTooLarge, PeriodOutOfRange, TooManyWords}
+use Rattle.bw_files.specs.declared.fault.FileFault.TheVariants.{BadNumber, WeightOutOfRange}
+use Rattle.bw_files.specs.declared.fault.FileFault.TheVariants.{QuotaTooSmall, QuotaTooLarge}
+use Rattle.bw_files.specs.declared.fault.FileFault.TheVariants.{PeriodOutOfRange, TooManyWords}
 use Rattle.bw_files.specs.declared.fault.FileFault.TheVariants.{Empty}
 
 -- the number that is printed

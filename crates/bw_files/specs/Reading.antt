@@ -1,18 +1,24 @@
 -- What is read of the words of a text, and the first refusal.
-use Rattle.std.specs.Prelude.{ℕ, ◌^◌, ◌-◌, min, ◌||◌, nat_lt, List, [], ◌∷◌, Option, Some, None, Result, Ok, Err, codes, if◌then◌else◌}
+use Rattle.std.specs.Prelude.{ℕ, ◌^◌, ◌-◌, min, ◌||◌, nat_lt, List, [], ◌∷◌, Option, Some, None}
+use Rattle.std.specs.Prelude.{Result, Ok, Err, codes, if◌then◌else◌}
 use Rattle.std.specs.Str.{bytes_eq}
 use Rattle.bw_text.specs.Number.{number_spelled}
-use Rattle.bw_model.specs.declared.limits.TheConstants.{MIN_WEIGHT, MAX_WEIGHT, MIN_QUOTA_US, MAX_QUOTA_US, MAX_BURST_US, MIN_PERIOD_US, MAX_PERIOD_US}
+use Rattle.bw_model.specs.declared.limits.TheConstants.{MIN_WEIGHT, MAX_WEIGHT, MIN_QUOTA_US}
+use Rattle.bw_model.specs.declared.limits.TheConstants.{MAX_QUOTA_US, MAX_BURST_US, MIN_PERIOD_US}
+use Rattle.bw_model.specs.declared.limits.TheConstants.{MAX_PERIOD_US}
 use Rattle.bw_model.specs.declared.quota.Quota.{Quota}
 use Rattle.bw_model.specs.declared.quota.Quota.TheVariants.{Max, Micros}
 use Rattle.bw_files.specs.declared.fault.FileFault.{FileFault}
-use Rattle.bw_files.specs.declared.fault.FileFault.TheVariants.{BadNumber, WeightOutOfRange, QuotaTooSmall, QuotaTooLarge, PeriodOutOfRange, TooManyWords}
+use Rattle.bw_files.specs.declared.fault.FileFault.TheVariants.{BadNumber, WeightOutOfRange}
+use Rattle.bw_files.specs.declared.fault.FileFault.TheVariants.{QuotaTooSmall, QuotaTooLarge}
+use Rattle.bw_files.specs.declared.fault.FileFault.TheVariants.{PeriodOutOfRange, TooManyWords}
 use Rattle.bw_files.specs.declared.fault.FileFault.TheVariants.{Empty}
 use Rattle.bw_files.specs.declared.reading.MaxWrite.{MaxWrite}
 
 -- the first refusal of two steps
 infixl 10 ◌>>=◌
-abbrev pub ◌>>=◌ : {A B : Type 0} → Result A FileFault → (A → Result B FileFault) → Result B FileFault
+abbrev pub ◌>>=◌ : {A B : Type 0} → Result A FileFault → (A → Result B FileFault)
+    → Result B FileFault
 (Ok x) >>= f = f x
 (Err e) >>= f = Err e
 
@@ -27,7 +33,8 @@ number_at word = or_bad (number_spelled word)
 
 -- `max` asks for no limit
 abbrev pub quota_at : List ℕ → Result (Option ℕ) FileFault
-quota_at word = if bytes_eq word (codes "max") then Ok None else (number_at word >>= λ n. Ok (Some n))
+quota_at word = if bytes_eq word (codes "max") then Ok None
+    else (number_at word >>= λ n. Ok (Some n))
 
 -- a weight in range
 abbrev pub weight_in : ℕ → Result ℕ FileFault
@@ -36,11 +43,13 @@ weight_in n = if nat_lt n MIN_WEIGHT || nat_lt MAX_WEIGHT n then Err WeightOutOf
 -- a limit in range, or none
 abbrev pub quota_in : Option ℕ → Result Quota FileFault
 quota_in None = Ok Max
-quota_in (Some n) = if nat_lt n MIN_QUOTA_US then Err QuotaTooSmall else if nat_lt MAX_QUOTA_US n then Err QuotaTooLarge else Ok (Micros n)
+quota_in (Some n) = if nat_lt n MIN_QUOTA_US then Err QuotaTooSmall
+    else if nat_lt MAX_QUOTA_US n then Err QuotaTooLarge else Ok (Micros n)
 
 -- a period in range
 abbrev pub period_in : ℕ → Result ℕ FileFault
-period_in n = if nat_lt n MIN_PERIOD_US || nat_lt MAX_PERIOD_US n then Err PeriodOutOfRange else Ok n
+period_in n = if nat_lt n MIN_PERIOD_US || nat_lt MAX_PERIOD_US n then Err PeriodOutOfRange
+    else Ok n
 
 -- a burst in range
 abbrev pub burst_in : ℕ → Result ℕ FileFault

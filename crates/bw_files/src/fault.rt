@@ -1,16 +1,16 @@
-//! Why a text is no value of its file.
+//! Faults of a text that is written into a group's file.
 ghost use Rattle.std.specs.Prelude.{◌≡◌};
 ghost use Rattle.bw_files.specs.Faults.{file_fault_number, file_fault_name};
 
 use thiserror::Error;
 
-/// The refusals of a text that is written into a group's file.
+/// Fault of a text that is written into a group's file.
 #[derive(Clone, Copy, Debug, PartialEq, Eq, Error)]
 pub enum FileFault {
-    /// 11: a word is no number.
+    /// 11: a word is not a number.
     #[error("BadNumber")]
     BadNumber,
-    /// 12: the weight is not 1 to 10000.
+    /// 12: the weight is outside 1 to 10000.
     #[error("WeightOutOfRange")]
     WeightOutOfRange,
     /// 13: the quota is below 1000 microseconds.
@@ -19,10 +19,10 @@ pub enum FileFault {
     /// 14: the quota or the burst is above 10^15 microseconds.
     #[error("QuotaTooLarge")]
     QuotaTooLarge,
-    /// 15: the period is not 1000 to 1000000 microseconds.
+    /// 15: the period is outside 1000 to 1000000 microseconds.
     #[error("PeriodOutOfRange")]
     PeriodOutOfRange,
-    /// 16: the text has more words than its file.
+    /// 16: the text has more words than its file takes.
     #[error("TooManyWords")]
     TooManyWords,
     /// 17: the text has no word.
@@ -31,7 +31,7 @@ pub enum FileFault {
 }
 
 impl FileFault {
-    /// The number that is printed.
+    /// Number of the fault, 11 to 17.
     pub fn number(self) -> u8
         ensures { result ≡ file_fault_number self }
     {
@@ -46,7 +46,7 @@ impl FileFault {
         }
     }
 
-    /// The name that is printed.
+    /// Name of the fault, the variant's.
     pub fn name(self) -> &'static str
         ensures { result.now ≡ file_fault_name self }
     {

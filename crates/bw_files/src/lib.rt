@@ -1,4 +1,4 @@
-//! The texts of a group's files.
+//! Reads and writes the texts of a group's files.
 #![tactic(auto)]
 
 mod fault;

@@ -1,10 +1,11 @@
-//! Texts as they are written into a group's files.
+//! Reads the texts that are written into a group's files.
 ghost use Rattle.std.specs.Prelude.{◌≡◌, ◌≤◌, ◌∷◌, [], ℕ, Ok, IfOk, IfSome};
 ghost use Rattle.bw_model.specs.Quota.{IsValid};
 ghost use Rattle.bw_model.specs.declared.limits.TheConstants.{MIN_PERIOD_US, MAX_PERIOD_US};
 ghost use Rattle.bw_text.specs.Words.{words};
 ghost use Rattle.bw_files.specs.Values.{IsWeightText, IsBurstText, IsMaxText};
-ghost use Rattle.bw_files.specs.Reading.{capped, capped_asked, number_at, quota_at, quota_in, weight_of, burst_of, max_of};
+ghost use Rattle.bw_files.specs.Reading.{capped, capped_asked, number_at, quota_at, quota_in};
+ghost use Rattle.bw_files.specs.Reading.{weight_of, burst_of, max_of};
 ghost use Rattle.bw_files.specs.declared.reading.MaxWrite.{MaxWrite};
 
 use crate::fault::FileFault;
@@ -12,16 +13,16 @@ use crate::ranges::{check_burst, check_period, check_quota, check_weight};
 use bw_model::Quota;
 use bw_text::{NumberFault, next_word, read_number};
 
-/// What a text of `cpu.max` sets: the quota, and the period in microseconds where the text has one.
+/// Values that a text of `cpu.max` sets. The period may be left out.
 #[derive(Clone, Copy, Debug, PartialEq, Eq)]
 pub struct MaxWrite {
-    /// No limit, or 1000 to 10^15 microseconds.
+    /// No limit, or 1000 to 10^15 microseconds in each period.
     pub quota: Quota,
-    /// 1000 to 1000000 microseconds.
+    /// Length of a period, 1000 to 1000000 microseconds.
     pub period: Option<u64>,
 }
 
-// The number, or the greatest of 64 bits in place of a greater one, which is above each range.
+// Reads a number. `u64::MAX`, which is above each range, replaces a greater one.
 fn number(word: &[u8]) -> Result<u64, FileFault>
     ensures { result ≡ capped (number_at word.now) }
 {
@@ -32,7 +33,7 @@ fn number(word: &[u8]) -> Result<u64, FileFault>
     }
 }
 
-// No limit for `max`, else the number.
+// Reads `max` as `None`, any other word as a number.
 fn quota_word(word: &[u8]) -> Result<Option<u64>, FileFault>
     ensures { result ≡ capped_asked (quota_at word.now) }
 {
@@ -114,44 +115,67 @@ fn max(text: &[u8]) -> Result<MaxWrite, FileFault>
     two_words(first, second)
 }
 
-/// The weight, 1 to 10000, that a text of `cpu.weight` sets (cgroup-v2.rst, "CPU Interface Files").
+/// Reads a text of `cpu.weight`: a weight, 1 to 10000 (cgroup-v2.rst, "CPU Interface Files").
 ///
-/// The first refusal that applies is answered: `Empty`, `TooManyWords`, `BadNumber`, `WeightOutOfRange`.
+/// # Errors
+///
+/// The first that applies:
+/// - [`FileFault::Empty`]
+/// - [`FileFault::TooManyWords`]
+/// - [`FileFault::BadNumber`]
+/// - [`FileFault::WeightOutOfRange`]
 pub fn read_weight(text: &[u8]) -> Result<u64, FileFault>
-    // What is read is a weight of that text, and each weight of that text is read.
+    // A number is read if and only if it is the weight of the text.
     ensures found { IfOk result (λ n. IsWeightText text.now n) }
     ensures only { (n : ℕ) → IsWeightText text.now n → result ≡ Ok n }
-    // Which refusal it is.
+    // Which fault is returned.
     ensures exact { result ≡ weight_of (words text.now) }
 {
     weight(text)
 }
 
-/// The burst in microseconds, 0 to 10^15, that a text of `cpu.max.burst` sets (cgroup-v2.rst, "CPU Interface Files").
+/// Reads a text of `cpu.max.burst`: a burst, 0 to 10^15 microseconds.
 ///
-/// The first refusal that applies is answered: `Empty`, `TooManyWords`, `BadNumber`, `QuotaTooLarge`.
+/// Source: cgroup-v2.rst, "CPU Interface Files".
+///
+/// # Errors
+///
+/// The first that applies:
+/// - [`FileFault::Empty`]
+/// - [`FileFault::TooManyWords`]
+/// - [`FileFault::BadNumber`]
+/// - [`FileFault::QuotaTooLarge`]
 pub fn read_burst(text: &[u8]) -> Result<u64, FileFault>
-    // What is read is a burst of that text, and each burst of that text is read.
+    // A number is read if and only if it is the burst of the text.
     ensures found { IfOk result (λ n. IsBurstText text.now n) }
     ensures only { (n : ℕ) → IsBurstText text.now n → result ≡ Ok n }
-    // Which refusal it is.
+    // Which fault is returned.
     ensures exact { result ≡ burst_of (words text.now) }
 {
     burst(text)
 }
 
-/// The quota, and the period where there is one, that a text of `cpu.max` sets, both in microseconds
-/// (cgroup-v2.rst, "CPU Interface Files").
+/// Reads a text of `cpu.max`: a quota, and optionally a period, both in microseconds.
 ///
-/// The first refusal that applies is answered: `Empty`, `TooManyWords`, `BadNumber` of either word,
-/// `QuotaTooSmall`, `QuotaTooLarge`, `PeriodOutOfRange`.
+/// Source: cgroup-v2.rst, "CPU Interface Files".
+///
+/// # Errors
+///
+/// The first that applies:
+/// - [`FileFault::Empty`]
+/// - [`FileFault::TooManyWords`]
+/// - [`FileFault::BadNumber`], of either word
+/// - [`FileFault::QuotaTooSmall`]
+/// - [`FileFault::QuotaTooLarge`]
+/// - [`FileFault::PeriodOutOfRange`]
 pub fn read_max(text: &[u8]) -> Result<MaxWrite, FileFault>
-    // What is read is a value of that text, and each value of that text is read.
+    // A value is read if and only if it is the value of the text.
     ensures found { IfOk result (λ m. IsMaxText text.now m) }
     ensures only { (m : MaxWrite) → IsMaxText text.now m → result ≡ Ok m }
-    // Which refusal it is.
+    // Which fault is returned.
     ensures exact { result ≡ max_of (words text.now) }
-    ensures valid { IfOk result (λ m. IsValid m.quota × IfSome m.period (λ n. (MIN_PERIOD_US ≤ n) × (n ≤ MAX_PERIOD_US))) }
+    ensures valid { IfOk result (λ m. IsValid m.quota
+        × IfSome m.period (λ n. (MIN_PERIOD_US ≤ n) × (n ≤ MAX_PERIOD_US))) }
 {
     max(text)
 }

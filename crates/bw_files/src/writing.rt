@@ -1,4 +1,4 @@
-//! Texts of a group's files, as they are read.
+//! Writes the texts of a group's files.
 ghost use Rattle.std.specs.Prelude.{◌≡◌, ◌≤◌, ◌++◌, OnOk, IfOk, string_bytes};
 ghost use Rattle.bw_model.specs.Quota.{IsValid};
 ghost use Rattle.bw_files.specs.Writing.{weight_text, burst_text, max_text, line, stat_text};
@@ -8,7 +8,11 @@ use bw_model::{Quota, Stat};
 use bw_text::push_number;
 use std::alloc::{AllocError, Global};
 
-/// The text of `cpu.weight`, refused for memory alone.
+/// Writes the text of `cpu.weight` for a weight, 1 to 10000.
+///
+/// # Errors
+///
+/// `AllocError` if an allocation fails.
 pub fn write_weight(alloc: Global, weight: u64) -> Result<String, AllocError>
     requires { (MIN_WEIGHT ≤ weight) × (weight ≤ MAX_WEIGHT) }
     ensures { IfOk result (λ t. string_bytes t ≡ weight_text weight) }
@@ -19,7 +23,11 @@ pub fn write_weight(alloc: Global, weight: u64) -> Result<String, AllocError>
     Ok(out)
 }
 
-/// The text of `cpu.max.burst`, in microseconds, refused for memory alone.
+/// Writes the text of `cpu.max.burst` for a burst, 0 to 10^15 microseconds.
+///
+/// # Errors
+///
+/// `AllocError` if an allocation fails.
 pub fn write_burst(alloc: Global, burst: u64) -> Result<String, AllocError>
     requires { burst ≤ MAX_BURST_US }
     ensures { IfOk result (λ t. string_bytes t ≡ burst_text burst) }
@@ -30,7 +38,11 @@ pub fn write_burst(alloc: Global, burst: u64) -> Result<String, AllocError>
     Ok(out)
 }
 
-/// The text of `cpu.max`, the period in microseconds, refused for memory alone.
+/// Writes the text of `cpu.max` for a quota and a period, 1000 to 1000000 microseconds.
+///
+/// # Errors
+///
+/// `AllocError` if an allocation fails.
 pub fn write_max(alloc: Global, quota: Quota, period: u64) -> Result<String, AllocError>
     requires quota { IsValid quota }
     requires period { (MIN_PERIOD_US ≤ period) × (period ≤ MAX_PERIOD_US) }
@@ -47,7 +59,7 @@ pub fn write_max(alloc: Global, quota: Quota, period: u64) -> Result<String, All
     Ok(out)
 }
 
-// A key and its value at the end.
+// Appends a key and its value.
 fn push_line(out: &mut String, key: &str, n: u64) -> Result<(), AllocError>
     ensures { OnOk result (string_bytes out.new ≡ string_bytes out.old ++ line key.now n) }
 {
@@ -58,7 +70,11 @@ fn push_line(out: &mut String, key: &str, n: u64) -> Result<(), AllocError>
     Ok(())
 }
 
-/// The text of `cpu.stat`, times in microseconds, refused for memory alone. The root's has the usage alone.
+/// Writes the text of `cpu.stat`, times in microseconds. The root's text has the usage alone.
+///
+/// # Errors
+///
+/// `AllocError` if an allocation fails.
 pub fn write_stat(alloc: Global, stat: &Stat, root: bool) -> Result<String, AllocError>
     ensures { IfOk result (λ t. string_bytes t ≡ stat_text stat.now root) }
 {

@@ -1,5 +1,6 @@
 -- The goals of `written_is_read` that are answered by hand.
-use Rattle.bw_files.proofs.Again.{weight_written, weight_again, burst_written, burst_again, max_written, max_again}
+use Rattle.bw_files.proofs.Again.{weight_written, weight_again, burst_written, burst_again}
+use Rattle.bw_files.proofs.Again.{max_written, max_again}
 use Rattle.bw_files.proofs.laws.written_is_read.Goals as goal
 
 pub returns-clause-weight : goal.returns-clause-weight
