@@ -1,5 +1,6 @@
 -- What one call does to the counters of the groups.
-use Rattle.std.specs.Prelude.{ℕ, ◌+◌, ◌*◌, ◌-◌, ◌^◌, min, Bool, nat_lt, nat_eq, List, [], ◌∷◌, Option, Some, None, if◌then◌else◌}
+use Rattle.std.specs.Prelude.{ℕ, ◌+◌, ◌*◌, ◌-◌, ◌^◌, min, Bool, nat_lt, nat_eq, List, [], ◌∷◌}
+use Rattle.std.specs.Prelude.{Option, Some, None, if◌then◌else◌}
 use Rattle.std.specs.Map.{lookup, remove_entry}
 use Rattle.indexmap.specs.IndexMap.{insert_entry}
 use Rattle.bw_model.specs.declared.row.Row.{Row}
@@ -13,13 +14,15 @@ pub record Share : Type 0 where
   pub is_burst : Bool
   pub burst_usec : ℕ
 
--- the slices that a group wanted above its limit; nothing is counted for the root, which has no parent
+-- slices that a throttled group wanted above its limit, 0 for the root, which has no parent
+-- (sched-bwc.rst, "Statistics")
 abbrev pub withheld_slices : Option ℕ → Option ℕ → ℕ → ℕ
 withheld_slices None limit want = 0
 withheld_slices (Some parent) None want = 0
 withheld_slices (Some parent) (Some limit) want = want - limit
 
--- the slices that a group drew above its quota; nothing is counted for the root, which has no parent
+-- slices that a group drew above its quota, 0 for the root, which has no parent
+-- (sched-bwc.rst, "Statistics")
 abbrev pub burst : Option ℕ → Option ℕ → ℕ → ℕ
 burst None quota drawn = 0
 burst (Some parent) None drawn = 0
@@ -34,21 +37,30 @@ share_of slice_us row quota want drawn = record {
   burst_usec = burst row.parent quota drawn * slice_us;
 }
 
--- what a period adds for each group: its rows, with the ids, the quotas, the wants and the drawn slices of the same groups
+-- what a period adds for each group: its rows, with the ids, the quotas, the wants and the drawn
+-- slices of the same groups
 abbrev pub shares_of : ℕ → List Row → List ℕ → List (Option ℕ) → List ℕ → List ℕ → List (ℕ × Share)
 shares_of slice_us [] ids base wants drawn = []
 shares_of slice_us (row ∷ rows) [] base wants drawn = []
 shares_of slice_us (row ∷ rows) (id ∷ ids) [] wants drawn = []
 shares_of slice_us (row ∷ rows) (id ∷ ids) (q ∷ qs) [] drawn = []
 shares_of slice_us (row ∷ rows) (id ∷ ids) (q ∷ qs) (w ∷ ws) [] = []
-shares_of slice_us (row ∷ rows) (id ∷ ids) (q ∷ qs) (w ∷ ws) (d ∷ ds) = (id, share_of slice_us row q w d) ∷ shares_of slice_us rows ids qs ws ds
+shares_of slice_us (row ∷ rows) (id ∷ ids) (q ∷ qs) (w ∷ ws) (d ∷ ds) =
+    (id, share_of slice_us row q w d) ∷ shares_of slice_us rows ids qs ws ds
 
 -- the counters kept for a group
 abbrev pub stat_at : List (ℕ × Stat) → ℕ → Option Stat
 stat_at books id = lookup (nat_eq id) books
 
 abbrev pub zeros : Stat
-zeros = record { usage_usec = 0; nr_periods = 0; nr_throttled = 0; throttled_usec = 0; nr_bursts = 0; burst_usec = 0 }
+zeros = record {
+  usage_usec = 0;
+  nr_periods = 0;
+  nr_throttled = 0;
+  throttled_usec = 0;
+  nr_bursts = 0;
+  burst_usec = 0;
+}
 
 abbrev pub or_zeros : Option Stat → Stat
 or_zeros None = zeros

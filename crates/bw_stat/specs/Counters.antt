@@ -1,5 +1,6 @@
 -- The counters as sums over the booked periods.
-use Rattle.std.specs.Prelude.{◌≡◌, ℕ, nat_eq, List, [], ◌∷◌, length, sum_by, count_by, Option, Some, None, Contains}
+use Rattle.std.specs.Prelude.{◌≡◌, ℕ, nat_eq, List, [], ◌∷◌, length, sum_by, count_by, Option, Some}
+use Rattle.std.specs.Prelude.{None, Contains}
 use Rattle.std.specs.Map.{lookup}
 use Rattle.bw_model.specs.declared.stat.Stat.{Stat}
 use Rattle.bw_stat.specs.Books.{Share, cut, booked, forgotten, stat_at}
@@ -63,9 +64,11 @@ counters_of (share ∷ shares) = Some (sums_of (share ∷ shares))
 abbrev pub IsForgotten : List Call → ℕ → Type 0
 IsForgotten calls id = Contains calls (Forget id)
 
--- Any list of calls from new books leaves the sums for each group that was not forgotten, and nothing for one that was.
+-- Any list of calls from new books leaves the sums for each group that was not forgotten, and
+-- nothing for one that was.
 abbrev pub CountersAreSums : List Call → Type 0
 CountersAreSums calls =
     AreCalls calls
-    → ((id : ℕ) → (IsForgotten calls id → ⊥) → stat_at (after_calls [] calls) id ≡ counters_of (shares_for id calls))
+    → ((id : ℕ) → (IsForgotten calls id → ⊥)
+    → stat_at (after_calls [] calls) id ≡ counters_of (shares_for id calls))
     × ((id : ℕ) → IsForgotten calls id → stat_at (after_calls [] calls) id ≡ None)

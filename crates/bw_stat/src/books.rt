@@ -1,10 +1,12 @@
-//! What was counted for each group.
-ghost use Rattle.std.specs.Prelude.{◌≡◌, ◌+◌, ◌*◌, ◌<◌, ◌≤◌, [], ◌∷◌, ℕ, List, length, position, OnOk, OnErr, IfOk, nat_eq, nat_lt, true, Some};
+//! Counters of groups over the booked periods.
+ghost use Rattle.std.specs.Prelude.{◌≡◌, ◌+◌, ◌*◌, ◌<◌, ◌≤◌, [], ◌∷◌, ℕ, List, length, position};
+ghost use Rattle.std.specs.Prelude.{OnOk, OnErr, IfOk, nat_eq, nat_lt, true, Some};
 ghost use Rattle.std.specs.Option.{option_copied};
 ghost use Rattle.std.specs.List.{IsDistinct};
 ghost use Rattle.std.specs.Map.{keys_of};
 ghost use Rattle.indexmap.specs.IndexMap.{spare};
-ghost use Rattle.bw_stat.specs.Books.{withheld_slices, burst, cut, periods_if, added, share_of, shares_of, stat_at, or_zeros, with_share, booked, forgotten};
+ghost use Rattle.bw_stat.specs.Books.{withheld_slices, burst, cut, periods_if, added, share_of};
+ghost use Rattle.bw_stat.specs.Books.{shares_of, stat_at, or_zeros, with_share, booked, forgotten};
 
 use bw_demand::Gathered;
 use bw_model::{Instance, Row, Stat};
@@ -12,7 +14,7 @@ use indexmap::IndexMap;
 use std::alloc::{AllocError, Global};
 use std::marker::Model;
 
-/// The counters of each group that was booked and not forgotten.
+/// Counters of each group that was booked and not forgotten, by its id.
 #[derive(Debug, Drop)]
 pub struct Books {
     stats: IndexMap<u64, Stat>,
@@ -28,7 +30,7 @@ impl Model for Books {
 }
 
 impl Books {
-    /// Books with no group.
+    /// Makes books without a group.
     pub fn new(alloc: Global) -> Books
         ensures { result ≡ [] }
     {
@@ -37,25 +39,31 @@ impl Books {
         }
     }
 
-    /// The counters of a group, in microseconds and periods, where it was booked and not forgotten.
+    /// Counters of a group, in microseconds and periods; `None` if it has none.
     pub fn of(&self, id: u64) -> Option<Stat>
         ensures { result ≡ stat_at self.now id }
     {
         self.stats.get(&id).copied()
     }
 
-    /// The same, and zeros where nothing is kept, as `cpu.stat` and the report show it.
+    /// Counters of a group, all 0 if it has none, as `cpu.stat` and the report show them.
     pub fn counters(&self, id: u64) -> Stat
         ensures { result ≡ or_zeros (stat_at self.now id) }
     {
         or_zeros(self.of(id))
     }
 
-    /// Counts one period for each group of an instance: the ids of its rows, their quotas, what they wanted and what
-    /// they drew, all three in slices. It fails only when out of memory, and the books are then as before.
+    /// Counts one period for each group of an instance.
     ///
-    /// A group other than the root is throttled where its limit is below its want, and used its burst where it drew more
-    /// than its quota (sched-bwc.rst, "Statistics").
+    /// `ids`, `base`, `gathered.want` and `drawn` have an entry for each row of the instance:
+    /// its id, and its quota, its want and its draw in slices.
+    ///
+    /// A group other than the root counts as throttled if its want is above its limit. It counts
+    /// a burst if it drew more than its quota (sched-bwc.rst, "Statistics").
+    ///
+    /// # Errors
+    ///
+    /// `AllocError` if an allocation fails. The books are then unchanged.
     pub fn book(
         &mut self,
         instance: &Instance,
@@ -70,7 +78,9 @@ impl Books {
         requires drawn { length drawn.now ≡ length instance.now.rows }
         requires distinct { IsDistinct nat_eq ids.now }
         ensures booked { OnOk result
-            (self.new ≡ booked self.old (shares_of instance.now.shape.slice_us instance.now.rows ids.now base.now gathered.now.want.items drawn.now)) }
+            (self.new ≡ booked self.old
+            (shares_of instance.now.shape.slice_us instance.now.rows ids.now base.now
+            gathered.now.want.items drawn.now)) }
         ensures err { OnErr result (self.new ≡ self.old) }
     {
         let slice_us = instance.shape().slice_us();
@@ -88,7 +98,7 @@ impl Books {
         Ok(())
     }
 
-    /// Takes a group's counters out, without taking memory.
+    /// Removes a group's counters. Allocates nothing.
     pub fn forget(&mut self, id: u64)
         ensures { self.new ≡ forgotten self.old id }
     {
@@ -96,7 +106,7 @@ impl Books {
     }
 }
 
-// Counts a period for each row. The room for new groups is there.
+// Counts a period for each row. The caller has reserved room for new groups.
 fn book_rows(
     stats: &mut IndexMap<u64, Stat>,
     slice_us: u64,
@@ -111,7 +121,8 @@ fn book_rows(
     requires base { length base.now ≡ length rows.now }
     requires wants { length wants.now ≡ length rows.now }
     requires drawn { length drawn.now ≡ length rows.now }
-    ensures { stats.new.entries ≡ booked stats.old.entries (shares_of slice_us rows.now ids.now base.now wants.now drawn.now) }
+    ensures { stats.new.entries ≡ booked stats.old.entries
+        (shares_of slice_us rows.now ids.now base.now wants.now drawn.now) }
 {
     for i in 0..rows.len() {
         book_row(
@@ -131,7 +142,8 @@ fn book_row(
     drawn: u64,
 )
     requires { 0 < spare stats.old }
-    ensures entries { stats.new.entries ≡ with_share stats.old.entries id (share_of slice_us row.now quota want drawn) }
+    ensures entries { stats.new.entries
+        ≡ with_share stats.old.entries id (share_of slice_us row.now quota want drawn) }
     ensures room { spare stats.old ≤ spare stats.new + 1 }
 {
     match place_of(stats, likely, id) {
@@ -147,8 +159,9 @@ fn book_row(
     }
 }
 
-// The place of a group's counters. Where each instance that was booked had all groups in order of creation, and each removed group
-// was forgotten, that is the number of the group's row, the likely place. Only else are they looked up.
+// Place of a group's counters: `likely`, the number of the group's row, if they are there.
+// Otherwise they are looked up. They are at that place if every booked instance had all groups in
+// order of creation, and each removed group was forgotten.
 fn place_of(stats: &IndexMap<u64, Stat>, likely: usize, id: u64) -> Option<usize>
     ensures { result ≡ position (nat_eq id) (keys_of stats.now.entries) }
 {
@@ -158,7 +171,7 @@ fn place_of(stats: &IndexMap<u64, Stat>, likely: usize, id: u64) -> Option<usize
     stats.get_index_of(&id)
 }
 
-// Whether the counters at a place are this group's.
+// Whether the counters at a place belong to this group.
 fn is_at(stats: &IndexMap<u64, Stat>, place: usize, id: u64) -> bool
     ensures { result ≡ true → position (nat_eq id) (keys_of stats.now.entries) ≡ Some place }
 {
@@ -184,7 +197,8 @@ fn or_zeros(stat: Option<Stat>) -> Stat
     }
 }
 
-// The slices that a group wanted above its limit. Nothing is counted for the root.
+// Slices that a throttled group wanted above its limit, 0 for the root. sched-bwc.rst,
+// "Statistics", counts the time of a throttled group; here the slices are withheld.
 fn withheld_slices(row: &Row, want: u64) -> u64
     ensures { result ≡ withheld_slices row.now.parent row.now.limit want }
 {
@@ -194,7 +208,7 @@ fn withheld_slices(row: &Row, want: u64) -> u64
     }
 }
 
-// The slices that a group drew above its quota. Nothing is counted for the root.
+// Slices that a group drew above its quota, 0 for the root (sched-bwc.rst, "Statistics").
 fn burst(row: &Row, quota: Option<u64>, drawn: u64) -> u64
     ensures { result ≡ burst row.now.parent quota drawn }
 {
@@ -204,7 +218,7 @@ fn burst(row: &Row, quota: Option<u64>, drawn: u64) -> u64
     }
 }
 
-// Counts a period in which so many slices were withheld, where any were.
+// Counts a throttled period if any slices were withheld. Counters saturate.
 fn add_withheld(stat: &mut Stat, slices: u64, slice_us: u64)
     ensures { stat.new ≡ record stat.old {
       nr_throttled = cut (stat.old.nr_throttled + periods_if (nat_lt 0 slices));
@@ -222,7 +236,7 @@ fn add_withheld(stat: &mut Stat, slices: u64, slice_us: u64)
     }
 }
 
-// Counts a period in which so many slices were drawn above the quota, where any were.
+// Counts a burst if any slices were drawn above the quota. Counters saturate.
 fn add_burst(stat: &mut Stat, slices: u64, slice_us: u64)
     ensures { stat.new ≡ record stat.old {
       nr_bursts = cut (stat.old.nr_bursts + periods_if (nat_lt 0 slices));
@@ -240,7 +254,7 @@ fn add_burst(stat: &mut Stat, slices: u64, slice_us: u64)
     }
 }
 
-// Adds one period to the counters of a group. In most periods it was neither throttled nor above its quota.
+// Adds one period to the counters of a group.
 fn add(stat: &mut Stat, slice_us: u64, row: &Row, quota: Option<u64>, want: u64, drawn: u64)
     ensures { stat.new ≡ added stat.old (share_of slice_us row.now quota want drawn) }
 {

@@ -1,4 +1,4 @@
-//! The counters of the groups over the booked periods, and the report of them.
+//! Counters of the groups over the booked periods, and the report of them.
 #![tactic(auto)]
 
 mod books;

@@ -12,6 +12,9 @@ returns-in-Some c is =
     let es = c.args.stats.now.entries in
     let same = eqb-true c.in-Some.key.now c.args.id is in
     let at =
-    ap (λ (xs : List (ℕ × Stat)). slice_get xs c.args.place) (sym c.as_slice.ensures.entries) ∙ sym c.in-Some.ensures.entry
+    ap (λ (xs : List (ℕ × Stat)). slice_get xs c.args.place) (sym c.as_slice.ensures.entries)
+    ∙ sym c.in-Some.ensures.entry
     ∙ ap (λ (id : ℕ). Some (id, c.in-Some._stat.now)) same in
-    index-first (eqb c.args.id) es c.args.place (own_first eqb nat_eq_equiv es c.args.place c.args.id c.in-Some._stat.now c.as_slice.ensures.unique at)
+    index-first (eqb c.args.id) es c.args.place
+    (own_first eqb nat_eq_equiv es c.args.place c.args.id c.in-Some._stat.now
+    c.as_slice.ensures.unique at)
