@@ -1,5 +1,6 @@
 -- How many children each group has.
-use Rattle.std.proofs.Common.{◌≡◌, ℕ, suc, zero, ◌+◌, ◌-◌, ◌<◌, ◌≤◌, ◌^◌, Bool, true, false, cond, ◌||◌, List, [], ◌∷◌, ◌++◌, length, Option, Some, is_some, refl, sym}
+use Rattle.std.proofs.Common.{◌≡◌, ℕ, suc, zero, ◌+◌, ◌-◌, ◌<◌, ◌≤◌, ◌^◌, Bool, true, false, cond}
+use Rattle.std.proofs.Common.{◌||◌, List, [], ◌∷◌, ◌++◌, length, Option, Some, is_some, refl, sym}
 use Rattle.std.proofs.Common.{ap, subst, ◌∙◌, eqb, arith}
 use Rattle.std.specs.Prelude.{IfSome}
 use Rattle.std.specs.Map.{remove_entry, set_value}
@@ -9,17 +10,20 @@ use Rattle.bw_tree.specs.Groups.{GroupFields, group_at, has_children, is_parent,
 use Rattle.bw_model.proofs.CallerLemmas.{inside}
 
 -- a number is kept where there are children
-pub count_has : (gs : List (ℕ × GroupFields)) (p : ℕ) → is_some (counted (children_count gs p)) ≡ has_children gs p
+pub count_has : (gs : List (ℕ × GroupFields)) (p : ℕ)
+    → is_some (counted (children_count gs p)) ≡ has_children gs p
 count_has [] p = refl
 count_has (e ∷ es) p = onto (is_parent e.1.parent p) (count_has es p)
   where
     onto : (b : Bool) → is_some (counted (children_count es p)) ≡ has_children es p
-        → is_some (counted (cond b (suc (children_count es p)) (children_count es p))) ≡ (b || has_children es p)
+        → is_some (counted (cond b (suc (children_count es p)) (children_count es p)))
+        ≡ (b || has_children es p)
     onto true h = refl
     onto false h = h
 
 -- two groups are counted in either order
-grouped : (b d : Bool) (x y : ℕ) → x ≡ cond d (suc y) y → cond b (suc x) x ≡ cond d (suc (cond b (suc y) y)) (cond b (suc y) y)
+grouped : (b d : Bool) (x y : ℕ) → x ≡ cond d (suc y) y
+    → cond b (suc x) x ≡ cond d (suc (cond b (suc y) y)) (cond b (suc y) y)
 grouped true true x y h = ap suc h
 grouped true false x y h = ap suc h
 grouped false true x y h = h
@@ -27,34 +31,44 @@ grouped false false x y h = h
 
 -- one group more
 pub count_push : (gs : List (ℕ × GroupFields)) (k p : ℕ) (g : GroupFields)
-    → children_count (gs ++ (k, g) ∷ []) p ≡ cond (is_parent g.parent p) (suc (children_count gs p)) (children_count gs p)
+    → children_count (gs ++ (k, g) ∷ []) p
+    ≡ cond (is_parent g.parent p) (suc (children_count gs p)) (children_count gs p)
 count_push [] k p g = refl
-count_push (e ∷ es) k p g = grouped (is_parent e.1.parent p) (is_parent g.parent p) _ _ (count_push es k p g)
+count_push (e ∷ es) k p g =
+    grouped (is_parent e.1.parent p) (is_parent g.parent p) _ _ (count_push es k p g)
 
 -- one group less
-pub count_removed : (id : ℕ) (g : GroupFields) (gs : List (ℕ × GroupFields)) (p : ℕ) → group_at gs id ≡ Some g
+pub count_removed : (id : ℕ) (g : GroupFields) (gs : List (ℕ × GroupFields)) (p : ℕ)
+    → group_at gs id ≡ Some g
     → children_count gs p
-    ≡ cond (is_parent g.parent p) (suc (children_count (remove_entry (eqb id) gs) p)) (children_count (remove_entry (eqb id) gs) p)
+    ≡ cond (is_parent g.parent p) (suc (children_count (remove_entry (eqb id) gs) p))
+    (children_count (remove_entry (eqb id) gs) p)
 count_removed id g [] p at = cc
 count_removed id g (e ∷ es) p at = onto (eqb id e.0) at (count_removed id g es p)
   where
     onto : (b : Bool) → cond b (Some e.1) (group_at es id) ≡ Some g
         → (group_at es id ≡ Some g → children_count es p
-        ≡ cond (is_parent g.parent p) (suc (children_count (remove_entry (eqb id) es) p)) (children_count (remove_entry (eqb id) es) p))
+        ≡ cond (is_parent g.parent p) (suc (children_count (remove_entry (eqb id) es) p))
+        (children_count (remove_entry (eqb id) es) p))
         → cond (is_parent e.1.parent p) (suc (children_count es p)) (children_count es p)
-        ≡ cond (is_parent g.parent p) (suc (children_count (cond b es (e ∷ remove_entry (eqb id) es)) p))
+        ≡ cond (is_parent g.parent p)
+        (suc (children_count (cond b es (e ∷ remove_entry (eqb id) es)) p))
         (children_count (cond b es (e ∷ remove_entry (eqb id) es)) p)
-    onto true at rest = ap (λ (x : GroupFields). cond (is_parent x.parent p) (suc (children_count es p)) (children_count es p)) (inside {a = e.1} {b = g} at)
+    onto true at rest =
+        ap (λ (x : GroupFields). cond (is_parent x.parent p) (suc (children_count es p))
+        (children_count es p)) (inside {a = e.1} {b = g} at)
     onto false at rest = grouped (is_parent e.1.parent p) (is_parent g.parent p) _ _ (rest at)
 
 -- another group in its place, with the same parent
-pub count_set : (id : ℕ) (g old : GroupFields) → g.parent ≡ old.parent → (gs : List (ℕ × GroupFields)) (p : ℕ) → group_at gs id ≡ Some old
+pub count_set : (id : ℕ) (g old : GroupFields) → g.parent ≡ old.parent
+    → (gs : List (ℕ × GroupFields)) (p : ℕ) → group_at gs id ≡ Some old
     → children_count (set_value (eqb id) gs g) p ≡ children_count gs p
 count_set id g old same [] p at = refl
 count_set id g old same (e ∷ es) p at = onto (eqb id e.0) at (count_set id g old same es p)
   where
     onto : (b : Bool) → cond b (Some e.1) (group_at es id) ≡ Some old
-        → (group_at es id ≡ Some old → children_count (set_value (eqb id) es g) p ≡ children_count es p)
+        → (group_at es id ≡ Some old → children_count (set_value (eqb id) es g) p
+        ≡ children_count es p)
         → children_count (cond b ((e.0, g) ∷ es) (e ∷ set_value (eqb id) es g)) p
         ≡ cond (is_parent e.1.parent p) (suc (children_count es p)) (children_count es p)
     onto true at rest =
@@ -66,23 +80,28 @@ pub count_le : (gs : List (ℕ × GroupFields)) (p : ℕ) → children_count gs 
 count_le [] p = omega arith
 count_le (e ∷ es) p = onto (is_parent e.1.parent p) (count_le es p)
   where
-    onto : (b : Bool) → children_count es p ≤ length es → cond b (suc (children_count es p)) (children_count es p) ≤ suc (length es)
+    onto : (b : Bool) → children_count es p ≤ length es
+        → cond b (suc (children_count es p)) (children_count es p) ≤ suc (length es)
     onto true le = omega (arith, le)
     onto false le = omega (arith, le)
 
 -- what is kept after one child more
-pub counted_more : (b : Bool) (n : ℕ) → cond b (one_more (counted n)) (counted n) ≡ counted (cond b (suc n) n)
+pub counted_more : (b : Bool) (n : ℕ)
+    → cond b (one_more (counted n)) (counted n) ≡ counted (cond b (suc n) n)
 counted_more true zero = refl
 counted_more true (suc n) = ap Some (omega arith)
 counted_more false n = refl
 
 -- what is kept after one child less
-pub counted_less : (b : Bool) (n m : ℕ) → n ≡ cond b (suc m) m → cond b (one_less (counted n)) (counted n) ≡ counted m
-counted_less true n m is = let less : suc m - 1 ≡ m = omega arith in ap (λ k. one_less (counted k)) is ∙ ap counted less
+pub counted_less : (b : Bool) (n m : ℕ) → n ≡ cond b (suc m) m
+    → cond b (one_less (counted n)) (counted n) ≡ counted m
+counted_less true n m is = let less : suc m - 1 ≡ m = omega arith in
+    ap (λ k. one_less (counted k)) is ∙ ap counted less
 counted_less false n m is = ap counted is
 
 -- a number that is kept has room above it
-pub few_counted : (o : Option ℕ) (n : ℕ) → o ≡ counted n → n ≤ MAX_GROUPS → IfSome o (λ x. x + 1 < 2 ^ 64)
+pub few_counted : (o : Option ℕ) (n : ℕ) → o ≡ counted n → n ≤ MAX_GROUPS
+    → IfSome o (λ x. x + 1 < 2 ^ 64)
 few_counted o n is few = subst (λ k. IfSome k (λ x. x + 1 < 2 ^ 64)) (sym is) (by n few)
   where
     by : (n : ℕ) → n ≤ MAX_GROUPS → IfSome (counted n) (λ x. x + 1 < 2 ^ 64)

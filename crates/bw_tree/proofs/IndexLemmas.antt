@@ -1,5 +1,7 @@
 -- The index of children, after each change of the groups.
-use Rattle.std.proofs.Common.{◌≡◌, ◌≢◌, ◌⊎◌, inl, inr, ℕ, suc, ◌+◌, ◌<◌, Bool, true, false, cond, ◌&&◌, List, [], ◌∷◌, ◌++◌, Option, Some, None, refl, sym, ap, ◌∙◌, arith, eqb}
+use Rattle.std.proofs.Common.{◌≡◌, ◌≢◌, ◌⊎◌, inl, inr, ℕ, suc, ◌+◌, ◌<◌, Bool, true, false, cond}
+use Rattle.std.proofs.Common.{◌&&◌, List, [], ◌∷◌, ◌++◌, Option, Some, None, refl, sym, ap, ◌∙◌}
+use Rattle.std.proofs.Common.{arith, eqb}
 use Rattle.std.proofs.lemmas.Bool.{and_parts, and_from, eq-eqb, ne_eqb, eqb-true}
 use Rattle.std.proofs.lemmas.Bool.Decides.{eqb_tells}
 use Rattle.std.specs.List.{AllZip}
@@ -9,18 +11,24 @@ use Rattle.std.specs.Cmp.Lexicographic.{bytes_decides}
 use Rattle.std.specs.HashMap.{get}
 use Rattle.bw_tree.specs.declared.child_index.ChildIndex.{ChildIndex}
 use Rattle.bw_tree.specs.Keys.{key, text_at, counted, one_more, one_less}
-use Rattle.bw_tree.specs.Children.{child_among, child_at, AnswersAs, IsAdded, IsTaken, AreNamed, IsIndexOf}
-use Rattle.bw_tree.specs.Groups.{GroupFields, TreeState, group_at, has_children, is_parent, is_child_named, is_child_of, is_child_at, children_count, child_of, IsTree, AllAfter, AreRising}
+use Rattle.bw_tree.specs.Children.{child_among, child_at, AnswersAs, IsAdded, IsTaken, AreNamed}
+use Rattle.bw_tree.specs.Children.{IsIndexOf}
+use Rattle.bw_tree.specs.Groups.{GroupFields, TreeState, group_at, has_children, is_parent}
+use Rattle.bw_tree.specs.Groups.{is_child_named, is_child_of, is_child_at, children_count, child_of}
+use Rattle.bw_tree.specs.Groups.{IsTree, AllAfter, AreRising}
 use Rattle.bw_tree.specs.Tree.{changed, changed_at, new_group}
 use Rattle.bw_tree.proofs.AnswerLemmas.{at_same, alike, added_at, taken_at}
-use Rattle.bw_tree.proofs.CountLemmas.{count_push, count_removed, count_set, counted_more, counted_less}
+use Rattle.bw_tree.proofs.CountLemmas.{count_push, count_removed, count_set, counted_more}
+use Rattle.bw_tree.proofs.CountLemmas.{counted_less}
 use Rattle.bw_tree.proofs.GroupLemmas.{child_push, child_push_old, look_push_same, look_push_other}
 use Rattle.bw_tree.proofs.SetLemmas.{child_set, look_set_same, look_set_other}
-use Rattle.bw_tree.proofs.RemoveLemmas.{was_other, rising_removed, look_removed_same, look_removed_other}
+use Rattle.bw_tree.proofs.RemoveLemmas.{was_other, rising_removed, look_removed_same}
+use Rattle.bw_tree.proofs.RemoveLemmas.{look_removed_other}
 use Rattle.bw_model.proofs.CallerLemmas.{inside, bytes_eq-self}
 
 -- a child with a name has this parent and this name
-pub named_is : (g : GroupFields) (p : ℕ) (n : List ℕ) → is_child_named g p n ≡ true → (g.parent ≡ Some p) × (g.name ≡ n)
+pub named_is : (g : GroupFields) (p : ℕ) (n : List ℕ) → is_child_named g p n ≡ true
+    → (g.parent ≡ Some p) × (g.name ≡ n)
 named_is g p n h =
     let both = and_parts (is_parent g.parent p) (bytes_eq g.name n) h in
     (parent_is g.parent both.0, (bytes_decides g.name n).0 both.1)
@@ -30,92 +38,126 @@ named_is g p n h =
     parent_is (Some q) e = ap Some (eqb-true q p e)
 
 pub is_named : (g : GroupFields) (p : ℕ) → g.parent ≡ Some p → is_child_named g p g.name ≡ true
-is_named g p up = and_from (is_parent g.parent p) (bytes_eq g.name g.name) (ap (λ o. is_parent o p) up ∙ eq-eqb p p refl) (bytes_eq-self g.name)
+is_named g p up = and_from (is_parent g.parent p) (bytes_eq g.name g.name)
+    (ap (λ o. is_parent o p) up ∙ eq-eqb p p refl) (bytes_eq-self g.name)
 
 -- a group that is found after some others has a higher id
-pub after_at : (gs : List (ℕ × GroupFields)) (low q : ℕ) (h : GroupFields) → AllAfter low gs → group_at gs q ≡ Some h → low < q
+pub after_at : (gs : List (ℕ × GroupFields)) (low q : ℕ) (h : GroupFields) → AllAfter low gs
+    → group_at gs q ≡ Some h → low < q
 after_at [] low q h all at = cc
 after_at (e ∷ es) low q h all at = onto (eqb q e.0) refl at (after_at es low q h all.1)
   where
-    onto : (b : Bool) → eqb q e.0 ≡ b → cond b (Some e.1) (group_at es q) ≡ Some h → (group_at es q ≡ Some h → low < q) → low < q
+    onto : (b : Bool) → eqb q e.0 ≡ b → cond b (Some e.1) (group_at es q) ≡ Some h
+        → (group_at es q ≡ Some h → low < q) → low < q
     onto true here at rest = let same = eqb-true q e.0 here in omega (arith, all.0, same)
     onto false here at rest = rest at
 
 -- what is found in the rest is found in the whole
-pub at_more : (e : ℕ × GroupFields) (es : List (ℕ × GroupFields)) (q : ℕ) (h : GroupFields) → AllAfter e.0 es → group_at es q ≡ Some h
+pub at_more : (e : ℕ × GroupFields) (es : List (ℕ × GroupFields)) (q : ℕ) (h : GroupFields)
+    → AllAfter e.0 es → group_at es q ≡ Some h
     → group_at (e ∷ es) q ≡ Some h
 at_more e es q h all at =
     let after = after_at es e.0 q h all at in
-    ap (λ b. cond b (Some e.1) (group_at es q)) (ne_eqb q e.0 (λ same. omega (arith, after, same))) ∙ at
+    ap (λ b. cond b (Some e.1) (group_at es q)) (ne_eqb q e.0 (λ same. omega (arith, after, same)))
+    ∙ at
 
 -- the child that is found by its name is a group with this name
-pub child_found : (gs : List (ℕ × GroupFields)) (p q : ℕ) (n : List ℕ) → AreRising gs → child_of gs p n ≡ Some q
+pub child_found : (gs : List (ℕ × GroupFields)) (p q : ℕ) (n : List ℕ) → AreRising gs
+    → child_of gs p n ≡ Some q
     → (h : GroupFields) × (group_at gs q ≡ Some h) × (is_child_named h p n ≡ true)
 child_found [] p q n up found = cc
-child_found (e ∷ es) p q n up found = onto (is_child_named e.1 p n) refl found (child_found es p q n up.1)
+child_found (e ∷ es) p q n up found =
+    onto (is_child_named e.1 p n) refl found (child_found es p q n up.1)
   where
     onto : (b : Bool) → is_child_named e.1 p n ≡ b → cond b (Some e.0) (child_of es p n) ≡ Some q
-        → (child_of es p n ≡ Some q → (h : GroupFields) × (group_at es q ≡ Some h) × (is_child_named h p n ≡ true))
+        → (child_of es p n ≡ Some q → (h : GroupFields) × (group_at es q ≡ Some h)
+        × (is_child_named h p n ≡ true))
         → (h : GroupFields) × (group_at (e ∷ es) q ≡ Some h) × (is_child_named h p n ≡ true)
-    onto true match_is found rest = (e.1, ap (λ b. cond b (Some e.1) (group_at es q)) (eq-eqb q e.0 (sym (inside found))), match_is)
+    onto true match_is found rest = (
+      e.1,
+      ap (λ b. cond b (Some e.1) (group_at es q)) (eq-eqb q e.0 (sym (inside found))),
+      match_is,
+    )
     onto false other found rest = let h = rest found in (h.0, at_more e es q h.0 up.0 h.1, h.2)
 
 -- a group that is the child of another with a name is so for no other parent and name
-pub mine_at : (gs : List (ℕ × GroupFields)) (id parent : ℕ) (name : List ℕ) → is_child_at gs id parent name ≡ true
+pub mine_at : (gs : List (ℕ × GroupFields)) (id parent : ℕ) (name : List ℕ)
+    → is_child_at gs id parent name ≡ true
     → (p : ℕ) (n : List ℕ) → is_child_at gs id p n ≡ (eqb parent p && bytes_eq name n)
 mine_at gs id parent name is p n = by (group_at gs id) is
   where
-    by : (o : Option GroupFields) → is_child_of o parent name ≡ true → is_child_of o p n ≡ (eqb parent p && bytes_eq name n)
+    by : (o : Option GroupFields) → is_child_of o parent name ≡ true
+        → is_child_of o p n ≡ (eqb parent p && bytes_eq name n)
     by None is = cc
     by (Some g) is =
         let who = named_is g parent name is in
-        ap (λ o. is_parent o p && bytes_eq g.name n) who.0 ∙ ap (λ m. eqb parent p && bytes_eq m n) who.1
+        ap (λ o. is_parent o p && bytes_eq g.name n) who.0
+        ∙ ap (λ m. eqb parent p && bytes_eq m n) who.1
 
 -- the first of a key is found where it has the parent and the name
-first_found : (gs : List (ℕ × GroupFields)) (index : ChildIndex) (p q : ℕ) (n : List ℕ) → get eqb index.first (key p n) ≡ Some q
+first_found : (gs : List (ℕ × GroupFields)) (index : ChildIndex) (p q : ℕ) (n : List ℕ)
+    → get eqb index.first (key p n) ≡ Some q
     → is_child_at gs q p n ≡ true → child_at gs index p n ≡ Some q
 first_found gs index p q n at is =
-    ap (λ o. child_among gs o (text_at index.others p n) p n) at ∙ ap (λ b. cond b (Some q) (text_at index.others p n)) is
+    ap (λ o. child_among gs o (text_at index.others p n) p n) at
+    ∙ ap (λ b. cond b (Some q) (text_at index.others p n)) is
 
 -- an index that answers as another is an index of the same groups
-pub index_same : (gs : List (ℕ × GroupFields)) (old new : ChildIndex) → IsIndexOf gs old → AnswersAs old new → IsIndexOf gs new
-index_same gs old new is same = record { children = λ p n. alike gs old new same p n ∙ is.children p n; counts = λ p. same.counts p ∙ is.counts p }
+pub index_same : (gs : List (ℕ × GroupFields)) (old new : ChildIndex) → IsIndexOf gs old
+    → AnswersAs old new → IsIndexOf gs new
+index_same gs old new is same =
+    record {
+      children = λ p n. alike gs old new same p n ∙ is.children p n;
+      counts = λ p. same.counts p ∙ is.counts p;
+    }
 
 -- and of other groups, where these have the same children
-pub index_alike : (gs hs : List (ℕ × GroupFields)) (index : ChildIndex) → ((q p : ℕ) (n : List ℕ) → is_child_at hs q p n ≡ is_child_at gs q p n)
-    → ((p : ℕ) (n : List ℕ) → child_of hs p n ≡ child_of gs p n) → ((p : ℕ) → children_count hs p ≡ children_count gs p)
+pub index_alike : (gs hs : List (ℕ × GroupFields)) (index : ChildIndex)
+    → ((q p : ℕ) (n : List ℕ) → is_child_at hs q p n ≡ is_child_at gs q p n)
+    → ((p : ℕ) (n : List ℕ) → child_of hs p n ≡ child_of gs p n)
+    → ((p : ℕ) → children_count hs p ≡ children_count gs p)
     → IsIndexOf gs index → IsIndexOf hs index
 index_alike gs hs index same children counts is = record {
-  children = λ p n. at_same gs hs index p n (λ q. same q p n) ∙ is.children p n ∙ sym (children p n);
+  children = λ p n. at_same gs hs index p n (λ q. same q p n) ∙ is.children p n
+      ∙ sym (children p n);
   counts = λ p. is.counts p ∙ ap counted (sym (counts p));
 }
 
 -- one group more
-module _ (gs : List (ℕ × GroupFields)) (k parent : ℕ) (g : GroupFields) (old new : ChildIndex) (is : IsIndexOf gs old) (absent : group_at gs k ≡ None)
-    (up : g.parent ≡ Some parent) (free : (p : ℕ) (n : List ℕ) → is_child_named g p n ≡ true → child_of gs p n ≡ None)
+module _ (gs : List (ℕ × GroupFields)) (k parent : ℕ) (g : GroupFields) (old new : ChildIndex)
+    (is : IsIndexOf gs old) (absent : group_at gs k ≡ None)
+    (up : g.parent ≡ Some parent)
+    (free : (p : ℕ) (n : List ℕ) → is_child_named g p n ≡ true → child_of gs p n ≡ None)
     (added : IsAdded old new parent g.name k) where
   named_so : (p : ℕ) (n : List ℕ) → is_child_named g p n ≡ (eqb parent p && bytes_eq g.name n)
   named_so p n = ap (λ o. is_parent o p && bytes_eq g.name n) up
 
-  mine : (p : ℕ) (n : List ℕ) → is_child_at (gs ++ (k, g) ∷ []) k p n ≡ (eqb parent p && bytes_eq g.name n)
+  mine : (p : ℕ) (n : List ℕ) → is_child_at (gs ++ (k, g) ∷ []) k p n
+      ≡ (eqb parent p && bytes_eq g.name n)
   mine p n = ap (λ o. is_child_of o p n) (look_push_same gs k g absent) ∙ named_so p n
 
-  only : (q : ℕ) → get eqb old.first (key parent g.name) ≡ Some q → is_child_at (gs ++ (k, g) ∷ []) q parent g.name ≡ true → q ≡ k
+  only : (q : ℕ) → get eqb old.first (key parent g.name) ≡ Some q
+      → is_child_at (gs ++ (k, g) ∷ []) q parent g.name ≡ true → q ≡ k
   only q at there = by (eqb_tells q k)
     where
       by : ((eqb q k ≡ true) × (q ≡ k)) ⊎ ((eqb q k ≡ false) × (q ≢ k)) → q ≡ k
       by (inl same) = same.1
       by (inr apart) =
-          let before = ap (λ o. is_child_of o parent g.name) (sym (look_push_other gs k q g apart.0)) ∙ there in
-          let wrong : Some q ≡ None = sym (first_found gs old parent q g.name at before) ∙ is.children parent g.name ∙ free parent g.name (is_named g parent up) in
+          let before = ap (λ o. is_child_of o parent g.name)
+          (sym (look_push_other gs k q g apart.0)) ∙ there in
+          let wrong : Some q ≡ None = sym (first_found gs old parent q g.name at before)
+          ∙ is.children parent g.name ∙ free parent g.name (is_named g parent up) in
           absurd (cc)
 
-  same_else : (p : ℕ) (n : List ℕ) → is_child_named g p n ≡ false → (q : ℕ) → is_child_at (gs ++ (k, g) ∷ []) q p n ≡ is_child_at gs q p n
+  same_else : (p : ℕ) (n : List ℕ) → is_child_named g p n ≡ false → (q : ℕ)
+      → is_child_at (gs ++ (k, g) ∷ []) q p n ≡ is_child_at gs q p n
   same_else p n other q = by (eqb_tells q k)
     where
-      by : ((eqb q k ≡ true) × (q ≡ k)) ⊎ ((eqb q k ≡ false) × (q ≢ k)) → is_child_at (gs ++ (k, g) ∷ []) q p n ≡ is_child_at gs q p n
+      by : ((eqb q k ≡ true) × (q ≡ k)) ⊎ ((eqb q k ≡ false) × (q ≢ k))
+          → is_child_at (gs ++ (k, g) ∷ []) q p n ≡ is_child_at gs q p n
       by (inl same) =
-          ap (λ i. is_child_at (gs ++ (k, g) ∷ []) i p n) same.1 ∙ ap (λ o. is_child_of o p n) (look_push_same gs k g absent) ∙ other
+          ap (λ i. is_child_at (gs ++ (k, g) ∷ []) i p n) same.1
+          ∙ ap (λ o. is_child_of o p n) (look_push_same gs k g absent) ∙ other
           ∙ sym (ap (λ i. is_child_at gs i p n) same.1 ∙ ap (λ o. is_child_of o p n) absent)
       by (inr apart) = ap (λ o. is_child_of o p n) (look_push_other gs k q g apart.0)
 
@@ -126,22 +168,30 @@ module _ (gs : List (ℕ × GroupFields)) (k parent : ℕ) (g : GroupFields) (ol
         ∙ ap (λ b. cond b (Some k) (child_at (gs ++ (k, g) ∷ []) old p n)) (sym (named_so p n))
         ∙ onto p n (is_child_named g p n) refl (child_of gs p n) refl;
     counts =
-        λ p. added.counts p ∙ ap (λ o. cond (eqb parent p) (one_more o) o) (is.counts p) ∙ counted_more (eqb parent p) (children_count gs p)
-        ∙ ap (λ o. counted (cond (is_parent o p) (suc (children_count gs p)) (children_count gs p))) (sym up) ∙ ap counted (sym (count_push gs k p g));
+        λ p. added.counts p ∙ ap (λ o. cond (eqb parent p) (one_more o) o) (is.counts p)
+        ∙ counted_more (eqb parent p) (children_count gs p)
+        ∙ ap (λ o. counted (cond (is_parent o p) (suc (children_count gs p)) (children_count gs p)))
+        (sym up) ∙ ap counted (sym (count_push gs k p g));
   }
     where
-      onto : (p : ℕ) (n : List ℕ) (b : Bool) → is_child_named g p n ≡ b → (o : Option ℕ) → child_of gs p n ≡ o
-          → cond b (Some k) (child_at (gs ++ (k, g) ∷ []) old p n) ≡ child_of (gs ++ (k, g) ∷ []) p n
-      onto p n true match_is None found = sym (child_push gs k p n g found ∙ ap (λ b. cond b (Some k) None) match_is)
-      onto p n true match_is (Some q) found = let wrong : Some q ≡ None = sym found ∙ free p n match_is in absurd (cc)
+      onto : (p : ℕ) (n : List ℕ) (b : Bool) → is_child_named g p n ≡ b → (o : Option ℕ)
+          → child_of gs p n ≡ o
+          → cond b (Some k) (child_at (gs ++ (k, g) ∷ []) old p n)
+          ≡ child_of (gs ++ (k, g) ∷ []) p n
+      onto p n true match_is None found =
+          sym (child_push gs k p n g found ∙ ap (λ b. cond b (Some k) None) match_is)
+      onto p n true match_is (Some q) found =
+          let wrong : Some q ≡ None = sym found ∙ free p n match_is in absurd (cc)
       onto p n false other None found =
           at_same gs (gs ++ (k, g) ∷ []) old p n (same_else p n other) ∙ is.children p n ∙ found
           ∙ sym (child_push gs k p n g found ∙ ap (λ b. cond b (Some k) None) other)
       onto p n false other (Some q) found =
-          at_same gs (gs ++ (k, g) ∷ []) old p n (same_else p n other) ∙ is.children p n ∙ found ∙ sym (child_push_old gs k p q n g found)
+          at_same gs (gs ++ (k, g) ∷ []) old p n (same_else p n other) ∙ is.children p n ∙ found
+          ∙ sym (child_push_old gs k p q n g found)
 
 -- a setting changes neither a parent nor a name
-pub index_set : (f : GroupFields → GroupFields) (gs : List (ℕ × GroupFields)) (id : ℕ) (index : ChildIndex)
+pub index_set
+    : (f : GroupFields → GroupFields) (gs : List (ℕ × GroupFields)) (id : ℕ) (index : ChildIndex)
     → ((g : GroupFields) → (f g).parent ≡ g.parent) → ((g : GroupFields) → (f g).name ≡ g.name)
     → IsIndexOf gs index → IsIndexOf (changed_at f gs id) index
 index_set f gs id index parent name is = by (group_at gs id) refl
@@ -149,66 +199,85 @@ index_set f gs id index parent name is = by (group_at gs id) refl
     by : (o : Option GroupFields) → group_at gs id ≡ o → IsIndexOf (changed f gs id o) index
     by None at = is
     by (Some g) at =
-        index_alike gs (changed f gs id (Some g)) index same (λ p n. child_set id (f g) g (parent g) (name g) gs p n at)
+        index_alike gs (changed f gs id (Some g)) index same
+        (λ p n. child_set id (f g) g (parent g) (name g) gs p n at)
         (λ p. count_set id (f g) g (parent g) gs p at) is
       where
-        same : (q p : ℕ) (n : List ℕ) → is_child_at (set_value (eqb id) gs (f g)) q p n ≡ is_child_at gs q p n
+        same : (q p : ℕ) (n : List ℕ) → is_child_at (set_value (eqb id) gs (f g)) q p n
+            ≡ is_child_at gs q p n
         same q p n = onto (eqb_tells q id)
           where
             onto : ((eqb q id ≡ true) × (q ≡ id)) ⊎ ((eqb q id ≡ false) × (q ≢ id))
                 → is_child_at (set_value (eqb id) gs (f g)) q p n ≡ is_child_at gs q p n
             onto (inl here) =
-                ap (λ i. is_child_at (set_value (eqb id) gs (f g)) i p n) here.1 ∙ ap (λ o. is_child_of o p n) (look_set_same id (f g) gs g at)
-                ∙ ap (λ o. is_parent o p && bytes_eq (f g).name n) (parent g) ∙ ap (λ m. is_parent g.parent p && bytes_eq m n) (name g)
+                ap (λ i. is_child_at (set_value (eqb id) gs (f g)) i p n) here.1
+                ∙ ap (λ o. is_child_of o p n) (look_set_same id (f g) gs g at)
+                ∙ ap (λ o. is_parent o p && bytes_eq (f g).name n) (parent g)
+                ∙ ap (λ m. is_parent g.parent p && bytes_eq m n) (name g)
                 ∙ sym (ap (λ i. is_child_at gs i p n) here.1 ∙ ap (λ o. is_child_of o p n) at)
             onto (inr apart) = ap (λ o. is_child_of o p n) (look_set_other id (f g) gs q apart.0)
 
 module _ (id : ℕ) (g : GroupFields) where
   -- a group that is removed is missed at its own parent and name alone
-  pub child_unnamed : (gs : List (ℕ × GroupFields)) (p : ℕ) (n : List ℕ) → group_at gs id ≡ Some g → is_child_named g p n ≡ false
+  pub child_unnamed : (gs : List (ℕ × GroupFields)) (p : ℕ) (n : List ℕ) → group_at gs id ≡ Some g
+      → is_child_named g p n ≡ false
       → child_of (remove_entry (eqb id) gs) p n ≡ child_of gs p n
   child_unnamed [] p n at other = refl
   child_unnamed (e ∷ es) p n at other = onto (eqb id e.0) at (child_unnamed es p n)
     where
       onto : (b : Bool) → cond b (Some e.1) (group_at es id) ≡ Some g
-          → (group_at es id ≡ Some g → is_child_named g p n ≡ false → child_of (remove_entry (eqb id) es) p n ≡ child_of es p n)
-          → child_of (cond b es (e ∷ remove_entry (eqb id) es)) p n ≡ cond (is_child_named e.1 p n) (Some e.0) (child_of es p n)
-      onto true at rest = sym (ap (λ b. cond b (Some e.0) (child_of es p n)) (ap (λ x. is_child_named x p n) (inside at) ∙ other))
+          → (group_at es id ≡ Some g → is_child_named g p n ≡ false
+          → child_of (remove_entry (eqb id) es) p n ≡ child_of es p n)
+          → child_of (cond b es (e ∷ remove_entry (eqb id) es)) p n
+          ≡ cond (is_child_named e.1 p n) (Some e.0) (child_of es p n)
+      onto true at rest =
+          sym (ap (λ b. cond b (Some e.0) (child_of es p n))
+          (ap (λ x. is_child_named x p n) (inside at) ∙ other))
       onto false at rest = ap (λ o. cond (is_child_named e.1 p n) (Some e.0) o) (rest at other)
 
 -- one group less
-module _ (t : TreeState) (id : ℕ) (g : GroupFields) (ok : IsTree t) (inner : id ≢ 0) (lone : has_children t.groups id ≡ false)
+module _ (t : TreeState) (id : ℕ) (g : GroupFields) (ok : IsTree t) (inner : id ≢ 0)
+    (lone : has_children t.groups id ≡ false)
     (at : group_at t.groups id ≡ Some g) where
   -- its name finds nothing any more
-  pub child_taken : (p : ℕ) (n : List ℕ) → is_child_named g p n ≡ true → child_of (remove_entry (eqb id) t.groups) p n ≡ None
+  pub child_taken : (p : ℕ) (n : List ℕ) → is_child_named g p n ≡ true
+      → child_of (remove_entry (eqb id) t.groups) p n ≡ None
   child_taken p n match_is = by (child_of (remove_entry (eqb id) t.groups) p n) refl
     where
-      by : (o : Option ℕ) → child_of (remove_entry (eqb id) t.groups) p n ≡ o → child_of (remove_entry (eqb id) t.groups) p n ≡ None
+      by : (o : Option ℕ) → child_of (remove_entry (eqb id) t.groups) p n ≡ o
+          → child_of (remove_entry (eqb id) t.groups) p n ≡ None
       by None found = found
       by (Some q) found =
-          let h = child_found (remove_entry (eqb id) t.groups) p q n (rising_removed id t.groups ok.rising) found in
+          let h = child_found (remove_entry (eqb id) t.groups) p q n
+          (rising_removed id t.groups ok.rising) found in
           let was = was_other t id ok inner lone q h.0 h.1 in
           let left = named_is h.0 p n h.2 in
           let gone = named_is g p n match_is in
-          let one : child_of t.groups p n ≡ Some q = ap (child_of t.groups p) (sym left.1) ∙ ok.named q p h.0 was.1 left.0 in
-          let two : child_of t.groups p n ≡ Some id = ap (child_of t.groups p) (sym gone.1) ∙ ok.named id p g at gone.0 in
+          let one : child_of t.groups p n ≡ Some q =
+          ap (child_of t.groups p) (sym left.1) ∙ ok.named q p h.0 was.1 left.0 in
+          let two : child_of t.groups p n ≡ Some id =
+          ap (child_of t.groups p) (sym gone.1) ∙ ok.named id p g at gone.0 in
           absurd (was.0 (inside (sym one ∙ two)))
 
-  pub index_removed : (parent : ℕ) (old new : ChildIndex) → g.parent ≡ Some parent → IsIndexOf t.groups old → IsTaken old new parent g.name id
+  pub index_removed : (parent : ℕ) (old new : ChildIndex) → g.parent ≡ Some parent
+      → IsIndexOf t.groups old → IsTaken old new parent g.name id
       → IsIndexOf (remove_entry (eqb id) t.groups) new
   index_removed parent old new up is taken = record {
     children =
         λ p n. taken_at t.groups (remove_entry (eqb id) t.groups) old new parent id g.name taken p n
-        (ap (λ o. is_child_of o p n) at ∙ named_so p n) (ap (λ o. is_child_of o p n) (look_removed_same id t.groups ok.rising))
+        (ap (λ o. is_child_of o p n) at ∙ named_so p n)
+        (ap (λ o. is_child_of o p n) (look_removed_same id t.groups ok.rising))
         (λ q apart. ap (λ o. is_child_of o p n) (look_removed_other id t.groups q apart)) alone
         ∙ ap (λ o. cond (eqb parent p && bytes_eq g.name n) None o) (is.children p n)
         ∙ ap (λ b. cond b None (child_of t.groups p n)) (sym (named_so p n))
         ∙ onto p n (is_child_named g p n) refl;
     counts =
         λ p. taken.counts p ∙ ap (λ o. cond (eqb parent p) (one_less o) o) (is.counts p)
-        ∙ counted_less (eqb parent p) (children_count t.groups p) (children_count (remove_entry (eqb id) t.groups) p)
+        ∙ counted_less (eqb parent p) (children_count t.groups p)
+        (children_count (remove_entry (eqb id) t.groups) p)
         (count_removed id g t.groups p at
-        ∙ ap (λ o. cond (is_parent o p) (suc (children_count (remove_entry (eqb id) t.groups) p)) (children_count (remove_entry (eqb id) t.groups) p)) up);
+        ∙ ap (λ o. cond (is_parent o p) (suc (children_count (remove_entry (eqb id) t.groups) p))
+        (children_count (remove_entry (eqb id) t.groups) p)) up);
   }
     where
       named_so : (p : ℕ) (n : List ℕ) → is_child_named g p n ≡ (eqb parent p && bytes_eq g.name n)
@@ -218,19 +287,23 @@ module _ (t : TreeState) (id : ℕ) (g : GroupFields) (ok : IsTree t) (inner : i
       alone : (q : ℕ) → is_child_at (remove_entry (eqb id) t.groups) q parent g.name ≡ false
       alone q = by (group_at (remove_entry (eqb id) t.groups) q) refl
         where
-          by : (o : Option GroupFields) → group_at (remove_entry (eqb id) t.groups) q ≡ o → is_child_of o parent g.name ≡ false
+          by : (o : Option GroupFields) → group_at (remove_entry (eqb id) t.groups) q ≡ o
+              → is_child_of o parent g.name ≡ false
           by None found = refl
           by (Some h) found = other (is_child_named h parent g.name) refl
             where
-              other : (b : Bool) → is_child_named h parent g.name ≡ b → is_child_named h parent g.name ≡ false
+              other : (b : Bool) → is_child_named h parent g.name ≡ b
+                  → is_child_named h parent g.name ≡ false
               other false no_match = no_match
               other true match_is =
                   let was = was_other t id ok inner lone q h found in
                   let who = named_is h parent g.name match_is in
-                  let one : child_of t.groups parent g.name ≡ Some q = ap (child_of t.groups parent) (sym who.1) ∙ ok.named q parent h was.1 who.0 in
+                  let one : child_of t.groups parent g.name ≡ Some q =
+                  ap (child_of t.groups parent) (sym who.1) ∙ ok.named q parent h was.1 who.0 in
                   absurd (was.0 (inside (sym one ∙ ok.named id parent g at up)))
 
-      onto : (p : ℕ) (n : List ℕ) (b : Bool) → is_child_named g p n ≡ b → cond b None (child_of t.groups p n) ≡ child_of (remove_entry (eqb id) t.groups) p n
+      onto : (p : ℕ) (n : List ℕ) (b : Bool) → is_child_named g p n ≡ b
+          → cond b None (child_of t.groups p n) ≡ child_of (remove_entry (eqb id) t.groups) p n
       onto p n true match_is = sym (child_taken p n match_is)
       onto p n false other = sym (child_unnamed id g t.groups p n at other)
 
@@ -240,25 +313,32 @@ either None o = o
 either (Some id) o = Some id
 
 pub record IsPartIndex (groups rest : List (ℕ × GroupFields)) (index : ChildIndex) : Type 0 where
-  pub children : (parent : ℕ) (name : List ℕ) → either (child_at groups index parent name) (child_of rest parent name) ≡ child_of groups parent name
-  pub counts : (parent : ℕ) → (done : ℕ) × (get eqb index.counts parent ≡ counted done) × (done + children_count rest parent ≡ children_count groups parent)
+  pub children : (parent : ℕ) (name : List ℕ) → either (child_at groups index parent name)
+      (child_of rest parent name) ≡ child_of groups parent name
+  pub counts : (parent : ℕ) → (done : ℕ) × (get eqb index.counts parent ≡ counted done)
+      × (done + children_count rest parent ≡ children_count groups parent)
   pub left : AreNamed groups rest
 
-pub part_start : (groups : List (ℕ × GroupFields)) (index : ChildIndex) → ((k : ℕ) → get eqb index.first k ≡ None)
-    → ((p : ℕ) (n : List ℕ) → text_at index.others p n ≡ None) → ((p : ℕ) → get eqb index.counts p ≡ None) → AreNamed groups groups
+pub part_start : (groups : List (ℕ × GroupFields)) (index : ChildIndex)
+    → ((k : ℕ) → get eqb index.first k ≡ None)
+    → ((p : ℕ) (n : List ℕ) → text_at index.others p n ≡ None)
+    → ((p : ℕ) → get eqb index.counts p ≡ None) → AreNamed groups groups
     → IsPartIndex groups groups index
 part_start groups index first others counts left = record {
   children =
       λ p n. ap (λ o. either o (child_of groups p n))
-      (ap (λ o. child_among groups o (text_at index.others p n) p n) (first (key p n)) ∙ others p n);
+      (ap (λ o. child_among groups o (text_at index.others p n) p n) (first (key p n))
+      ∙ others p n);
   counts = λ p. (0, counts p, omega arith);
   left = left;
 }
 
-pub part_end : (groups : List (ℕ × GroupFields)) (index : ChildIndex) → IsPartIndex groups [] index → IsIndexOf groups index
+pub part_end : (groups : List (ℕ × GroupFields)) (index : ChildIndex) → IsPartIndex groups [] index
+    → IsIndexOf groups index
 part_end groups index is = record {
   children = λ p n. sym (last (child_at groups index p n)) ∙ is.children p n;
-  counts = λ p. let c = is.counts p in let all : c.0 ≡ children_count groups p = omega (arith, c.2) in c.1 ∙ ap counted all;
+  counts = λ p. let c = is.counts p in
+      let all : c.0 ≡ children_count groups p = omega (arith, c.2) in c.1 ∙ ap counted all;
 }
   where
     last : (o : Option ℕ) → either o None ≡ o
@@ -266,32 +346,41 @@ part_end groups index is = record {
     last (Some id) = refl
 
 -- a group without a parent is no child
-pub part_skip : (groups : List (ℕ × GroupFields)) (e : ℕ × GroupFields) (es : List (ℕ × GroupFields)) (index : ChildIndex) → e.1.parent ≡ None
+pub part_skip : (groups : List (ℕ × GroupFields)) (e : ℕ × GroupFields)
+    (es : List (ℕ × GroupFields)) (index : ChildIndex) → e.1.parent ≡ None
     → IsPartIndex groups (e ∷ es) index → IsPartIndex groups es index
 part_skip groups e es index top is = record {
   children =
-      λ p n. sym (ap (λ o. either (child_at groups index p n) (cond (is_parent o p && bytes_eq e.1.name n) (Some e.0) (child_of es p n))) top) ∙ is.children p n;
+      λ p n. sym (ap (λ o. either (child_at groups index p n)
+      (cond (is_parent o p && bytes_eq e.1.name n) (Some e.0) (child_of es p n))) top)
+      ∙ is.children p n;
   counts =
       λ p. let c = is.counts p in
-      let none : children_count (e ∷ es) p ≡ children_count es p = ap (λ o. cond (is_parent o p) (suc (children_count es p)) (children_count es p)) top in
+      let none : children_count (e ∷ es) p ≡ children_count es p =
+      ap (λ o. cond (is_parent o p) (suc (children_count es p)) (children_count es p)) top in
       (c.0, c.1, omega (arith, c.2, none));
   left = is.left.1;
 }
 
 -- a group with a parent is noted
-pub part_step : (groups : List (ℕ × GroupFields)) (e : ℕ × GroupFields) (es : List (ℕ × GroupFields)) (parent : ℕ) (old new : ChildIndex)
-    → e.1.parent ≡ Some parent → IsPartIndex groups (e ∷ es) old → IsAdded old new parent e.1.name e.0 → IsPartIndex groups es new
+pub part_step : (groups : List (ℕ × GroupFields)) (e : ℕ × GroupFields)
+    (es : List (ℕ × GroupFields)) (parent : ℕ) (old new : ChildIndex)
+    → e.1.parent ≡ Some parent → IsPartIndex groups (e ∷ es) old
+    → IsAdded old new parent e.1.name e.0 → IsPartIndex groups es new
 part_step groups e es parent old new up is added = record {
   children =
       λ p n. ap (λ o. either o (child_of es p n))
-      (added_at groups old new parent e.0 e.1.name added p n (mine_at groups e.0 parent e.1.name (is.left.0 parent up).1 p n) only)
+      (added_at groups old new parent e.0 e.1.name added p n
+      (mine_at groups e.0 parent e.1.name (is.left.0 parent up).1 p n) only)
       ∙ onto p n (eqb parent p && bytes_eq e.1.name n) refl;
   counts =
       λ p. let c = is.counts p in (
         cond (eqb parent p) (suc c.0) c.0,
-        added.counts p ∙ ap (λ o. cond (eqb parent p) (one_more o) o) c.1 ∙ counted_more (eqb parent p) c.0,
+        added.counts p ∙ ap (λ o. cond (eqb parent p) (one_more o) o) c.1
+            ∙ counted_more (eqb parent p) c.0,
         sum (eqb parent p) c.0 (children_count es p)
-            ∙ ap (λ o. c.0 + cond (is_parent o p) (suc (children_count es p)) (children_count es p)) (sym up) ∙ c.2,
+            ∙ ap (λ o. c.0 + cond (is_parent o p) (suc (children_count es p)) (children_count es p))
+            (sym up) ∙ c.2,
       );
   left = is.left.1;
 }
@@ -300,38 +389,47 @@ part_step groups e es parent old new up is added = record {
     sum true done rest = omega arith
     sum false done rest = refl
 
-    only : (q : ℕ) → get eqb old.first (key parent e.1.name) ≡ Some q → is_child_at groups q parent e.1.name ≡ true → q ≡ e.0
+    only : (q : ℕ) → get eqb old.first (key parent e.1.name) ≡ Some q
+        → is_child_at groups q parent e.1.name ≡ true → q ≡ e.0
     only q at there =
-        inside (sym (ap (λ o. either o (child_of (e ∷ es) parent e.1.name)) (first_found groups old parent q e.1.name at there))
+        inside (sym (ap (λ o. either o (child_of (e ∷ es) parent e.1.name))
+        (first_found groups old parent q e.1.name at there))
         ∙ is.children parent e.1.name ∙ (is.left.0 parent up).0)
 
     onto : (p : ℕ) (n : List ℕ) (b : Bool) → (eqb parent p && bytes_eq e.1.name n) ≡ b
-        → either (cond (eqb parent p && bytes_eq e.1.name n) (Some e.0) (child_at groups old p n)) (child_of es p n) ≡ child_of groups p n
+        → either (cond (eqb parent p && bytes_eq e.1.name n) (Some e.0) (child_at groups old p n))
+        (child_of es p n) ≡ child_of groups p n
     onto p n true here =
         let both = and_parts (eqb parent p) (bytes_eq e.1.name n) here in
-        ap (λ b. either (cond b (Some e.0) (child_at groups old p n)) (child_of es p n)) here ∙ sym (is.left.0 parent up).0
-        ∙ ap (λ k. child_of groups k e.1.name) (eqb-true parent p both.0) ∙ ap (child_of groups p) ((bytes_decides e.1.name n).0 both.1)
+        ap (λ b. either (cond b (Some e.0) (child_at groups old p n)) (child_of es p n)) here
+        ∙ sym (is.left.0 parent up).0
+        ∙ ap (λ k. child_of groups k e.1.name) (eqb-true parent p both.0)
+        ∙ ap (child_of groups p) ((bytes_decides e.1.name n).0 both.1)
     onto p n false other =
         ap (λ b. either (cond b (Some e.0) (child_at groups old p n)) (child_of es p n)) other
         ∙ ap (either (child_at groups old p n))
-        (sym (ap (λ b. cond b (Some e.0) (child_of es p n)) (ap (λ o. is_parent o p && bytes_eq e.1.name n) up ∙ other)))
+        (sym (ap (λ b. cond b (Some e.0) (child_of es p n))
+        (ap (λ o. is_parent o p && bytes_eq e.1.name n) up ∙ other)))
         ∙ is.children p n
 
 -- in a tree, each group is found by its name
 pub tree_named : (t : TreeState) → IsTree t → AreNamed t.groups t.groups
 tree_named t ok = all t.groups ok.rising (λ id g at. at)
   where
-    all : (es : List (ℕ × GroupFields)) → AreRising es → ((id : ℕ) (g : GroupFields) → group_at es id ≡ Some g → group_at t.groups id ≡ Some g)
+    all : (es : List (ℕ × GroupFields)) → AreRising es
+        → ((id : ℕ) (g : GroupFields) → group_at es id ≡ Some g → group_at t.groups id ≡ Some g)
         → AreNamed t.groups es
     all [] up found = tt
     all (e ∷ es) up found = (
-      λ p is. let at = found e.0 e.1 (ap (λ b. cond b (Some e.1) (group_at es e.0)) (eq-eqb e.0 e.0 refl)) in
+      λ p is. let at =
+          found e.0 e.1 (ap (λ b. cond b (Some e.1) (group_at es e.0)) (eq-eqb e.0 e.0 refl)) in
           (ok.named e.0 p e.1 at is, ap (λ o. is_child_of o p e.1.name) at ∙ is_named e.1 p is),
       all es up.1 (λ id g at. found id g (at_more e es id g up.0 at)),
     )
 
 -- a clone of the groups is the groups
-pub same_entries : (xs ys : List (ℕ × GroupFields)) → AllZip (λ x y. (y.0 ≡ x.0) × (y.1 ≡ x.1)) xs ys → ys ≡ xs
+pub same_entries : (xs ys : List (ℕ × GroupFields))
+    → AllZip (λ x y. (y.0 ≡ x.0) × (y.1 ≡ x.1)) xs ys → ys ≡ xs
 same_entries [] [] h = refl
 same_entries [] (y ∷ ys) h = absurd h
 same_entries (x ∷ xs) [] h = absurd h
@@ -340,8 +438,10 @@ same_entries (x ∷ xs) (y ∷ ys) h =
     ap (λ e. e ∷ ys) first ∙ ap (λ es. x ∷ es) (same_entries xs ys h.1)
 
 -- a new group's place is free
-pub free_name : (t : TreeState) (parent : ℕ) (name : List ℕ) → child_of t.groups parent name ≡ None → (p : ℕ) (n : List ℕ)
+pub free_name : (t : TreeState) (parent : ℕ) (name : List ℕ) → child_of t.groups parent name ≡ None
+    → (p : ℕ) (n : List ℕ)
     → is_child_named (new_group parent name) p n ≡ true → child_of t.groups p n ≡ None
 free_name t parent name free p n h =
     let who = named_is (new_group parent name) p n h in
-    ap (λ k. child_of t.groups k n) (sym (inside who.0)) ∙ ap (child_of t.groups parent) (sym who.1) ∙ free
+    ap (λ k. child_of t.groups k n) (sym (inside who.0)) ∙ ap (child_of t.groups parent) (sym who.1)
+    ∙ free

@@ -1,5 +1,6 @@
 -- A group's path from its parent's, by rows: all paths can be spelled in one pass over the rows.
-use Rattle.std.proofs.Common.{◌≡◌, ◌≢◌, ℕ, zero, suc, ◌<◌, Bool, true, false, cond, not, [], ◌∷◌, ◌++◌, List, length, get_or, Option, Some, None, is_some, refl}
+use Rattle.std.proofs.Common.{◌≡◌, ◌≢◌, ℕ, zero, suc, ◌<◌, Bool, true, false, cond, not, [], ◌∷◌}
+use Rattle.std.proofs.Common.{◌++◌, List, length, get_or, Option, Some, None, is_some, refl}
 use Rattle.std.proofs.Common.{sym, ap, ◌∙◌, arith, eqb}
 use Rattle.std.specs.Prelude.{codes}
 use Rattle.std.specs.List.{join_with_byte}
@@ -17,12 +18,16 @@ use Rattle.bw_tree.proofs.SnapshotLemmas.{found_at, place_found, place_le, paren
 use Rattle.bw_tree.proofs.WayLemmas.{joined_below, joined_first}
 
 -- each key of the groups is a group's
-pub row_has_group : (gs : List (ℕ × GroupFields)) (i : ℕ) → i < length (keys_of gs) → has_group gs (get_or (keys_of gs) i 0) ≡ true
+pub row_has_group : (gs : List (ℕ × GroupFields)) (i : ℕ) → i < length (keys_of gs)
+    → has_group gs (get_or (keys_of gs) i 0) ≡ true
 row_has_group [] i lt = absurd (omega (arith, lt))
-row_has_group (e ∷ es) zero lt = ap (λ b. is_some (cond b (Some e.1) (group_at es e.0))) (eq-eqb e.0 e.0 refl)
-row_has_group (e ∷ es) (suc i) lt = onto (eqb (get_or (keys_of es) i 0) e.0) (row_has_group es i (omega (arith, lt)))
+row_has_group (e ∷ es) zero lt =
+    ap (λ b. is_some (cond b (Some e.1) (group_at es e.0))) (eq-eqb e.0 e.0 refl)
+row_has_group (e ∷ es) (suc i) lt =
+    onto (eqb (get_or (keys_of es) i 0) e.0) (row_has_group es i (omega (arith, lt)))
   where
-    onto : (b : Bool) → has_group es (get_or (keys_of es) i 0) ≡ true → is_some (cond b (Some e.1) (group_at es (get_or (keys_of es) i 0))) ≡ true
+    onto : (b : Bool) → has_group es (get_or (keys_of es) i 0) ≡ true
+        → is_some (cond b (Some e.1) (group_at es (get_or (keys_of es) i 0))) ≡ true
     onto true there = refl
     onto false there = there
 
@@ -31,19 +36,24 @@ module _ (t : TreeState) (ok : IsTree t) (s : Shape) where
   other : ℕ × GroupFields
   other = (0, ok.root.0)
 
-  id_is : (g : ℕ) → g < length t.groups → get_or (keys_of t.groups) g 0 ≡ (get_or t.groups g other).0
+  id_is : (g : ℕ) → g < length t.groups
+      → get_or (keys_of t.groups) g 0 ≡ (get_or t.groups g other).0
   id_is g within = get_or-map (λ (e : ℕ × GroupFields). e.0) t.groups g other 0 within
 
-  group_is : (g : ℕ) → g < length t.groups → group_at t.groups (get_or (keys_of t.groups) g 0) ≡ Some (get_or t.groups g other).1
-  group_is g within = ap (group_at t.groups) (id_is g within) ∙ found_at t.groups g other ok.rising within
+  group_is : (g : ℕ) → g < length t.groups
+      → group_at t.groups (get_or (keys_of t.groups) g 0) ≡ Some (get_or t.groups g other).1
+  group_is g within = ap (group_at t.groups) (id_is g within)
+      ∙ found_at t.groups g other ok.rising within
 
   -- the first row is the root's
   first_id : get_or (keys_of t.groups) 0 0 ≡ 0
   first_id =
       let there = place_found t.groups 0 (ap is_some ok.root.1) in
       let at = position-Some (eqb 0) (keys_of t.groups) there.0 0 there.1 in
-      let within : there.0 < length t.groups = omega (arith, at.0, length-map t.groups (λ (e : ℕ × GroupFields). e.0)) in
-      let same : get_or (keys_of t.groups) there.0 0 ≡ 0 = sym (eqb-true 0 (get_or (keys_of t.groups) there.0 0) at.1) in
+      let within : there.0 < length t.groups =
+      omega (arith, at.0, length-map t.groups (λ (e : ℕ × GroupFields). e.0)) in
+      let same : get_or (keys_of t.groups) there.0 0 ≡ 0 =
+      sym (eqb-true 0 (get_or (keys_of t.groups) there.0 0) at.1) in
       let low = place_le t.groups there.0 other ok.rising within in
       let first : there.0 ≡ 0 = omega (arith, low, id_is there.0 within, same) in
       ap (λ k. get_or (keys_of t.groups) k 0) (sym first) ∙ same
@@ -58,66 +68,86 @@ module _ (t : TreeState) (ok : IsTree t) (s : Shape) where
     parent : (get_or t.groups g other).1.parent ≡ Some (get_or (keys_of t.groups) p 0)
     before : p < g
 
-  parent_is : (g p : ℕ) → g < length t.groups → parent_row (rows_of t.groups s) g ≡ Some p → HasParent g p
+  parent_is : (g p : ℕ) → g < length t.groups → parent_row (rows_of t.groups s) g ≡ Some p
+      → HasParent g p
   parent_is g p within up = by (get_or t.groups g other).1.parent refl
     where
       by : (o : Option ℕ) → (get_or t.groups g other).1.parent ≡ o → HasParent g p
       by None is =
-          let none : Some p ≡ None = sym up ∙ row_parent t ok s other no_row g within ∙ ap (row_above t.groups) is in
+          let none : Some p ≡ None = sym up ∙ row_parent t ok s other no_row g within
+          ∙ ap (row_above t.groups) is in
           absurd (cc)
       by (Some id) is =
           let h = parent_place t ok s other no_row g id within is in
-          let same : h.place ≡ p = inside (sym (row_parent t ok s other no_row g within ∙ ap (row_above t.groups) is ∙ h.is) ∙ up) in
+          let same : h.place ≡ p =
+          inside (sym (row_parent t ok s other no_row g within ∙ ap (row_above t.groups) is
+          ∙ h.is) ∙ up) in
           let key : id ≡ get_or (keys_of t.groups) p 0 =
-          sym h.key ∙ sym (id_is h.place (omega (arith, h.before, within))) ∙ ap (λ k. get_or (keys_of t.groups) k 0) same in
+          sym h.key ∙ sym (id_is h.place (omega (arith, h.before, within)))
+          ∙ ap (λ k. get_or (keys_of t.groups) k 0) same in
           record { parent = is ∙ ap Some key; before = omega (arith, h.before, same) }
 
   spelled_as : (id : ℕ) → has_group t.groups id ≡ true → (b : Bool) → eqb id 0 ≡ b
-      → path_at t.groups id ≡ cond b (Some (codes ".")) (Some (join_with_byte 47 (names_to t.groups id)))
+      → path_at t.groups id ≡ cond b (Some (codes "."))
+      (Some (join_with_byte 47 (names_to t.groups id)))
   spelled_as id there b top =
-      ap (λ k. cond (not k) None (cond (eqb id 0) (Some (codes ".")) (Some (join_with_byte 47 (names_to t.groups id))))) there
+      ap (λ k. cond (not k) None
+      (cond (eqb id 0) (Some (codes ".")) (Some (join_with_byte 47 (names_to t.groups id)))))
+      there
       ∙ ap (λ k. cond k (Some (codes ".")) (Some (join_with_byte 47 (names_to t.groups id)))) top
 
   -- the path of a row without parent
-  pub root_path : (g : ℕ) → g < length t.groups → parent_row (rows_of t.groups s) g ≡ None → path_at t.groups (get_or (keys_of t.groups) g 0) ≡ Some (codes ".")
+  pub root_path : (g : ℕ) → g < length t.groups → parent_row (rows_of t.groups s) g ≡ None
+      → path_at t.groups (get_or (keys_of t.groups) g 0) ≡ Some (codes ".")
   root_path g within up = by (get_or t.groups g other).1.parent refl
     where
       id : ℕ
       id = get_or (keys_of t.groups) g 0
 
-      by : (o : Option ℕ) → (get_or t.groups g other).1.parent ≡ o → path_at t.groups id ≡ Some (codes ".")
+      by : (o : Option ℕ) → (get_or t.groups g other).1.parent ≡ o
+          → path_at t.groups id ≡ Some (codes ".")
       by None is =
           let top = ok.one_root id (get_or t.groups g other).1 (group_is g within) is in
           spelled_as id (ap is_some (group_is g within)) true (eq-eqb id 0 top)
       by (Some p) is =
           let h = parent_place t ok s other no_row g p within is in
-          let none : None ≡ Some h.place = sym up ∙ row_parent t ok s other no_row g within ∙ ap (row_above t.groups) is ∙ h.is in
+          let none : None ≡ Some h.place = sym up ∙ row_parent t ok s other no_row g within
+          ∙ ap (row_above t.groups) is ∙ h.is in
           absurd (cc)
 
   -- the path of a child of the first row
-  pub first_path : (g p : ℕ) (f : GroupFields) → g < length t.groups → group_at t.groups (get_or (keys_of t.groups) g 0) ≡ Some f
-      → parent_row (rows_of t.groups s) g ≡ Some p → p ≡ 0 → path_at t.groups (get_or (keys_of t.groups) g 0) ≡ Some f.name
+  pub first_path : (g p : ℕ) (f : GroupFields) → g < length t.groups
+      → group_at t.groups (get_or (keys_of t.groups) g 0) ≡ Some f
+      → parent_row (rows_of t.groups s) g ≡ Some p → p ≡ 0
+      → path_at t.groups (get_or (keys_of t.groups) g 0) ≡ Some f.name
   first_path g p f within at up top =
       let id = get_or (keys_of t.groups) g 0 in
       let above = get_or (keys_of t.groups) p 0 in
       let h = parent_is g p within up in
-      let parent : f.parent ≡ Some above = ap (λ (x : GroupFields). x.parent) (inside (sym at ∙ group_is g within)) ∙ h.parent in
+      let parent : f.parent ≡ Some above =
+      ap (λ (x : GroupFields). x.parent) (inside (sym at ∙ group_is g within)) ∙ h.parent in
       let root : above ≡ 0 = ap (λ k. get_or (keys_of t.groups) k 0) top ∙ first_id in
       let lower = (ok.parents id above f at parent).0 in
-      spelled_as id (ap is_some at) false (ne_eqb id 0 (λ e. omega (arith, e, lower))) ∙ ap Some (joined_first t ok id above f at parent root)
+      spelled_as id (ap is_some at) false (ne_eqb id 0 (λ e. omega (arith, e, lower)))
+      ∙ ap Some (joined_first t ok id above f at parent root)
 
   -- the path of a child of a later row
-  pub below_path : (g p : ℕ) (f : GroupFields) (path : List ℕ) → g < length t.groups → group_at t.groups (get_or (keys_of t.groups) g 0) ≡ Some f
-      → parent_row (rows_of t.groups s) g ≡ Some p → p ≢ 0 → path_at t.groups (get_or (keys_of t.groups) p 0) ≡ Some path
+  pub below_path : (g p : ℕ) (f : GroupFields) (path : List ℕ) → g < length t.groups
+      → group_at t.groups (get_or (keys_of t.groups) g 0) ≡ Some f
+      → parent_row (rows_of t.groups s) g ≡ Some p → p ≢ 0
+      → path_at t.groups (get_or (keys_of t.groups) p 0) ≡ Some path
       → path_at t.groups (get_or (keys_of t.groups) g 0) ≡ Some (path ++ 47 ∷ f.name)
   below_path g p f path within at up low path_is =
       let id = get_or (keys_of t.groups) g 0 in
       let above = get_or (keys_of t.groups) p 0 in
       let h = parent_is g p within up in
-      let parent : f.parent ≡ Some above = ap (λ (x : GroupFields). x.parent) (inside (sym at ∙ group_is g within)) ∙ h.parent in
+      let parent : f.parent ≡ Some above =
+      ap (λ (x : GroupFields). x.parent) (inside (sym at ∙ group_is g within)) ∙ h.parent in
       let there = ok.parents id above f at parent in
       let inner : above ≢ 0 = later_id p (omega (arith, h.before, within)) low in
-      let joined : join_with_byte 47 (names_to t.groups above) ≡ path = inside (sym (spelled_as above there.1 false (ne_eqb above 0 inner)) ∙ path_is) in
+      let joined : join_with_byte 47 (names_to t.groups above) ≡ path =
+      inside (sym (spelled_as above there.1 false (ne_eqb above 0 inner)) ∙ path_is) in
       let lower = there.0 in
       spelled_as id (ap is_some at) false (ne_eqb id 0 (λ e. omega (arith, e, lower)))
-      ∙ ap Some (joined_below t ok id above f at parent inner ∙ ap (λ (x : List ℕ). x ++ 47 ∷ f.name) joined)
+      ∙ ap Some (joined_below t ok id above f at parent inner
+      ∙ ap (λ (x : List ℕ). x ++ 47 ∷ f.name) joined)

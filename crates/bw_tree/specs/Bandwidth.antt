@@ -1,13 +1,16 @@
 -- What a group draws over many periods.
-use Rattle.std.specs.Prelude.{◌≡◌, ◌≢◌, ℕ, suc, ◌+◌, nat_eq, if◌then◌else◌, List, [], ◌∷◌, length, Option, Some, None}
+use Rattle.std.specs.Prelude.{◌≡◌, ◌≢◌, ℕ, suc, ◌+◌, nat_eq, if◌then◌else◌, List, [], ◌∷◌, length}
+use Rattle.std.specs.Prelude.{Option, Some, None}
 use Rattle.std.specs.List.{AllByRecursion}
 use Rattle.std.specs.Map.{values_of}
 use Rattle.bw_model.specs.Host.{Shape}
 use Rattle.bw_model.specs.Quota.{in_slices}
 use Rattle.bw_model.specs.declared.quota.Quota.{Quota}
 use Rattle.bw_tree.specs.Groups.{GroupFields, TreeState, group_at}
-use Rattle.bw_tree.specs.Snapshot.{quota_slices, period_limit, left_of, rows_of, carried_over, IsDrawnWithin}
-use Rattle.bw_tree.specs.Tree.{with_group, without_group, with_setting, set_demand, set_weight, set_quota, set_period, set_burst, set_carry}
+use Rattle.bw_tree.specs.Snapshot.{quota_slices, period_limit, left_of, rows_of, carried_over}
+use Rattle.bw_tree.specs.Snapshot.{IsDrawnWithin}
+use Rattle.bw_tree.specs.Tree.{with_group, without_group, with_setting, set_demand, set_weight}
+use Rattle.bw_tree.specs.Tree.{set_quota, set_period, set_burst, set_carry}
 
 -- a call that changes a tree, where it is not refused
 pub data Call : Type 0 where
@@ -57,7 +60,8 @@ pub record HasBandwidth (shape : Shape) (t : TreeState) (id quota burst : ℕ) :
 abbrev pub KeepsBandwidth : Shape → ℕ → ℕ → ℕ → TreeState → List Call → Type 0
 KeepsBandwidth shape id quota burst t [] = HasBandwidth shape t id quota burst
 KeepsBandwidth shape id quota burst t (call ∷ calls) =
-    HasBandwidth shape t id quota burst × KeepsGroup shape id t call × KeepsBandwidth shape id quota burst (after_call shape t call) calls
+    HasBandwidth shape t id quota burst × KeepsGroup shape id t call
+    × KeepsBandwidth shape id quota burst (after_call shape t call) calls
 
 -- what the group with this id drew, of what each group drew
 abbrev pub drawn_at : List (ℕ × GroupFields) → List ℕ → ℕ → ℕ
@@ -73,7 +77,8 @@ drawn_by id t call = 0
 -- what the group with this id draws in all booked periods
 abbrev pub drawn_in : Shape → ℕ → TreeState → List Call → ℕ
 drawn_in shape id t [] = 0
-drawn_in shape id t (call ∷ calls) = drawn_by id t call + drawn_in shape id (after_call shape t call) calls
+drawn_in shape id t (call ∷ calls) =
+    drawn_by id t call + drawn_in shape id (after_call shape t call) calls
 
 -- the number of booked periods
 abbrev pub periods_in : List Call → ℕ

@@ -1,5 +1,6 @@
 -- Where the children of all groups are found: by a key that is made of the parent and the name.
-use Rattle.std.specs.Prelude.{ℕ, zero, suc, ◌+◌, ◌-◌, ◌%◌, ◌^◌, nat_eq, ◌==◌, cond, List, Option, Some, None}
+use Rattle.std.specs.Prelude.{ℕ, zero, suc, ◌+◌, ◌-◌, ◌%◌, ◌^◌, nat_eq, ◌==◌, cond, List, Option}
+use Rattle.std.specs.Prelude.{Some, None}
 use Rattle.std.specs.List.{fold}
 use Rattle.std.specs.Hash as hash
 use Rattle.std.specs.Hash.FoldHasher as folding
@@ -12,7 +13,8 @@ use Rattle.std.specs.declared.hash.BuildHasherDefault.{BuildHasherDefault}
 
 -- the library's hash of a name, moved on by the parent's id: few children share a key
 unfoldable pub key : ℕ → List ℕ → ℕ
-key parent name = (folding.finish (fold folding.write folding.initial (hash.str name)) + parent) % 2 ^ 64
+key parent name =
+    (folding.finish (fold folding.write folding.initial (hash.str name)) + parent) % 2 ^ 64
 
 -- the child with this name, among children whose keys others had before them
 abbrev pub text_in : Option (BTreeMap (String Global) ℕ) → List ℕ → Option ℕ
@@ -20,7 +22,8 @@ text_in None name = None
 text_in (Some children) name = get_by_text children name
 
 -- the child of a group with this name, among those whose keys others had before them
-abbrev pub text_at : HashMap ℕ (BTreeMap (String Global) ℕ) (BuildHasherDefault FoldHasher) → ℕ → List ℕ → Option ℕ
+abbrev pub text_at : HashMap ℕ (BTreeMap (String Global) ℕ) (BuildHasherDefault FoldHasher) → ℕ
+    → List ℕ → Option ℕ
 text_at others parent name = text_in (get nat_eq others parent) name
 
 -- the child that a key finds, after one more was given this key: the first stays

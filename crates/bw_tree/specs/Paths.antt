@@ -1,5 +1,6 @@
 -- The path of a group.
-use Rattle.std.specs.Prelude.{◌≡◌, ◌↔◌, ℕ, suc, zero, ◌==◌, not, if◌then◌else◌, List, [], ◌∷◌, ◌++◌, Option, Some, None, codes}
+use Rattle.std.specs.Prelude.{◌≡◌, ◌↔◌, ℕ, suc, zero, ◌==◌, not, if◌then◌else◌, List, [], ◌∷◌, ◌++◌}
+use Rattle.std.specs.Prelude.{Option, Some, None, codes}
 use Rattle.std.specs.List.{join_with_byte}
 use Rattle.bw_tree.specs.Groups.{GroupFields, group_at, has_group, find_path}
 
@@ -31,10 +32,12 @@ path_at groups id =
 
 -- each path that finds a group is the path of that group, and the path of each group finds it
 abbrev pub IsInverse : List (ℕ × GroupFields) → Type 0
-IsInverse groups = (path : List ℕ) (id : ℕ) → (find_path groups path ≡ Some id) ↔ (path_at groups id ≡ Some path)
+IsInverse groups = (path : List ℕ) (id : ℕ)
+    → (find_path groups path ≡ Some id) ↔ (path_at groups id ≡ Some path)
 
 -- two children of one group that have the same name are one
 abbrev pub AreNamesUnique : List (ℕ × GroupFields) → Type 0
 AreNamesUnique groups =
-    (a b : ℕ) (g h : GroupFields) (parent : ℕ) → group_at groups a ≡ Some g → group_at groups b ≡ Some h
+    (a b : ℕ) (g h : GroupFields) (parent : ℕ) → group_at groups a ≡ Some g
+    → group_at groups b ≡ Some h
     → g.parent ≡ Some parent → h.parent ≡ Some parent → g.name ≡ h.name → a ≡ b

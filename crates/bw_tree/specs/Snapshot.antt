@@ -1,5 +1,6 @@
 -- A tree as an instance has it: a row for each group, in order of creation.
-use Rattle.std.specs.Prelude.{ℕ, zero, suc, ◌+◌, ◌-◌, ◌<◌, ◌≤◌, min, nat_eq, List, [], ◌∷◌, map, length, slice_index, Option, Some, None, IfSome, position}
+use Rattle.std.specs.Prelude.{ℕ, zero, suc, ◌+◌, ◌-◌, ◌<◌, ◌≤◌, min, nat_eq, List, [], ◌∷◌, map}
+use Rattle.std.specs.Prelude.{length, slice_index, Option, Some, None, IfSome, position}
 use Rattle.std.specs.Map.{keys_of, values_of}
 use Rattle.bw_model.specs.Host.{Shape}
 use Rattle.bw_model.specs.Quota.{in_slices, slices_of}
@@ -17,7 +18,8 @@ row_above groups (Some id) = position (nat_eq id) (keys_of groups)
 abbrev pub quota_slices : Shape → GroupFields → Option ℕ
 quota_slices shape g = slices_of shape g.period g.quota
 
--- what may be used in a period: the quota with what was left over, and at most the quota with the burst
+-- what may be used in a period: the quota with what was left over, and at most the quota with the
+-- burst
 abbrev pub with_burst : ℕ → ℕ → ℕ → ℕ
 with_burst carry burst quota = min (carry + quota) (quota + burst)
 
@@ -32,7 +34,13 @@ period_limit shape g = bursting g.carry (in_slices shape g.period g.burst) (quot
 
 -- a group as a row, its limit in whole slices
 abbrev pub row_of : List (ℕ × GroupFields) → Shape → GroupFields → Row
-row_of groups shape g = record { parent = row_above groups g.parent; weight = g.weight; limit = period_limit shape g; demand = g.demand }
+row_of groups shape g =
+    record {
+      parent = row_above groups g.parent;
+      weight = g.weight;
+      limit = period_limit shape g;
+      demand = g.demand;
+    }
 
 -- a row for each group, in order of creation
 abbrev pub rows_of : List (ℕ × GroupFields) → Shape → List Row
@@ -59,7 +67,8 @@ left_over (row ∷ rows) (d ∷ ds) = left_of row.limit d ∷ left_over rows ds
 
 -- no row has drawn more than its limit
 abbrev pub IsDrawnWithin : List Row → List ℕ → Type 0
-IsDrawnWithin rows drawn = (g : ℕ) → g < length rows → IfSome (row_at rows g).limit (λ limit. slice_index drawn g ≤ limit)
+IsDrawnWithin rows drawn = (g : ℕ) → g < length rows
+    → IfSome (row_at rows g).limit (λ limit. slice_index drawn g ≤ limit)
 
 -- the groups, each with what it left over, in the same order
 abbrev pub carried : List (ℕ × GroupFields) → List ℕ → List (ℕ × GroupFields)
@@ -75,4 +84,5 @@ carried_at (e ∷ es) (suc place) carry = e ∷ carried_at es place carry
 
 -- the tree after a period: each group keeps what its row left over, and all else is as it was
 abbrev pub carried_over : TreeState → List Row → List ℕ → TreeState
-carried_over t rows drawn = record { groups = carried t.groups (left_over rows drawn); next = t.next }
+carried_over t rows drawn =
+    record { groups = carried t.groups (left_over rows drawn); next = t.next }

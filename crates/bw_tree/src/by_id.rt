@@ -1,4 +1,4 @@
-//! A group by its id.
+//! Look-up of a group by its id.
 ghost use Rattle.std.specs.Prelude.{◌≡◌, IfSome, Some};
 ghost use Rattle.std.specs.Option.{option_copied};
 ghost use Rattle.bw_tree.specs.Groups.{group_at};
@@ -6,7 +6,8 @@ ghost use Rattle.bw_tree.specs.Groups.{group_at};
 use crate::group::{Group, GroupId};
 use indexmap::IndexMap;
 
-// The group with this id. Where no group before it was removed, its place is its id, and nothing is hashed.
+// Group with this id. Its place is its id if no group before it was removed: then no hash is
+// computed.
 pub(crate) fn group_of(groups: &IndexMap<GroupId, Group>, id: GroupId) -> Option<&Group>
     ensures { option_copied result ≡ group_at groups.now.entries id }
 {
@@ -16,7 +17,7 @@ pub(crate) fn group_of(groups: &IndexMap<GroupId, Group>, id: GroupId) -> Option
     }
 }
 
-// The group with this id where that is its place too.
+// Group with this id if its place is its id.
 fn in_place(groups: &IndexMap<GroupId, Group>, id: GroupId) -> Option<&Group>
     ensures { IfSome result (λ g. group_at groups.now.entries id ≡ Some g.now) }
 {

@@ -1,4 +1,5 @@
-//! Bandwidth: quotas in slices, and what groups carry from one period to the next (sched-bwc.rst, "Burst feature").
+//! Bandwidth: quotas in slices, and slices carried from one period to the next (sched-bwc.rst,
+//! "Burst feature").
 ghost use Rattle.std.specs.Prelude.{◌≡◌, ◌<◌, ◌≤◌, ◌↔◌, true, length, IfSome, IsTrue, false, min};
 ghost use Rattle.bw_model.specs.Quota.{in_slices};
 ghost use Rattle.bw_tree.specs.Groups.{IsSound};
@@ -10,7 +11,7 @@ use bw_model::limits::{MAX_BURST_US, MAX_QUOTA_US};
 use bw_model::{HostShape, Row};
 use indexmap::IndexMap;
 
-// The quota of a group in whole slices of the host's period.
+// Quota of a group in whole slices of the host's period.
 pub(crate) fn quota_slices(group: &Group, shape: HostShape) -> Option<u64>
     requires { IsSound group.now }
     ensures value { result ≡ quota_slices shape group.now }
@@ -19,8 +20,7 @@ pub(crate) fn quota_slices(group: &Group, shape: HostShape) -> Option<u64>
     group.quota.slices(shape, group.period)
 }
 
-// The limit of a group with this quota in a period of the host: the quota with what was left over, at most the quota with
-// the burst.
+// Limit of a group in slices of one period: quota plus carry, at most quota plus burst.
 pub(crate) fn period_limit(group: &Group, quota: Option<u64>, shape: HostShape) -> Option<u64>
     requires sound { IsSound group.now }
     requires quota { quota ≡ quota_slices shape group.now }
@@ -31,10 +31,11 @@ pub(crate) fn period_limit(group: &Group, quota: Option<u64>, shape: HostShape) 
     Some(quota + carried_in(group, shape))
 }
 
-// What a group left over, at most its burst. Where it left nothing or has no burst, nothing is divided.
+// Slices that a group carries in, at most its burst. Divides only if it has a carry and a burst.
 fn carried_in(group: &Group, shape: HostShape) -> u64
     requires { IsSound group.now }
-    ensures value { result ≡ min group.now.carry (in_slices shape group.now.period group.now.burst) }
+    ensures value { result
+        ≡ min group.now.carry (in_slices shape group.now.period group.now.burst) }
     ensures bound { result ≤ MAX_BURST_US }
 {
     if group.carry == 0 || group.burst == 0 {
@@ -44,7 +45,9 @@ fn carried_in(group: &Group, shape: HostShape) -> u64
     group.carry.min(burst)
 }
 
-/// Whether no row has drawn more than its limit, as [`Tree::carry_over`] asks: one number of slices for each row.
+/// Tests that no row has drawn more than its limit, which [`Tree::carry_over`] requires.
+///
+/// `drawn` has the slices of each row in one period.
 pub fn is_drawn_within(rows: &[Row], drawn: &[u64]) -> bool
     requires { length drawn.now ≡ length rows.now }
     ensures { IsTrue result ↔ IsDrawnWithin rows.now drawn.now }
@@ -57,7 +60,7 @@ pub fn is_drawn_within(rows: &[Row], drawn: &[u64]) -> bool
     true
 }
 
-// Whether more than the limit was drawn.
+// Whether the draw is above the limit.
 fn is_past(limit: Option<u64>, drawn: u64) -> bool
     ensures held { result ≡ false → IfSome limit (λ l. drawn ≤ l) }
     ensures past { result ≡ true → IfSome limit (λ l. drawn ≤ l) → ⊥ }
@@ -68,7 +71,7 @@ fn is_past(limit: Option<u64>, drawn: u64) -> bool
     }
 }
 
-// What is left of a row's limit.
+// Slices of a row's limit that were not drawn, 0 without a limit.
 fn left_of(limit: Option<u64>, drawn: u64) -> u64
     requires { IfSome limit (λ l. drawn ≤ l) }
     ensures { result ≡ left_of limit drawn }
@@ -79,7 +82,7 @@ fn left_of(limit: Option<u64>, drawn: u64) -> u64
     }
 }
 
-// Notes what each row left of its limit, at the group in its place.
+// Stores the rest of each row's limit in the group at the row's place.
 pub(crate) fn write_carries(groups: &mut IndexMap<GroupId, Group>, rows: &[Row], drawn: &[u64])
     requires rows { length rows.now ≡ length groups.old.entries }
     requires drawn { length drawn.now ≡ length rows.now }

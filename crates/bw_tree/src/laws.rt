@@ -1,21 +1,27 @@
-//! Laws about the definitions, each the contract of a function that does nothing.
+//! Laws about the definitions: contracts of functions with an empty body.
 ghost use Rattle.std.specs.Prelude.{◌≡◌};
-ghost use Rattle.bw_tree.specs.Booked.{IsBoundedByBurst, IsBoundedByCarry, IsCarryBounded, IsLeftOver, AreLimitsQuotas, IsCarryUnseen, KeepsNoBurst};
+ghost use Rattle.bw_tree.specs.Booked.{IsBoundedByBurst, IsBoundedByCarry, IsCarryBounded};
+ghost use Rattle.bw_tree.specs.Booked.{IsLeftOver, AreLimitsQuotas, IsCarryUnseen, KeepsNoBurst};
 ghost use Rattle.bw_tree.specs.Groups.{TreeState, IsTree};
 ghost use Rattle.bw_tree.specs.Paths.{IsInverse, AreNamesUnique};
 
 use crate::limits::{DEFAULT_PERIOD_US, DEFAULT_WEIGHT, FIRST_ID, MAX_NAME};
 
-/// In each tree the path of a group finds that group, and no other path does; and siblings have different names.
+/// Law: in each tree the path of a group, and no other path, finds the group.
+///
+/// Siblings have different names.
 pub fn paths_are_exact()
     ensures inverse { (t : TreeState) → IsTree t → IsInverse t.groups }
     ensures names { (t : TreeState) → IsTree t → AreNamesUnique t.groups }
 {}
 
-/// In any n booked periods in a row, with any calls between them, a group whose quota and burst in slices stay draws at
-/// most n times its quota and once its burst, whatever it had left over before; and at most n times its quota and
-/// what it had left over. After each period it has left over at most its quota and its burst: its limit less what it drew,
-/// and nothing else of any group changes.
+/// Law: a group's draw over any n booked periods in a row is bounded.
+///
+/// Premise: its quota and its burst in slices stay the same. Any calls may come between.
+/// - `burst`: it draws at most n quotas and one burst, whatever it carried before.
+/// - `carry`: it draws at most n quotas and what it carried before.
+/// - `next_carry`: after each period it carries at most its quota and its burst.
+/// - `left`: the carry is its limit less its draw. Nothing else of any group changes.
 pub fn bursts_are_bounded()
     ensures burst { IsBoundedByBurst }
     ensures carry { IsBoundedByCarry }
@@ -23,16 +29,18 @@ pub fn bursts_are_bounded()
     ensures left { IsLeftOver }
 {}
 
-/// Where no group has a burst, the limit of each is its quota in slices, whatever they left over; and a booked period
-/// leaves the same instance.
+/// Law: if no group has a burst, the limit of each is its quota in slices, whatever it carries.
+///
+/// A booked period then leaves the same instance.
 pub fn carries_need_a_burst()
     ensures limits { AreLimitsQuotas }
     ensures unseen { IsCarryUnseen }
     ensures stays { KeepsNoBurst }
 {}
 
-/// A new group: a name of up to 255 bytes, the weight 100, a period of its own of 100 milliseconds; the first one's id is 1. The
-/// definitions read these numbers from the code.
+/// Law: numbers of a new group, which the definitions read from the code.
+///
+/// A name has up to 255 bytes. The weight is 100, the period 100000 microseconds, the first id 1.
 pub fn new_group_numbers()
     ensures name { MAX_NAME ≡ 255 }
     ensures first_id { FIRST_ID ≡ 1 }

@@ -1,4 +1,5 @@
-//! The tree of groups: each call is an exact change of the list of groups, or a refusal that changes nothing.
+//! Tree of groups. Each call changes the list of groups exactly as its clause says, or is refused
+//! and changes nothing.
 #![tactic(auto)]
 
 mod by_id;

@@ -1,4 +1,4 @@
-//! Names of groups and the parts of a path.
+//! Names of groups, and the first name of a path.
 ghost use Rattle.std.specs.Prelude.{◌≡◌, ◌==◌, ◌<◌, [], ◌∷◌, length, MatchOption, IfSome};
 ghost use Rattle.std.specs.List.{list_all, slice_split};
 ghost use Rattle.bw_tree.specs.Groups.{is_name, is_name_byte};
@@ -32,7 +32,7 @@ fn are_name_bytes(bytes: &[u8]) -> bool
     bytes.iter().all(|b| *b != b'/' && *b != 0 && *b != b'\n')
 }
 
-/// The first name of a path and what stands after its first `/`; `None` where it has none.
+/// Splits a path at its first `/` into the first name and the rest; `None` if it has no `/`.
 pub fn split_front(path: &str) -> Option<(&str, &str)>
     ensures parts { MatchOption result (slice_split (λ b. b == 47) path.now ≡ path.now ∷ [])
         (λ x. slice_split (λ b. b == 47) path.now ≡ x.0.now ∷ slice_split (λ b. b == 47) x.1.now) }

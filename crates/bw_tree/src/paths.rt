@@ -13,14 +13,17 @@ use crate::tree::Tree;
 use std::alloc::AllocError;
 
 impl Tree {
-    /// The group at a path: `.` for the root, else the names from the root down, joined by `/`. It takes no memory.
+    /// Finds the group at a path. Allocates nothing.
+    ///
+    /// A path is `.` for the root, and for others the names from the root down, joined by `/`.
     ///
     /// # Errors
     ///
-    /// [`TreeFault::NotFound`] for each other text.
+    /// - [`TreeFault::NotFound`] if the text is the path of no group.
     pub fn find(&self, path: &str) -> Result<GroupId, TreeFault>
         ensures found { IfOk result (λ id. find_path self.now.groups path.now ≡ Some id) }
-        ensures none { IfErr result (λ e. (find_path self.now.groups path.now ≡ None) × (e ≡ TreeFault.NotFound)) }
+        ensures none { IfErr result
+            (λ e. (find_path self.now.groups path.now ≡ None) × (e ≡ TreeFault.NotFound)) }
     {
         if path == "." {
             return Ok(0);
@@ -28,15 +31,17 @@ impl Tree {
         self.walk(path).ok_or(TreeFault::NotFound)
     }
 
-    /// The path of a group: `.` for the root, else the names from the root down, joined by `/`. It is the one path that
-    /// [`Tree::find`] answers with this group.
+    /// Path of a group: the one text with which [`Tree::find`] finds it.
     ///
     /// # Errors
     ///
-    /// [`TreeFault::NotFound`] where there is no such group, else [`TreeFault::OutOfMemory`].
+    /// The first that applies:
+    /// - [`TreeFault::NotFound`] if there is no such group.
+    /// - [`TreeFault::OutOfMemory`]
     pub fn path_of(&self, id: GroupId) -> Result<String, TreeFault>
         ensures path { IfOk result (λ path. path_at self.now.groups id ≡ Some (string_bytes path)) }
-        ensures found { IfOk result (λ path. find_path self.now.groups (string_bytes path) ≡ Some id) }
+        ensures found { IfOk result
+            (λ path. find_path self.now.groups (string_bytes path) ≡ Some id) }
         ensures refused { IfErr result (IsRefused (path_refusal self.now id)) }
     {
         if self.group(id).is_none() {
@@ -51,10 +56,11 @@ impl Tree {
         Ok(path)
     }
 
-    // Adds the names down to a group, joined by `/`.
+    // Appends the names from the root down to a group, joined by `/`.
     fn push_path(&self, path: &mut String, id: GroupId) -> Result<(), AllocError>
         requires { has_group self.now.groups id ≡ true }
-        ensures { OnOk result (string_bytes path.new ≡ string_bytes path.old ++ join_with_byte 47 (names_to self.now.groups id)) }
+        ensures { OnOk result (string_bytes path.new ≡ string_bytes path.old
+            ++ join_with_byte 47 (names_to self.now.groups id)) }
     {
         let Some(group) = self.groups.get(&id) else {
             return Ok(());
@@ -69,7 +75,7 @@ impl Tree {
         path.push_str(group.name.as_str())
     }
 
-    // The group that is reached from the root by the names of a path.
+    // Group that the names of a path reach from the root.
     fn walk(&self, path: &str) -> Option<GroupId>
         ensures { result ≡ walk self.now.groups 0 (slice_split (λ b. b == 47) path.now) }
     {

@@ -1,4 +1,4 @@
-//! The first refusal of each call of a tree, if any.
+//! First refusal of each call on a tree, if any.
 ghost use Rattle.std.specs.Prelude.{◌≡◌, ℕ, is_some};
 ghost use Rattle.bw_tree.specs.Groups.{above, group_at, parent_of};
 ghost use Rattle.bw_tree.specs.Tree.{mkdir_refusal, demand_refusal, setting_refusal, rmdir_refusal};
@@ -10,7 +10,7 @@ use crate::tree::Tree;
 use bw_model::limits::{MAX_DEMAND, MAX_DEPTH, MAX_GROUPS};
 
 impl Tree {
-    // Why a group with this name is refused below a parent.
+    // Refusal of a new group with this name below a parent.
     pub(crate) fn mkdir_refusal(&self, parent: GroupId, name: &str) -> Option<TreeFault>
         ensures { result ≡ mkdir_refusal self.now parent name.now }
     {
@@ -38,7 +38,7 @@ impl Tree {
         None
     }
 
-    // Why a group is not removed.
+    // Refusal of the removal of a group.
     pub(crate) fn rmdir_refusal(&self, id: GroupId) -> Option<TreeFault>
         ensures { result ≡ rmdir_refusal self.now id }
     {
@@ -57,7 +57,7 @@ impl Tree {
         None
     }
 
-    // Why a demand is refused.
+    // Refusal of a demand in slices.
     pub(crate) fn demand_refusal(&self, id: GroupId, demand: u64) -> Option<TreeFault>
         ensures { result ≡ demand_refusal self.now id demand }
     {
@@ -76,7 +76,7 @@ impl Tree {
         None
     }
 
-    // Why a weight, a limit, a period or a burst is refused.
+    // Refusal of a weight, a limit, a period or a burst.
     pub(crate) fn setting_refusal(&self, id: GroupId) -> Option<TreeFault>
         ensures { result ≡ setting_refusal self.now id }
     {
@@ -89,7 +89,7 @@ impl Tree {
         None
     }
 
-    // Whether a group with this parent is as deep as a group may be.
+    // Whether a group with this parent is `MAX_DEPTH` levels below the root.
     fn is_deepest(&self, parent: Option<GroupId>) -> bool
         ensures { (id : ℕ) → parent_of (group_at self.now.groups id) ≡ parent →
             result ≡ is_some (above self.now.groups MAX_DEPTH id) }

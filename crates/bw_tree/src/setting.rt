@@ -1,12 +1,12 @@
-//! The values of a group that are set in place.
+//! Values of a group that are set in place.
 use bw_model::Quota;
 
-// A value of a group that a file of it sets.
+// Value that a file of a group sets.
 #[derive(Clone, Copy, Debug, PartialEq, Eq)]
 pub(crate) enum Setting {
     // 1 to 10000.
     Weight(u64),
-    // No limit, or microseconds of each of its own periods.
+    // No limit, or 1000 to 10^15 microseconds in each of its own periods.
     Limit(Quota),
     // 1000 to 1000000 microseconds.
     Period(u64),

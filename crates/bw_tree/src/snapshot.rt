@@ -15,34 +15,35 @@ use bw_model::limits::MAX_QUOTA_US;
 use bw_model::{HostShape, Instance, Row};
 use std::alloc::AllocError;
 
-/// The groups of a tree as they are at one time, in order of creation.
+/// Groups of a tree at one time, in order of creation.
 #[derive(Debug, Drop)]
 pub struct Snapshot {
-    /// A row for each, on a host.
+    /// Instance on a host, with a row for each group.
     pub instance: Instance,
-    /// Their ids.
+    /// Id of each group.
     pub ids: Vec<GroupId>,
-    /// Their quotas in whole slices of the host's period, `None` where there is none.
+    /// Quota of each group in whole slices of the host's period; `None` without a limit.
     pub quotas: Vec<Option<u64>>,
 }
 
-// A row and a quota in slices for each group.
+// Rows and quotas in slices, one each for a group.
 type Rows = (Vec<Row>, Vec<Option<u64>>);
 
 impl Tree {
-    /// The groups as an instance on a host, a row for each in order of creation, and in the same order their ids and
-    /// their quotas in whole slices of the host's period, `None` where there is none. The limit of a row is the quota with
-    /// what the group left over in the last period, at most the quota with the burst. It costs as much as there are groups.
+    /// Takes a snapshot of the groups on a host: rows, ids and quotas, in order of creation.
+    ///
+    /// The limit of a row is the quota plus the carry of the last period, at most quota plus burst.
     ///
     /// # Errors
     ///
-    /// [`TreeFault::OutOfMemory`] alone: the rows of a tree are always an instance.
+    /// - [`TreeFault::OutOfMemory`] alone: the rows of a tree are always a valid instance.
     pub fn snapshot(&self, shape: HostShape) -> Result<Snapshot, TreeFault>
         ensures rows { IfOk result (λ s. s.instance ≡ instance_of self.now shape) }
         ensures valid { IsInstance (instance_of self.now shape) }
         ensures ids { IfOk result (λ s. s.ids.items ≡ keys_of self.now.groups) }
         ensures quotas { IfOk result (λ s. s.quotas.items ≡ base_of self.now.groups shape) }
-        ensures count { IfOk result (λ s. (length s.ids.items ≡ length s.instance.rows) × (length s.quotas.items ≡ length s.instance.rows)) }
+        ensures count { IfOk result (λ s. (length s.ids.items ≡ length s.instance.rows)
+            × (length s.quotas.items ≡ length s.instance.rows)) }
         ensures distinct { IfOk result (λ s. IsDistinct nat_eq s.ids.items) }
         ensures err { IfErr result (λ e. e ≡ TreeFault.OutOfMemory) }
     {
@@ -69,7 +70,7 @@ impl Tree {
             .collect(*self.groups.allocator())
     }
 
-    // A row for each group, and the quota of each in whole slices. Each quota is turned into slices once.
+    // Row and quota in whole slices of each group. Each quota is divided once.
     fn rows(&self, ids: &[GroupId], shape: HostShape) -> Result<Rows, AllocError>
         requires { ids.now ≡ keys_of self.now.groups }
         ensures rows { IfOk result (λ r. r.0.items ≡ rows_of self.now.groups shape) }
@@ -87,7 +88,7 @@ impl Tree {
         Ok((rows, base))
     }
 
-    // The row of a group with this quota in whole slices.
+    // Row of a group with this quota in whole slices.
     fn row_of(&self, group: &Group, quota: Option<u64>, ids: &[GroupId], shape: HostShape) -> Row
         requires sound { IsSound group.now }
         requires quota { quota ≡ quota_slices shape group.now }
@@ -107,7 +108,8 @@ impl Tree {
         }
     }
 
-    // The row number of a group. Its id is that number where no group before it was removed, and only else is it looked up.
+    // Row number of a group. Looked up only if a group before it was removed; otherwise the number
+    // is the id.
     fn place_of(&self, ids: &[GroupId], id: GroupId) -> Option<u32>
         requires { ids.now ≡ keys_of self.now.groups }
         ensures { result ≡ row_above self.now.groups (Some id) }

@@ -4,4 +4,5 @@ use Rattle.bw_tree.specs.Snapshot.{carried, left_over}
 use Rattle.bw_tree.proofs.carry.write_carries.Given as goal
 
 abbrev pub invariant-loop-i : goal.invariant-loop-i
-invariant-loop-i l = l.groups.entries ≡ carried l.initial.groups.entries (take l.i (left_over l.rows l.drawn))
+invariant-loop-i l =
+    l.groups.entries ≡ carried l.initial.groups.entries (take l.i (left_over l.rows l.drawn))

@@ -8,5 +8,7 @@ use Rattle.bw_tree.proofs.carry.write_carry.Goals as goal
 
 pub returns : goal.returns
 returns c =
-    ap (λ (g : GroupFields). set_value_at c.args.groups.now.entries c.args.place (set_carry c.args.carry g)) c.group.view_is
-    ∙ written_at c.args.groups.now.entries c.args.place c.args.carry c.index_mut-group.result.now c.index_mut-group.ensures.value
+    ap (λ (g : GroupFields). set_value_at c.args.groups.now.entries c.args.place
+    (set_carry c.args.carry g)) c.group.view_is
+    ∙ written_at c.args.groups.now.entries c.args.place c.args.carry c.index_mut-group.result.now
+    c.index_mut-group.ensures.value

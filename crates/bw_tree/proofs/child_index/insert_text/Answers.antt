@@ -9,5 +9,7 @@ use Rattle.bw_tree.proofs.child_index.insert_text.Goals as goal
 pub returns-clause-added : goal.returns-clause-added
 returns-clause-added c =
     let name = c.in_ok-from_str.field-0 in
-    let texts = btree_map_updates_text (string_bytes name) c.args.children.now c.insert.new.self (Some c.args.id) c.in_ok-insert.ensures.updates in
-    λ n. texts n ∙ ap (λ k. cond (bytes_eq k n) (Some c.args.id) (get_by_text c.args.children.now n)) c.in_ok-from_str.ensures.ok
+    let texts = btree_map_updates_text (string_bytes name) c.args.children.now c.insert.new.self
+    (Some c.args.id) c.in_ok-insert.ensures.updates in
+    λ n. texts n ∙ ap (λ k. cond (bytes_eq k n) (Some c.args.id)
+    (get_by_text c.args.children.now n)) c.in_ok-from_str.ensures.ok

@@ -7,6 +7,11 @@ use Rattle.bw_tree.proofs.tree.Tree.carry_over.Goals as goal
 
 pub invariant_of-self : goal.invariant_of-self
 invariant_of-self c =
-    let t : TreeState = record { groups = c.self.inside.groups.entries; next = c.self.inside.next_id } in
-    subst (λ es. IsIndexedTree (record { groups = es; next = c.self.inside.next_id }) c.self.inside.children) (sym c.write_carries.ensures)
-    (record { tree = carried_IsTree t _ c.self.invariant.tree; index = index_carried t.groups _ c.self.inside.children c.self.invariant.index })
+    let t : TreeState =
+    record { groups = c.self.inside.groups.entries; next = c.self.inside.next_id } in
+    subst (λ es. IsIndexedTree (record { groups = es; next = c.self.inside.next_id })
+    c.self.inside.children) (sym c.write_carries.ensures)
+    (record {
+      tree = carried_IsTree t _ c.self.invariant.tree;
+      index = index_carried t.groups _ c.self.inside.children c.self.invariant.index;
+    })

@@ -8,8 +8,10 @@ use Rattle.bw_tree.proofs.tree.Tree.copy.Goals as goal
 
 pub index_of-requires : goal.index_of-requires
 index_of-requires c =
-    let t : TreeState = record { groups = c.self.inside.groups.entries; next = c.self.inside.next_id } in
-    let same = same_entries c.self.inside.groups.entries c.in_ok-groups.groups.entries c.in_ok-groups.ensures.cases in
+    let t : TreeState =
+    record { groups = c.self.inside.groups.entries; next = c.self.inside.next_id } in
+    let same = same_entries c.self.inside.groups.entries c.in_ok-groups.groups.entries
+    c.in_ok-groups.ensures.cases in
     record {
       named = subst (λ es. AreNamed es es) (sym same) (tree_named t c.self.invariant.tree);
       few = subst (λ es. length es ≤ MAX_GROUPS) (sym same) c.self.invariant.tree.count;
@@ -17,13 +19,16 @@ index_of-requires c =
 
 pub invariant_of-result : goal.invariant_of-result
 invariant_of-result c =
-    let same = same_entries c.self.inside.groups.entries c.in_ok-groups.groups.entries c.in_ok-groups.ensures.cases in
+    let same = same_entries c.self.inside.groups.entries c.in_ok-groups.groups.entries
+    c.in_ok-groups.ensures.cases in
     record {
-      tree = subst (λ es. IsTree (record { groups = es; next = c.self.inside.next_id })) (sym same) c.self.invariant.tree;
+      tree = subst (λ es. IsTree (record { groups = es; next = c.self.inside.next_id })) (sym same)
+          c.self.invariant.tree;
       index = c.in_ok-children.ensures;
     }
 
 pub returns-clause-made : goal.returns-clause-made
 returns-clause-made c =
-    let same = same_entries c.self.inside.groups.entries c.in_ok-groups.groups.entries c.in_ok-groups.ensures.cases in
+    let same = same_entries c.self.inside.groups.entries c.in_ok-groups.groups.entries
+    c.in_ok-groups.ensures.cases in
     ap (λ es. record { groups = es; next = c.self.inside.next_id }) same ∙ c.self.view_is

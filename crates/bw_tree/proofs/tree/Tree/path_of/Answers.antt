@@ -8,5 +8,7 @@ use Rattle.bw_tree.proofs.tree.Tree.path_of.Goals as goal
 
 pub returns-clause-found : goal.returns-clause-found
 returns-clause-found c =
-    let is : path_at c.args.self.now.groups c.args.id ≡ Some (string_bytes c.push_path.new.path) = search rules in
-    path_leads c.args.self.now (subst IsTree c.self.view_is c.self.invariant.tree) (string_bytes c.push_path.new.path) c.args.id is
+    let is : path_at c.args.self.now.groups c.args.id ≡ Some (string_bytes c.push_path.new.path) =
+    search rules in
+    path_leads c.args.self.now (subst IsTree c.self.view_is c.self.invariant.tree)
+    (string_bytes c.push_path.new.path) c.args.id is

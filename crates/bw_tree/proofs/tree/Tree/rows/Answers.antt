@@ -7,10 +7,13 @@ use Rattle.bw_tree.proofs.tree.Tree.rows.Goals as goal
 
 pub loop-group-init : goal.loop-group-init
 loop-group-init c =
-    let items = c.into_iter-group-iterator.ensures.into_iter_gives ∙ c.values-group-items.ensures.rest in (
+    let items = c.into_iter-group-iterator.ensures.into_iter_gives
+    ∙ c.values-group-items.ensures.rest in (
       tt,
       tt,
-      subst (AllByRecursion IsSound) (sym items) (all_sound c.self.inside.groups.entries c.self.invariant.tree.rising c.self.invariant.tree.sound),
+      subst (AllByRecursion IsSound) (sym items)
+          (all_sound c.self.inside.groups.entries c.self.invariant.tree.rising
+          c.self.invariant.tree.sound),
       search rules,
       search rules,
     )

@@ -9,9 +9,17 @@ use Rattle.bw_tree.proofs.tree.Tree.set.Goals as goal
 
 pub invariant_of-self : goal.invariant_of-self
 invariant_of-self c =
-    let t : TreeState = record { groups = c.self.inside.groups.entries; next = c.self.inside.next_id } in
+    let t : TreeState =
+    record { groups = c.self.inside.groups.entries; next = c.self.inside.next_id } in
     let s = c.args.setting in
-    let can = can_set t c.args.id (subst (λ s. setting_refusal s c.args.id ≡ None) (sym c.self.view_is) (sym c.in_default.ensures)) in
-    let kept = index_set (changed_by s) t.groups c.args.id c.self.inside.children (same_parent_by s) (same_name_by s) c.self.invariant.index in
-    subst (λ es. IsIndexedTree (record { groups = es; next = c.self.inside.next_id }) c.self.inside.children) (sym c.write_setting.ensures)
-    (record { tree = setting_IsTree t c.args.id c.self.invariant.tree s can c.requires; index = kept })
+    let can = can_set t c.args.id
+    (subst (λ s. setting_refusal s c.args.id ≡ None) (sym c.self.view_is)
+    (sym c.in_default.ensures)) in
+    let kept = index_set (changed_by s) t.groups c.args.id c.self.inside.children (same_parent_by s)
+    (same_name_by s) c.self.invariant.index in
+    subst (λ es. IsIndexedTree (record { groups = es; next = c.self.inside.next_id })
+    c.self.inside.children) (sym c.write_setting.ensures)
+    (record {
+      tree = setting_IsTree t c.args.id c.self.invariant.tree s can c.requires;
+      index = kept;
+    })
