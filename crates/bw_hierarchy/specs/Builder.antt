@@ -1,5 +1,6 @@
 -- What a builder does: one single call after another.
-use Rattle.std.specs.Prelude.{ℕ, ◌==◌, List, [], ◌∷◌, ◌++◌, codes, Option, Some, None, Result, Ok, ℤ}
+use Rattle.std.specs.Prelude.{ℕ, ◌==◌, List, [], ◌∷◌, ◌++◌, codes, Option, Some, None, Result, Ok}
+use Rattle.std.specs.Prelude.{ℤ}
 use Rattle.std.specs.List.{slice_split}
 use Rattle.bw_tree.specs.Groups.{TreeState, find_path}
 use Rattle.bw_hierarchy.specs.declared.fault.Fault.{Fault}
@@ -8,7 +9,8 @@ use Rattle.bw_hierarchy.specs.Calls.{and_then, mkdir_of, set_shares_of, set_cfs_
 -- the names up to each `/`, and the whole path, shortest first
 abbrev pub prefixes_from : List ℕ → List (List ℕ) → List (List ℕ)
 prefixes_from before [] = []
-prefixes_from before (name ∷ names) = (before ++ name) ∷ prefixes_from ((before ++ name) ++ codes "/") names
+prefixes_from before (name ∷ names) =
+    (before ++ name) ∷ prefixes_from ((before ++ name) ++ codes "/") names
 
 -- the same of a path
 abbrev pub prefixes : List ℕ → List (List ℕ)
@@ -22,7 +24,8 @@ found_or_made t path None = mkdir_of t path
 -- each missing group from the top down
 abbrev pub ensured : TreeState → ℕ → List (List ℕ) → Result (ℕ × TreeState) Fault
 ensured t id [] = Ok (id, t)
-ensured t id (path ∷ paths) = and_then (found_or_made t path (find_path t.groups path)) (λ r. ensured r.1 r.0 paths)
+ensured t id (path ∷ paths) =
+    and_then (found_or_made t path (find_path t.groups path)) (λ r. ensured r.1 r.0 paths)
 
 -- the weight, where shares are given
 abbrev pub shares_step : TreeState → ℕ → Option ℕ → Result TreeState Fault
@@ -35,8 +38,11 @@ cfs_step t id None None = Ok t
 cfs_step t id (Some quota) period = set_cfs_of t id (Some quota) period
 cfs_step t id None (Some period) = set_cfs_of t id None (Some period)
 
--- the groups, then the shares where they are given, then the quota and the period where one is given
-abbrev pub built : TreeState → List ℕ → Option ℕ → Option ℤ → Option ℕ → Result (ℕ × TreeState) Fault
+-- the groups, then the shares where they are given, then the quota and the period where one is
+-- given
+abbrev pub built : TreeState → List ℕ → Option ℕ → Option ℤ → Option ℕ
+    → Result (ℕ × TreeState) Fault
 built t path shares quota period =
     and_then (ensured t 0 (prefixes path))
-    (λ r. and_then (shares_step r.1 r.0 shares) (λ t. and_then (cfs_step t r.0 quota period) (λ t. Ok (r.0, t))))
+    (λ r. and_then (shares_step r.1 r.0 shares)
+    (λ t. and_then (cfs_step t r.0 quota period) (λ t. Ok (r.0, t))))

@@ -1,5 +1,6 @@
 -- What each call does to a tree, or its first refusal.
-use Rattle.std.specs.Prelude.{ℕ, nat_lt, Bool, false, zero, suc, ◌==◌, if◌then◌else◌, List, Option, Some, None, Result, Ok, Err, ℤ, pos, negsuc}
+use Rattle.std.specs.Prelude.{ℕ, nat_lt, Bool, false, zero, suc, ◌==◌, if◌then◌else◌, List, Option}
+use Rattle.std.specs.Prelude.{Some, None, Result, Ok, Err, ℤ, pos, negsuc}
 use Rattle.std.specs.Path.{rsplit_once}
 use Rattle.bw_model.specs.declared.quota.Quota.{Quota}
 use Rattle.bw_model.specs.declared.quota.Quota.TheVariants.{Max, Micros}
@@ -38,9 +39,12 @@ abbrev pub found_at : TreeState → List ℕ → Result ℕ Fault
 found_at t path = found (find_path t.groups path)
 
 -- a path splits at its last `/`; where it has none, the parent is the root
-abbrev pub mkdir_split : TreeState → Option (List ℕ × List ℕ) → List ℕ → Result (ℕ × TreeState) Fault
+abbrev pub mkdir_split : TreeState → Option (List ℕ × List ℕ) → List ℕ
+    → Result (ℕ × TreeState) Fault
 mkdir_split t None path = unless (mkdir_refusal t 0 path) (t.next, with_group t 0 path)
-mkdir_split t (Some parts) path = and_then (found_at t parts.0) (λ parent. unless (mkdir_refusal t parent parts.1) (t.next, with_group t parent parts.1))
+mkdir_split t (Some parts) path =
+    and_then (found_at t parts.0)
+    (λ parent. unless (mkdir_refusal t parent parts.1) (t.next, with_group t parent parts.1))
 
 -- the id of the new group, and the tree with it
 abbrev pub mkdir_of : TreeState → List ℕ → Result (ℕ × TreeState) Fault
@@ -62,7 +66,8 @@ value_at f t id = and_then (setting t id) (λ g. Ok (f g))
 -- one group's weight, by its id
 abbrev pub set_shares_of : TreeState → ℕ → ℕ → Result TreeState Fault
 set_shares_of t id n =
-    and_then (setting t id) (λ g. and_then (from_file (weight_in n)) (λ w. Ok (with_setting (set_weight w) t id)))
+    and_then (setting t id)
+    (λ g. and_then (from_file (weight_in n)) (λ w. Ok (with_setting (set_weight w) t id)))
 
 -- a quota of -1 is no limit, and other numbers below 1000 are too small
 abbrev pub quota_of_int : ℤ → Result Quota FileFault
@@ -81,9 +86,9 @@ quota_given None old = Ok old
 quota_given (Some quota) old = quota_of_int quota
 
 -- the period that is asked for, where one is
-abbrev pub period_given : Option ℕ → Result (Option ℕ) FileFault
-period_given None = Ok None
-period_given (Some n) = period_in n >>= λ p. Ok (Some p)
+abbrev pub checked_period : Option ℕ → Result (Option ℕ) FileFault
+checked_period None = Ok None
+checked_period (Some n) = period_in n >>= λ p. Ok (Some p)
 
 -- whether a burst is above a limit, both in microseconds as they are written
 abbrev pub is_above : ℕ → Quota → Bool
@@ -106,11 +111,12 @@ burst_at (Some g) = g.burst
 
 -- a limit, and a period where there is one, that the group's burst fits
 abbrev pub max_set : TreeState → ℕ → Quota → Option ℕ → Result TreeState Fault
-max_set t id quota period = fitting (burst_at (group_at t.groups id)) quota (with_setting (set_max quota period) t id)
+max_set t id quota period =
+    fitting (burst_at (group_at t.groups id)) quota (with_setting (set_max quota period) t id)
 
 -- one group's quota and period, by its id; a value that is left out stays
 abbrev pub set_cfs_of : TreeState → ℕ → Option ℤ → Option ℕ → Result TreeState Fault
 set_cfs_of t id quota period =
     and_then (setting t id)
     (λ g. and_then (from_file (quota_given quota g.quota))
-    (λ q. and_then (from_file (period_given period)) (max_set t id q)))
+    (λ q. and_then (from_file (checked_period period)) (max_set t id q)))

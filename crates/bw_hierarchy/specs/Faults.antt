@@ -4,7 +4,8 @@ use Rattle.bw_tree.specs.declared.fault.TreeFault.TheVariants.{OutOfMemory}
 use Rattle.bw_tree.specs.Faults.{tree_fault_number, tree_fault_name}
 use Rattle.bw_files.specs.Faults.{file_fault_number, file_fault_name}
 use Rattle.bw_hierarchy.specs.declared.fault.Fault.{Fault}
-use Rattle.bw_hierarchy.specs.declared.fault.Fault.TheVariants.{Tree, File, NoSuchFile, ReadOnly, BurstAboveQuota}
+use Rattle.bw_hierarchy.specs.declared.fault.Fault.TheVariants.{Tree, File, NoSuchFile, ReadOnly}
+use Rattle.bw_hierarchy.specs.declared.fault.Fault.TheVariants.{BurstAboveQuota}
 
 -- the number that is printed
 abbrev pub hierarchy_fault_number : Fault → ℕ

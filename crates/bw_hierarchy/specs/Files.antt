@@ -1,5 +1,6 @@
 -- The files of a group.
-use Rattle.std.specs.Prelude.{ℕ, ◌==◌, ◌&&◌, not, if◌then◌else◌, List, map, Option, Some, None, Result, Ok, Err}
+use Rattle.std.specs.Prelude.{ℕ, ◌==◌, ◌&&◌, not, if◌then◌else◌, List, map, Option, Some, None}
+use Rattle.std.specs.Prelude.{Result, Ok, Err}
 use Rattle.bw_text.specs.Words.{words}
 use Rattle.bw_model.specs.declared.stat.Stat.{Stat as Counters}
 use Rattle.bw_tree.specs.Groups.{GroupFields, TreeState, group_at, has_group}
@@ -15,7 +16,8 @@ use Rattle.bw_hierarchy.specs.Calls.{from_file, and_then, found_at, quota_at, fi
 use Rattle.bw_hierarchy.specs.State.{HierarchyState}
 use Rattle.bw_hierarchy.specs.GroupFiles.{file_named, is_of_root}
 use Rattle.bw_hierarchy.specs.declared.group_file.GroupFile.{GroupFile}
-use Rattle.bw_hierarchy.specs.declared.group_file.GroupFile.TheVariants.{Weight, Max, MaxBurst, Stat}
+use Rattle.bw_hierarchy.specs.declared.group_file.GroupFile.TheVariants.{Weight, Max, MaxBurst}
+use Rattle.bw_hierarchy.specs.declared.group_file.GroupFile.TheVariants.{Stat}
 
 -- the file of a group with a name; the root has its counters alone
 abbrev pub file_of : ℕ → Option GroupFile → Result GroupFile Fault
@@ -32,26 +34,32 @@ shown books id g Stat = stat_text (or_zeros (stat_at books id)) (id == 0)
 -- the text of the file of a group with a name
 abbrev pub text_of : List (ℕ × Counters) → ℕ → List ℕ → Option GroupFields → Result (List ℕ) Fault
 text_of books id name None = Err (Tree NotFound)
-text_of books id name (Some g) = and_then (file_of id (file_named name)) (λ file. Ok (shown books id g file))
+text_of books id name (Some g) =
+    and_then (file_of id (file_named name)) (λ file. Ok (shown books id g file))
 
 -- the text of a file of the group at a path
 abbrev pub read_of : HierarchyState → List ℕ → List ℕ → Result (List ℕ) Fault
-read_of h path file = and_then (found_at h.tree path) (λ id. text_of h.books id file (group_at h.tree.groups id))
+read_of h path file =
+    and_then (found_at h.tree path) (λ id. text_of h.books id file (group_at h.tree.groups id))
 
 -- a text of `cpu.weight` sets the weight alone
 abbrev pub weight_write : TreeState → ℕ → List ℕ → Result TreeState Fault
-weight_write t id text = and_then (from_file (weight_of (words text))) (λ w. Ok (with_setting (set_weight w) t id))
+weight_write t id text =
+    and_then (from_file (weight_of (words text))) (λ w. Ok (with_setting (set_weight w) t id))
 
 -- a text of `cpu.max` sets the limit, and the period where it has one
 abbrev pub max_write : TreeState → ℕ → List ℕ → Result TreeState Fault
-max_write t id text = and_then (from_file (max_of (words text))) (λ (m : MaxWrite). max_set t id m.quota m.period)
+max_write t id text =
+    and_then (from_file (max_of (words text))) (λ (m : MaxWrite). max_set t id m.quota m.period)
 
 -- a text of `cpu.max.burst` sets the burst alone
 abbrev pub burst_write : TreeState → ℕ → List ℕ → Result TreeState Fault
 burst_write t id text =
-    and_then (from_file (burst_of (words text))) (λ n. fitting n (quota_at (group_at t.groups id)) (with_setting (set_burst n) t id))
+    and_then (from_file (burst_of (words text)))
+    (λ n. fitting n (quota_at (group_at t.groups id)) (with_setting (set_burst n) t id))
 
--- what no file of a group sets: its place, its demand, and what it left over in the last booked period
+-- what no file of a group sets: its place, its demand, and what it left over in the last booked
+-- period
 pub record Unwritten : Type 0 where
   pub parent : Option ℕ
   pub name : List ℕ
@@ -75,7 +83,8 @@ file_write t id text Stat = Err ReadOnly
 
 -- the same by the name of the file
 abbrev pub write_at : TreeState → ℕ → List ℕ → List ℕ → Result TreeState Fault
-write_at t id name text = if not (has_group t.groups id) then Err (Tree NotFound) else and_then (file_of id (file_named name)) (file_write t id text)
+write_at t id name text = if not (has_group t.groups id) then Err (Tree NotFound)
+    else and_then (file_of id (file_named name)) (file_write t id text)
 
 -- the same by the path of the group
 abbrev pub write_of : TreeState → List ℕ → List ℕ → List ℕ → Result TreeState Fault

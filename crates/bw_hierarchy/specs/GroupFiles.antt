@@ -2,7 +2,8 @@
 use Rattle.std.specs.Prelude.{ℕ, Bool, true, false, List, codes, Option, Some, None, if◌then◌else◌}
 use Rattle.std.specs.Str.{bytes_eq}
 use Rattle.bw_hierarchy.specs.declared.group_file.GroupFile.{GroupFile}
-use Rattle.bw_hierarchy.specs.declared.group_file.GroupFile.TheVariants.{Weight, Max, MaxBurst, Stat}
+use Rattle.bw_hierarchy.specs.declared.group_file.GroupFile.TheVariants.{Weight, Max, MaxBurst}
+use Rattle.bw_hierarchy.specs.declared.group_file.GroupFile.TheVariants.{Stat}
 
 -- the name of a file
 abbrev pub file_name : GroupFile → List ℕ

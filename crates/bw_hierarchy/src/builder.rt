@@ -1,8 +1,9 @@
-//! A group that is made with its settings at once.
+//! Builder: makes a group with its settings in one call.
 ghost use Rattle.std.specs.Prelude.{◌≡◌, OnOk, OnErr, IfOk, IfErr, Ok, Err, Some, None};
 ghost use Rattle.bw_tree.specs.Groups.{find_path};
 ghost use Rattle.bw_hierarchy.specs.Faults.{IsRefusal};
-ghost use Rattle.bw_hierarchy.specs.Builder.{prefixes, found_or_made, ensured, shares_step, cfs_step, built};
+ghost use Rattle.bw_hierarchy.specs.Builder.{prefixes, found_or_made, ensured, shares_step};
+ghost use Rattle.bw_hierarchy.specs.Builder.{cfs_step, built};
 ghost use Rattle.bw_hierarchy.specs.State.{with_tree};
 
 use crate::cgroup::Cgroup;
@@ -12,28 +13,28 @@ use crate::{by_path, settings};
 use bw_tree::{GroupId, Tree, split_front};
 use std::alloc::Global;
 
-/// A group to be made at a path, with the settings that are given.
+/// Builder of a group at a path. A setting that is `None` is not set.
 #[derive(Clone, Copy, Debug)]
 pub struct CgroupBuilder<'a> {
-    /// The names from the root down, joined by `/`.
+    /// Names from the root down, joined by `/`.
     pub path: &'a str,
-    /// The weight, 1 to 10000.
+    /// Weight, 1 to 10000.
     pub shares: Option<u64>,
-    /// The quota in microseconds, 1000 to 10^15, or -1 for no limit.
+    /// Quota in microseconds, 1000 to 10^15, or -1 for no limit.
     pub quota: Option<i64>,
-    /// The length of its own period in microseconds, 1000 to 1000000.
+    /// Length of its own period in microseconds, 1000 to 1000000.
     pub period: Option<u64>,
 }
 
-/// The processor settings of a group to be made.
+/// Processor settings of a builder.
 #[derive(Clone, Copy, Debug)]
 pub struct CpuResources<'a> {
-    /// The group, with what was given so far.
+    /// Builder with the settings so far.
     pub builder: CgroupBuilder<'a>,
 }
 
 impl<'a> CgroupBuilder<'a> {
-    /// A builder with no settings.
+    /// Makes a builder without settings.
     pub fn new(path: &'a str) -> CgroupBuilder<'a>
         ensures path { result.path.now ≡ path.now }
         ensures shares { result.shares ≡ None }
@@ -48,23 +49,29 @@ impl<'a> CgroupBuilder<'a> {
         }
     }
 
-    /// Goes on to the processor settings.
+    /// Begins the processor settings.
     pub fn cpu(self) -> CpuResources<'a>
         ensures { result.builder ≡ self.entry }
     {
         CpuResources { builder: self }
     }
 
-    /// Makes each missing group of the path from the top down, then sets the shares where they are given,
-    /// then the quota and the period where one is given.
+    /// Makes each missing group of the path from the top down, and then sets what is given.
     ///
-    /// Where one of these single calls is refused, the first refusal is answered and nothing is changed. The tree is copied
-    /// before the first of them, so `OutOfMemory` may stand in place of any other refusal.
+    /// The shares are set first, then the quota and the period in one call.
+    ///
+    /// # Errors
+    ///
+    /// The first fault of one of these calls. The hierarchy is then unchanged.
+    /// [`TreeFault::OutOfMemory`] can replace any other fault, because the tree is copied first.
     pub fn build(self, hierarchy: &mut Hierarchy) -> Result<Cgroup, Fault>
         ensures made { IfOk result
-            (λ g. built hierarchy.old.tree self.entry.path.now self.entry.shares self.entry.quota self.entry.period ≡ Ok (g.id, hierarchy.new.tree)) }
+            (λ g. built hierarchy.old.tree self.entry.path.now self.entry.shares self.entry.quota
+            self.entry.period ≡ Ok (g.id, hierarchy.new.tree)) }
         ensures rest { hierarchy.new ≡ with_tree hierarchy.old hierarchy.new.tree }
-        ensures refused { IfErr result (IsRefusal (built hierarchy.old.tree self.entry.path.now self.entry.shares self.entry.quota self.entry.period)) }
+        ensures refused { IfErr result
+            (IsRefusal (built hierarchy.old.tree self.entry.path.now self.entry.shares
+            self.entry.quota self.entry.period)) }
         ensures err { OnErr result (hierarchy.new ≡ hierarchy.old) }
     {
         let id = hierarchy.build(self.path, self.shares, self.quota, self.period)?;
@@ -73,7 +80,7 @@ impl<'a> CgroupBuilder<'a> {
 }
 
 impl<'a> CpuResources<'a> {
-    /// The weight, 1 to 10000.
+    /// Sets the weight, 1 to 10000.
     pub fn shares(self, shares: u64) -> CpuResources<'a>
         ensures { result.builder ≡ record self.entry.builder { shares = Some shares } }
     {
@@ -85,7 +92,7 @@ impl<'a> CpuResources<'a> {
         }
     }
 
-    /// The quota in microseconds, -1 for no limit.
+    /// Sets the quota in microseconds, 1000 to 10^15, or -1 for no limit.
     pub fn quota(self, quota: i64) -> CpuResources<'a>
         ensures { result.builder ≡ record self.entry.builder { quota = Some quota } }
     {
@@ -97,7 +104,7 @@ impl<'a> CpuResources<'a> {
         }
     }
 
-    /// The length of its own period in microseconds, 1000 to 1000000.
+    /// Sets the length of its own period in microseconds, 1000 to 1000000.
     pub fn period(self, period: u64) -> CpuResources<'a>
         ensures { result.builder ≡ record self.entry.builder { period = Some period } }
     {
@@ -109,7 +116,7 @@ impl<'a> CpuResources<'a> {
         }
     }
 
-    /// Goes back to the group.
+    /// Ends the processor settings.
     pub fn done(self) -> CgroupBuilder<'a>
         ensures { result ≡ self.entry.builder }
     {
@@ -117,10 +124,12 @@ impl<'a> CpuResources<'a> {
     }
 }
 
-// The group at a path, which is made where it is missing.
+// Finds the group at a path, or makes it.
 fn find_or_make(tree: &mut Tree, path: &str) -> Result<GroupId, Fault>
-    ensures made { IfOk result (λ id. found_or_made tree.old path.now (find_path tree.old.groups path.now) ≡ Ok (id, tree.new)) }
-    ensures refused { IfErr result (IsRefusal (found_or_made tree.old path.now (find_path tree.old.groups path.now))) }
+    ensures made { IfOk result (λ id.
+        found_or_made tree.old path.now (find_path tree.old.groups path.now) ≡ Ok (id, tree.new)) }
+    ensures refused { IfErr result
+        (IsRefusal (found_or_made tree.old path.now (find_path tree.old.groups path.now))) }
 {
     match tree.find(path) {
         Ok(id) => Ok(id),
@@ -128,7 +137,7 @@ fn find_or_make(tree: &mut Tree, path: &str) -> Result<GroupId, Fault>
     }
 }
 
-// Each missing group of a path from the top down.
+// Makes each missing group of a path from the top down, and returns the last one.
 fn ensure(tree: &mut Tree, alloc: Global, path: &str) -> Result<GroupId, Fault>
     ensures made { IfOk result (λ id. ensured tree.old 0 (prefixes path.now) ≡ Ok (id, tree.new)) }
     ensures refused { IfErr result (IsRefusal (ensured tree.old 0 (prefixes path.now))) }
@@ -145,7 +154,7 @@ fn ensure(tree: &mut Tree, alloc: Global, path: &str) -> Result<GroupId, Fault>
     find_or_make(tree, prefix.as_str())
 }
 
-// The shares, where they are given.
+// Sets the shares, if they are given.
 fn set_shares(tree: &mut Tree, id: GroupId, shares: Option<u64>) -> Result<(), Fault>
     ensures set { OnOk result (shares_step tree.old id shares ≡ Ok tree.new) }
     ensures refused { IfErr result (λ e. shares_step tree.old id shares ≡ Err e) }
@@ -156,7 +165,7 @@ fn set_shares(tree: &mut Tree, id: GroupId, shares: Option<u64>) -> Result<(), F
     }
 }
 
-// The quota and the period, where one is given.
+// Sets the quota and the period, if one is given.
 fn set_cfs(
     tree: &mut Tree,
     id: GroupId,
@@ -175,7 +184,7 @@ fn set_cfs(
     }
 }
 
-/// All that a builder does to a tree. After a refusal the tree is of no use.
+// Builds in a copy of the tree. After a refusal the copy may be half changed.
 pub(crate) fn build_tree(
     tree: &mut Tree,
     alloc: Global,
@@ -184,7 +193,8 @@ pub(crate) fn build_tree(
     quota: Option<i64>,
     period: Option<u64>,
 ) -> Result<GroupId, Fault>
-    ensures made { IfOk result (λ id. built tree.old path.now shares quota period ≡ Ok (id, tree.new)) }
+    ensures made { IfOk result
+        (λ id. built tree.old path.now shares quota period ≡ Ok (id, tree.new)) }
     ensures refused { IfErr result (IsRefusal (built tree.old path.now shares quota period)) }
 {
     let id = ensure(tree, alloc, path)?;

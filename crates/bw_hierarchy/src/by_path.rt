@@ -1,4 +1,4 @@
-//! Groups by their paths.
+//! Finds and makes groups by their paths.
 ghost use Rattle.std.specs.Prelude.{◌≡◌, OnErr, IfOk, IfErr, Ok};
 ghost use Rattle.std.specs.Option.{option_map};
 ghost use Rattle.std.specs.Path.{rsplit_once};
@@ -14,14 +14,14 @@ pub(crate) fn find(tree: &Tree, path: &str) -> Result<GroupId, Fault>
     Ok(tree.find(path)?)
 }
 
-// The path of the parent and the name.
+// Splits a path into the parent's path and the name; `None` if it has no `/`.
 fn split_last(path: &str) -> Option<(&str, &str)>
     ensures { option_map (λ x. (x.0.now, x.1.now)) result ≡ rsplit_once 47 path.now }
 {
     path.rsplit_once('/')
 }
 
-/// Makes a group at a path.
+// Makes a group at a path. Its parent is the root if the path has no `/`.
 pub(crate) fn mkdir(tree: &mut Tree, path: &str) -> Result<GroupId, Fault>
     ensures made { IfOk result (λ id. mkdir_of tree.old path.now ≡ Ok (id, tree.new)) }
     ensures refused { IfErr result (IsRefusal (mkdir_of tree.old path.now)) }

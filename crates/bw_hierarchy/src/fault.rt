@@ -1,4 +1,4 @@
-//! Why a call is refused.
+//! Faults of calls on a hierarchy.
 ghost use Rattle.std.specs.Prelude.{◌≡◌};
 ghost use Rattle.bw_hierarchy.specs.Faults.{hierarchy_fault_number, hierarchy_fault_name};
 
@@ -7,19 +7,21 @@ use bw_tree::TreeFault;
 use std::alloc::AllocError;
 use thiserror::Error;
 
-/// Why a call is refused. A refused call changes nothing. Out of memory is the tree's `OutOfMemory`.
+/// Fault of a call on a hierarchy. A refused call changes nothing.
+///
+/// A failed allocation is [`TreeFault::OutOfMemory`].
 #[derive(Clone, Copy, Debug, PartialEq, Eq, Error)]
 pub enum Fault {
-    /// The tree refuses the call, or it is out of memory.
+    /// Fault of the tree, or a failed allocation.
     #[error("{0}")]
     Tree(TreeFault),
-    /// The text or the number is none of the file.
+    /// Fault of a text or a number for a file.
     #[error("{0}")]
     File(FileFault),
     /// 30: the group has no such file.
     #[error("NoSuchFile")]
     NoSuchFile,
-    /// 31: the file is not written.
+    /// 31: the file cannot be written.
     #[error("ReadOnly")]
     ReadOnly,
     /// 33: the burst is above the quota.
@@ -62,7 +64,7 @@ impl From<AllocError> for Fault {
 }
 
 impl Fault {
-    /// The number that is printed.
+    /// Number of the fault: 30, 31, 33, or that of the tree's or the file's fault.
     pub fn number(self) -> u8
         ensures { result ≡ hierarchy_fault_number self }
     {
@@ -75,7 +77,7 @@ impl Fault {
         }
     }
 
-    /// The name that is printed.
+    /// Name of the fault, the variant's.
     pub fn name(self) -> &'static str
         ensures { result.now ≡ hierarchy_fault_name self }
     {

@@ -1,11 +1,13 @@
-//! The files of a group.
-ghost use Rattle.std.specs.Prelude.{◌≡◌, ◌==◌, false, OnOk, OnErr, IfOk, IfErr, Ok, Err, None, string_bytes};
+//! Reads and writes the files of a group.
+ghost use Rattle.std.specs.Prelude.{◌≡◌, ◌==◌, false, OnOk, OnErr, IfOk, IfErr, Ok, Err, None};
+ghost use Rattle.std.specs.Prelude.{string_bytes};
 ghost use Rattle.bw_model.specs.Host.{IsHost};
 ghost use Rattle.bw_tree.specs.Groups.{group_at};
 ghost use Rattle.bw_tree.specs.Tree.{setting_refusal};
 ghost use Rattle.bw_hierarchy.specs.Faults.{IsRefusal, IsMemoryLast};
 ghost use Rattle.bw_hierarchy.specs.GroupFiles.{file_named, is_of_root};
-ghost use Rattle.bw_hierarchy.specs.Files.{file_of, text_of, read_of, weight_write, max_write, burst_write, write_at, write_of};
+ghost use Rattle.bw_hierarchy.specs.Files.{file_of, text_of, read_of, weight_write, max_write};
+ghost use Rattle.bw_hierarchy.specs.Files.{burst_write, write_at, write_of};
 
 use crate::fault::Fault;
 use crate::group_file::{GroupFile, file_named};
@@ -18,7 +20,7 @@ use bw_stat::Books;
 use bw_tree::{GroupId, Tree, TreeFault};
 use std::alloc::Global;
 
-// The file of a group with this name.
+// File of a group with this name.
 fn file_of(id: GroupId, name: &str) -> Result<GroupFile, Fault>
     ensures exact { result ≡ file_of id (file_named name.now) }
     ensures inner { IfOk result (λ file. is_of_root file ≡ false → (id == 0) ≡ false) }
@@ -32,11 +34,14 @@ fn file_of(id: GroupId, name: &str) -> Result<GroupFile, Fault>
     Ok(file)
 }
 
-// The text of a group's file.
+// Text of a group's file.
 fn text(alloc: Global, tree: &Tree, books: &Books, id: GroupId, name: &str) -> Result<String, Fault>
-    ensures found { IfOk result (λ t. text_of books.now id name.now (group_at tree.now.groups id) ≡ Ok (string_bytes t)) }
-    ensures refused { IfErr result (IsRefusal (text_of books.now id name.now (group_at tree.now.groups id))) }
-    ensures memory { IfErr result (IsMemoryLast (text_of books.now id name.now (group_at tree.now.groups id))) }
+    ensures found { IfOk result
+        (λ t. text_of books.now id name.now (group_at tree.now.groups id) ≡ Ok (string_bytes t)) }
+    ensures refused { IfErr result
+        (IsRefusal (text_of books.now id name.now (group_at tree.now.groups id))) }
+    ensures memory { IfErr result
+        (IsMemoryLast (text_of books.now id name.now (group_at tree.now.groups id))) }
 {
     let Some(group) = tree.group(id) else {
         return Err(Fault::Tree(TreeFault::NotFound));
@@ -49,7 +54,7 @@ fn text(alloc: Global, tree: &Tree, books: &Books, id: GroupId, name: &str) -> R
     }
 }
 
-/// The text of the file at a path.
+// Text of a file of the group at a path.
 pub(crate) fn read(
     alloc: Global,
     shape: HostShape,
@@ -58,9 +63,15 @@ pub(crate) fn read(
     path: &str,
     file: &str,
 ) -> Result<String, Fault>
-    ensures found { IfOk result (λ t. read_of (record { shape = shape; tree = tree.now; books = books.now }) path.now file.now ≡ Ok (string_bytes t)) }
-    ensures refused { IfErr result (IsRefusal (read_of (record { shape = shape; tree = tree.now; books = books.now }) path.now file.now)) }
-    ensures memory { IfErr result (IsMemoryLast (read_of (record { shape = shape; tree = tree.now; books = books.now }) path.now file.now)) }
+    ensures found { IfOk result
+        (λ t. read_of (record { shape = shape; tree = tree.now; books = books.now })
+        path.now file.now ≡ Ok (string_bytes t)) }
+    ensures refused { IfErr result
+        (IsRefusal (read_of (record { shape = shape; tree = tree.now; books = books.now })
+        path.now file.now)) }
+    ensures memory { IfErr result
+        (IsMemoryLast (read_of (record { shape = shape; tree = tree.now; books = books.now })
+        path.now file.now)) }
 {
     let id = by_path::find(tree, path)?;
     text(alloc, tree, books, id, file)
@@ -112,7 +123,7 @@ fn write_at(tree: &mut Tree, id: GroupId, name: &str, text: &[u8]) -> Result<(),
     }
 }
 
-/// Writes a text into the file at a path.
+// Writes a text into a file of the group at a path.
 pub(crate) fn write(tree: &mut Tree, path: &str, file: &str, text: &[u8]) -> Result<(), Fault>
     ensures set { OnOk result (write_of tree.old path.now file.now text.now ≡ Ok tree.new) }
     ensures refused { IfErr result (λ e. write_of tree.old path.now file.now text.now ≡ Err e) }

@@ -42,9 +42,9 @@ fn look_up(name: &str) -> Option<GroupFile>
     }
 }
 
-/// The file with this name, or none for each other text.
+/// File with this name; `None` for any other text.
 pub fn file_named(name: &str) -> Option<GroupFile>
-    // What is found has this name, and each file is found by its name.
+    // A file is found if and only if the text is its name.
     ensures found { IfSome result (λ file. name.now ≡ file_name file) }
     ensures only { (file : GroupFile) → name.now ≡ file_name file → result ≡ Some file }
     ensures exact { result ≡ file_named name.now }

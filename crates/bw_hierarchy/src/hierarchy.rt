@@ -1,5 +1,6 @@
-//! The hierarchy of groups.
-ghost use Rattle.std.specs.Prelude.{◌≡◌, length, nat_eq, OnOk, OnErr, IfOk, IfErr, Ok, Err, string_bytes};
+//! Hierarchy: a host with its tree of groups and their counters.
+ghost use Rattle.std.specs.Prelude.{◌≡◌, length, nat_eq, OnOk, OnErr, IfOk, IfErr, Ok, Err};
+ghost use Rattle.std.specs.Prelude.{string_bytes};
 ghost use Rattle.std.specs.List.{IsDistinct};
 ghost use Rattle.bw_model.specs.Groups.{IsInstance};
 ghost use Rattle.bw_tree.specs.Snapshot.{instance_of, base_of, IsDrawnWithin};
@@ -8,7 +9,8 @@ ghost use Rattle.bw_hierarchy.specs.Faults.{IsRefusal, IsMemoryLast};
 ghost use Rattle.bw_hierarchy.specs.Calls.{mkdir_of};
 ghost use Rattle.bw_hierarchy.specs.Files.{read_of, write_of};
 ghost use Rattle.bw_hierarchy.specs.Builder.{built};
-ghost use Rattle.bw_hierarchy.specs.State.{with_tree, booked_period, new_hierarchy, rmdir_of, delete_of, demand_set_of};
+ghost use Rattle.bw_hierarchy.specs.State.{with_tree, booked_period, new_hierarchy, rmdir_of};
+ghost use Rattle.bw_hierarchy.specs.State.{delete_of, demand_set_of};
 
 use crate::builder::build_tree;
 use crate::cgroup::Cgroup;
@@ -21,7 +23,7 @@ use bw_tree::{GroupId, Snapshot, Tree, TreeFault};
 use std::alloc::Global;
 use std::marker::Model;
 
-/// A host, its tree of groups, and their counters.
+/// Host, its tree of groups, and their counters.
 #[derive(Debug, Drop)]
 pub struct Hierarchy {
     alloc: Global,
@@ -39,7 +41,11 @@ impl Model for Hierarchy {
 }
 
 impl Hierarchy {
-    /// A hierarchy of the root alone, with no counters. It fails only when out of memory.
+    /// Makes a hierarchy of the root alone, without counters.
+    ///
+    /// # Errors
+    ///
+    /// - [`TreeFault::OutOfMemory`]
     pub fn new(alloc: Global, shape: HostShape) -> Result<Hierarchy, Fault>
         ensures made { IfOk result (λ h. h ≡ new_hierarchy shape) }
         ensures err { IfErr result (λ e. e ≡ Fault.Tree TreeFault.OutOfMemory) }
@@ -53,29 +59,36 @@ impl Hierarchy {
         })
     }
 
-    /// The host.
+    /// Host of the hierarchy.
     pub fn shape(&self) -> HostShape
         ensures { result ≡ self.now.shape }
     {
         self.shape
     }
 
-    /// The tree of groups.
+    /// Tree of groups.
     pub fn tree(&self) -> &Tree
         ensures { result.now ≡ self.now.tree }
     {
         &self.tree
     }
 
-    /// The counters of the groups that were booked and not removed since (cgroup-v2.rst, "CPU Interface Files").
+    /// Counters of the groups that were booked and not removed since (cgroup-v2.rst, "CPU
+    /// Interface Files").
     pub fn books(&self) -> &Books
         ensures { result.now ≡ self.now.books }
     {
         &self.books
     }
 
-    /// Counts one period for each group of the present snapshot, by what the groups wanted and what they drew (sched-bwc.rst, "Statistics"); and notes what each left of its limit. It fails only when
-    /// out of memory, and nothing is then counted or noted.
+    /// Counts one period for each group, and stores each group's carry.
+    ///
+    /// `snapshot` is the present snapshot. `gathered` has the wants and `drawn` the draws of its
+    /// rows, in slices (sched-bwc.rst, "Statistics").
+    ///
+    /// # Errors
+    ///
+    /// - [`TreeFault::OutOfMemory`]
     pub fn book(
         &mut self,
         snapshot: &Snapshot,
@@ -90,7 +103,8 @@ impl Hierarchy {
         requires distinct { IsDistinct nat_eq snapshot.now.ids.items }
         requires within { IsDrawnWithin snapshot.now.instance.rows drawn.now }
         ensures booked { OnOk result
-            (self.new ≡ booked_period self.old snapshot.now.instance.rows snapshot.now.quotas.items gathered.now.want.items drawn.now) }
+            (self.new ≡ booked_period self.old snapshot.now.instance.rows snapshot.now.quotas.items
+            gathered.now.want.items drawn.now) }
         ensures err { IfErr result (λ e. e ≡ Fault.Tree TreeFault.OutOfMemory) }
         ensures kept { OnErr result (self.new ≡ self.old) }
     {
@@ -101,31 +115,44 @@ impl Hierarchy {
         Ok(())
     }
 
-    /// The root, whose settings are fixed.
+    /// Handle of the root, whose settings are fixed.
     pub fn root_control_group(&self) -> Cgroup
         ensures { result.id ≡ 0 }
     {
         Cgroup { id: 0 }
     }
 
-    /// The rows of all groups in order of creation, their ids, and their quotas in whole slices. It fails only when
-    /// out of memory.
+    /// Takes a snapshot: rows, ids and quotas in slices of all groups, in order of creation.
+    ///
+    /// # Errors
+    ///
+    /// - [`TreeFault::OutOfMemory`]
     pub fn snapshot(&self) -> Result<Snapshot, Fault>
         ensures rows { IfOk result (λ s. s.instance ≡ instance_of self.now.tree self.now.shape) }
         ensures valid { IsInstance (instance_of self.now.tree self.now.shape) }
         ensures ids { IfOk result (λ s. s.ids.items ≡ keys_of self.now.tree.groups) }
-        ensures quotas { IfOk result (λ s. s.quotas.items ≡ base_of self.now.tree.groups self.now.shape) }
-        ensures count { IfOk result (λ s. (length s.ids.items ≡ length s.instance.rows) × (length s.quotas.items ≡ length s.instance.rows)) }
+        ensures quotas { IfOk result
+            (λ s. s.quotas.items ≡ base_of self.now.tree.groups self.now.shape) }
+        ensures count { IfOk result
+            (λ s. (length s.ids.items ≡ length s.instance.rows)
+            × (length s.quotas.items ≡ length s.instance.rows)) }
         ensures distinct { IfOk result (λ s. IsDistinct nat_eq s.ids.items) }
         ensures err { IfErr result (λ e. e ≡ Fault.Tree TreeFault.OutOfMemory) }
     {
         Ok(self.tree.snapshot(self.shape)?)
     }
 
-    /// Makes a group, and answers its id. The path splits at its last `/`; where it has none, the parent is the root.
-    /// `OutOfMemory` is answered only where nothing else refuses the call.
+    /// Makes a group, and returns its id.
+    ///
+    /// The path splits at its last `/` into the parent's path and the name. The parent is the root
+    /// if the path has no `/`.
+    ///
+    /// # Errors
+    ///
+    /// The first that applies of those of [`Tree::mkdir`], in its order.
     pub fn mkdir(&mut self, path: &str) -> Result<GroupId, Fault>
-        ensures made { IfOk result (λ id. mkdir_of self.old.tree path.now ≡ Ok (id, self.new.tree)) }
+        ensures made { IfOk result
+            (λ id. mkdir_of self.old.tree path.now ≡ Ok (id, self.new.tree)) }
         ensures rest { self.new ≡ with_tree self.old self.new.tree }
         ensures refused { IfErr result (IsRefusal (mkdir_of self.old.tree path.now)) }
         ensures memory { IfErr result (IsMemoryLast (mkdir_of self.old.tree path.now)) }
@@ -134,7 +161,15 @@ impl Hierarchy {
         by_path::mkdir(&mut self.tree, path)
     }
 
-    /// Takes a group out and forgets its counters: `NotFound`, `RootFixed`, `HasChildren`, `HasDemand`.
+    /// Removes a group and forgets its counters.
+    ///
+    /// # Errors
+    ///
+    /// The first that applies:
+    /// - [`TreeFault::NotFound`]
+    /// - [`TreeFault::RootFixed`]
+    /// - [`TreeFault::HasChildren`]
+    /// - [`TreeFault::HasDemand`]
     pub fn rmdir(&mut self, path: &str) -> Result<(), Fault>
         ensures removed { OnOk result (rmdir_of self.old path.now ≡ Ok self.new) }
         ensures refused { IfErr result (λ e. rmdir_of self.old path.now ≡ Err e) }
@@ -144,6 +179,7 @@ impl Hierarchy {
         self.delete(id)
     }
 
+    // Removes a group by its id.
     pub(crate) fn delete(&mut self, id: GroupId) -> Result<(), Fault>
         ensures removed { OnOk result (delete_of self.old id ≡ Ok self.new) }
         ensures refused { IfErr result (λ e. delete_of self.old id ≡ Err e) }
@@ -154,7 +190,15 @@ impl Hierarchy {
         Ok(())
     }
 
-    /// Sets a group's demand in slices: `NotFound`, `RootFixed`, `DemandTooLarge`, `InnerDemand`.
+    /// Sets a group's demand, 0 to 1000000 slices in each period.
+    ///
+    /// # Errors
+    ///
+    /// The first that applies:
+    /// - [`TreeFault::NotFound`]
+    /// - [`TreeFault::RootFixed`]
+    /// - [`TreeFault::DemandTooLarge`]
+    /// - [`TreeFault::InnerDemand`]
     pub fn set_demand(&mut self, path: &str, demand: u64) -> Result<(), Fault>
         ensures set { OnOk result (demand_set_of self.old path.now demand ≡ Ok self.new) }
         ensures refused { IfErr result (λ e. demand_set_of self.old path.now demand ≡ Err e) }
@@ -164,13 +208,21 @@ impl Hierarchy {
         Ok(self.tree.set_demand(id, demand)?)
     }
 
-    /// The text of a group's file (cgroup-v2.rst, "CPU Interface Files"): `cpu.weight`, `cpu.max`, `cpu.max.burst`, or the
-    /// counters in `cpu.stat`, which are all 0 before the first period is counted. The root has `cpu.stat` alone, and in it its usage
-    /// alone.
+    /// Reads a group's file (cgroup-v2.rst, "CPU Interface Files").
     ///
-    /// `NotFound` where there is no such group, else `NoSuchFile` where it has no such file, else `OutOfMemory`.
+    /// The files are `cpu.weight`, `cpu.max`, `cpu.max.burst` and `cpu.stat`. The counters in
+    /// `cpu.stat` are 0 before the first period. The root has `cpu.stat` alone, and in it its
+    /// usage.
+    ///
+    /// # Errors
+    ///
+    /// The first that applies:
+    /// - [`TreeFault::NotFound`]
+    /// - [`Fault::NoSuchFile`]
+    /// - [`TreeFault::OutOfMemory`]
     pub fn read_file(&self, path: &str, file: &str) -> Result<String, Fault>
-        ensures found { IfOk result (λ t. read_of self.now path.now file.now ≡ Ok (string_bytes t)) }
+        ensures found { IfOk result
+            (λ t. read_of self.now path.now file.now ≡ Ok (string_bytes t)) }
         ensures refused { IfErr result (IsRefusal (read_of self.now path.now file.now)) }
         ensures memory { IfErr result (IsMemoryLast (read_of self.now path.now file.now)) }
     {
@@ -179,17 +231,27 @@ impl Hierarchy {
 
     /// Writes a text into a group's file, which changes the one value that the file names.
     ///
-    /// Refusals in order: `NotFound`, `NoSuchFile`, `ReadOnly` of `cpu.stat`, those of the text, `BurstAboveQuota`.
+    /// # Errors
+    ///
+    /// The first that applies:
+    /// - [`TreeFault::NotFound`]
+    /// - [`Fault::NoSuchFile`]
+    /// - [`Fault::ReadOnly`] for `cpu.stat`.
+    /// - the faults of the text, in the order of bw_files.
+    /// - [`Fault::BurstAboveQuota`]
     pub fn write_file(&mut self, path: &str, file: &str, text: &[u8]) -> Result<(), Fault>
-        ensures set { OnOk result (write_of self.old.tree path.now file.now text.now ≡ Ok self.new.tree) }
+        ensures set { OnOk result
+            (write_of self.old.tree path.now file.now text.now ≡ Ok self.new.tree) }
         ensures rest { self.new ≡ with_tree self.old self.new.tree }
-        ensures refused { IfErr result (λ e. write_of self.old.tree path.now file.now text.now ≡ Err e) }
+        ensures refused { IfErr result
+            (λ e. write_of self.old.tree path.now file.now text.now ≡ Err e) }
         ensures err { OnErr result (self.new ≡ self.old) }
     {
         files::write(&mut self.tree, path, file, text)
     }
 
-    // All that a builder does, or nothing. The copy comes before each test, so `OutOfMemory` may be answered first.
+    // Does all of a builder's calls, or none. Copies the tree before any test, so `OutOfMemory` can
+    // replace any other fault.
     pub(crate) fn build(
         &mut self,
         path: &str,
@@ -197,9 +259,11 @@ impl Hierarchy {
         quota: Option<i64>,
         period: Option<u64>,
     ) -> Result<GroupId, Fault>
-        ensures made { IfOk result (λ id. built self.old.tree path.now shares quota period ≡ Ok (id, self.new.tree)) }
+        ensures made { IfOk result
+            (λ id. built self.old.tree path.now shares quota period ≡ Ok (id, self.new.tree)) }
         ensures rest { self.new ≡ with_tree self.old self.new.tree }
-        ensures refused { IfErr result (IsRefusal (built self.old.tree path.now shares quota period)) }
+        ensures refused { IfErr result
+            (IsRefusal (built self.old.tree path.now shares quota period)) }
         ensures err { OnErr result (self.new ≡ self.old) }
     {
         let mut tree = self.tree.copy()?;

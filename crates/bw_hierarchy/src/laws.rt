@@ -1,9 +1,11 @@
-//! Laws about the files, each the contract of a function that does nothing.
-ghost use Rattle.bw_hierarchy.specs.Written.{IsWeightRead, IsMaxRead, IsBurstRead, KeepsOtherFiles, KeepsOtherGroups, KeepsCounters, KeepsRest};
+//! Laws about the files: contracts of functions with an empty body.
+ghost use Rattle.bw_hierarchy.specs.Written.{IsWeightRead, IsMaxRead, IsBurstRead, KeepsOtherFiles};
+ghost use Rattle.bw_hierarchy.specs.Written.{KeepsOtherGroups, KeepsCounters, KeepsRest};
 
-/// A write changes the one value that its file names: the file then has that value's text, and every other file
-/// of that group and of all others the text that it had, each group's counters among them. No group moves, and each keeps
-/// its name, its demand and what it left over in the last booked period.
+/// Law: a write changes only the value that its file names.
+///
+/// The file then has that value's text. Every other file, of this group and of all others, keeps
+/// its text, and each group its counters. No group moves. Each keeps its name, demand and carry.
 pub fn write_changes_one_value()
     ensures weight { IsWeightRead }
     ensures max { IsMaxRead }

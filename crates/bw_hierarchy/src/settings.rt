@@ -1,5 +1,6 @@
-//! The settings of a group of a tree, by its id.
-ghost use Rattle.std.specs.Prelude.{◌≡◌, ◌≤◌, ◌∷◌, [], ◌<◌, length, OnOk, OnErr, IfOk, IfErr, IfSome, MatchOption, Ok, Err, Some, None, Option};
+//! Reads and sets the settings of a group, by its id.
+ghost use Rattle.std.specs.Prelude.{◌≡◌, ◌≤◌, ◌∷◌, [], ◌<◌, length, OnOk, OnErr, IfOk, IfErr};
+ghost use Rattle.std.specs.Prelude.{IfSome, MatchOption, Ok, Err, Some, None, Option};
 ghost use Rattle.std.specs.Option.{option_map};
 ghost use Rattle.std.specs.List.{slice_split};
 ghost use Rattle.std.specs.Path.{rsplit_once};
@@ -7,8 +8,10 @@ ghost use Rattle.bw_model.specs.Quota.{IsValid};
 ghost use Rattle.bw_tree.specs.Groups.{find_path, group_at, IsTree};
 ghost use Rattle.bw_tree.specs.Tree.{setting_refusal, with_setting, set_max, set_burst};
 ghost use Rattle.bw_hierarchy.specs.Faults.{IsRefusal, IsMemoryLast};
-ghost use Rattle.bw_hierarchy.specs.Calls.{found_at, setting, mkdir_of, set_shares_of, quota_of_int, int_of_quota, quota_given, period_given, is_above};
-ghost use Rattle.bw_hierarchy.specs.Calls.{fitting, quota_at, burst_at, max_set, set_cfs_of, value_at};
+ghost use Rattle.bw_hierarchy.specs.Calls.{setting, set_shares_of, quota_of_int};
+ghost use Rattle.bw_hierarchy.specs.Calls.{int_of_quota, quota_given, checked_period, is_above};
+ghost use Rattle.bw_hierarchy.specs.Calls.{fitting, quota_at, burst_at, max_set, set_cfs_of};
+ghost use Rattle.bw_hierarchy.specs.Calls.{value_at};
 
 use crate::fault::Fault;
 use bw_files::{FileFault, check_period, check_quota, check_weight};
@@ -16,7 +19,7 @@ use bw_model::Quota;
 use bw_model::limits::{MAX_BURST_US, MAX_PERIOD_US, MIN_PERIOD_US};
 use bw_tree::{Group, GroupId, Tree, TreeFault};
 
-// The group with this id, where its settings may be read and changed: each but the root.
+// Group with this id, whose settings may be read and set: any but the root.
 fn setting(tree: &Tree, id: GroupId) -> Result<&Group, Fault>
     ensures found { IfOk result (λ g. setting tree.now id ≡ Ok g.now) }
     ensures refused { IfErr result (λ e. setting tree.now id ≡ Err e) }
@@ -32,6 +35,7 @@ fn setting(tree: &Tree, id: GroupId) -> Result<&Group, Fault>
     Ok(group)
 }
 
+// Quota of -1 (no limit) or of 1000 to 10^15 microseconds; a fault for any other number.
 fn quota_of_int(quota: i64) -> Result<Quota, FileFault>
     ensures value { result ≡ quota_of_int quota }
     ensures valid { IfOk result (λ q. IsValid q) }
@@ -45,7 +49,7 @@ fn quota_of_int(quota: i64) -> Result<Quota, FileFault>
     check_quota(quota as u64)
 }
 
-/// Sets a group's weight.
+// Sets a group's weight, 1 to 10000.
 pub(crate) fn set_shares(tree: &mut Tree, id: GroupId, n: u64) -> Result<(), Fault>
     ensures set { OnOk result (set_shares_of tree.old id n ≡ Ok tree.new) }
     ensures refused { IfErr result (λ e. set_shares_of tree.old id n ≡ Err e) }
@@ -56,7 +60,7 @@ pub(crate) fn set_shares(tree: &mut Tree, id: GroupId, n: u64) -> Result<(), Fau
     Ok(tree.set_weight(id, weight)?)
 }
 
-// The quota of a group, and none where there is no such group.
+// Quota of a group; no limit if there is no such group.
 fn quota_at(tree: &Tree, id: GroupId) -> Quota
     ensures value { result ≡ quota_at (group_at tree.now.groups id) }
     ensures valid { IsValid result }
@@ -67,6 +71,7 @@ fn quota_at(tree: &Tree, id: GroupId) -> Quota
     }
 }
 
+// Quota to set: the new one, if it is in its range, or the old one if none is given.
 fn quota_given(quota: Option<i64>, old: Quota) -> Result<Quota, FileFault>
     requires { IsValid old }
     ensures value { result ≡ quota_given quota old }
@@ -78,7 +83,7 @@ fn quota_given(quota: Option<i64>, old: Quota) -> Result<Quota, FileFault>
     }
 }
 
-// The burst of a group, and 0 where there is no such group.
+// Burst of a group in microseconds; 0 if there is no such group.
 fn burst_at(tree: &Tree, id: GroupId) -> u64
     ensures { result ≡ burst_at (group_at tree.now.groups id) }
 {
@@ -88,8 +93,9 @@ fn burst_at(tree: &Tree, id: GroupId) -> u64
     }
 }
 
-fn period_given(period: Option<u64>) -> Result<Option<u64>, FileFault>
-    ensures value { result ≡ period_given period }
+// Period to set, if any, checked to be 1000 to 1000000 microseconds.
+fn checked_period(period: Option<u64>) -> Result<Option<u64>, FileFault>
+    ensures value { result ≡ checked_period period }
     ensures range { IfOk result (λ p. IfSome p (λ n. (MIN_PERIOD_US ≤ n) × (n ≤ MAX_PERIOD_US))) }
 {
     match period {
@@ -98,7 +104,7 @@ fn period_given(period: Option<u64>) -> Result<Option<u64>, FileFault>
     }
 }
 
-// Whether a burst is above a limit.
+// Whether a burst is above a quota.
 fn is_above(burst: u64, quota: Quota) -> bool
     ensures { result ≡ is_above burst quota }
 {
@@ -108,7 +114,7 @@ fn is_above(burst: u64, quota: Quota) -> bool
     }
 }
 
-// Sets a group's quota, and its period where one is given.
+// Sets a group's quota, and its period if one is given.
 fn write_max(tree: &mut Tree, id: GroupId, quota: Quota, period: Option<u64>) -> Result<(), Fault>
     requires settable { setting_refusal tree.old id ≡ None }
     requires quota { IsValid quota }
@@ -123,7 +129,7 @@ fn write_max(tree: &mut Tree, id: GroupId, quota: Quota, period: Option<u64>) ->
     }
 }
 
-/// Sets a group's quota, and its period where one is given, unless its burst is above the quota.
+// Sets a group's quota, and its period if one is given, unless its burst is above the quota.
 pub(crate) fn set_max(
     tree: &mut Tree,
     id: GroupId,
@@ -143,12 +149,16 @@ pub(crate) fn set_max(
     write_max(tree, id, quota, period)
 }
 
-/// Sets a group's burst, unless it is above the quota.
+// Sets a group's burst in microseconds, unless it is above the quota.
 pub(crate) fn set_burst(tree: &mut Tree, id: GroupId, burst: u64) -> Result<(), Fault>
     requires settable { setting_refusal tree.old id ≡ None }
     requires burst { burst ≤ MAX_BURST_US }
-    ensures set { OnOk result (fitting burst (quota_at (group_at tree.old.groups id)) (with_setting (set_burst burst) tree.old id) ≡ Ok tree.new) }
-    ensures refused { IfErr result (λ e. fitting burst (quota_at (group_at tree.old.groups id)) (with_setting (set_burst burst) tree.old id) ≡ Err e) }
+    ensures set { OnOk result
+        (fitting burst (quota_at (group_at tree.old.groups id))
+        (with_setting (set_burst burst) tree.old id) ≡ Ok tree.new) }
+    ensures refused { IfErr result
+        (λ e. fitting burst (quota_at (group_at tree.old.groups id))
+        (with_setting (set_burst burst) tree.old id) ≡ Err e) }
     ensures err { OnErr result (tree.new ≡ tree.old) }
 {
     if is_above(burst, quota_at(tree, id)) {
@@ -157,7 +167,7 @@ pub(crate) fn set_burst(tree: &mut Tree, id: GroupId, burst: u64) -> Result<(), 
     Ok(tree.set_burst(id, burst)?)
 }
 
-/// Sets a group's quota and period. A value that is left out stays.
+// Sets a group's quota and period. A value that is left out stays.
 pub(crate) fn set_cfs(
     tree: &mut Tree,
     id: GroupId,
@@ -170,11 +180,11 @@ pub(crate) fn set_cfs(
 {
     let old = setting(tree, id)?.quota;
     let quota = quota_given(quota, old)?;
-    let period = period_given(period)?;
+    let period = checked_period(period)?;
     set_max(tree, id, quota, period)
 }
 
-/// The weight of a group that is not the root.
+// Weight of a group that is not the root.
 pub(crate) fn shares(tree: &Tree, id: GroupId) -> Result<u64, Fault>
     ensures { result ≡ value_at (λ g. g.weight) tree.now id }
 {
@@ -192,7 +202,7 @@ fn int_of_quota(quota: Quota) -> i64
     }
 }
 
-/// The quota as a number, -1 for none.
+// Quota in microseconds, -1 for no limit.
 pub(crate) fn cfs_quota(tree: &Tree, id: GroupId) -> Result<i64, Fault>
     ensures { result ≡ value_at (λ g. int_of_quota g.quota) tree.now id }
 {
@@ -200,7 +210,7 @@ pub(crate) fn cfs_quota(tree: &Tree, id: GroupId) -> Result<i64, Fault>
     Ok(int_of_quota(group.quota))
 }
 
-/// The length of a group's own period.
+// Length of a group's own period in microseconds.
 pub(crate) fn cfs_period(tree: &Tree, id: GroupId) -> Result<u64, Fault>
     ensures { result ≡ value_at (λ g. g.period) tree.now id }
 {

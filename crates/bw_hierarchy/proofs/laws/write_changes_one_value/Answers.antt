@@ -1,5 +1,6 @@
 -- The goals of `write_changes_one_value` that are answered by hand.
-use Rattle.bw_hierarchy.proofs.Writes.{weight_read, max_read, burst_read, other_files_stay, other_groups_stay, counters_stay}
+use Rattle.bw_hierarchy.proofs.Writes.{weight_read, max_read, burst_read, other_files_stay}
+use Rattle.bw_hierarchy.proofs.Writes.{other_groups_stay, counters_stay}
 use Rattle.bw_hierarchy.proofs.Unwritten.{rest_stays}
 use Rattle.bw_hierarchy.proofs.laws.write_changes_one_value.Goals as goal
 

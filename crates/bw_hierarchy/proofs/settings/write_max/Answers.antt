@@ -8,7 +8,8 @@ use Rattle.bw_hierarchy.proofs.settings.write_max.Goals as goal
 pub returns-in_err-set_period-in-Some-clause-never :
     goal.returns-in_err-set_period-in-Some-clause-never
 returns-in_err-set_period-in-Some-clause-never c =
-    absurd (never_refused (set_quota c.args.quota) c.args.tree.now c.set_limit.new.self c.args.id _ c.requires.settable c.in_ok-set_limit.ensures.set.1
+    absurd (never_refused (set_quota c.args.quota) c.args.tree.now c.set_limit.new.self c.args.id _
+    c.requires.settable c.in_ok-set_limit.ensures.set.1
     c.in_err-set_period-in-Some.ensures.refused)
 
 pub returns-in_ok-set_period-in-Some-clause-set : goal.returns-in_ok-set_period-in-Some-clause-set
