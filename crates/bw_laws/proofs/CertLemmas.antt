@@ -1,7 +1,8 @@
 -- The certified text of a plan, read again and checked.
 use native.Mathlib.Bridge.{le_prop}
 use mathlib.Core.HLevel.{is_prop→PathP}
-use Rattle.std.proofs.Common.{◌≡◌, ◌<◌, ℕ, List, [], ◌∷◌, Option, None, Some, refl, sym, ap, subst, ◌∙◌}
+use Rattle.std.proofs.Common.{◌≡◌, ◌<◌, ℕ, List, [], ◌∷◌, Option, None, Some, refl, sym, ap, subst}
+use Rattle.std.proofs.Common.{◌∙◌}
 use Rattle.std.specs.Prelude.{map, Ok}
 use Rattle.std.specs.Option.{option_map}
 use Rattle.bw_model.specs.declared.mark.Mark.{Mark}
@@ -36,10 +37,12 @@ same_level : (x y : Option Mark) → option_map price_of x ≡ option_map price_
 same_level None None e = refl
 same_level None (Some b) e = cc
 same_level (Some a) None e = cc
-same_level (Some a) (Some b) e = let same : price_of a ≡ price_of b = cc in ap Some (same_mark a b same)
+same_level (Some a) (Some b) e =
+    let same : price_of a ≡ price_of b = cc in ap Some (same_mark a b same)
 
 -- levels that are spelled alike are the same
-same_levels : (xs ys : List (Option Mark)) → map (option_map price_of) xs ≡ map (option_map price_of) ys → xs ≡ ys
+same_levels : (xs ys : List (Option Mark))
+    → map (option_map price_of) xs ≡ map (option_map price_of) ys → xs ≡ ys
 same_levels [] [] e = refl
 same_levels [] (y ∷ ys) e = cc
 same_levels (x ∷ xs) [] e = cc
@@ -50,7 +53,8 @@ same_levels (x ∷ xs) (y ∷ ys) e =
 
 same_certificate : (c d : Certified) → c.tight ≡ d.tight → c.levels ≡ d.levels → c ≡ d
 same_certificate c d tight levels =
-    ap (λ t. record { tight = t; levels = c.levels }) tight ∙ ap (λ l. record { tight = d.tight; levels = l }) levels
+    ap (λ t. record { tight = t; levels = c.levels }) tight
+    ∙ ap (λ l. record { tight = d.tight; levels = l }) levels
 
 module _ (h : HierarchyState) (text : List ℕ) (p : IsCertifiedPlan h text) where
   abbrev value : Value
@@ -62,15 +66,22 @@ module _ (h : HierarchyState) (text : List ℕ) (p : IsCertifiedPlan h text) whe
   only_verdict : (verdict : Verdict) → IsVerdictOf value verdict → verdict ≡ Accepted
   only_verdict Accepted on = refl
   only_verdict (Refused fault group) on =
-      let same : p.certificate ≡ on.certificate = same_certificate p.certificate on.certificate (sym on.flags)
+      let same : p.certificate ≡ on.certificate =
+      same_certificate p.certificate on.certificate (sym on.flags)
       (same_levels p.certificate.levels on.certificate.levels (sym on.levels)) in
-      absurd (refused-not-accepted (groups_of value) p.amounts on.certificate fault group p.valid.instance.tree on.given
+      absurd (refused-not-accepted (groups_of value) p.amounts on.certificate fault group
+      p.valid.instance.tree on.given
       (subst (λ (c : Certified). IsAccepted (groups_of value) p.amounts c) same p.accepted))
 
   pub cert_IsAcceptedText : IsAcceptedText text
   cert_IsAcceptedText = record {
     value = value;
     read = read_again;
-    accepted = record { certificate = p.certificate; flags = refl; levels = refl; given = p.accepted };
+    accepted = record {
+      certificate = p.certificate;
+      flags = refl;
+      levels = refl;
+      given = p.accepted;
+    };
     only = only_verdict;
   }

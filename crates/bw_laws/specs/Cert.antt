@@ -1,4 +1,4 @@
--- What the layers say together that none of them says alone.
+-- `check` accepts what `cert` of a script answers: cert's, check's and the script's words joined.
 use Rattle.std.specs.Prelude.{◌≡◌, ℕ, List, Ok}
 use Rattle.bw_hierarchy.specs.State.{HierarchyState}
 use Rattle.bw_cert.specs.Reading.{certified_of}
@@ -8,11 +8,12 @@ use Rattle.bw_check.specs.declared.verdict.Verdict.{Verdict}
 use Rattle.bw_check.specs.declared.verdict.Verdict.TheVariants.{Accepted}
 use Rattle.bw_commands.specs.CertifiedPlan.{IsCertifiedPlan}
 
--- the verdict on all that a value says
+-- the verdict on the whole value of a certified text
 abbrev pub IsVerdictOf : Value → Verdict → Type 0
-IsVerdictOf value verdict = IsVerdictOn (groups_of value) value.groups.amounts value.groups.flags value.groups.levels verdict
+IsVerdictOf value verdict = IsVerdictOn (groups_of value) value.groups.amounts value.groups.flags
+    value.groups.levels verdict
 
--- What a script answers to `cert`, read again as a certified text, is accepted, and no other verdict stands on it.
+-- The text is a certified text, its verdict is `Accepted`, and it has no other verdict.
 pub record IsAcceptedText (text : List ℕ) : Type 0 where
   pub value : Value
   pub read : certified_of (text_lines text) ≡ Ok value

@@ -1,10 +1,11 @@
--- The ids that groups are given, over any calls in a row.
+-- Ids of new groups, over any calls in a row.
 use Rattle.std.specs.Prelude.{◌≡◌, ℕ, ◌+◌, ◌≤◌, List, [], ◌∷◌, Ok, ⊤}
 use Rattle.bw_tree.specs.Groups.{TreeState}
 use Rattle.bw_hierarchy.specs.Calls.{mkdir_of}
 use Rattle.bw_hierarchy.specs.State.{HierarchyState, rmdir_of}
 
--- a call on a tree: a `mkdir` that is not refused, with the id of its group, or another call; and the tree after it
+-- a call on a tree: a `mkdir` that is not refused, with the id of its group, or another call; and
+-- the tree after it
 pub data Step : Type 0 where
   Made : (path : List ℕ) (id : ℕ) (after : TreeState) → Step
   Changed : (after : TreeState) → Step
@@ -15,7 +16,7 @@ AreSteps t [] = ⊤
 AreSteps t (Made path id after ∷ steps) = (mkdir_of t path ≡ Ok (id, after)) × AreSteps after steps
 AreSteps t (Changed after ∷ steps) = (t.next ≤ after.next) × AreSteps after steps
 
--- the ids of the groups that were made
+-- ids of the groups that were made
 abbrev pub ids_made : List Step → List ℕ
 ids_made [] = []
 ids_made (Made path id after ∷ steps) = id ∷ ids_made steps
@@ -28,5 +29,7 @@ AreRisingFrom least (id ∷ ids) = (least ≤ id) × AreRisingFrom (id + 1) ids
 
 -- Over any calls in a row ids rise, so none is given twice; and `rmdir` takes none back.
 pub record IdsAreGivenOnce : Type 0 where
-  pub rise : (t : TreeState) (steps : List Step) → AreSteps t steps → AreRisingFrom t.next (ids_made steps)
-  pub rmdir : (h new : HierarchyState) (path : List ℕ) → rmdir_of h path ≡ Ok new → h.tree.next ≤ new.tree.next
+  pub rise : (t : TreeState) (steps : List Step) → AreSteps t steps
+      → AreRisingFrom t.next (ids_made steps)
+  pub rmdir : (h new : HierarchyState) (path : List ℕ) → rmdir_of h path ≡ Ok new
+      → h.tree.next ≤ new.tree.next

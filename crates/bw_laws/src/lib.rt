@@ -1,4 +1,4 @@
-//! Laws that join the layers: each is the contract of a function that does nothing.
+//! Laws that join several layers: contracts of functions with an empty body.
 #![tactic(auto)]
 
 mod cert;
