@@ -264,7 +264,7 @@ def leaves_other_crates_out(copy):
     """The crates of tests are no part of the program."""
     copy.build()
     others = set(copy.crates) - copy.ours
-    same({"bw_planner_tests", "bw_group_tests", "plan_bench"} <= others and not {"bw_shell", "bw_model"} & others, True, f"other crates: {others}")
+    same({"bw_planner_tests", "bw_tree_tests", "plan_bench"} <= others and not {"bw_shell", "bw_model"} & others, True, f"other crates: {others}")
     for crate in sorted(others):
         for path in copy.sources(crate):
             copy.write(path, "edited\n")

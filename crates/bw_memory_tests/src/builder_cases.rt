@@ -1,4 +1,4 @@
-//! A builder, whose call copies the tree first.
+//! The builder, which copies the tree before it changes it.
 use bw_hierarchy::{CgroupBuilder, Fault, Hierarchy};
 use bw_model::HostShape;
 use bw_tree::TreeFault;
@@ -14,7 +14,7 @@ fn new_hierarchy(alloc: Global) -> Result<Hierarchy, Fail> {
     }
 }
 
-/// Makes the group `p/q`, and gives its id. Where memory is refused in the middle, no group of the path is there.
+// Makes the group `p/q`, and returns its id. A build that runs out of memory leaves no group.
 fn build_once(rt: &impl Abort, hierarchy: &mut Hierarchy) -> Result<u64, Fault> {
     let builder = CgroupBuilder::new("p/q").cpu().shares(300).done();
     let built = builder.build(hierarchy);

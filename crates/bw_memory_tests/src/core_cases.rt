@@ -11,7 +11,7 @@ const LOOK: PoolCall = PoolCall::Look { group: LEAF };
 
 const DRAW: PoolCall = PoolCall::Draw { leaf: LEAF, ask: 4 };
 
-/// Seat 1 looks and seat 0 draws, one after the other.
+// Seat 1 looks and seat 0 draws, one after the other.
 static SCHEDULE: [CoreEvent<PoolCall>; 8] = [
     CoreEvent::Take {
         seat: 1,
@@ -29,7 +29,7 @@ static SCHEDULE: [CoreEvent<PoolCall>; 8] = [
     CoreEvent::Leave { seat: 0 },
 ];
 
-/// A root over one leaf, which wants 7 slices.
+// A root over one leaf that wants 7 slices.
 fn leaf_of_seven(alloc: Global, shape: HostShape) -> Result<Instance, InstanceFault> {
     let mut rows = Vec::new(alloc);
     for (parent, demand) in [(None, 0), (Some(0), 7)] {
@@ -43,7 +43,7 @@ fn leaf_of_seven(alloc: Global, shape: HostShape) -> Result<Instance, InstanceFa
     Instance::new(alloc, rows, shape)
 }
 
-/// A pool of the leaf's seven slices.
+// A pool of the leaf's seven slices.
 fn pool_once(rt: &impl Abort, alloc: Global, shape: HostShape) -> Result<SlicePool, InstanceFault> {
     let instance = leaf_of_seven(alloc, shape)?;
     assert!(rt; instance.rows().len() == 2);
@@ -58,12 +58,12 @@ fn pool(rt: &impl Abort, alloc: Global) -> Result<SlicePool, Fail> {
     }
 }
 
-/// Where in its play a core is.
+// State of a core's play.
 fn stand(core: &Core) -> (u64, u64, usize) {
     (core.next(), core.serving(), core.history().len())
 }
 
-/// A refused event is not done: what the core tells is as before it.
+// A refused event changes nothing: the core answers as before.
 fn event_once(
     rt: &impl Abort,
     core: &mut Core,

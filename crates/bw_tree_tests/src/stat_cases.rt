@@ -1,5 +1,5 @@
-//! Counters at their greatest values and of groups that are forgotten, which no script line reaches. A call that is refused for
-//! memory is made once more on the same books, which it has not changed.
+//! Counters at their greatest values and of forgotten groups, which no script line reaches.
+//! A call that runs out of memory is repeated on the unchanged books.
 ghost use Rattle.std.specs.Prelude.{nat_eq};
 ghost use Rattle.std.specs.List.{IsDistinct};
 
@@ -10,8 +10,8 @@ use std::alloc::{AllocError, Global};
 use std::process::Abort;
 use std::test::Fail;
 
-// A group pod with a limit of 10 over x and y of weights 100 and 300, and a group job beside it. A static table costs its
-// readers no proof; each entry of a local one is a step of it.
+// A group pod with a limit of 10 over x and y of weights 100 and 300, and a group job beside it.
+// A static table costs no proof. Each entry of a local table is a step of the proof.
 static POD: [Row; 5] = [
     Row {
         parent: None,
@@ -57,14 +57,14 @@ fn pod(alloc: Global) -> Result<Instance, Fail> {
     }
 }
 
-// The ids of the rows of pod.
+// Ids of the rows of pod.
 fn ids_of_pod() -> [u64; 5]
     ensures { IsDistinct nat_eq result }
 {
     [0, 7, 3, 9, 4]
 }
 
-// The quota of each row, where no limit is above the quota.
+// Quota of each row in slices, where no limit is above the quota.
 static QUOTAS: [Option<u64>; 5] = [None, Some(10), None, None, None];
 
 static DRAWN: [u64; 5] = [20, 10, 3, 7, 10];
@@ -82,7 +82,7 @@ fn book_once(
     books.book(instance, &ids_of_pod(), base, &gathered, drawn)
 }
 
-// Counts so many periods, in each of which the rows of pod draw these slices.
+// Books a number of periods, in each of which the rows of pod draw the same slices.
 fn book_pod(
     rt: &impl Abort,
     alloc: Global,
@@ -100,7 +100,7 @@ fn book_pod(
     Ok(())
 }
 
-// Usage, periods, and bursts with what was drawn in them; nothing was throttled.
+// Counters with this usage, these periods and these bursts, never throttled.
 fn counters(usage_usec: u64, nr_periods: u64, nr_bursts: u64, burst_usec: u64) -> Option<Stat> {
     Some(Stat {
         usage_usec,
@@ -116,7 +116,7 @@ fn assert_counts(rt: &impl Abort, books: &Books, id: u64, wanted: Option<Stat>) 
     assert!(rt; books.of(id) == wanted);
 }
 
-// A group that is forgotten begins anew where it is booked again, and the others go on.
+// A forgotten group that is booked again begins at 0. The others keep their counters.
 fn assert_forgets(rt: &impl Abort, alloc: Global, books: &mut Books) -> Result<(), Fail> {
     book_pod(rt, alloc, books, 2, &QUOTAS, &DRAWN)?;
     books.forget(4);
@@ -139,7 +139,7 @@ static SMALL_QUOTAS: [Option<u64>; 5] = [Some(1), Some(10), Some(0), None, None]
 
 static GREATEST: [u64; 5] = [u64::MAX, 10, u64::MAX, 7, 10];
 
-// A counter stays at its greatest value. Of the root no burst is counted, whatever its quota.
+// A counter saturates. No burst is counted for the root, whatever its quota.
 fn assert_stays(rt: &impl Abort, alloc: Global, books: &mut Books) -> Result<(), Fail> {
     book_pod(rt, alloc, books, 2, &SMALL_QUOTAS, &GREATEST)?;
     assert_counts(rt, books, 0, counters(u64::MAX, 2, 0, 0));
@@ -167,7 +167,7 @@ static WIDE: Stat = Stat {
 static WIDE_LINE: &str =
     "18446744073709551615 18446744073709551615 12345678901 18446744073709551615 a/b\n";
 
-// Numbers that are wider than their columns.
+// Numbers wider than their columns.
 #[test]
 fn wide_line(rt: HostRuntime) -> Result<(), Fail> {
     let mut line = Vec::new(rt.alloc());

@@ -1,11 +1,13 @@
-//! Texts of a group's files that no script line holds: with line breaks, and with counters at their greatest value.
+//! Texts of a group's files that no script line can hold: with line breaks, and with counters at
+//! their greatest value.
 use bw_files::{MaxWrite, read_burst, read_max, read_weight, write_stat};
 use bw_model::{Quota, Stat};
 use std::alloc::Global;
 use std::process::Abort;
 use std::test::Fail;
 
-// Static tables cost their readers no proof; each entry of a local one is a step of it. Of a refusal its number is told.
+// Static tables cost no proof. Each entry of a local table is a step of the proof.
+// A refusal is given by its number.
 static WEIGHTS: [(&[u8], Result<u64, u8>); 2] = [(b" 100\n", Ok(100)), (b" \t\n", Err(17))];
 
 static BURSTS: [(&[u8], Result<u64, u8>); 2] = [(b"\n25000 \n", Ok(25_000)), (b"1\n2", Err(16))];
@@ -21,7 +23,7 @@ static MAXIMA: [(&[u8], Result<MaxWrite, u8>); 2] = [
     (b"\t\n ", Err(17)),
 ];
 
-/// A line break is a blank.
+// A line break counts as a blank.
 #[test]
 fn line_breaks(rt: HostRuntime) {
     for (text, wanted) in &WEIGHTS {

@@ -1,6 +1,6 @@
-//! Groups by the builder and the controller, which no script line reaches, against worked values.
-//! A call that runs out of memory is made once more on the same hierarchy, which it has not changed,
-//! so that each case holds with any one of its allocations failing.
+//! Groups made by the builder and set by the controller, against worked values. No script line
+//! reaches these calls. A call that runs out of memory is repeated on the unchanged hierarchy, so
+//! each case holds with any one of its allocations failing.
 use bw_hierarchy::{Cgroup, CgroupBuilder, CpuController, Fault, Hierarchy};
 use bw_model::HostShape;
 use bw_tree::{GroupId, TreeFault};
@@ -8,7 +8,7 @@ use std::alloc::Global;
 use std::process::Abort;
 use std::test::Fail;
 
-/// The root of a host with one processor of 20 slices of 5000 microseconds.
+// Root of a host with one processor of 20 slices of 5000 microseconds.
 fn new_hierarchy(alloc: Global) -> Result<Hierarchy, Fail> {
     let shape = HostShape::new(1, 100_000, 5000)?;
     match Hierarchy::new(alloc, shape) {
@@ -17,7 +17,7 @@ fn new_hierarchy(alloc: Global) -> Result<Hierarchy, Fail> {
     }
 }
 
-/// Makes a group.
+// Makes a group.
 fn make(hierarchy: &mut Hierarchy, path: &str) -> Result<GroupId, Fault> {
     match hierarchy.mkdir(path) {
         Err(Fault::Tree(TreeFault::OutOfMemory)) => hierarchy.mkdir(path),
@@ -25,7 +25,7 @@ fn make(hierarchy: &mut Hierarchy, path: &str) -> Result<GroupId, Fault> {
     }
 }
 
-/// Asserts the number of the refusal of a file that is read, 0 for none, and its text.
+// Asserts the number of the refusal of a file that is read, 0 for none, and its text.
 fn assert_reads(
     rt: &impl Abort,
     hierarchy: &Hierarchy,
@@ -44,7 +44,7 @@ fn assert_reads(
     }
 }
 
-/// The group that a builder makes, or the refusal.
+// Group that a builder makes, or its refusal.
 fn built(
     hierarchy: &mut Hierarchy,
     path: &str,
@@ -69,12 +69,12 @@ fn built(
     }
 }
 
-/// What is built at a path, or a file that is read, and what is to come of it.
+// A build at a path or a read of a file, and the expected result.
 #[derive(Clone, Copy)]
 enum Build {
-    /// Shares, quota and period, and the number of the refusal, 0 for none.
+    // Shares, quota and period, and the number of the refusal, 0 for none.
     Makes(&'static str, Option<u64>, Option<i64>, Option<u64>, u8),
-    /// A file, the number of the refusal, 0 for none, and its text.
+    // A file, the number of the refusal, 0 for none, and its text.
     Reads(&'static str, &'static str, u8, &'static str),
 }
 
@@ -92,7 +92,7 @@ fn assert_builds(rt: &impl Abort, hierarchy: &mut Hierarchy, steps: &[Build]) {
     }
 }
 
-// A static table costs its readers no proof; each entry of a local one is a step of it.
+// A static table costs no proof. Each entry of a local table is a step of the proof.
 static BUILDERS: [Build; 22] = [
     Build::Makes("p/q", Some(300), Some(50_000), Some(100_000), 0),
     Build::Reads("p", "cpu.weight", 0, "100\n"),
@@ -144,7 +144,7 @@ static BUILDERS_BELOW_A_BURST: [Build; 9] = [
     Build::Reads("p", "cpu.max", 0, "50000 200000\n"),
 ];
 
-/// Where the path is there already, its burst is looked at last, and a refused builder changes nothing.
+// At a path that exists the burst is tested last. A refused builder changes nothing.
 #[test]
 fn builders_below_a_burst(rt: HostRuntime) -> Result<(), Fail> {
     let mut hierarchy = new_hierarchy(rt.alloc())?;
@@ -164,7 +164,7 @@ fn builder_of_the_root(rt: HostRuntime) -> Result<(), Fail> {
     Ok(())
 }
 
-/// A quota and a period that are set, the number of the refusal, 0 for none, and both as they are then.
+// A quota and a period to set, the number of the refusal (0 for none), and both values after it.
 type Setting = (Option<i64>, Option<u64>, u8, i64, u64);
 
 fn assert_settings(
@@ -190,7 +190,7 @@ fn put_groups(hierarchy: &mut Hierarchy) -> Result<(), Fault> {
     Ok(())
 }
 
-/// The root and these two.
+// The root and these two.
 fn two_groups(alloc: Global) -> Result<Hierarchy, Fail> {
     let mut hierarchy = new_hierarchy(alloc)?;
     put_groups(&mut hierarchy)?;
@@ -212,7 +212,8 @@ static SETTINGS: [Setting; 12] = [
     (Some(-1), None, 0, -1, 100_000),
 ];
 
-/// What asserts borrows the hierarchy, here and below: a test, which owns it, would have to drop it at each assertion.
+// Assertions stand in functions that borrow the hierarchy. A test owns it, and would have to drop
+// it at each assertion.
 fn assert_controls(rt: &impl Abort, hierarchy: &mut Hierarchy) -> Result<(), Fault> {
     let cpu = Cgroup::load(hierarchy, "a/b")?.cpu();
     assert_settings(rt, hierarchy, cpu, &SETTINGS);
@@ -262,7 +263,7 @@ fn shares_by_a_controller(rt: HostRuntime) -> Result<(), Fail> {
     Ok(())
 }
 
-/// The number of the refusal, 0 for none.
+// Number of the refusal, 0 for none.
 fn number_of<T: Drop>(answer: Result<T, Fault>) -> u8 {
     match answer {
         Ok(_) => 0,
@@ -270,7 +271,7 @@ fn number_of<T: Drop>(answer: Result<T, Fault>) -> u8 {
     }
 }
 
-/// Asserts that each call of a controller is refused with this number.
+// Asserts that each call of a controller is refused with this number.
 fn assert_refuses_all(rt: &impl Abort, hierarchy: &mut Hierarchy, cpu: CpuController, wanted: u8) {
     assert!(rt; number_of(cpu.shares(hierarchy)) == wanted);
     assert!(rt; number_of(cpu.set_shares(hierarchy, 0)) == wanted);
@@ -280,7 +281,7 @@ fn assert_refuses_all(rt: &impl Abort, hierarchy: &mut Hierarchy, cpu: CpuContro
     assert!(rt; number_of(set) == wanted);
 }
 
-/// Asserts that `a` is kept, since a group is below it.
+// Asserts that `a` is kept, because a group is below it.
 fn assert_keeps(rt: &impl Abort, hierarchy: &mut Hierarchy, above: Cgroup) {
     match above.delete(hierarchy) {
         Ok(()) => assert!(rt; false),
@@ -288,7 +289,7 @@ fn assert_keeps(rt: &impl Abort, hierarchy: &mut Hierarchy, above: Cgroup) {
     }
 }
 
-/// Deletes `a/b`, and asserts what calls of a controller of a group that is gone, and of the root, answer.
+// Deletes `a/b`, and asserts the answers of the controller of a removed group and of the root.
 fn assert_deletes(rt: &impl Abort, hierarchy: &mut Hierarchy, group: Cgroup) {
     let cpu = group.cpu();
     assert!(rt; group.delete(hierarchy) == Ok(()));

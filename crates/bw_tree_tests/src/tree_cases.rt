@@ -1,12 +1,12 @@
-//! Trees of groups by ids, which no script line names, against worked values.
-//! What asserts stands in functions that borrow a tree: in a test, which owns it, each assertion would have to drop it.
+//! Trees of groups by ids, which no script line names, against worked values. Assertions stand in
+//! functions that borrow a tree. A test owns it, and would have to drop it at each assertion.
 use bw_model::{HostShape, Quota};
 use bw_tree::{GroupId, Snapshot, Tree, TreeFault, is_drawn_within};
 use std::alloc::Global;
 use std::process::Abort;
 use std::test::Fail;
 
-/// Makes a group. A call that is refused memory has changed nothing, and is made again.
+// Makes a group. A call that runs out of memory has changed nothing, and is repeated.
 fn make(tree: &mut Tree, parent: GroupId, name: &str) -> Result<GroupId, TreeFault> {
     match tree.mkdir(parent, name) {
         Err(TreeFault::OutOfMemory) => tree.mkdir(parent, name),
@@ -28,10 +28,10 @@ fn assert_has_no(rt: &impl Abort, tree: &Tree, path: &str) {
     assert!(rt; tree.find(path) == Err(TreeFault::NotFound), "{path}");
 }
 
-/// The parents and names of `a` (1) and `a/b` (2).
+// Parents and names of `a` (id 1) and `a/b` (id 2).
 static TWO_GROUPS: [(GroupId, &str); 2] = [(0, "a"), (1, "b")];
 
-/// Makes them, and `a/b` has a demand of 20.
+// Makes `a` and `a/b`, and gives `a/b` a demand of 20.
 fn put_groups(tree: &mut Tree) -> Result<(), TreeFault> {
     for (parent, name) in &TWO_GROUPS {
         make(tree, *parent, name)?;
@@ -39,7 +39,7 @@ fn put_groups(tree: &mut Tree) -> Result<(), TreeFault> {
     tree.set_demand(2, 20)
 }
 
-/// A tree of them.
+// A tree of `a` and `a/b`.
 fn small_tree(alloc: Global) -> Result<Tree, TreeFault> {
     let mut tree = match Tree::new(alloc) {
         Err(_) => Tree::new(alloc)?,
@@ -65,7 +65,7 @@ fn number_of_spent_ids(rt: HostRuntime) {
     assert!(rt; TreeFault::IdsSpent.name() == "IdsSpent");
 }
 
-// A static table costs its readers no proof; each entry of a local one is a step of it.
+// A static table costs no proof. Each entry of a local table is a step of the proof.
 static BAD_NAMES: [&str; 4] = ["", "x/y", "x\ny", "x\0y"];
 
 fn assert_refuses_names(rt: &impl Abort, tree: &mut Tree) {
@@ -78,7 +78,7 @@ fn assert_refuses_names(rt: &impl Abort, tree: &mut Tree) {
     assert!(rt; tree.group(9).is_none());
 }
 
-/// Names and texts that no word of a script is.
+// Names and texts that no word of a script can be.
 #[test]
 fn names_that_no_word_is(rt: HostRuntime) -> Result<(), Fail> {
     let mut tree = small_tree(rt.alloc())?;
@@ -86,7 +86,7 @@ fn names_that_no_word_is(rt: HostRuntime) -> Result<(), Fail> {
     Ok(())
 }
 
-/// Asserts that no setting of this group is taken.
+// Asserts that each setting of this group is refused.
 fn assert_refuses_settings(rt: &impl Abort, tree: &mut Tree, id: GroupId, fault: TreeFault) {
     assert!(rt; tree.set_weight(id, 1) == Err(fault));
     assert!(rt; tree.set_limit(id, Quota::Max) == Err(fault));
@@ -102,7 +102,7 @@ fn refused_settings(rt: HostRuntime) -> Result<(), Fail> {
     Ok(())
 }
 
-/// A group of the copy is none of the first tree, and both trees give the same next id.
+// A group made in the copy is not in the first tree. Both trees give the same next id.
 fn assert_apart(rt: &impl Abort, tree: &mut Tree, copy: &mut Tree) {
     assert_makes(rt, copy, 1, "c", Ok(3));
     assert_has_no(rt, tree, "a/c");
@@ -121,7 +121,7 @@ fn change_of_a_copy(rt: HostRuntime) -> Result<(), Fail> {
     Ok(())
 }
 
-/// The id of a group that is gone is not given again, and its name is free.
+// The id of a removed group is not given again. Its name is free.
 fn assert_gone(rt: &impl Abort, tree: &mut Tree) {
     assert!(rt; tree.set_demand(2, 0) == Ok(()));
     assert!(rt; tree.rmdir(2) == Ok(()));
@@ -160,7 +160,7 @@ fn assert_within(rt: &impl Abort, tree: &mut Tree, shape: HostShape) -> Result<(
     Ok(())
 }
 
-/// A group with ten slices of quota draws at most ten.
+// A group with ten slices of quota draws at most ten.
 #[test]
 fn slices_within_limits(rt: HostRuntime) -> Result<(), Fail> {
     let shape = HostShape::new(1, 100_000, 5_000)?;
