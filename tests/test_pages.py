@@ -65,6 +65,23 @@ def test_pages_that_are_named():
     same(sorted(page for page in named if not (ROOT / page).exists()), [], "pages that are not")
 
 
+@pytest.mark.parametrize("page", PAGES)
+def test_paths(page):
+    """Each path from the top of the repository that a page names is there."""
+    folders = "bench|crates|docs|examples|python|scripts|share|tests|tools"
+    named = re.findall(rf"`((?:{folders})/[\w./-]+)`", text_of(page))
+    same([path for path in named if not (ROOT / path).exists()], [], "paths to nothing")
+
+
+def test_files_of_the_walk():
+    """Each source file that ARCHITECTURE names with its crate is there."""
+    groups = re.findall(r"\((bw_\w+), ((?:`[\w/]+\.rt`(?:, )?)+)\)", text_of("docs/ARCHITECTURE.md"))
+    named = [f"{crate}/src/{file}" for crate, files in groups
+             for file in re.findall(r"`([^`]+)`", files)]
+    assert len(named) >= 10
+    same([path for path in named if not (ROOT / "crates" / path).exists()], [], "missing files")
+
+
 # Clauses and definitions
 
 
@@ -87,7 +104,7 @@ def function_clauses(text: str, name: str) -> list:
 
 
 def is_in_code(text: str, name: str, clause: str) -> bool:
-    """Whether a function of this name has a clause of this label, or one clause if none is given."""
+    """Whether a function of this name has a clause of this label; one clause if none is given."""
     contracts = function_clauses(text, name)
     if clause:
         return any(clause in labels for labels in contracts)
@@ -105,7 +122,7 @@ def is_in_specs(text: str, name: str, field: str) -> bool:
 
 
 def references(page: str) -> list:
-    """The references of a page: crate, file, kind of file, name, clause or field, and as written."""
+    """The references of a page: crate, file, kind, name, clause or field, and as written."""
     crate, found = "", []
     known = crates()
     for line in text_of(page).splitlines():
@@ -120,7 +137,7 @@ def references(page: str) -> list:
 
 
 def is_there(crate, file, kind, name, clause) -> bool:
-    """Whether a reference has its clause or definition. A function without a label has one clause."""
+    """Whether a reference has its clause or definition."""
     path = ROOT / "crates" / crate / ("src" if kind == "rt" else "specs") / file
     if not path.is_file():
         return False
@@ -178,7 +195,7 @@ def definitions() -> list:
         if line.startswith("#"):
             crates_here = [crate for crate in crates() if f"`{crate}`" in line]
         cells = line.strip("|").split("|")
-        if line.startswith("| ") and len(cells) == 2 and re.match(r" `(?:\w+ )?[A-Z]\w+\.", cells[1]):
+        if len(cells) == 2 and re.match(r" `(?:\w+ )?[A-Z]\w+\.", cells[1]):
             file, where = "", crates_here
             for crate, first, name in re.findall(r"`(?:(\w+) )?(?:(\w+)\.)?(\w+)`", cells[1]):
                 file = first or file
@@ -257,7 +274,8 @@ def test_few_sentences_are_long():
 
 
 def test_long_sentence_is_found():
-    text = "A short one.\n\n- " + "word " * 31 + "end. Another.\n\n| a table | " + "word " * 40 + "|\n"
+    table = "| a table | " + "word " * 40 + "|\n"
+    text = "A short one.\n\n- " + "word " * 31 + "end. Another.\n\n" + table
     same([len(each.split()) for each in sentences(text)], [3, 32, 1], "words")
 
 
@@ -272,12 +290,13 @@ def test_readme_is_short():
 
 def readme_commands() -> list:
     """The commands of README with their answers."""
-    return re.findall(r"^```command\n(.*?)^```\n\n```answer\n(.*?)^```$", text_of("README.md"), re.M | re.S)
+    blocks = re.compile(r"^```command\n(.*?)^```\n\n```answer\n(.*?)^```$", re.M | re.S)
+    return blocks.findall(text_of("README.md"))
 
 
 @pytest.fixture(scope="module")
 def fresh(tmp_path_factory, program) -> Path:
-    """The files of the repository as they are after a clone, with the native program if it is ours."""
+    """The files of the repository as after a clone, with the native program if it is ours."""
     folder = tmp_path_factory.mktemp("fresh")
     words = ["git", "ls-files", "-z", "--cached", "--others", "--exclude-standard"]
     names = subprocess.run(words, cwd=ROOT, check=True, stdout=subprocess.PIPE).stdout
