@@ -75,7 +75,8 @@ def test_paths(page):
 
 def test_files_of_the_walk():
     """Each source file that ARCHITECTURE names with its crate is there."""
-    groups = re.findall(r"\((bw_\w+), ((?:`[\w/]+\.rt`(?:, )?)+)\)", text_of("docs/ARCHITECTURE.md"))
+    text = text_of("docs/ARCHITECTURE.md")
+    groups = re.findall(r"\((bw_\w+), ((?:`[\w/]+\.rt`(?:, )?)+)\)", text)
     named = [f"{crate}/src/{file}" for crate, files in groups
              for file in re.findall(r"`([^`]+)`", files)]
     assert len(named) >= 10
