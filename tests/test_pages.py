@@ -251,7 +251,7 @@ def sentences(text: str) -> list:
     for block in blocks_of_prose(text):
         block = re.sub(r"\[([^\]]*)\]\([^)]*\)", r"\1", re.sub(r"`[^`]+`", "CODE", block))
         block = block.replace("*", "").replace(" .. ", " ")
-        found += re.split(r"(?<=[.!?])['\")]*\s+(?=[A-Z0-9'\"(])", block)
+        found += re.split(r"(?<=[.!?])['\")]*\s+(?=[A-Z0-9'\"(]|bw_)", block)
     return [sentence for sentence in found if sentence.strip()]
 
 
