@@ -179,11 +179,11 @@ def test_files_of_rules():
 
 def test_references_are_refused():
     """The check of a reference tells what is there from what is not."""
-    assert is_there("bw_check", "lib.rt", "rt", "check", "plan")
+    assert is_there("bw_model", "host.rt", "rt", "new", "err")
     assert is_there("bw_model", "Plan.antt", "antt", "IsPlan", "best")
-    assert not is_there("bw_check", "lib.rt", "rt", "check", None)
-    assert not is_there("bw_check", "lib.rt", "rt", "check", "plans")
-    assert not is_there("bw_check", "lib.rt", "rt", "checks", "plan")
+    assert not is_there("bw_model", "host.rt", "rt", "new", None)
+    assert not is_there("bw_model", "host.rt", "rt", "new", "errs")
+    assert not is_there("bw_model", "host.rt", "rt", "news", "err")
     assert not is_there("bw_model", "Plan.antt", "antt", "IsPlan", "worst")
     assert not is_there("bw_model", "Plan.antt", "antt", "IsPlans", None)
     assert not is_there("bw_model", "Planned.antt", "antt", "IsPlan", None)
