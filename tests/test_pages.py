@@ -323,4 +323,7 @@ def test_readme_command(fresh, command, answer):
 
 
 def test_readme_has_commands():
-    assert len(readme_commands()) >= 2
+    """The text that README checks is the one that its first command prints."""
+    (script, answer), (check, _) = readme_commands()
+    assert script.endswith("cert\nEND\n") and "examples/two-groups.certified" in check
+    assert answer.endswith(text_of("examples/two-groups.certified"))
