@@ -222,6 +222,41 @@ def test_each_crate_is_described():
         assert re.search(rf"\b{crate}\b", architecture), crate
 
 
+def below() -> dict:
+    """The crates that each crate depends on, with those below them."""
+    lines = [line.split(":") for line in text_of("crates.txt").splitlines()
+             if ":" in line and not line.startswith("#")]
+    direct = {words.split()[0]: set(names.split()) for words, names in lines}
+    found = {}
+
+    def all_below(crate):
+        if crate not in found:
+            own = direct[crate] & set(direct)
+            found[crate] = own.union(*(all_below(each) for each in own))
+        return found[crate]
+
+    for crate in direct:
+        all_below(crate)
+    return found
+
+
+def tower(name: str) -> set:
+    """The crates of a group of crates.txt."""
+    group = re.search(rf"^# {name}.*\n((?:\w.*\n)+)", text_of("crates.txt"), re.M)[1]
+    return {line.split(":")[0].split()[0] for line in group.splitlines()}
+
+
+def test_layout():
+    """What ARCHITECTURE says of who may import whom."""
+    crates_below, lock, plan = below(), tower("Lock tower"), tower("Plan tower")
+    assert len(lock) >= 3 and len(plan) >= 6
+    for crate in lock:
+        assert crates_below[crate] <= lock, crate
+    same(crates_below["bw_check"] - lock, {"bw_model"}, "bw_check")
+    for crate in lock | plan:
+        assert not crates_below[crate] & (tower("Tree of groups") | tower("Scripts")), crate
+
+
 def test_proofs_are_listed():
     """PROOFS is what its script prints."""
     same(run([ROOT / "scripts/proofs"]).out.decode(), text_of("docs/PROOFS.md"), "scripts/proofs")
