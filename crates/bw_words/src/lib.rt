@@ -2,7 +2,9 @@
 #![tactic(auto)]
 
 mod status;
+mod version;
 mod words;
 
 pub use status::status_of_words;
+pub use version::VERSION;
 pub use words::{Job, WordsFault, read_words};

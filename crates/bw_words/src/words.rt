@@ -8,6 +8,7 @@ ghost use Rattle.bw_words.specs.Status.{is_shown, IsHelpUnlessMemory, IsUsageUnl
 ghost use Rattle.bw_words.specs.Words.{is_number, job_named, number_in, plain_job, run_job};
 ghost use Rattle.bw_words.specs.declared.words.Job.{Job};
 
+use crate::version::VERSION;
 use clap::error::ErrorKind;
 use clap::{Arg, ArgAction, ArgMatches, Command, Error, value_parser};
 use std::alloc::{AllocError, Global};
@@ -113,7 +114,7 @@ fn arbiter_command<'a>(alloc: Global) -> Result<Command<'a>, AllocError>
     );
     let arbiter = Command::new(alloc, "arbiter")
         .bin_name("arbiter")?
-        .version("1")
+        .version(VERSION)
         .about("A proved arbiter of CPU bandwidth over a tree of groups")
         .after_help(STATUSES)
         .no_binary_name(true)
@@ -161,7 +162,8 @@ fn run_found(found: &ArgMatches<'_>) -> Job
     }
 }
 
-/// The job that was found.
+// Returns the job of the subcommand that was found. `clap` refuses words without a subcommand, and `Check` then stands
+// for none: no clause speaks of that case.
 fn job_found(matches: &ArgMatches<'_>) -> Job
     ensures run { (rows : _) (uses : _) → subcommand_rows_of matches.now ≡ Some (codes "run", rows) → HasNumbers rows uses → result ≡ run_job uses }
     ensures check { (rows : _) → subcommand_rows_of matches.now ≡ Some (codes "check", rows) → result ≡ Job.Check }
