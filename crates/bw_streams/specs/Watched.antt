@@ -1,5 +1,6 @@
 -- What contracts see of a watched reader or writer.
-use Rattle.std.specs.Prelude.{ℕ, Bool, true, false, ◌&&◌, ◌==◌, ◌≡◌, List, length, Option, is_some, Result, Ok, Err, nat_lt}
+use Rattle.std.specs.Prelude.{ℕ, Bool, true, false, ◌&&◌, ◌==◌, ◌≡◌, List, length, Option, is_some}
+use Rattle.std.specs.Prelude.{Result, Ok, Err, nat_lt}
 use Rattle.std.specs.declared.io.Error.{Error}
 use Rattle.bw_streams.specs.declared.watched.Watched.{Watched}
 

@@ -7,12 +7,16 @@ use Rattle.bw_streams.specs.declared.fault.RunFault.{RunFault}
 use Rattle.bw_streams.specs.declared.fault.RunFault.TheVariants.{Write}
 use Rattle.bw_streams.specs.declared.watched.Watched.{Watched}
 
--- At Ok such a text is written, and no call of the writer failed or took no bytes. At Err a front of a text that might have
+-- At Ok such a text is written, and no call of the writer failed or took no bytes. At Err a front
+-- of a text that might have
 -- been written is, the writer is to blame, and the fault says so.
-pub record Writes {W T : Type 0} (contents : W → Option (List ℕ)) (old new : Watched W) (result : Result T RunFault)
+pub record Writes {W T : Type 0} (contents : W → Option (List ℕ)) (old new : Watched W)
+    (result : Result T RunFault)
     (IsText IsPossible : List ℕ → Type 0) : Type 0 where
-  pub ok : OnOk result ((text : List ℕ) × IsText text × Appends (contents (inner_of old)) (contents (inner_of new)) text)
+  pub ok : OnOk result ((text : List ℕ) × IsText text
+      × Appends (contents (inner_of old)) (contents (inner_of new)) text)
   pub quiet : OnOk result (HasNoFault new)
-  pub err : OnErr result ((text : List ℕ) × IsPossible text × AppendsFront (contents (inner_of old)) (contents (inner_of new)) text)
+  pub err : OnErr result ((text : List ℕ) × IsPossible text
+      × AppendsFront (contents (inner_of old)) (contents (inner_of new)) text)
   pub blame : OnErr result ((has_failed new || has_stalled new) ≡ true)
   pub fault : IfErr result (λ f. f ≡ Write)

@@ -1,5 +1,7 @@
-//! Text at the end of an answer, whose room grows by need. Where there is room, nothing fails and no memory is taken.
-ghost use Rattle.std.specs.Prelude.{◌≡◌, ◌≤◌, ◌<◌, ◌+◌, ◌++◌, [], ◌∷◌, codes, length, vec_len, OnOk, OnErr};
+//! Appends text to an answer, whose buffer grows as needed. Where it has space, no call fails or
+//! allocates.
+ghost use Rattle.std.specs.Prelude.{◌≡◌, ◌≤◌, ◌<◌, ◌+◌, ◌++◌, [], ◌∷◌, codes, length, vec_len};
+ghost use Rattle.std.specs.Prelude.{OnOk, OnErr};
 ghost use Rattle.std.specs.Vec.{vec_capacity};
 ghost use Rattle.std.specs.Fmt.{decimal};
 ghost use Rattle.bw_streams.specs.Answers.{number_line, refusal_line};
@@ -7,7 +9,7 @@ ghost use Rattle.bw_streams.specs.Answers.{number_line, refusal_line};
 use itoa::Buffer;
 use std::alloc::AllocError;
 
-/// Appends bytes for which there is room.
+/// Appends bytes for which the buffer has space.
 pub fn put(answer: &mut Vec<u8>, bytes: &[u8])
     requires { vec_len answer.old + length bytes.now ≤ vec_capacity answer.old }
     ensures items { answer.new.items ≡ answer.old.items ++ bytes.now }
@@ -16,11 +18,16 @@ pub fn put(answer: &mut Vec<u8>, bytes: &[u8])
     let _ = answer.extend_from_slice(bytes);
 }
 
-/// Appends a word and a number, which has at most 20 digits. Where memory is refused the answer is as it was.
+/// Appends a word and a number in decimal, 1 to 20 digits.
+///
+/// # Errors
+///
+/// `AllocError` if an allocation failed; the answer is unchanged.
 pub fn put_number(word: &[u8], number: u64, answer: &mut Vec<u8>) -> Result<(), AllocError>
     ensures ok { OnOk result (answer.new.items ≡ answer.old.items ++ (word.now ++ decimal number)) }
     ensures len { OnOk result (vec_len answer.new ≤ vec_len answer.old + length word.now + 20) }
-    ensures full { OnErr result (vec_capacity answer.old < vec_len answer.old + length word.now + 20) }
+    ensures full { OnErr result (vec_capacity answer.old
+        < vec_len answer.old + length word.now + 20) }
     ensures err { OnErr result (answer.new.items ≡ answer.old.items) }
     ensures room { vec_capacity answer.old ≤ vec_capacity answer.new }
 {
@@ -32,10 +39,16 @@ pub fn put_number(word: &[u8], number: u64, answer: &mut Vec<u8>) -> Result<(), 
     Ok(())
 }
 
-/// Appends a blank, the last word of a line and a newline. Where memory is refused the answer is as it was.
+/// Appends a space, the last word of a line and a newline.
+///
+/// # Errors
+///
+/// `AllocError` if an allocation failed; the answer is unchanged.
 pub fn put_last_word(word: &[u8], answer: &mut Vec<u8>) -> Result<(), AllocError>
-    ensures ok { OnOk result (answer.new.items ≡ answer.old.items ++ (codes " " ++ word.now ++ 10 ∷ [])) }
-    ensures full { OnErr result (vec_capacity answer.old < vec_len answer.old + length word.now + 2) }
+    ensures ok { OnOk result (answer.new.items
+        ≡ answer.old.items ++ (codes " " ++ word.now ++ 10 ∷ [])) }
+    ensures full { OnErr result (vec_capacity answer.old
+        < vec_len answer.old + length word.now + 2) }
     ensures err { OnErr result (answer.new.items ≡ answer.old.items) }
     ensures room { vec_capacity answer.old ≤ vec_capacity answer.new }
 {
@@ -46,7 +59,11 @@ pub fn put_last_word(word: &[u8], answer: &mut Vec<u8>) -> Result<(), AllocError
     Ok(())
 }
 
-/// Appends a word and a number on a line of their own. Where memory is refused the answer is as it was.
+/// Appends a line with a word and a number.
+///
+/// # Errors
+///
+/// `AllocError` if an allocation failed; the answer is unchanged.
 pub fn put_number_line(word: &[u8], number: u64, answer: &mut Vec<u8>) -> Result<(), AllocError>
     ensures ok { OnOk result (answer.new.items ≡ answer.old.items ++ number_line word.now number) }
     ensures err { OnErr result (answer.new.items ≡ answer.old.items) }
@@ -58,11 +75,16 @@ pub fn put_number_line(word: &[u8], number: u64, answer: &mut Vec<u8>) -> Result
     Ok(())
 }
 
-/// Appends the line that a refusal prints, by its number and its name. It fails only where there is no room for 28 bytes
-/// more than the name has, and the answer is then as it was.
+/// Appends the line that a refusal prints, by its number and its name. It needs space for at most
+/// 28 bytes more than the name has.
+///
+/// # Errors
+///
+/// `AllocError` if an allocation failed; the answer is unchanged.
 pub fn put_refusal(number: u8, name: &str, answer: &mut Vec<u8>) -> Result<(), AllocError>
     ensures ok { OnOk result (answer.new.items ≡ answer.old.items ++ refusal_line number name.now) }
-    ensures full { OnErr result (vec_capacity answer.old < vec_len answer.old + length name.now + 28) }
+    ensures full { OnErr result (vec_capacity answer.old
+        < vec_len answer.old + length name.now + 28) }
     ensures err { OnErr result (answer.new.items ≡ answer.old.items) }
     ensures room { vec_capacity answer.old ≤ vec_capacity answer.new }
 {

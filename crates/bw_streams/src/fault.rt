@@ -5,13 +5,16 @@ use thiserror::Error;
 /// Why a run over a script, or the check of a certified text, ended early.
 #[derive(Clone, Copy, Debug, PartialEq, Eq, Error)]
 pub enum RunFault {
-    /// A read failed, `READ_CALLS` reads did not reach the end, or a certified text has more than 4 MiB.
+    /// A read failed, `READ_CALLS` reads did not reach the end, or a certified text is longer than
+    /// 4 MiB.
     #[error("read fault")]
     Read,
-    /// A write or a flush failed, or a write took no bytes. What was written is a prefix of the answers.
+    /// A write or a flush failed, or a write took no bytes. The text written is a prefix of the
+    /// answers.
     #[error("write fault")]
     Write,
-    /// Memory was refused, before the first read of a script, or before anything was written of a certified text.
+    /// An allocation failed: before the first read of a script, or before the first write of the
+    /// answer to a certified text.
     #[error("out of memory")]
     Memory,
 }

@@ -1,5 +1,5 @@
-//! What every program of the arbiter reads and writes: readers and writers that are watched, answers that are formed in a
-//! buffer, and texts that are written whole.
+//! Input and output of the arbiter's programs: watched readers and writers, answers formed in a
+//! buffer, and texts written whole.
 #![tactic(auto)]
 
 mod answer;

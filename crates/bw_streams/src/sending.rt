@@ -1,4 +1,4 @@
-//! A text is written whole, or the writer is to blame.
+//! Writes to a watched writer.
 ghost use Rattle.std.specs.Prelude.{◌≡◌, [], true, OnOk};
 ghost use Rattle.bw_streams.specs.Watched.{is_flushed, HasNoFault};
 ghost use Rattle.bw_streams.specs.Writes.{Writes};
@@ -8,9 +8,14 @@ use crate::watched::Watched;
 use std::io::Write;
 
 /// Writes all of the text.
+///
+/// # Errors
+///
+/// `Write` if a write failed or took no bytes.
 pub fn send<W: Write>(writer: &mut Watched<W>, text: &[u8]) -> Result<(), RunFault>
     requires { HasNoFault writer.old }
-    ensures { Writes W.contents writer.old writer.new result (λ sent. sent ≡ text.now) (λ sent. sent ≡ text.now) }
+    ensures { Writes W.contents writer.old writer.new result (λ sent. sent ≡ text.now)
+        (λ sent. sent ≡ text.now) }
 {
     let mut rest = text;
     while !rest.is_empty() {
@@ -24,9 +29,14 @@ pub fn send<W: Write>(writer: &mut Watched<W>, text: &[u8]) -> Result<(), RunFau
 }
 
 /// Flushes the writer.
+///
+/// # Errors
+///
+/// `Write` if the flush failed.
 pub fn flush<W: Write>(writer: &mut Watched<W>) -> Result<(), RunFault>
     requires { HasNoFault writer.old }
-    ensures writes { Writes W.contents writer.old writer.new result (λ none. none ≡ []) (λ none. none ≡ []) }
+    ensures writes { Writes W.contents writer.old writer.new result (λ none. none ≡ [])
+        (λ none. none ≡ []) }
     ensures flushed { OnOk result (is_flushed writer.new ≡ true) }
 {
     match writer.flush() {
@@ -36,9 +46,14 @@ pub fn flush<W: Write>(writer: &mut Watched<W>) -> Result<(), RunFault>
 }
 
 /// Writes all of the text and flushes the writer.
+///
+/// # Errors
+///
+/// `Write` if a write failed or took no bytes, or the flush failed.
 pub fn send_line<W: Write>(writer: &mut Watched<W>, text: &[u8]) -> Result<(), RunFault>
     requires { HasNoFault writer.old }
-    ensures writes { Writes W.contents writer.old writer.new result (λ sent. sent ≡ text.now) (λ sent. sent ≡ text.now) }
+    ensures writes { Writes W.contents writer.old writer.new result (λ sent. sent ≡ text.now)
+        (λ sent. sent ≡ text.now) }
     ensures flushed { OnOk result (is_flushed writer.new ≡ true) }
 {
     send(writer, text)?;

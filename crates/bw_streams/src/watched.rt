@@ -1,5 +1,6 @@
-// A reader or a writer that remembers how its calls went.
-ghost use Rattle.std.specs.Prelude.{◌≡◌, ◌+◌, ◌-◌, ◌^◌, ◌||◌, ◌&&◌, ℕ, min, length, false, is_ok, is_err};
+//! A reader or a writer that remembers how its calls went.
+ghost use Rattle.std.specs.Prelude.{◌≡◌, ◌+◌, ◌-◌, ◌^◌, ◌||◌, ◌&&◌, ℕ, min, length, false, is_ok};
+ghost use Rattle.std.specs.Prelude.{is_err};
 ghost use Rattle.std.specs.Option.{option_or};
 ghost use Rattle.std.specs.Result.{result_err};
 ghost use Rattle.std.specs.Io.{ReadsAtMost, WritesAtMost};
@@ -7,8 +8,10 @@ ghost use Rattle.std.specs.Io.KnownBytes.{Keeps, ReadConsumes, WriteAppends};
 
 use std::io::{Error, Read, Result, Write};
 
-/// Passes each read, write and flush on to what it holds, once, and remembers the error of the first that failed, whether
-/// a write of some bytes took none, how many reads there were, and whether each write that went well was flushed.
+/// Passes each read, write and flush on to the reader or writer inside, once.
+///
+/// It remembers the error of the first failed call, whether a write of some bytes took none, the
+/// number of reads, and whether every successful write was flushed.
 #[derive(Drop)]
 pub struct Watched<T> {
     inner: T,
@@ -19,9 +22,10 @@ pub struct Watched<T> {
 }
 
 impl<T> Watched<T> {
-    ghost use Rattle.bw_streams.specs.Watched.{inner_of, first_error, has_failed, has_stalled, read_calls, is_flushed, IsFresh};
+    ghost use Rattle.bw_streams.specs.Watched.{inner_of, first_error, has_failed, has_stalled};
+    ghost use Rattle.bw_streams.specs.Watched.{read_calls, is_flushed, IsFresh};
 
-    /// A reader or a writer that is watched from here on: no fault and no read so far, and nothing to flush.
+    /// Starts to watch a reader or a writer: no fault and no read so far, and nothing to flush.
     pub fn new(inner: T) -> Watched<T>
         ensures inner { inner_of result ≡ inner }
         ensures fresh { IsFresh result }
@@ -56,14 +60,14 @@ impl<T> Watched<T> {
         self.stalled
     }
 
-    /// How many reads there were. It stays at `u64::MAX` once it is there.
+    /// Number of reads, saturating at `u64::MAX`.
     pub fn reads(&self) -> u64
         ensures { result ≡ read_calls self.now }
     {
         self.reads
     }
 
-    /// Whether no write has gone well since the last flush that did.
+    /// Whether no write has succeeded since the last successful flush.
     pub fn flushed(&self) -> bool
         ensures { result ≡ is_flushed self.now }
     {
@@ -77,14 +81,17 @@ impl<T: Read> Read for Watched<T> {
     ghost use Rattle.std.specs.Result.{result_err};
     ghost use Rattle.std.specs.Io.{ReadsAtMost};
     ghost use Rattle.std.specs.Io.KnownBytes.{ReadConsumes};
-    ghost use Rattle.bw_streams.specs.Watched.{inner_of, first_error, has_failed, has_stalled, read_calls, is_flushed};
+    ghost use Rattle.bw_streams.specs.Watched.{inner_of, first_error, has_failed, has_stalled};
+    ghost use Rattle.bw_streams.specs.Watched.{read_calls, is_flushed};
 
     ghost remaining = { λ w. T.remaining (inner_of w) };
 
     fn read(&mut self, buf: &mut [u8]) -> Result<usize>
         ensures bound { ReadsAtMost result buf.new }
-        ensures bytes { ReadConsumes (T.remaining (inner_of self.old)) (T.remaining (inner_of self.new)) result buf.new }
-        ensures error { first_error self.new ≡ option_or (first_error self.old) (result_err result) }
+        ensures bytes { ReadConsumes (T.remaining (inner_of self.old))
+            (T.remaining (inner_of self.new)) result buf.new }
+        ensures error { first_error self.new
+            ≡ option_or (first_error self.old) (result_err result) }
         ensures failed { has_failed self.new ≡ (has_failed self.old || is_err result) }
         ensures stalled { has_stalled self.new ≡ has_stalled self.old }
         ensures reads { read_calls self.new ≡ min (read_calls self.old + 1) (2 ^ 64 - 1) }
@@ -103,16 +110,20 @@ impl<T: Write> Write for Watched<T> {
     ghost use Rattle.std.specs.Result.{result_err};
     ghost use Rattle.std.specs.Io.{WritesAtMost};
     ghost use Rattle.std.specs.Io.KnownBytes.{Keeps, WriteAppends};
-    ghost use Rattle.bw_streams.specs.Watched.{inner_of, first_error, has_failed, has_stalled, read_calls, is_flushed, takes_none};
+    ghost use Rattle.bw_streams.specs.Watched.{inner_of, first_error, has_failed, has_stalled};
+    ghost use Rattle.bw_streams.specs.Watched.{read_calls, is_flushed, takes_none};
 
     ghost contents = { λ w. T.contents (inner_of w) };
 
     fn write(&mut self, buf: &[u8]) -> Result<usize>
         ensures bound { WritesAtMost result buf.now }
-        ensures bytes { WriteAppends (T.contents (inner_of self.old)) (T.contents (inner_of self.new)) result buf.now }
-        ensures error { first_error self.new ≡ option_or (first_error self.old) (result_err result) }
+        ensures bytes { WriteAppends (T.contents (inner_of self.old))
+            (T.contents (inner_of self.new)) result buf.now }
+        ensures error { first_error self.new
+            ≡ option_or (first_error self.old) (result_err result) }
         ensures failed { has_failed self.new ≡ (has_failed self.old || is_err result) }
-        ensures stalled { has_stalled self.new ≡ (has_stalled self.old || takes_none buf.now result) }
+        ensures stalled { has_stalled self.new
+            ≡ (has_stalled self.old || takes_none buf.now result) }
         ensures reads { read_calls self.new ≡ read_calls self.old }
         ensures flushed { is_flushed self.new ≡ (is_flushed self.old && is_err result) }
     {
@@ -129,7 +140,8 @@ impl<T: Write> Write for Watched<T> {
 
     fn flush(&mut self) -> Result<()>
         ensures bytes { Keeps (T.contents (inner_of self.old)) (T.contents (inner_of self.new)) }
-        ensures error { first_error self.new ≡ option_or (first_error self.old) (result_err result) }
+        ensures error { first_error self.new
+            ≡ option_or (first_error self.old) (result_err result) }
         ensures failed { has_failed self.new ≡ (has_failed self.old || is_err result) }
         ensures stalled { has_stalled self.new ≡ has_stalled self.old }
         ensures reads { read_calls self.new ≡ read_calls self.old }

@@ -6,7 +6,8 @@ use Rattle.bw_streams.proofs.sending.send.Given as goal
 
 abbrev pub invariant-loop-rest : goal.invariant-loop-rest
 invariant-loop-rest g l = record {
-  sent : (front : List ℕ) × Appends (g.W.Write.contents (inner_of l.initial.writer)) (g.W.Write.contents (inner_of l.writer)) front
+  sent : (front : List ℕ) × Appends (g.W.Write.contents (inner_of l.initial.writer))
+      (g.W.Write.contents (inner_of l.writer)) front
       × (l.text ≡ front ++ l.rest);
   quiet : HasNoFault l.writer;
 }
