@@ -1,9 +1,11 @@
 -- Words after `run` that clap takes name a job.
-use Rattle.std.proofs.Common.{◌≡◌, ◌∙◌, ap, ap₂, sym, refl, List, [], ◌∷◌, Option, Some, None, codes, is_some, false}
+use Rattle.std.proofs.Common.{◌≡◌, ◌∙◌, ap, ap₂, sym, refl, List, [], ◌∷◌, Option, Some, None}
+use Rattle.std.proofs.Common.{codes, is_some, false}
 use Rattle.std.specs.Prelude.{option_map}
 use Rattle.clap.specs.Words.{Row, Text, subcommand_of}
 use Rattle.clap.specs.Walk.{Walk, finished, nothing_held, settled, walk, walk_from}
-use Rattle.clap.specs.Faults.{check_fault, defaults_fault, entered_fault, fault_of, level_fault, settle_fault, walk_fault}
+use Rattle.clap.specs.Faults.{check_fault, defaults_fault, entered_fault, fault_of, level_fault}
+use Rattle.clap.specs.Faults.{settle_fault, walk_fault}
 use Rattle.clap.specs.Kinds.{Kinds, or_else}
 use Rattle.clap.specs.Simple.{entered}
 use Rattle.clap.proofs.OnLiterals.{clap_on_literals}
@@ -17,27 +19,39 @@ use Rattle.bw_words.proofs.Refused.{or_none}
 use Rattle.bw_words.proofs.Sound.{run_refuses, sounds}
 use Rattle.bw_words.proofs.Named.{named_gives}
 
-fault_below : (rest : List Text) → fault_of arbiter_app (codes "run" ∷ rest) ≡ or_else (level_fault run_shape [] nothing_held rest false []) []
+fault_below : (rest : List Text) → fault_of arbiter_app (codes "run" ∷ rest)
+    ≡ or_else (level_fault run_shape [] nothing_held rest false []) []
 unfolding clap_on_literals
 fault_below rest =
-    ap₂ (λ (w : Walk) (k : Kinds). or_else k (or_else (entered_fault built_app w.stopped) (or_else (settle_fault built_app.top.rules false w.held)
+    ap₂ (λ (w : Walk) (k : Kinds).
+    or_else k (or_else (entered_fault built_app w.stopped)
+    (or_else (settle_fault built_app.top.rules false w.held)
     (or_else (defaults_fault (settled built_app.top.rules w.held).rows built_app.top.rules)
-    (check_fault built_app.top (finished built_app.top.rules w.held) (is_some (entered built_app w.stopped)))))))
+    (check_fault built_app.top (finished built_app.top.rules w.held)
+    (is_some (entered built_app w.stopped)))))))
     (walk_run rest) (top_run rest)
 
-run_named : (rest : List Text) → fault_of arbiter_app (codes "run" ∷ rest) ≡ [] → (g : Uses) × (uses_after [] None rest ≡ Some g)
+run_named : (rest : List Text) → fault_of arbiter_app (codes "run" ∷ rest) ≡ []
+    → (g : Uses) × (uses_after [] None rest ≡ Some g)
 run_named rest e =
-    let level = (or_none (level_fault run_shape [] nothing_held rest false []) [] (sym (fault_below rest) ∙ e)).0 in
+    let level = (or_none (level_fault run_shape [] nothing_held rest false []) []
+    (sym (fault_below rest) ∙ e)).0 in
     let p = or_none (walk_fault run_shape [] (walk_from nothing_held) rest) _ level in
-    let q = or_none (settle_fault run_shape.rules false (walk run_shape.rules [] nothing_held rest).held) _ p.1 in
+    let q = or_none
+    (settle_fault run_shape.rules false (walk run_shape.rules [] nothing_held rest).held) _
+    p.1 in
     (sounds run_shape run_reads run_refuses rest None nothing_held [] refl p.0 q.0).1 at_start
 
 -- the job found for words that clap takes is the one that they name
-pub run_sound : (rest : List Text) (k : Job) (found : Option (Text × List Row)) → fault_of arbiter_app (codes "run" ∷ rest) ≡ []
+pub run_sound : (rest : List Text) (k : Job) (found : Option (Text × List Row))
+    → fault_of arbiter_app (codes "run" ∷ rest) ≡ []
     → found ≡ subcommand_of arbiter_app (codes "run" ∷ rest)
-    → ((rows : List Row) (uses : Uses) → found ≡ Some (codes "run", rows) → HasNumbers rows uses → k ≡ run_job uses)
-    → ((rows : List Row) → found ≡ Some (codes "check", rows) → k ≡ job.Check) → job_named (codes "run" ∷ rest) ≡ Some k
+    → ((rows : List Row) (uses : Uses) → found ≡ Some (codes "run", rows) → HasNumbers rows uses
+    → k ≡ run_job uses)
+    → ((rows : List Row) → found ≡ Some (codes "check", rows) → k ≡ job.Check)
+    → job_named (codes "run" ∷ rest) ≡ Some k
 run_sound rest k found e at run check =
     let g = run_named rest e in
     let named : job_named (codes "run" ∷ rest) ≡ Some (run_job g.0) = ap (option_map run_job) g.1 in
-    named ∙ ap Some (sym ((named_gives (codes "run" ∷ rest) (run_job g.0) named).1 k found at run check))
+    named ∙ ap Some (sym ((named_gives (codes "run" ∷ rest) (run_job g.0) named).1 k found at run
+    check))

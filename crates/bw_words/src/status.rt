@@ -1,10 +1,11 @@
-//! Exit numbers.
+//! Exit statuses.
 ghost use Rattle.std.specs.Prelude.{◌≡◌};
 ghost use Rattle.bw_words.specs.Status.{status_of_fault};
 
 use crate::words::WordsFault;
 
-/// The exit number where the words name no job: help was asked for, they are refused, or it is out of memory.
+/// Exit status of a command line that gives no job: 0 for help, 2 for a refusal, 1 if an allocation
+/// failed.
 pub fn status_of_words(fault: &WordsFault) -> u8
     ensures { result ≡ status_of_fault fault.now }
 {

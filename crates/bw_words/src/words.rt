@@ -1,6 +1,8 @@
 //! The words after the program's name.
-ghost use Rattle.std.specs.Prelude.{◌≡◌, ◌∷◌, ℕ, List, true, false, IfOk, IfErr, MatchResult, Some, codes, map, string_bytes};
-ghost use Rattle.clap.specs.Words.{app_of, found_of, kind_of, one_of, rows_of, rule_of, subcommand_rows_of, without_minus};
+ghost use Rattle.std.specs.Prelude.{◌≡◌, ◌∷◌, ℕ, List, true, false, IfOk, IfErr, MatchResult, Some};
+ghost use Rattle.std.specs.Prelude.{codes, map, string_bytes};
+ghost use Rattle.clap.specs.Words.{app_of, found_of, kind_of, one_of, rows_of, rule_of};
+ghost use Rattle.clap.specs.Words.{subcommand_rows_of, without_minus};
 ghost use Rattle.clap.specs.declared.builder.Command.TheViews.{out-Command as fields_of};
 ghost use Rattle.bw_words.specs.CommandLine.{arbiter_app, number_rule, run_app};
 ghost use Rattle.bw_words.specs.Found.{HasNumbers};
@@ -13,10 +15,11 @@ use clap::error::ErrorKind;
 use clap::{Arg, ArgAction, ArgMatches, Command, Error, value_parser};
 use std::alloc::{AllocError, Global};
 
-/// What the program is to do.
+/// The job that a command line names.
 #[derive(Clone, Copy, Debug, PartialEq, Eq)]
 pub enum Job {
-    /// `arbiter run`, with the processors of the host, and its period and slice in microseconds.
+    /// `arbiter run`: processors of the host, and its period and slice in microseconds. The host's
+    /// ranges are not checked here.
     Run {
         processors: u32,
         period_us: u32,
@@ -26,18 +29,18 @@ pub enum Job {
     Check,
 }
 
-/// Why there is no job: help was asked for, the words are wrong, or it is out of memory.
+/// Why a command line gives no job.
 #[derive(Debug, Drop)]
 pub enum WordsFault {
-    /// Help or the version was asked for: its text.
+    /// The text of `--help` or `--version`.
     Help(String),
-    /// The words name no job: `clap`'s text.
+    /// The words name no job. The text is `clap`'s message.
     Usage(String),
-    /// Memory was refused.
+    /// An allocation failed.
     Memory,
 }
 
-// What `arbiter --help` says after the commands.
+// Text of `arbiter --help` behind the commands.
 const STATUSES: &str = "\
 Exit status:
   0  the script was read to its end, refused lines included; the text is accepted; help
@@ -48,7 +51,7 @@ Exit status:
 Example:
   arbiter run --processors 2 < examples/two-groups.script";
 
-// What `arbiter run --help` says after the options.
+// Text of `arbiter run --help` behind the options.
 const COMMANDS: &str = "\
 Commands of a script, one a line (P is a path: . for the root, else names joined by /):
   mkdir P             a new group
@@ -75,7 +78,7 @@ fn number<'a>(alloc: Global, name: &'a str, default: &'a str) -> Arg<'a>
         .default_value(default)
 }
 
-// The same with what help says of it, which changes nothing that is read.
+// Adds a help text to an option.
 fn described<'a>(option: Arg<'a>, help: &'a str) -> Arg<'a>
     ensures rule { rule_of result ≡ rule_of option.entry }
     ensures local { result.global ≡ option.entry.global }
@@ -141,14 +144,15 @@ fn fault(alloc: Global, error: Error) -> WordsFault
     }
 }
 
-/// The number that was found for an option.
+// The number of an option, or its default.
 fn number_found(found: &ArgMatches<'_>, name: &str, default: u32) -> u32
-    ensures { (text : List ℕ) → one_of name.now (rows_of (found_of found.now)) ≡ Some (without_minus text) → is_number text ≡ true → result ≡ number_in text }
+    ensures { (text : List ℕ) → one_of name.now (rows_of (found_of found.now))
+        ≡ Some (without_minus text) → is_number text ≡ true → result ≡ number_in text }
 {
     found.get_one::<u32>(name).unwrap_or(default)
 }
 
-/// The job that was found for `run`.
+// The job of `run` with its options.
 fn run_found(found: &ArgMatches<'_>) -> Job
     ensures { (uses : _) → HasNumbers (rows_of (found_of found.now)) uses → result ≡ run_job uses }
 {
@@ -162,11 +166,13 @@ fn run_found(found: &ArgMatches<'_>) -> Job
     }
 }
 
-// Returns the job of the subcommand that was found. `clap` refuses words without a subcommand, and `Check` then stands
-// for none: no clause speaks of that case.
+// The job of the subcommand. `clap` refuses words without one, so the answer `Check` for that case
+// is never used; no clause speaks of it.
 fn job_found(matches: &ArgMatches<'_>) -> Job
-    ensures run { (rows : _) (uses : _) → subcommand_rows_of matches.now ≡ Some (codes "run", rows) → HasNumbers rows uses → result ≡ run_job uses }
-    ensures check { (rows : _) → subcommand_rows_of matches.now ≡ Some (codes "check", rows) → result ≡ Job.Check }
+    ensures run { (rows : _) (uses : _) → subcommand_rows_of matches.now ≡ Some (codes "run", rows)
+        → HasNumbers rows uses → result ≡ run_job uses }
+    ensures check { (rows : _) → subcommand_rows_of matches.now ≡ Some (codes "check", rows)
+        → result ≡ Job.Check }
 {
     let Some((name, found)) = matches.subcommand() else {
         return Job::Check;
@@ -178,13 +184,20 @@ fn job_found(matches: &ArgMatches<'_>) -> Job
     }
 }
 
-/// Reads the words after the program's name.
+/// Reads the words behind the program's name.
+///
+/// # Errors
+///
+/// `Help` if the words ask for help or the version, `Usage` if they name no job, and `Memory` if an
+/// allocation failed, also in place of the other two.
 pub fn read_words(alloc: Global, words: &[String]) -> Result<Job, WordsFault>
-    // Words that name a job give that job, unless it is out of memory.
-    ensures named { (job : Job) → job_named (map string_bytes words.now) ≡ Some job → MatchResult result (λ k. k ≡ job) (λ f. f ≡ WordsFault.Memory) }
+    // Words that name a job give that job, unless an allocation failed.
+    ensures named { (job : Job) → job_named (map string_bytes words.now) ≡ Some job
+        → MatchResult result (λ k. k ≡ job) (λ f. f ≡ WordsFault.Memory) }
     // So do plain words: `check` alone, or `run` with each option at most once, as `--name N`.
-    ensures plain { (job : Job) → plain_job (map string_bytes words.now) ≡ Some job → MatchResult result (λ k. k ≡ job) (λ f. f ≡ WordsFault.Memory) }
-    // A job that is given is the one that the words name.
+    ensures plain { (job : Job) → plain_job (map string_bytes words.now) ≡ Some job
+        → MatchResult result (λ k. k ≡ job) (λ f. f ≡ WordsFault.Memory) }
+    // At Ok the job is the one that the words name.
     ensures ok { IfOk result (λ k. job_named (map string_bytes words.now) ≡ Some k) }
 {
     let Ok(command) = arbiter_command(alloc) else {
