@@ -1,5 +1,7 @@
--- What the check of a certified text answers: the line that it prints, and whether the text is accepted.
-use Rattle.std.specs.Prelude.{ℕ, ◌≡◌, ◌≤◌, List, [], ◌∷◌, ◌++◌, Bool, true, false, Option, Result, Ok, Err, codes, length}
+-- What the check of a certified text answers: the line that it prints, and whether the text is
+-- accepted.
+use Rattle.std.specs.Prelude.{ℕ, ◌≡◌, ◌≤◌, List, [], ◌∷◌, ◌++◌, Bool, true, false, Option, Result}
+use Rattle.std.specs.Prelude.{Ok, Err, codes, length}
 use Rattle.std.specs.Fmt.{decimal}
 use Rattle.std.specs.Io.KnownBytes.{Appends, Consumes}
 use Rattle.bw_cert.specs.Faults.{cert_fault_number, cert_fault_name}
@@ -20,7 +22,8 @@ use Rattle.bw_text_check.specs.declared.text_check.TheConstants.{TEXT_BYTES}
 abbrev pub verdict_line : Verdict → List ℕ
 verdict_line Accepted = codes "accepted" ++ 10 ∷ []
 verdict_line (Refused fault group) =
-    codes "refused " ++ decimal (check_fault_number fault) ++ codes " " ++ check_fault_name fault ++ codes " " ++ decimal group ++ 10 ∷ []
+    codes "refused " ++ decimal (check_fault_number fault) ++ codes " " ++ check_fault_name fault
+    ++ codes " " ++ decimal group ++ 10 ∷ []
 
 -- the line of a text that is no certified text
 abbrev pub fault_line : CertFault → List ℕ
@@ -37,9 +40,12 @@ is_accepted (Checked Accepted) = true
 is_accepted (Checked (Refused fault group)) = false
 is_accepted (Faulty fault) = false
 
--- from what a text certifies, or its first fault: that fault, or the verdict on the instance, the amounts, the flags and the levels
+-- from what a text certifies, or its first fault: that fault, or the verdict on the instance, the
+-- amounts, the flags and the levels
 abbrev pub IsFindingOf : Result Value CertFault → Finding → Type 0
-IsFindingOf (Ok value) (Checked verdict) = IsVerdictOn (groups_of value) value.groups.amounts value.groups.flags value.groups.levels verdict
+IsFindingOf (Ok value) (Checked verdict) =
+    IsVerdictOn (groups_of value) value.groups.amounts value.groups.flags value.groups.levels
+    verdict
 IsFindingOf (Ok value) (Faulty fault) = ⊥
 IsFindingOf (Err fault) (Checked verdict) = ⊥
 IsFindingOf (Err fault) (Faulty found) = found ≡ fault
@@ -49,7 +55,8 @@ abbrev pub IsFinding : List ℕ → Finding → Type 0
 IsFinding text finding = IsFindingOf (certified_of (text_lines text)) finding
 
 -- A text was read whose line was written, and the answer is whether that line is `accepted`.
-pub record Checks (left_old left_new held_old held_new : Option (List ℕ)) (accepted : Bool) : Type 0 where
+pub record Checks (left_old left_new held_old held_new : Option (List ℕ)) (accepted : Bool)
+    : Type 0 where
   pub text : List ℕ
   pub finding : Finding
   pub read : Consumes left_old left_new text

@@ -1,9 +1,9 @@
-//! The limit of a text, said once more: the definitions read it from the code, so a wrong one would go unseen there.
+//! The limit of a text, as a number. The definitions take it from the code.
 ghost use Rattle.std.specs.Prelude.{◌≡◌};
 
 use crate::text_check::TEXT_BYTES;
 
-/// A certified text has up to 4 MiB.
+/// States the limit: a certified text has up to 4 MiB.
 pub fn text_numbers()
     ensures { TEXT_BYTES ≡ 4194304 }
 {}

@@ -1,4 +1,4 @@
-//! The check of a certified text: it is read from any reader, and one line is written to any writer.
+//! The check of a certified text: reads it from any reader, and writes one line to any writer.
 #![tactic(auto)]
 
 mod laws;

@@ -1,9 +1,11 @@
-//! A certified text is read whole, checked, and answered by one line.
-ghost use Rattle.std.specs.Prelude.{◌≡◌, ◌≢◌, ◌⊎◌, ◌<◌, ◌≤◌, ◌+◌, ◌-◌, ◌++◌, ◌^◌, ℕ, List, min, length, true, false, OnOk, IfOk, IfErr, IsErrOf};
+//! Reads a certified text whole, checks it, and answers by one line.
+ghost use Rattle.std.specs.Prelude.{◌≡◌, ◌≢◌, ◌⊎◌, ◌<◌, ◌≤◌, ◌+◌, ◌-◌, ◌++◌, ◌^◌, ℕ, List, min};
+ghost use Rattle.std.specs.Prelude.{length, true, false, OnOk, IfOk, IfErr, IsErrOf};
 ghost use Rattle.std.specs.Io.KnownBytes.{Appends, Consumes, IsAtEnd, Keeps};
 ghost use Rattle.bw_streams.specs.Fronts.{AppendsFront};
 ghost use Rattle.bw_cert.specs.Spelling.{HoldsPlan};
-ghost use Rattle.bw_text_check.specs.CheckText.{line_of, verdict_line, is_accepted, IsFinding, Checks, ChecksFront};
+ghost use Rattle.bw_text_check.specs.CheckText.{line_of, verdict_line, is_accepted, IsFinding};
+ghost use Rattle.bw_text_check.specs.CheckText.{Checks, ChecksFront};
 ghost use Rattle.bw_streams.specs.Prints.{Prints};
 ghost use Rattle.bw_text_check.specs.Reads.{Reads};
 ghost use Rattle.bw_streams.specs.Watched.{inner_of, has_failed, read_calls, IsFresh, HasNoFault};
@@ -16,12 +18,12 @@ use bw_streams::{
 use std::alloc::{AllocError, Global};
 use std::io::{Read, Write};
 
-/// A certified text with more bytes, 4 MiB, is a read fault.
+/// Maximum length of a certified text in bytes, 4 MiB.
 pub const TEXT_BYTES: usize = 4194304;
 
 ghost use Rattle.bw_text_check.specs.declared.text_check.TheConstants.{TEXT_BYTES};
 
-// What is found in a text: that it is no certified text, or the verdict on it.
+// Result of a check: the verdict on a certified text, or why the text is none.
 #[derive(Clone, Copy)]
 pub(crate) enum Finding {
     Checked(Verdict),
@@ -30,7 +32,7 @@ pub(crate) enum Finding {
 
 ghost use Rattle.bw_check.specs.declared.verdict.Verdict.TheVariants.{Refused};
 
-// One read, and its bytes behind those read so far. `false` is the end of the text.
+// Reads once and appends the bytes to `text`. `false` is the end of the text.
 fn take_piece<R: Read>(
     text: &mut Vec<u8>,
     piece: &mut [u8],
@@ -46,7 +48,8 @@ fn take_piece<R: Read>(
     ensures small { OnOk result (length text.new.items ≤ TEXT_BYTES) }
     ensures quiet { OnOk result (HasNoFault reader.new) }
     ensures end { IfOk result (λ more. more ≡ false → IsAtEnd (R.remaining (inner_of reader.new))) }
-    ensures read_when { IsErrOf result RunFault.Read → (has_failed reader.new ≡ true) ⊎ ((bytes : List ℕ)
+    ensures read_when { IsErrOf result RunFault.Read → (has_failed reader.new ≡ true)
+        ⊎ ((bytes : List ℕ)
         × Consumes (R.remaining (inner_of reader.old)) (R.remaining (inner_of reader.new)) bytes
         × (TEXT_BYTES < length text.old.items + length bytes)) }
     ensures write { IfErr result (λ f. f ≢ RunFault.Write) }
@@ -64,10 +67,11 @@ fn take_piece<R: Read>(
     }
 }
 
-// All of the text.
+// Reads the text to its end.
 fn read_text<R: Read>(alloc: Global, reader: &mut Watched<R>) -> Result<Vec<u8>, RunFault>
     requires { IsFresh reader.old }
-    ensures ok { IfOk result (λ v. Consumes (R.remaining (inner_of reader.old)) (R.remaining (inner_of reader.new)) v.items) }
+    ensures ok { IfOk result (λ v. Consumes (R.remaining (inner_of reader.old))
+        (R.remaining (inner_of reader.new)) v.items) }
     ensures small { IfOk result (λ v. length v.items ≤ TEXT_BYTES) }
     ensures reads { Reads R.remaining reader.old reader.new result }
     ensures write { IfErr result (λ f. f ≢ RunFault.Write) }
@@ -113,7 +117,8 @@ fn is_accepted(finding: Finding) -> bool
 
 // Appends the line of a refusal.
 fn put_refused(answer: &mut Vec<u8>, fault: CheckFault, group: u32) -> Result<(), AllocError>
-    ensures { OnOk result (answer.new.items ≡ answer.old.items ++ verdict_line (Refused fault group)) }
+    ensures { OnOk result (answer.new.items
+        ≡ answer.old.items ++ verdict_line (Refused fault group)) }
 {
     put_number(b"refused ", u64::from(fault.number()), answer)?;
     answer.extend_from_slice(b" ")?;
@@ -122,7 +127,7 @@ fn put_refused(answer: &mut Vec<u8>, fault: CheckFault, group: u32) -> Result<()
     Ok(())
 }
 
-// The line that is printed.
+// The line of a finding.
 fn line_of(alloc: Global, finding: Finding) -> Result<Vec<u8>, AllocError>
     ensures { IfOk result (λ line. line.items ≡ line_of finding) }
 {
@@ -144,20 +149,30 @@ fn answer<W: Write>(
     writer: &mut Watched<W>,
 ) -> Result<(), RunFault>
     requires { HasNoFault writer.old }
-    ensures ok { OnOk result (Appends (W.contents (inner_of writer.old)) (W.contents (inner_of writer.new)) (line_of finding)) }
+    ensures ok { OnOk result (Appends (W.contents (inner_of writer.old))
+        (W.contents (inner_of writer.new)) (line_of finding)) }
     ensures prints { Prints writer.old writer.new result }
-    ensures write { IsErrOf result RunFault.Write → AppendsFront (W.contents (inner_of writer.old)) (W.contents (inner_of writer.new)) (line_of finding) }
+    ensures write { IsErrOf result RunFault.Write
+        → AppendsFront (W.contents (inner_of writer.old)) (W.contents (inner_of writer.new))
+        (line_of finding) }
     ensures read { IfErr result (λ f. f ≢ RunFault.Read) }
 {
     let line = line_of(alloc, finding)?;
     send_line(writer, line.as_slice())
 }
 
-/// Reads a certified text to its end, checks it, and writes one line: `accepted`, `refused N NAME GROUP` with the row of
-/// the group, or `error N NAME`. It is true exactly for `accepted`, and then the amounts of the text are the plan of
-/// its instance.
+/// Reads a certified text to its end, checks it, and writes one line: `accepted`, `refused N NAME
+/// GROUP` with the row of the group, or `error N NAME`. Returns `true` if and only if the line is
+/// `accepted`; the amounts of the text are then the plan of its instance.
 ///
-/// The line is formed before its first byte is written. A text of more than 4 MiB is a read fault.
+/// The line is formed before its first byte is written.
+///
+/// # Errors
+///
+/// `Read` if a read failed, `READ_CALLS` reads did not reach the end, or the text is longer than
+/// 4 MiB.
+/// `Memory` if an allocation failed; nothing is written.
+/// `Write` if a write or the flush failed, or a write took no bytes.
 pub fn check_text<R: Read, W: Write>(
     alloc: Global,
     reader: &mut Watched<R>,
@@ -166,7 +181,7 @@ pub fn check_text<R: Read, W: Write>(
     requires reader { IsFresh reader.old }
     requires writer { IsFresh writer.old }
 
-    // All that the reader held was read, and what was written is the line for the whole text.
+    // All bytes of the reader are read, and the text written is the line for all of them.
     ensures ok { IfOk result (Checks
         (R.remaining (inner_of reader.old)) (R.remaining (inner_of reader.new))
         (W.contents (inner_of writer.old)) (W.contents (inner_of writer.new))) }
@@ -176,11 +191,12 @@ pub fn check_text<R: Read, W: Write>(
     // After a read fault nothing is written.
     ensures read { IsErrOf result RunFault.Read → writer.new ≡ writer.old }
 
-    // After a write fault a front of the line for the whole text is.
+    // After a write fault a prefix of the line for the whole text is written.
     ensures write { IsErrOf result RunFault.Write → ChecksFront
         (R.remaining (inner_of reader.old)) (R.remaining (inner_of reader.new))
         (W.contents (inner_of writer.old)) (W.contents (inner_of writer.new)) }
-    ensures write_end { IsErrOf result RunFault.Write → IsAtEnd (R.remaining (inner_of reader.new)) }
+    ensures write_end { IsErrOf result RunFault.Write
+        → IsAtEnd (R.remaining (inner_of reader.new)) }
 {
     let text = read_text(alloc, reader)?;
     let finding = finding_in(alloc, text.as_slice())?;

@@ -11,11 +11,13 @@ pub returns-clause-ok : goal.returns-clause-ok
 returns-clause-ok g c =
     let line : c.as_slice.result.now ≡ line_of c.args.finding = search rules in
     OnOk-map c.send_line.result
-    (λ p. subst (λ l. Appends (g.W.Write.contents (inner_of c.args.writer.now)) (g.W.Write.contents (inner_of c.send_line.new.writer)) l) (p.1 ∙ line) p.2)
+    (λ p. subst (λ l. Appends (g.W.Write.contents (inner_of c.args.writer.now))
+    (g.W.Write.contents (inner_of c.send_line.new.writer)) l) (p.1 ∙ line) p.2)
     c.send_line.ensures.writes.ok
 
 pub returns-clause-write : goal.returns-clause-write
 returns-clause-write g c = λ h.
     let line : c.as_slice.result.now ≡ line_of c.args.finding = search rules in
     let p = rw h at c.send_line.ensures.writes.err in
-    subst (λ l. AppendsFront (g.W.Write.contents (inner_of c.args.writer.now)) (g.W.Write.contents (inner_of c.send_line.new.writer)) l) (p.1 ∙ line) p.2
+    subst (λ l. AppendsFront (g.W.Write.contents (inner_of c.args.writer.now))
+    (g.W.Write.contents (inner_of c.send_line.new.writer)) l) (p.1 ∙ line) p.2

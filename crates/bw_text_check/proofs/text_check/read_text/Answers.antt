@@ -1,5 +1,6 @@
 -- The goals of `read_text` that are answered by hand.
-use Rattle.std.proofs.Common.{◌⊎◌, ◌<◌, ◌+◌, ◌++◌, ℕ, List, Bool, Option, length, length-append, inl, inr, arith}
+use Rattle.std.proofs.Common.{◌⊎◌, ◌<◌, ◌+◌, ◌++◌, ℕ, List, Bool, Option, length, length-append}
+use Rattle.std.proofs.Common.{inl, inr, arith}
 use Rattle.std.specs.Io.KnownBytes.{Consumes}
 use Rattle.bw_text_check.specs.Reads.{ReadsTooMuch}
 use Rattle.bw_streams.specs.declared.fault.RunFault.TheVariants.{Read}
@@ -9,7 +10,8 @@ use Rattle.bw_text_check.proofs.text_check.read_text.Goals as goal
 
 -- a text so far, and a read that makes it too long
 reads_too_much : (a b d : Option (List ℕ)) (text : List ℕ) → Consumes a b text
-    → (bytes : List ℕ) × Consumes b d bytes × (TEXT_BYTES < length text + length bytes) → ReadsTooMuch a d
+    → (bytes : List ℕ) × Consumes b d bytes × (TEXT_BYTES < length text + length bytes)
+    → ReadsTooMuch a d
 reads_too_much a b d text p q =
     let sum = length-append text q.0 in
     (text ++ q.0, Consumes-trans a b d text q.0 p q.1, omega (arith, sum, q.2))

@@ -7,7 +7,8 @@ use Rattle.bw_text_check.proofs.text_check.read_text.Given as goal
 
 abbrev pub invariant-loop-turn : goal.invariant-loop-turn
 invariant-loop-turn g l = record {
-  read : Consumes (g.R.Read.remaining (inner_of l.initial.reader)) (g.R.Read.remaining (inner_of l.reader)) l.text.items;
+  read : Consumes (g.R.Read.remaining (inner_of l.initial.reader))
+      (g.R.Read.remaining (inner_of l.reader)) l.text.items;
   small : length l.text.items ≤ TEXT_BYTES;
   quiet : HasNoFault l.reader;
   calls : read_calls l.reader ≡ l.turn;
