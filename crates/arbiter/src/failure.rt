@@ -1,15 +1,16 @@
-//! What failed, in the words that are printed.
+//! Faults with their reasons, as they are printed.
 ghost use Rattle.std.specs.Prelude.{◌≡◌};
 
 use bw_streams::{READ_CALLS, RunFault, Watched};
 use std::io::{Error, ErrorKind};
 
-// The system's numbers of two errors that have no kind: input or output, and a bad descriptor.
+// EIO of errno(3), which has no kind.
 const DEVICE_FAILED: i32 = 5;
 
+// EBADF of errno(3), which has no kind.
 const NOT_OPEN: i32 = 9;
 
-/// A fault, and why it came about where that is known.
+/// A fault, and its reason if it is known.
 #[derive(Clone, Copy)]
 pub struct Failure {
     fault: RunFault,
@@ -21,7 +22,7 @@ impl Failure {
     ghost use Rattle.arbiter.specs.Failure.{what_failed};
     ghost use Rattle.bw_streams.specs.declared.fault.RunFault.TheVariants.{Memory, Write};
 
-    /// Memory was refused.
+    /// An allocation failed.
     pub fn memory() -> Failure
         ensures { what_failed result ≡ Memory }
     {
@@ -41,7 +42,7 @@ impl Failure {
         }
     }
 
-    /// The fault of a run or of a check, with the reason that its reader or its writer tells.
+    /// The fault of a run or of a check, with the reason that its reader or writer remembers.
     pub fn of<R, W>(fault: RunFault, reader: &Watched<R>, writer: &Watched<W>) -> Failure
         ensures { what_failed result ≡ fault }
     {
@@ -53,20 +54,21 @@ impl Failure {
         Failure { fault, reason }
     }
 
-    /// What failed.
+    /// The fault.
     pub fn fault(&self) -> RunFault
         ensures { result ≡ what_failed self.now }
     {
         self.fault
     }
 
-    /// Why, as `it is a directory`.
+    /// The reason, as `it is a directory`.
     pub fn reason(&self) -> Option<&'static str> {
         self.reason
     }
 }
 
-// Why a read fault came about. Where no call failed, all the read calls are spent, or `check` was given too long a text.
+// Reason of a read fault. If no call failed, the read calls are spent or the certified text is too
+// long.
 fn read_reason<R>(reader: &Watched<R>) -> Option<&'static str> {
     match reader.error() {
         Some(error) => reason_of(error),
@@ -75,7 +77,7 @@ fn read_reason<R>(reader: &Watched<R>) -> Option<&'static str> {
     }
 }
 
-// Why a write fault came about. Where no call failed, a write took no byte.
+// Reason of a write fault. If no call failed, a write took no bytes.
 fn write_reason<W>(writer: &Watched<W>) -> Option<&'static str> {
     match writer.error() {
         Some(error) => reason_of(error),
@@ -83,7 +85,7 @@ fn write_reason<W>(writer: &Watched<W>) -> Option<&'static str> {
     }
 }
 
-// Why a call on standard input or output failed, where its error tells.
+// Reason of a failed call on standard input or output, by the kind of its error.
 fn reason_of(error: Error) -> Option<&'static str> {
     match error.kind() {
         ErrorKind::IsADirectory => Some("it is a directory"),
@@ -104,7 +106,7 @@ fn reason_of(error: Error) -> Option<&'static str> {
     }
 }
 
-// The same of the system's number of an error that has no kind.
+// Reason of an error that has no kind, by its number of errno(3).
 fn reason_of_number(number: Option<i32>) -> Option<&'static str> {
     match number {
         Some(DEVICE_FAILED) => Some("the device failed"),

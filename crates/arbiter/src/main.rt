@@ -1,5 +1,5 @@
-//! `arbiter run` reads a script on standard input and writes the answer to each line. `arbiter check` reads one certified
-//! text and writes whether its amounts are the plan.
+//! `arbiter run` reads a script on standard input and writes the answer to each line.
+//! `arbiter check` reads one certified text and writes whether its amounts are the plan.
 #![tactic(auto)]
 
 mod failure;
@@ -19,7 +19,7 @@ use std::rt::Clock;
 use std::sync::Wait;
 use std::thread::Threads;
 
-// Words that cannot be read, or a host that is refused.
+// Exit status of arguments that are not text, or of a host that is refused.
 const USAGE_STATUS: u8 = 2;
 
 // Runs the script on standard input, with a thread for each processor at each `period`.
@@ -39,7 +39,7 @@ fn run_script<R: AllocGlobal + Input + Print + Threads + Wait + Clock + Sync>(
     }
 }
 
-// Says on standard error what failed, and why where that is known.
+// Prints on standard error what failed, and the reason if it is known.
 fn told(rt: &impl Eprint, failure: Failure) -> RunFault {
     let fault = failure.fault();
     let _ = match failure.reason() {
@@ -49,7 +49,7 @@ fn told(rt: &impl Eprint, failure: Failure) -> RunFault {
     fault
 }
 
-// The end of a run or of a text that is printed, with its fault on standard error.
+// Exit status of a run or of a printed text. A fault is printed on standard error.
 fn ended(rt: &impl Eprint, outcome: Result<(), Failure>, status: u8) -> ExitCode {
     match outcome {
         Ok(()) => ExitCode::from(status),
@@ -96,7 +96,7 @@ fn check_job(rt: &HostRuntime) -> ExitCode {
     ExitCode::from(status_of_check(&checked))
 }
 
-// The words name no job.
+// Prints why the words name no job.
 fn no_job(rt: &HostRuntime, fault: WordsFault) -> ExitCode {
     let status = status_of_words(&fault);
     match fault {
@@ -112,7 +112,7 @@ fn no_job(rt: &HostRuntime, fault: WordsFault) -> ExitCode {
     }
 }
 
-// The words themselves cannot be read: memory was refused, or one of them is no text.
+// The arguments cannot be read: an allocation failed, or one of them is not text.
 fn bad_arguments(rt: &HostRuntime, kind: io::ErrorKind) -> ExitCode {
     if kind == io::ErrorKind::OutOfMemory {
         return no_job(rt, WordsFault::Memory);
