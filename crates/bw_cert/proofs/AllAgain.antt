@@ -43,13 +43,13 @@ plain_level : (o : Option MarkValue) → IfSome o IsSmallLevel → IsPlain (leve
 plain_level None h = plain_code 45 (omega arith)
 plain_level (Some l) h =
     let a = All-append (λ b. 33 ≤ b) (decimal l.num) (codes "/") (digits_plain l.num h.num)
-        (plain_code 47 (omega arith)) in
+    (plain_code 47 (omega arith)) in
     let b = All-append (λ b. 33 ≤ b) (decimal l.num ++ codes "/") (decimal l.den) a
-        (digits_plain l.den h.den) in
+    (digits_plain l.den h.den) in
     let c = All-append (λ b. 33 ≤ b) (decimal l.num ++ codes "/" ++ decimal l.den) (codes "@") b
-        (plain_code 64 (omega arith)) in
+    (plain_code 64 (omega arith)) in
     All-append (λ b. 33 ≤ b) (decimal l.num ++ codes "/" ++ decimal l.den ++ codes "@")
-        (decimal l.place) c (digits_plain l.place (omega (arith, h.place)))
+    (decimal l.place) c (digits_plain l.place (omega (arith, h.place)))
 
 plain_group : (r : Row) (a : ℕ) (f : Bool) (m : Option MarkValue) → IsSmallRow r → a < 2 ^ 64
     → IfSome m IsSmallLevel
@@ -58,9 +58,13 @@ plain_group r a f m row amount level = (
   plain_parent r.parent row.parent,
   (
     digits_plain r.weight row.weight,
-    (plain_limit r.limit row.limit,
-        (digits_plain r.demand row.demand,
-        (digits_plain a amount, (plain_flag f, (plain_level m level, tt))))),
+    (
+      plain_limit r.limit row.limit,
+      (
+        digits_plain r.demand row.demand,
+        (digits_plain a amount, (plain_flag f, (plain_level m level, tt))),
+      ),
+    ),
   ),
 )
 
@@ -82,7 +86,7 @@ group_again r a f m row amount level =
 one_line : (first : List ℕ) (others : List (List ℕ)) (rest : List ℕ)
     → AllByRecursion IsPlain (first ∷ others)
     → line_at (text_lines (line (first ∷ others) ++ rest))
-        ≡ Ok (join_with_byte 32 (first ∷ others), text_lines rest)
+    ≡ Ok (join_with_byte 32 (first ∷ others), text_lines rest)
 one_line first others rest h =
     line_there (line (first ∷ others) ++ rest) (join_with_byte 32 (first ∷ others)) rest
     (line_again first others rest h)
@@ -91,10 +95,10 @@ groups_again : (rows : List Row) (amounts : List ℕ) (flags : List Bool)
     (levels : List (Option MarkValue))
     → length amounts ≡ length rows → length flags ≡ length rows → length levels ≡ length rows
     → AllByRecursion IsSmallRow rows → AllByRecursion (λ a. a < 2 ^ 64) amounts
-        → AllByRecursion (λ o. IfSome o IsSmallLevel) levels
+    → AllByRecursion (λ o. IfSome o IsSmallLevel) levels
     → groups_at (length rows)
-        (text_lines (groups_text
-        (record { rows = rows; amounts = amounts; flags = flags; levels = levels })))
+    (text_lines (groups_text
+    (record { rows = rows; amounts = amounts; flags = flags; levels = levels })))
     ≡ Ok (record { rows = rows; amounts = amounts; flags = flags; levels = levels }, [] ∷ [])
 unfolding groups_at
 groups_again [] [] [] [] e1 e2 e3 h1 h2 h3 = refl
@@ -108,7 +112,7 @@ groups_again (r ∷ rs) (a ∷ as') (f ∷ fs) (l ∷ ls) e1 e2 e3 h1 h2 h3 =
     let plain = plain_group r a f l h1.0 h2.0 h3.0 in
     let rest = groups_text (record { rows = rs; amounts = as'; flags = fs; levels = ls }) in
     let others = decimal r.weight ∷ limit_word r.limit ∷ decimal r.demand ∷ decimal a ∷ flag_word f
-        ∷ level_word l ∷ [] in
+    ∷ level_word l ∷ [] in
     rw (
       one_line (parent_word r.parent)
           (decimal r.weight ∷ limit_word r.limit ∷ decimal r.demand ∷ decimal a ∷ flag_word f
@@ -131,8 +135,10 @@ plain_head h n host few = (
       digits_plain h.processors (omega (arith, host.few_processors)),
       (
         digits_plain h.period_us (omega (arith, host.short_period)),
-        (digits_plain h.slice_us (omega (arith, host.short_slice, host.short_period)),
-            (digits_plain n (omega arith), tt)),
+        (
+          digits_plain h.slice_us (omega (arith, host.short_slice, host.short_period)),
+          (digits_plain n (omega arith), tt),
+        ),
       ),
     ),
   ),
@@ -157,7 +163,7 @@ certified_again v h =
     let few : length v.groups.rows ≤ MAX_GROUPS = h.instance.few in
     let plain = plain_head v.shape (length v.groups.rows) host few in
     let others = codes "1" ∷ decimal v.shape.processors ∷ decimal v.shape.period_us
-        ∷ decimal v.shape.slice_us ∷ decimal (length v.groups.rows) ∷ [] in
+    ∷ decimal v.shape.slice_us ∷ decimal (length v.groups.rows) ∷ [] in
     rw (
       one_line (codes "bw")
           (codes "1" ∷ decimal v.shape.processors ∷ decimal v.shape.period_us
@@ -165,12 +171,12 @@ certified_again v h =
           ∷ []) (groups_text v.groups) plain,
       words_again (codes "bw")
           (codes "1" ∷ decimal v.shape.processors ∷ decimal v.shape.period_us
-              ∷ decimal v.shape.slice_us ∷ decimal (length v.groups.rows) ∷ []) plain,
+          ∷ decimal v.shape.slice_us ∷ decimal (length v.groups.rows) ∷ []) plain,
       head_again v.shape (length v.groups.rows) host few,
       groups_again v.groups.rows v.groups.amounts v.groups.flags v.groups.levels h.amounts h.flags
           h.levels
           (recursion_from_All IsSmallRow v.groups.rows h.small_rows)
-              (recursion_from_All (λ a. a < 2 ^ 64) v.groups.amounts h.small_amounts)
+          (recursion_from_All (λ a. a < 2 ^ 64) v.groups.amounts h.small_amounts)
           (recursion_from_All (λ o. IfSome o IsSmallLevel) v.groups.levels h.small_levels),
       IsInstance-accepted (groups_of v) h.instance,
     ) refl
@@ -180,7 +186,7 @@ pub is_only : (text : List ℕ) (r : Result Certified CertFault)
     → text ≡ spelling v → ReadsAs certified_view r (Ok v)
 is_only text r given v h e =
     subst (λ (x : Result Value CertFault). ReadsAs certified_view r x)
-        (ap (λ (t : List ℕ). certified_of (text_lines t)) e ∙ certified_again v h) given
+    (ap (λ (t : List ℕ). certified_of (text_lines t)) e ∙ certified_again v h) given
 
 abbrev read : Value → Result Value CertFault
 read v = Ok v

@@ -54,7 +54,7 @@ module _ (groups : Groups) (valid : IsInstance groups) (most : List ℕ)
 
   splits : (g : ℕ) → g < length groups.rows → is_leaf groups.rows g ≡ false →
       IsBestSplit (get_or amounts g 0) (child_weights groups.rows g)
-          (map (slice_index most) (children_of groups.rows g))
+      (map (slice_index most) (children_of groups.rows g))
       (map (slice_index amounts) (children_of groups.rows g))
   splits g below inner = planned.splits g below refl inner
 
@@ -69,17 +69,17 @@ module _ (groups : Groups) (valid : IsInstance groups) (most : List ℕ)
   -- what the greatest last mark says of the children
   levelled : (g : ℕ) (mark : Mark) → g < length groups.rows → is_leaf groups.rows g ≡ false →
       IsGreatestLast (child_weights groups.rows g)
-          (map (slice_index amounts) (children_of groups.rows g)) (price_of mark) →
+      (map (slice_index amounts) (children_of groups.rows g)) (price_of mark) →
       IsAtLevel (price_of mark) (child_weights groups.rows g)
-          (map (slice_index most) (children_of groups.rows g))
+      (map (slice_index most) (children_of groups.rows g))
       (map (slice_index amounts) (children_of groups.rows g))
   levelled g mark below inner greatest =
       best-IsAtLevel (get_or amounts g 0) (child_weights groups.rows g)
-          (map (slice_index most) (children_of groups.rows g))
+      (map (slice_index most) (children_of groups.rows g))
       (map (slice_index amounts) (children_of groups.rows g))
       (price_of mark) (splits g below inner)
       (length-map (children_of groups.rows g) (weight_of groups.rows)
-          ∙ sym (length-map (children_of groups.rows g) (slice_index amounts)))
+      ∙ sym (length-map (children_of groups.rows g) (slice_index amounts)))
       (λ k lt. let w = weights_in_range groups valid g k lt in omega (arith, w.0))
       greatest
 
@@ -106,18 +106,20 @@ module _ (groups : Groups) (valid : IsInstance groups) (most : List ℕ)
       within_limit = λ g limit below e.
           let m : get_or amounts g 0 ≤ get_or most g 0 = le_most g below in
           let w : get_or most g 0 ≤ limit =
-              most_le_limit groups valid.tree most rule g limit below e in
+          most_le_limit groups valid.tree most rule g limit below e in
           omega (arith, m, w);
       within_demand = λ l below leaf.
           let m : get_or amounts l 0 ≤ get_or most l 0 = le_most l below in
           let w : get_or most l 0 ≤ demand_of groups.rows l =
-              rw leaf at (most_le_want groups valid.tree most rule l below) in
+          rw leaf at (most_le_want groups valid.tree most rule l below) in
           omega (arith, m, w);
       sums = planned_sums;
       flags_limited = λ g below flagged.
           some_limit (limit_of groups g) (want_of groups most g) (sym (tight g below) ∙ flagged);
-      bounded = record { one_each = mosts.one_each;
-          each = tight-bound_at groups most certificate rule tight };
+      bounded = record {
+        one_each = mosts.one_each;
+        each = tight-bound_at groups most certificate rule tight;
+      };
       greatest = planned.top;
       level_given = λ g below inner some.
           given g inner some (level_at certificate g) (levels g below);
@@ -126,38 +128,38 @@ module _ (groups : Groups) (valid : IsInstance groups) (most : List ℕ)
           let at_level = levelled g level below known.0 known.2 in
           let cs : List ℕ = children_of groups.rows g in
           let r : (k : ℕ) × (k < length cs) × (get_or cs k 0 ≡ c) =
-              listed_child groups.rows g c here e in
+          listed_child groups.rows g c here e in
           let place : r.0 ≡ sibling_place groups.rows g c =
-              sym (child_at groups.rows g r.0 r.1).place ∙ ap (sibling_place groups.rows g) r.2 in
+          sym (child_at groups.rows g r.0 r.1).place ∙ ap (sibling_place groups.rows g) r.2 in
           let part : get_or (map (slice_index amounts) cs) r.0 0 ≡ get_or amounts c 0 =
           get_or-map (slice_index amounts) cs r.0 r.1 ∙ ap (slice_index amounts) r.2 in
           let weight : get_or (map (weight_of groups.rows) cs) r.0 0 ≡ weight_of groups.rows c =
           get_or-map (weight_of groups.rows) cs r.0 r.1 ∙ ap (weight_of groups.rows) r.2 in
           let long : length (map (slice_index amounts) cs) ≡ length cs =
-              length-map cs (slice_index amounts) in
+          length-map cs (slice_index amounts) in
           last_to (get_or (map (slice_index amounts) cs) r.0 0) (get_or amounts c 0)
-              (get_or (map (weight_of groups.rows) cs) r.0 0) (weight_of groups.rows c)
+          (get_or (map (weight_of groups.rows) cs) r.0 0) (weight_of groups.rows c)
           r.0 (sibling_place groups.rows g c) (price_of level) part weight place
-              (at_level.last r.0 (omega (arith, r.1, long)));
+          (at_level.last r.0 (omega (arith, r.1, long)));
       next_above = λ g c level below here e some is.
           let known : IsLevelAt groups amounts g (Some level) = level_is g level below is in
           let at_level = levelled g level below known.0 known.2 in
           let cs : List ℕ = children_of groups.rows g in
           let r : (k : ℕ) × (k < length cs) × (get_or cs k 0 ≡ c) =
-              listed_child groups.rows g c here e in
+          listed_child groups.rows g c here e in
           let place : r.0 ≡ sibling_place groups.rows g c =
-              sym (child_at groups.rows g r.0 r.1).place ∙ ap (sibling_place groups.rows g) r.2 in
+          sym (child_at groups.rows g r.0 r.1).place ∙ ap (sibling_place groups.rows g) r.2 in
           let part : get_or (map (slice_index amounts) cs) r.0 0 ≡ get_or amounts c 0 =
           get_or-map (slice_index amounts) cs r.0 r.1 ∙ ap (slice_index amounts) r.2 in
           let bound : get_or (map (slice_index most) cs) r.0 0 ≡ get_or most c 0 =
-              get_or-map (slice_index most) cs r.0 r.1 ∙ ap (slice_index most) r.2 in
+          get_or-map (slice_index most) cs r.0 r.1 ∙ ap (slice_index most) r.2 in
           let weight : get_or (map (weight_of groups.rows) cs) r.0 0 ≡ weight_of groups.rows c =
           get_or-map (weight_of groups.rows) cs r.0 r.1 ∙ ap (weight_of groups.rows) r.2 in
           let long : length (map (slice_index amounts) cs) ≡ length cs =
-              length-map cs (slice_index amounts) in
+          length-map cs (slice_index amounts) in
           next_to (get_or (map (slice_index amounts) cs) r.0 0) (get_or amounts c 0)
-              (get_or (map (weight_of groups.rows) cs) r.0 0) (weight_of groups.rows c)
+          (get_or (map (weight_of groups.rows) cs) r.0 0) (weight_of groups.rows c)
           r.0 (sibling_place groups.rows g c) (get_or (map (slice_index most) cs) r.0 0)
-              (get_or most c 0) (price_of level) part weight place bound
+          (get_or most c 0) (price_of level) part weight place bound
           (at_level.next r.0 (omega (arith, r.1, long)));
     }

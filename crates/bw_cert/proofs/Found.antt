@@ -36,9 +36,9 @@ seven_ok : {A B C D E F G R : Type 0} (a : Result A CertFault) (b : Result B Cer
     (e : Result E CertFault) (f : Result F CertFault) (g : Result G CertFault)
     (k : A → B → C → D → E → F → G → Result R CertFault) (y : R)
     → (a >>= λ x0. b >>= λ x1. c >>= λ x2. d >>= λ x3. e >>= λ x4. f >>= λ x5. g >>= λ x6.
-        k x0 x1 x2 x3 x4 x5 x6) ≡ Ok y
+    k x0 x1 x2 x3 x4 x5 x6) ≡ Ok y
     → (x0 : A) × (x1 : B) × (x2 : C) × (x3 : D) × (x4 : E) × (x5 : F) × (x6 : G) × (a ≡ Ok x0)
-        × (b ≡ Ok x1) × (c ≡ Ok x2) × (d ≡ Ok x3) × (e ≡ Ok x4)
+    × (b ≡ Ok x1) × (c ≡ Ok x2) × (d ≡ Ok x3) × (e ≡ Ok x4)
     × (f ≡ Ok x5) × (g ≡ Ok x6) × (k x0 x1 x2 x3 x4 x5 x6 ≡ Ok y)
 seven_ok (Ok a) (Ok b) (Ok c) (Ok d) (Ok e) (Ok f) (Ok g) k y h =
     (a, b, c, d, e, f, g, refl, refl, refl, refl, refl, refl, refl, h)
@@ -65,8 +65,12 @@ pub record IsGroup (ws : List (List ℕ)) (g : Group) : Type 0 where
 
 abbrev made : Option ℕ → ℕ → Option ℕ → ℕ → ℕ → Bool → Option MarkValue → Result Group CertFault
 made p w l d a f m =
-    Ok (record { row = record { parent = p; weight = w; limit = l; demand = d }; amount = a;
-    flag = f; level = m })
+    Ok (record {
+      row = record { parent = p; weight = w; limit = l; demand = d };
+      amount = a;
+      flag = f;
+      level = m;
+    })
 
 same_seven : (a b c d e f g a' b' c' d' e' f' g' : List ℕ) → a ≡ a' → b ≡ b' → c ≡ c' → d ≡ d'
     → e ≡ e' → f ≡ f' → g ≡ g'
@@ -84,7 +88,7 @@ group_found (a ∷ b ∷ c ∷ d ∷ e ∷ []) g h = absurd cc
 group_found (a ∷ b ∷ c ∷ d ∷ e ∷ f ∷ []) g h = absurd cc
 group_found (parent ∷ weight ∷ limit ∷ demand ∷ amount ∷ flag ∷ level ∷ []) g h =
     let p = seven_ok (parent_at parent) (number_at weight) (limit_at limit) (number_at demand)
-        (number_at amount) (flag_at flag)
+    (number_at amount) (flag_at flag)
     (level_in_word level) made g h in
     let r0 = parent_found parent p.0 p.7 in
     let r1 = number_found weight p.1 p.8 in
@@ -94,10 +98,14 @@ group_found (parent ∷ weight ∷ limit ∷ demand ∷ amount ∷ flag ∷ leve
     let r5 = flag_found flag p.5 p.12 in
     let r6 = level_found level p.6 p.13 in
     let g' : Group =
-        record { row = record { parent = p.0; weight = p.1; limit = p.2; demand = p.3 };
-        amount = p.4; flag = p.5; level = p.6 } in
+    record {
+      row = record { parent = p.0; weight = p.1; limit = p.2; demand = p.3 };
+      amount = p.4;
+      flag = p.5;
+      level = p.6;
+    } in
     subst (λ (x : Group). IsGroup (parent ∷ weight ∷ limit ∷ demand ∷ amount ∷ flag ∷ level ∷ []) x)
-        (ok_is g' g p.14) (record {
+    (ok_is g' g p.14) (record {
       words = same_seven parent weight limit demand amount flag level _ _ _ _ _ _ _ r0.0 r1.0 r2.0
           r3.0 r4.0 r5 r6.0;
       row = record { parent = r0.1; weight = r1.1; limit = r2.1; demand = r3.1 };
@@ -108,7 +116,7 @@ group_found (a ∷ b ∷ c ∷ d ∷ e ∷ f ∷ i ∷ j ∷ ws) g h = absurd cc
 
 line_parts : (b : Bool) (l l' : List ℕ) (after after' : List (List ℕ))
     → cond {A = Result (List ℕ × List (List ℕ)) CertFault} b (Err faults.CutShort) (done (l, after))
-        ≡ Ok (l', after')
+    ≡ Ok (l', after')
     → (b ≡ false) × (l ≡ l') × (after ≡ after')
 line_parts true l l' after after' e = absurd cc
 line_parts false l l' after after' e = (
@@ -154,28 +162,36 @@ one_more : (l : List ℕ) (ws : List (List ℕ)) (whole rest others after : List
     → rest ≡ others ++ after → whole ≡ (line ws ++ others) ++ after
 one_more l ws whole rest others after e f g =
     f ∙ ap (λ (t : List ℕ). l ++ 10 ∷ t) g ∙ ap (λ (t : List ℕ). t ++ 10 ∷ (others ++ after)) e
-        ∙ regrouped (join_with_byte 32 ws) others after
+    ∙ regrouped (join_with_byte 32 ws) others after
 
 groups_found : (n : ℕ) (parts : List (List ℕ)) (x : Columns × List (List ℕ))
     → groups_at n parts ≡ Ok x → AreGroups parts n x.0 x.1
 unfolding groups_at
 groups_found zero parts x e =
     subst (λ (y : Columns × List (List ℕ)). AreGroups parts 0 y.0 y.1)
-        (ok_is (no_groups, parts) x e)
-    (record { text = refl; rows = refl; amounts = refl; flags = refl; levels = refl;
-        small_rows = tt; small_amounts = tt; small_levels = tt })
+    (ok_is (no_groups, parts) x e)
+    (record {
+      text = refl;
+      rows = refl;
+      amounts = refl;
+      flags = refl;
+      levels = refl;
+      small_rows = tt;
+      small_amounts = tt;
+      small_levels = tt;
+    })
 groups_found (suc n) parts x e =
     let a = bind_ok (line_at parts)
-        (λ l. group_of (words_of l.0) >>= λ first. groups_at n l.1 >>= λ others.
-        Ok (with_group first others.0, others.1)) x e in
+    (λ l. group_of (words_of l.0) >>= λ first. groups_at n l.1 >>= λ others.
+    Ok (with_group first others.0, others.1)) x e in
     let b = bind_ok (group_of (words_of a.0.0))
-        (λ first. groups_at n a.0.1 >>= λ others. Ok (with_group first others.0, others.1)) x a.2 in
+    (λ first. groups_at n a.0.1 >>= λ others. Ok (with_group first others.0, others.1)) x a.2 in
     let c = bind_ok (groups_at n a.0.1) (λ others. Ok (with_group b.0 others.0, others.1)) x b.2 in
     let g = group_found (words_of a.0.0) b.0 b.1 in
     let others = groups_found n a.0.1 c.0 c.1 in
     let l = line_text a.0.0 (group_words b.0.row b.0.amount b.0.flag b.0.level) g.words in
     subst (λ (y : Columns × List (List ℕ)). AreGroups parts (suc n) y.0 y.1)
-        (ok_is (with_group b.0 c.0.0, c.0.1) x c.2)
+    (ok_is (with_group b.0 c.0.0, c.0.1) x c.2)
     (record {
       text = one_more a.0.0 (group_words b.0.row b.0.amount b.0.flag b.0.level)
           (join_with_byte 10 parts) (join_with_byte 10 a.0.1) (groups_text c.0.0)
@@ -219,9 +235,9 @@ six_ok : {A B C D E F R : Type 0} (a : Result A CertFault) (b : Result B CertFau
     (e : Result E CertFault) (f : Result F CertFault)
     (k : A → B → C → D → E → F → Result R CertFault) (y : R)
     → (a >>= λ x0. b >>= λ x1. c >>= λ x2. d >>= λ x3. e >>= λ x4. f >>= λ x5. k x0 x1 x2 x3 x4 x5)
-        ≡ Ok y
+    ≡ Ok y
     → (x0 : A) × (x1 : B) × (x2 : C) × (x3 : D) × (x4 : E) × (x5 : F) × (a ≡ Ok x0) × (b ≡ Ok x1)
-        × (c ≡ Ok x2) × (d ≡ Ok x3) × (e ≡ Ok x4) × (f ≡ Ok x5)
+    × (c ≡ Ok x2) × (d ≡ Ok x3) × (e ≡ Ok x4) × (f ≡ Ok x5)
     × (k x0 x1 x2 x3 x4 x5 ≡ Ok y)
 six_ok (Ok a) (Ok b) (Ok c) (Ok d) (Ok e) (Ok f) k y h =
     (a, b, c, d, e, f, refl, refl, refl, refl, refl, refl, h)
@@ -249,20 +265,20 @@ head_found (a ∷ b ∷ c ∷ d ∷ []) x h = absurd cc
 head_found (a ∷ b ∷ c ∷ d ∷ e ∷ []) x h = absurd cc
 head_found (name ∷ version ∷ processors ∷ period ∷ slice ∷ groups ∷ []) x h =
     let p = six_ok (word_is name (codes "bw")) (word_is version (codes "1")) (number_at processors)
-        (number_at period) (number_at slice)
+    (number_at period) (number_at slice)
     (number_at groups) ends x h in
     let q = bind_ok (host_in p.2 p.3 p.4)
     (λ h. cond {A = Result (Shape × ℕ) CertFault} (ltb MAX_GROUPS p.5)
-        (Err (faults.Instance TooMany)) (Ok (h, p.5))) x p.12 in
+    (Err (faults.Instance TooMany)) (Ok (h, p.5))) x p.12 in
     let r = host_parts (host_of p.2 p.3 p.4) q.0 (host_refusal (host_of p.2 p.3 p.4)) q.1 in
     let e : (host_of p.2 p.3 p.4, p.5) ≡ x = ap (λ (h : Shape). (h, p.5)) r.1
-        ∙ count_parts (ltb MAX_GROUPS p.5) (faults.Instance TooMany) (q.0, p.5) x q.2 in
+    ∙ count_parts (ltb MAX_GROUPS p.5) (faults.Instance TooMany) (q.0, p.5) x q.2 in
     subst (λ (y : Shape × ℕ). IsHead (name ∷ version ∷ processors ∷ period ∷ slice ∷ groups ∷ []) y)
-        e (record {
+    e (record {
       words = same_six name version processors period slice groups _ _ _ _ _ _
           (word_found name (codes "bw") p.0 p.6) (word_found version (codes "1") p.1 p.7)
           (number_found processors p.2 p.8).0 (number_found period p.3 p.9).0
-              (number_found slice p.4 p.10).0 (number_found groups p.5 p.11).0;
+          (number_found slice p.4 p.10).0 (number_found groups p.5 p.11).0;
       host = r.0;
     })
 head_found (a ∷ b ∷ c ∷ d ∷ e ∷ f ∷ g ∷ ws) x h = absurd cc
@@ -293,14 +309,14 @@ unfolding certified_of
 certified_found text v e =
     let a = bind_ok (line_at (text_lines text))
     (λ l. head_of (words_of l.0) >>= λ head. groups_at head.1 l.1 >>= λ gs.
-        cond (is_over gs.1) (whole (record { shape = head.0; groups = gs.0 }))
+    cond (is_over gs.1) (whole (record { shape = head.0; groups = gs.0 }))
     (Err faults.Trailing)) v e in
     let b = bind_ok (head_of (words_of a.0.0))
     (λ head. groups_at head.1 a.0.1 >>= λ gs. cond (is_over gs.1)
-        (whole (record { shape = head.0; groups = gs.0 })) (Err faults.Trailing)) v a.2 in
+    (whole (record { shape = head.0; groups = gs.0 })) (Err faults.Trailing)) v a.2 in
     let c = bind_ok (groups_at b.0.1 a.0.1)
-        (λ gs. cond (is_over gs.1) (whole (record { shape = b.0.0; groups = gs.0 }))
-        (Err faults.Trailing)) v b.2 in
+    (λ gs. cond (is_over gs.1) (whole (record { shape = b.0.0; groups = gs.0 }))
+    (Err faults.Trailing)) v b.2 in
     let v' : Value = record { shape = b.0.0; groups = c.0.0 } in
     let d = end_parts (is_over c.0.1) (whole v') v c.2 in
     let w = value_parts v' v (refusal c.0.0.rows) d.1 in
@@ -308,15 +324,15 @@ certified_found text v e =
     let g = groups_found b.0.1 a.0.1 c.0 c.1 in
     let nothing : join_with_byte 10 c.0.1 ≡ [] = ap (join_with_byte 10) (over_parts c.0.1 d.0) in
     let groups : join_with_byte 10 a.0.1 ≡ groups_text c.0.0 ++ [] =
-        g.text ∙ ap (λ (t : List ℕ). groups_text c.0.0 ++ t) nothing in
+    g.text ∙ ap (λ (t : List ℕ). groups_text c.0.0 ++ t) nothing in
     let words : words_of a.0.0 ≡ head_words b.0.0 (length c.0.0.rows) =
-        head.words ∙ ap (head_words b.0.0) (sym g.rows) in
+    head.words ∙ ap (head_words b.0.0) (sym g.rows) in
     let l = line_text a.0.0 (head_words b.0.0 (length c.0.0.rows)) words in
     let joined : text ≡ join_with_byte 10 (text_lines text) =
-        sym (join_with_byte-slice_split 10 text) in
+    sym (join_with_byte-slice_split 10 text) in
     let shown : text ≡ (line (head_words b.0.0 (length c.0.0.rows)) ++ groups_text c.0.0) ++ [] =
     joined ∙ one_more a.0.0 (head_words b.0.0 (length c.0.0.rows))
-        (join_with_byte 10 (text_lines text)) (join_with_byte 10 a.0.1) (groups_text c.0.0) [] l
+    (join_with_byte 10 (text_lines text)) (join_with_byte 10 a.0.1) (groups_text c.0.0) [] l
     (line_found (text_lines text) a.0.0 a.0.1 a.1) groups in
     subst (λ (x : Value). IsValue x × (text ≡ spelling x)) w.1 (
       record {

@@ -18,33 +18,33 @@ use Rattle.bw_model.proofs.CallerLemmas.{sum_none, child_at, get_or-map}
 pub small_parts : (rows : List Row) (g : ℕ) (amounts parts : List ℕ) → length amounts ≡ length rows
     → parts ≡ map (slice_index amounts) (children_of rows g) →
     ((k : ℕ) → k < length amounts → get_or amounts k 0 ≤ MAX_CAPACITY) → (k : ℕ) → k < length parts
-        → get_or parts k 0 ≤ MAX_CAPACITY
+    → get_or parts k 0 ≤ MAX_CAPACITY
 small_parts rows g amounts parts long e small = rw e (λ k below.
     let inside : k < length (children_of rows g) =
-        omega (arith, below, length-map (children_of rows g) (slice_index amounts)) in
+    omega (arith, below, length-map (children_of rows g) (slice_index amounts)) in
     let c : get_or (children_of rows g) k 0 < length rows = (child_at rows g k inside).within in
     rw (get_or-map (slice_index amounts) (children_of rows g) k inside)
-        (small (get_or (children_of rows g) k 0) (omega (arith, c, long))))
+    (small (get_or (children_of rows g) k 0) (omega (arith, c, long))))
 
 -- the greatest last mark of the children is the level
 pub to_level : (groups : Groups) (amounts : List ℕ) (g : ℕ) (parts ws : List ℕ)
     → is_leaf groups.rows g ≡ false →
     get_or amounts g 0 ≡ sum_by (slice_index amounts) (children_of groups.rows g) →
     parts ≡ map (slice_index amounts) (children_of groups.rows g) → ws ≡ child_weights groups.rows g
-        → (o : Option Mark) →
+    → (o : Option Mark) →
     IfSome o (λ mark. IsGreatestLast ws parts (price_of mark))
-        → IfNone o ((k : ℕ) → k < length parts → get_or parts k 0 ≡ 0) →
+    → IfNone o ((k : ℕ) → k < length parts → get_or parts k 0 ≡ 0) →
     IsLevelAt groups amounts g o
 to_level groups amounts g parts ws inner whole ep ew None found none =
     λ _. let zero' : sum parts ≡ 0 = sum_none parts none in
     let s : sum parts ≡ sum_by (slice_index amounts) (children_of groups.rows g) =
-        ap sum ep ∙ sum-map (slice_index amounts) (children_of groups.rows g) in
+    ap sum ep ∙ sum-map (slice_index amounts) (children_of groups.rows g) in
     omega (arith, zero', s, whole)
 to_level groups amounts g parts ws inner whole ep ew (Some mark) found none =
     let one : IsGreatestLast ws parts (price_of mark) = found in
     let s : sum parts ≡ sum_by (slice_index amounts) (children_of groups.rows g) =
-        ap sum ep ∙ sum-map (slice_index amounts) (children_of groups.rows g) in
+    ap sum ep ∙ sum-map (slice_index amounts) (children_of groups.rows g) in
     let term : get_or parts one.of_one.0 0 ≤ sum parts =
-        get_or-le-sum_by (λ n. n) parts one.of_one.0 0 one.of_one.1 in
+    get_or-le-sum_by (λ n. n) parts one.of_one.0 0 one.of_one.1 in
     let here : 0 < get_or parts one.of_one.0 0 = one.of_one.2 in
     (inner, omega (arith, term, here, s, whole), rw (sym ep, sym ew) one)

@@ -30,7 +30,7 @@ first_of_parts (part ∷ others) h = (part, others, refl)
 pub not_two : (byte : ℕ) (text first second rest others : List ℕ)
     → slice_split (λ b. eqb b byte) text ≡ first ∷ slice_split (λ b. eqb b byte) others
     → slice_split (λ b. eqb b byte) others ≡ second ∷ slice_split (λ b. eqb b byte) rest
-        → in_two (slice_split (λ b. eqb b byte) text) ≡ Err faults.BadField
+    → in_two (slice_split (λ b. eqb b byte) text) ≡ Err faults.BadField
 not_two byte text first second rest others e f =
     let more = first_of_parts (slice_split (λ b. eqb b byte) rest) (some_parts byte rest) in
     rw (e, f, more.2) refl
@@ -87,7 +87,7 @@ pub trailing : (parts after rest : List (List ℕ)) (line : List ℕ) (h : Shape
     (groups : Columns) → line_at parts ≡ Ok (line, after)
     → head_of (words_of line) ≡ Ok (h, count)
     → groups_at count after ≡ Ok (groups, rest) → is_over rest ≡ false
-        → certified_of parts ≡ Err faults.Trailing
+    → certified_of parts ≡ Err faults.Trailing
 unfolding certified_of
 trailing parts after rest line h count groups a b d over = rw (a, b, d, over) refl
 

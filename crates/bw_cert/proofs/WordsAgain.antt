@@ -95,22 +95,22 @@ two_parts : (c : ℕ) (front back : List ℕ) → eqb c c ≡ true → IsFree c 
     → slice_split (λ b. eqb b c) (front ++ c ∷ back) ≡ front ∷ back ∷ []
 two_parts c front back here f g =
     slice_split_at (λ b. eqb b c) front c back f here
-        ∙ ap (λ (ps : List (List ℕ)). front ∷ ps) (slice_split_none (λ b. eqb b c) back g)
+    ∙ ap (λ (ps : List (List ℕ)). front ∷ ps) (slice_split_none (λ b. eqb b c) back g)
 
 mark_again : (l : MarkValue) → IsSmallLevel l → mark_at (level_word (Some l)) ≡ Ok (Some l)
 unfolding mark_at
 mark_again l h =
     let grouped : level_word (Some l) ≡ decimal l.num
-        ++ 47 ∷ (decimal l.den ++ 64 ∷ decimal l.place) = simp append_assoc in
+    ++ 47 ∷ (decimal l.den ++ 64 ∷ decimal l.place) = simp append_assoc in
     let tail : IsFree 47 (decimal l.den ++ 64 ∷ decimal l.place) =
     All-append (λ b. eqb b 47 ≡ false) (decimal l.den) (64 ∷ decimal l.place)
-        (digits_free 47 l.den h.den (omega arith))
+    (digits_free 47 l.den h.den (omega arith))
     (free_cons 47 64 (decimal l.place) refl
-        (digits_free 47 l.place (omega (arith, h.place)) (omega arith))) in
+    (digits_free 47 l.place (omega (arith, h.place)) (omega arith))) in
     let outer = two_parts 47 (decimal l.num) (decimal l.den ++ 64 ∷ decimal l.place) refl
-        (digits_free 47 l.num h.num (omega arith)) tail in
+    (digits_free 47 l.num h.num (omega arith)) tail in
     let inner = two_parts 64 (decimal l.den) (decimal l.place) refl
-        (digits_below 64 l.den h.den (omega arith))
+    (digits_below 64 l.den h.den (omega arith))
     (digits_below 64 l.place (omega (arith, h.place)) (omega arith)) in
     ap mark_at grouped ∙ rw (
       outer,
@@ -151,7 +151,7 @@ join_free : (first : List ℕ) (others : List (List ℕ)) → AllByRecursion IsP
 join_free first [] h = plain_free 10 first (omega arith) h.0
 join_free first (second ∷ others) h =
     All-append (λ b. eqb b 10 ≡ false) first (32 ∷ join_with_byte 32 (second ∷ others))
-        (plain_free 10 first (omega arith) h.0)
+    (plain_free 10 first (omega arith) h.0)
     (free_cons 10 32 (join_with_byte 32 (second ∷ others)) refl (join_free second others h.1))
 
 spaces_free : (ws : List (List ℕ)) → AllByRecursion IsPlain ws → AllByRecursion (IsFree 32) ws
@@ -166,8 +166,8 @@ words_again first others h = cut_again 32 first others refl (spaces_free (first 
 pub line_again : (first : List ℕ) (others : List (List ℕ)) (rest : List ℕ)
     → AllByRecursion IsPlain (first ∷ others)
     → text_lines (line (first ∷ others) ++ rest)
-        ≡ join_with_byte 32 (first ∷ others) ∷ text_lines rest
+    ≡ join_with_byte 32 (first ∷ others) ∷ text_lines rest
 line_again first others rest h =
     ap text_lines (append_assoc (join_with_byte 32 (first ∷ others)) (10 ∷ []) rest)
     ∙ slice_split_at (λ b. eqb b 10) (join_with_byte 32 (first ∷ others)) 10 rest
-        (join_free first others h) refl
+    (join_free first others h) refl

@@ -107,32 +107,40 @@ mark_found word o e =
     let a = bind_ok (in_two (slice_split (λ b. eqb b 47) word))
     (λ outer. in_two (slice_split
     (λ b. eqb b 64) outer.1) >>= λ inner. number_at outer.0 >>= λ num. number_at inner.0 >>= λ den.
-        u32_at inner.1 >>= λ place. level_in num den place) o e in
+    u32_at inner.1 >>= λ place. level_in num den place) o e in
     let b = bind_ok (in_two (slice_split (λ b. eqb b 64) a.0.1))
     (λ inner. number_at a.0.0 >>= λ num. number_at inner.0 >>= λ den. u32_at inner.1 >>= λ place.
-        level_in num den place) o a.2 in
+    level_in num den place) o a.2 in
     let n = bind_ok (number_at a.0.0)
-        (λ num. number_at b.0.0 >>= λ den. u32_at b.0.1 >>= λ place. level_in num den place) o
-        b.2 in
+    (λ num. number_at b.0.0 >>= λ den. u32_at b.0.1 >>= λ place. level_in num den place) o
+    b.2 in
     let d = bind_ok (number_at b.0.0) (λ den. u32_at b.0.1 >>= λ place. level_in n.0 den place) o
-        n.2 in
+    n.2 in
     let p = bind_ok (u32_at b.0.1) (λ place. level_in n.0 d.0 place) o d.2 in
     let l = level_parts (ltb 0 n.0) (ltb 0 d.0) (record { num = n.0; den = d.0; place = p.0 }) o
-        p.2 in
+    p.2 in
     let outer = rejoined 47 word a.0.0 a.0.1
-        (in_two_found (slice_split (λ b. eqb b 47) word) a.0 a.1) in
+    (in_two_found (slice_split (λ b. eqb b 47) word) a.0 a.1) in
     let inner = rejoined 64 a.0.1 b.0.0 b.0.1
-        (in_two_found (slice_split (λ b. eqb b 64) a.0.1) b.0 b.1) in
+    (in_two_found (slice_split (λ b. eqb b 64) a.0.1) b.0 b.1) in
     let num = number_found a.0.0 n.0 n.1 in
     let den = number_found b.0.0 d.0 d.1 in
     let place = u32_found b.0.1 p.0 p.1 in
     let text : word ≡ decimal n.0 ++ 47 ∷ (decimal d.0 ++ 64 ∷ decimal p.0) =
     outer ∙ ap (λ (t : List ℕ). a.0.0 ++ 47 ∷ t) inner ∙ rw (← num.0, ← den.0, ← place.0) refl in
     let grouped : decimal n.0 ++ 47 ∷ (decimal d.0 ++ 64 ∷ decimal p.0) ≡ decimal n.0 ++ codes "/"
-        ++ decimal d.0 ++ codes "@" ++ decimal p.0 =
+    ++ decimal d.0 ++ codes "@" ++ decimal p.0 =
     simp append_assoc in
-    rw l.2 (text ∙ grouped, record { num = num.1; some_num = ltb-true 0 n.0 l.0; den = den.1;
-        some_den = ltb-true 0 d.0 l.1; place = place.1 })
+    rw l.2 (
+      text ∙ grouped,
+      record {
+        num = num.1;
+        some_num = ltb-true 0 n.0 l.0;
+        den = den.1;
+        some_den = ltb-true 0 d.0 l.1;
+        place = place.1;
+      },
+    )
 
 none_mark : (b : Bool) (r : Result (Option MarkValue) CertFault) (o : Option MarkValue)
     → cond b (Ok None) r ≡ Ok o → ((b ≡ true) × (o ≡ None)) ⊎ (r ≡ Ok o)

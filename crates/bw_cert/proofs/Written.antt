@@ -15,13 +15,13 @@ use Rattle.bw_cert.specs.Spelling.{line, group_words, groups_words, IsSmallRow, 
 
 pub head_text : (old p us s n : List ℕ)
     → ((((((((old ++ codes "bw 1 ") ++ p) ++ codes " ") ++ us) ++ codes " ") ++ s) ++ codes " ")
-        ++ n) ++ codes "\n"
+    ++ n) ++ codes "\n"
     ≡ old ++ line (codes "bw" ∷ codes "1" ∷ p ∷ us ∷ s ∷ n ∷ [])
 head_text old p us s n = simp append_assoc
 
 pub group_text : (old p w l d a f m : List ℕ)
     → (((((old ++ (p ++ codes " " ++ w ++ codes " " ++ l ++ codes " " ++ d ++ codes " ")) ++ a)
-        ++ codes " ") ++ f) ++ codes " ") ++ m ++ codes "\n"
+    ++ codes " ") ++ f) ++ codes " ") ++ m ++ codes "\n"
     ≡ old ++ line (p ∷ w ∷ l ∷ d ∷ a ∷ f ∷ m ∷ [])
 group_text old p w l d a f m = simp append_assoc
 
@@ -41,12 +41,16 @@ pub rest_step : (rows : List Row) (amounts : List ℕ) (flags : List Bool)
     (m d4 : Option Mark)
     → i < length rows → i < length amounts → i < length flags → i < length levels
     → r ≡ get_or rows i d1 → a ≡ get_or amounts i d2 → f ≡ get_or flags i d3
-        → m ≡ get_or levels i d4
+    → m ≡ get_or levels i d4
     → rest_text rows amounts flags levels i ≡ line (group_words r a f (option_map price_of m))
-        ++ rest_text rows amounts flags levels (i + 1)
+    ++ rest_text rows amounts flags levels (i + 1)
 rest_step rows amounts flags levels i r d1 a d2 f d3 m d4 l1 l2 l3 l4 e1 e2 e3 e4 =
-    rw (at_front rows i r d1 l1 e1, at_front amounts i a d2 l2 e2, at_front flags i f d3 l3 e3,
-        at_front levels i m d4 l4 e4) refl
+    rw (
+      at_front rows i r d1 l1 e1,
+      at_front amounts i a d2 l2 e2,
+      at_front flags i f d3 l3 e3,
+      at_front levels i m d4 l4 e4,
+    ) refl
 
 -- one line more
 pub written_more : (old new text rest after whole : List ℕ) → new ≡ old ++ text
@@ -78,7 +82,7 @@ first_more {A} P xs i x d e p before k d' lt within =
       | inr late ↦
           let same : k ≡ i = omega (arith, lt, late) in
           let here : get_or xs k d' ≡ x =
-              get_or_default xs k d' d within ∙ ap (λ (j : ℕ). get_or xs j d) same ∙ sym e in
+          get_or_default xs k d' d within ∙ ap (λ (j : ℕ). get_or xs j d) same ∙ sym e in
           subst P (sym here) p
     ]
 
@@ -95,7 +99,7 @@ pub all_levels : (levels : List (Option Mark)) → All IsSmallMark levels
 all_levels levels small k d lt =
     let within : k < length levels = omega (arith, lt, length-map levels (option_map price_of)) in
     let here : get_or (map (option_map price_of) levels) k d
-        ≡ option_map price_of (get_or levels k None) =
+    ≡ option_map price_of (get_or levels k None) =
     get_or-map (option_map price_of) levels k None d within in
     subst (λ o. IfSome o IsSmallLevel) (sym here) (small k None within)
 

@@ -17,7 +17,7 @@ IsLevelAt groups amounts g (Some mark) =
     (is_leaf groups.rows g ≡ false)
     × (0 < slice_index amounts g)
     × IsGreatestLast (child_weights groups.rows g)
-        (map (slice_index amounts) (children_of groups.rows g)) (price_of mark)
+    (map (slice_index amounts) (children_of groups.rows g)) (price_of mark)
 
 -- each group has its level
 abbrev pub AreLevels : Groups → List ℕ → Certified → Type 0

@@ -139,15 +139,23 @@ group_of (parent ∷ weight ∷ limit ∷ demand ∷ amount ∷ flag ∷ level �
   a ← number_at amount
   f ← flag_at flag
   m ← level_in_word level
-  Ok (record { row = record { parent = p; weight = w; limit = l; demand = d }; amount = a; flag = f;
-      level = m })
+  Ok (record {
+    row = record { parent = p; weight = w; limit = l; demand = d };
+    amount = a;
+    flag = f;
+    level = m;
+  })
 group_of _ = Err faults.BadLine
 
 -- a group in front of others
 abbrev pub with_group : Group → Columns → Columns
 with_group g c =
-    record { rows = g.row ∷ c.rows; amounts = g.amount ∷ c.amounts; flags = g.flag ∷ c.flags;
-    levels = g.level ∷ c.levels }
+    record {
+      rows = g.row ∷ c.rows;
+      amounts = g.amount ∷ c.amounts;
+      flags = g.flag ∷ c.flags;
+      levels = g.level ∷ c.levels;
+    }
 
 abbrev pub no_groups : Columns
 no_groups = record { rows = []; amounts = []; flags = []; levels = [] }
@@ -187,8 +195,12 @@ group_view g =
 
 abbrev pub columns_view : declared.Columns → Columns
 columns_view c =
-    record { rows = c.rows.items; amounts = c.amounts.items; flags = c.tight.items;
-    levels = map (option_map price_of) c.levels.items }
+    record {
+      rows = c.rows.items;
+      amounts = c.amounts.items;
+      flags = c.tight.items;
+      levels = map (option_map price_of) c.levels.items;
+    }
 
 abbrev pub certified_view : Certified → Value
 certified_view c = certified_value c.instance c.amounts.items c.certificate

@@ -64,7 +64,7 @@ head_words h count = codes "bw" ∷ codes "1" ∷ decimal h.processors ∷ decim
 abbrev pub group_words : Row → ℕ → Bool → Option MarkValue → List (List ℕ)
 group_words r amount flag level =
     parent_word r.parent ∷ decimal r.weight ∷ limit_word r.limit ∷ decimal r.demand ∷ decimal amount
-        ∷ flag_word flag ∷ level_word level ∷ []
+    ∷ flag_word flag ∷ level_word level ∷ []
 
 -- the words of a row, each with the space after it
 abbrev pub row_words : Row → List ℕ
@@ -91,8 +91,12 @@ spelling v = line (head_words v.shape (length v.groups.rows)) ++ groups_text v.g
 abbrev pub certified_value : Groups → List ℕ → Certificate → Value
 certified_value i amounts c = record {
   shape = i.shape;
-  groups = record { rows = i.rows; amounts = amounts; flags = c.tight.items;
-      levels = map (option_map price_of) c.levels.items };
+  groups = record {
+    rows = i.rows;
+    amounts = amounts;
+    flags = c.tight.items;
+    levels = map (option_map price_of) c.levels.items;
+  };
 }
 
 -- numbers of 64 bits, and a parent's of 32

@@ -96,7 +96,7 @@ module _ (groups : Groups) (amounts : List ℕ) (certificate : Certified)
       g < length groups.rows → IsFree groups amounts certificate bounds f g) where
     pub refused_at : (group : ℕ) → i < 8 →
         IsFirst (IsFree groups amounts certificate bounds (get_or of_rows i WrongLength))
-            (length groups.rows) (Some group) →
+        (length groups.rows) (Some group) →
         IsRefused groups amounts certificate (get_or of_rows i WrongLength) group
     refused_at group at found = record {
       bounds = bounds;
@@ -106,7 +106,7 @@ module _ (groups : Groups) (amounts : List ℕ) (certificate : Certified)
         found = found.1;
         no_lower = λ f g lt within. so_far f g
             (let number : check_fault_number (get_or of_rows i WrongLength) ≡ 51 + i =
-                number_at i at in omega (arith, lt, number)) within;
+            number_at i at in omega (arith, lt, number)) within;
         no_earlier = found.2;
       };
     }
@@ -115,7 +115,7 @@ module _ (groups : Groups) (amounts : List ℕ) (certificate : Certified)
         : IsFirst (IsFree groups amounts certificate bounds (get_or of_rows i WrongLength))
         (length groups.rows) None →
         (f : CheckFault) (g : ℕ) → check_fault_number f < 51 + (i + 1) → g < length groups.rows
-            → IsFree groups amounts certificate bounds f g
+        → IsFree groups amounts certificate bounds f g
     one_fault_more none f g lt within = elim (cases_eq (check_fault_number f) (51 + i)) [
       | inl same ↦ subst (λ (h : CheckFault). IsFree groups amounts certificate bounds h g)
           (sym (fault_is f i same)) (none g within)
@@ -134,4 +134,4 @@ module _ (groups : Groups) (amounts : List ℕ) (certificate : Certified)
     pub all_free : 8 ≤ i → IsCertified groups amounts certificate bounds
     all_free end = free-IsCertified groups amounts certificate bounds tree are
         (λ f g within. so_far f g (let least : check_fault_number f < 59 =
-            number_lt f in omega (arith, least, end)) within)
+        number_lt f in omega (arith, least, end)) within)

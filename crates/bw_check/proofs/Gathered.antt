@@ -23,12 +23,12 @@ sum_below-changed zero i d f h below other here = absurd (omega arith)
 sum_below-changed (suc n) i d f h below other here = elim (cases_eq n i) [
   | inl same ↦
       let front : sum_below n f ≡ sum_below n h =
-          front_same n (λ j lt. other j (λ e. omega arith)) in
+      front_same n (λ j lt. other j (λ e. omega arith)) in
       let last : f n ≡ h n + d = rw same here in
       omega (arith, front, last)
   | inr apart ↦
       let front : sum_below n f ≡ sum_below n h + d =
-          sum_below-changed n i d f h (omega (arith, apart)) other here in
+      sum_below-changed n i d f h (omega (arith, apart)) other here in
       let last : f n ≡ h n = other n apart in
       omega (arith, front, last)
 ]
@@ -47,7 +47,7 @@ module _ (rows : List Row) (f : ℕ → ℕ) where
       ≡ sum_of_first rows f n g + cond (is_child rows g n) (f n) 0
   first-more n g =
       let one : sum_of_first rows f (n + 1) g
-          ≡ sum_below (suc n) (λ c. cond (is_child rows g c) (f c) 0) =
+      ≡ sum_below (suc n) (λ c. cond (is_child rows g c) (f c) 0) =
       rw (add-one) (first-below (suc n) g) in
       omega (arith, one, first-below n g)
 
@@ -56,7 +56,7 @@ module _ (rows : List Row) (f : ℕ → ℕ) where
       → sum_of_first rows f (n + 1) g ≡ sum_of_first rows f n g
   first-child n p g up other =
       let no_child : is_child rows g n ≡ false =
-          is_child_no rows g n (λ e. other (sym (same_Some p g (sym up ∙ e)))) in
+      is_child_no rows g n (λ e. other (sym (same_Some p g (sym up ∙ e)))) in
       first-more n g ∙ rw no_child (omega arith)
 
   pub first-parent : (n p : ℕ) → parent_of rows n ≡ Some p
@@ -67,7 +67,7 @@ module _ (rows : List Row) (f : ℕ → ℕ) where
       → sum_of_first rows f (n + 1) g ≡ sum_of_first rows f n g
   first-top n g none =
       let no_child : is_child rows g n ≡ false =
-          is_child_no rows g n (λ e. let clash : None ≡ Some g = sym none ∙ e in cc) in
+      is_child_no rows g n (λ e. let clash : None ≡ Some g = sym none ∙ e in cc) in
       first-more n g ∙ rw no_child (omega arith)
 
   -- as many terms as groups, each at most m
@@ -82,8 +82,11 @@ module _ (rows : List Row) (f : ℕ → ℕ) where
           → sum_below k (λ c. cond (is_child rows g c) (f c) 0) ≤ k * m
       below_le zero h = omega arith
       below_le (suc k) h =
-          omega (arith, below_le k (λ c lt. h c (omega arith)),
-          picked (is_child rows g k) (f k) (h k (omega arith)))
+          omega (
+            arith,
+            below_le k (λ c lt. h c (omega arith)),
+            picked (is_child rows g k) (f k) (h k (omega arith)),
+          )
 
   pub gathered_none : (table : List ℕ) → table ≡ replicate (length rows) 0
       → AreGathered rows f 0 table

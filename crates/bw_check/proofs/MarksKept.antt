@@ -22,15 +22,15 @@ module _ (groups : Groups) (amounts : List ℕ) (certificate : Certified) (c : �
       → level_above groups amounts certificate c ≡ Some level
   above_from g level a =
       let some : eqb (get_or amounts g 0) 0 ≡ false =
-          ne_eqb (get_or amounts g 0) 0 (λ e. let h : 0 < get_or amounts g 0 =
-          a.shares in omega (arith, e, h)) in
+      ne_eqb (get_or amounts g 0) 0 (λ e. let h : 0 < get_or amounts g 0 =
+      a.shares in omega (arith, e, h)) in
       rw (a.parent, some) a.level_is
 
   some_level : (level : Mark) → level_above groups amounts certificate c ≡ Some level
       → (g : ℕ) × IsAbove g level
   some_level level e =
       (elim (parent_of groups.rows c) as
-          (λ o. parent_of groups.rows c ≡ o → (g : ℕ) × IsAbove g level) [
+      (λ o. parent_of groups.rows c ≡ o → (g : ℕ) × IsAbove g level) [
         | None ↦ λ up. absurd (let clash : None ≡ Some level = rw up at e in cc)
         | Some g ↦ λ up. elim (cases_Bool (eqb (get_or amounts g 0) 0)) [
           | inl empty ↦ absurd (let clash : None ≡ Some level = rw (up, empty) at e in cc)
@@ -55,18 +55,18 @@ module _ (groups : Groups) (amounts : List ℕ) (certificate : Certified) (c : �
     -- other way round
     pub each_above : claim level (get_or places c 0) →
         (g : ℕ) (other : Mark) → parent_of groups.rows c ≡ Some g → 0 < get_or amounts g 0
-            → level_at certificate g ≡ Some other →
+        → level_at certificate g ≡ Some other →
         claim other (sibling_place groups.rows g c)
     each_above holds g other up shares level_is =
         let same : Some level ≡ Some other = sym is
-            ∙ above_from g other (record { parent = up; shares = shares; level_is = level_is }) in
+        ∙ above_from g other (record { parent = up; shares = shares; level_is = level_is }) in
         let level_same : level ≡ other = cc in
         subst (λ (mark : Mark). claim mark (sibling_place groups.rows g c)) level_same
         (subst (λ (place : ℕ). claim level place) (placed.each c g below up) holds)
 
     pub from_above :
         ((g : ℕ) (other : Mark) → parent_of groups.rows c ≡ Some g → 0 < get_or amounts g 0
-            → level_at certificate g ≡ Some other →
+        → level_at certificate g ≡ Some other →
         claim other (sibling_place groups.rows g c)) → claim level (get_or places c 0)
     from_above holds =
         let a = some_level level is in

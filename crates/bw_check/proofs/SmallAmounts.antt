@@ -18,25 +18,32 @@ module _ (groups : Groups) (amounts : List ℕ) (valid : IsInstance groups)
   small_below : (g : ℕ) → ((p : ℕ) → p < g → get_or amounts p 0 ≤ MAX_CAPACITY)
       → g < length groups.rows → get_or amounts g 0 ≤ MAX_CAPACITY
   small_below zero earlier within =
-      omega (arith, limited 0 within (capacity_of groups.shape) refl,
-          capacity_le groups.shape valid.host)
+      omega (
+        arith,
+        limited 0 within (capacity_of groups.shape) refl,
+        capacity_le groups.shape valid.host,
+      )
   small_below (suc g) earlier within =
       let parent = valid.tree.parent_before (suc g) (omega arith) within in
       let p = parent.0 in
       let inner : is_leaf groups.rows p ≡ false = elim (cases_Bool (is_leaf groups.rows p)) [
         | inl leaf ↦ absurd (let clash : true ≡ false =
             sym (is_child_from_parent groups.rows p (suc g) parent.1)
-                ∙ leaf_no_child groups.rows p (suc g) leaf within in cc)
+            ∙ leaf_no_child groups.rows p (suc g) leaf within in cc)
         | inr inner ↦ inner
       ] in
-      omega (arith, child_le_sum groups.rows amounts p (suc g) parent.1,
-          summed p (omega (arith, parent.2)) inner, earlier p parent.2)
+      omega (
+        arith,
+        child_le_sum groups.rows amounts p (suc g) parent.1,
+        summed p (omega (arith, parent.2)) inner,
+        earlier p parent.2,
+      )
 
   -- each amount is at most its parent's, and so on up to the capacity
   pub small_amounts : AreSmall amounts
   small_amounts = strong (λ g. get_or amounts g 0 ≤ MAX_CAPACITY)
       (λ g earlier. elim (cases_lt g (length groups.rows)) [
-    | inl within ↦ small_below g earlier within
-    | inr past ↦ let none : get_or amounts g 0
-        ≡ 0 = get_or_past amounts g 0 (omega (arith, past, each)) in omega (arith, none)
-  ])
+        | inl within ↦ small_below g earlier within
+        | inr past ↦ let none : get_or amounts g 0
+            ≡ 0 = get_or_past amounts g 0 (omega (arith, past, each)) in omega (arith, none)
+      ])

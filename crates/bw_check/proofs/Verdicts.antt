@@ -15,7 +15,7 @@ pub free-IsCertified : (groups : Groups) (amounts : List ℕ) (certificate : Cer
     (bounds : List ℕ) → AreTreeRows groups.rows →
     AreBounds groups certificate bounds →
     ((fault : CheckFault) (g : ℕ) → g < length groups.rows
-        → IsFree groups amounts certificate bounds fault g) →
+    → IsFree groups amounts certificate bounds fault g) →
     IsCertified groups amounts certificate bounds
 free-IsCertified groups amounts certificate bounds tree are free =
     let lengths = free WrongLength 0 tree.has_root in
@@ -39,7 +39,7 @@ free-IsCertified groups amounts certificate bounds tree are free =
 pub certified-IsFree
     : (groups : Groups) (amounts : List ℕ) (certificate : Certified) (bounds : List ℕ) →
     IsCertified groups amounts certificate bounds → AreTreeRows groups.rows
-        → (fault : CheckFault) (g : ℕ) → g < length groups.rows →
+    → (fault : CheckFault) (g : ℕ) → g < length groups.rows →
     IsFree groups amounts certificate bounds fault g
 certified-IsFree groups amounts certificate bounds c tree WrongLength g below =
     (c.amounts_each, c.flags_each, c.levels_each)
@@ -57,19 +57,19 @@ certified-IsFree groups amounts certificate bounds c tree LevelMissing g below =
 certified-IsFree groups amounts certificate bounds c tree LastMarkAbove g below =
     λ h level parent some is part.
     c.last_at_most h g level (let up : h < g = parent_lt groups.rows tree g h parent in omega arith)
-        below parent some is part
+    below parent some is part
 certified-IsFree groups amounts certificate bounds c tree NextMarkNotAbove g below =
     λ h level parent some is room.
     c.next_above h g level (let up : h < g = parent_lt groups.rows tree g h parent in omega arith)
-        below parent some is room
+    below parent some is room
 
 -- a fault speaks of bounds of groups alone
 free-under : (groups : Groups) (amounts : List ℕ) (certificate : Certified) (bounds others : List ℕ)
     → 0 < length groups.rows →
     ((g : ℕ) → g < length groups.rows → get_or bounds g 0 ≡ get_or others g 0)
-        → (fault : CheckFault) (g : ℕ) → g < length groups.rows →
+    → (fault : CheckFault) (g : ℕ) → g < length groups.rows →
     IsFree groups amounts certificate bounds fault g
-        → IsFree groups amounts certificate others fault g
+    → IsFree groups amounts certificate others fault g
 free-under groups amounts certificate bounds others root same WrongLength g below = λ h. h
 free-under groups amounts certificate bounds others root same OverLimit g below = λ h. h
 free-under groups amounts certificate bounds others root same OverDemand g below = λ h. h
@@ -82,7 +82,7 @@ free-under groups amounts certificate bounds others root same LastMarkAbove g be
 free-under groups amounts certificate bounds others root same NextMarkNotAbove g below =
     λ h. λ p level up shares is room.
     h p level up shares is (let e : get_or bounds g 0 ≡ get_or others g 0 =
-        same g below in omega (arith, e, room))
+    same g below in omega (arith, e, room))
 
 -- What is refused is not certified under any bounds.
 pub refused-not-accepted : (groups : Groups) (amounts : List ℕ) (certificate : Certified)
@@ -92,7 +92,7 @@ refused-not-accepted groups amounts certificate fault group tree refused accepte
     refused.first.found
     (free-under groups amounts certificate accepted.bounds refused.bounds tree.has_root
     (bounds-unique groups certificate accepted.bounds refused.bounds tree accepted.certified.bounded
-        refused.bounded)
+    refused.bounded)
     fault group refused.first.within
     (certified-IsFree groups amounts certificate accepted.bounds accepted.certified tree fault group
-        refused.first.within))
+    refused.first.within))

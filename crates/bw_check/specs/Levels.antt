@@ -11,7 +11,7 @@ use Rattle.bw_model.specs.Certificate.{Certified, level_at}
 abbrev pub level_above : Groups → List ℕ → Certified → ℕ → Option Mark
 level_above groups amounts certificate c =
     option_map_or (λ g. if slice_index amounts g == 0 then None else level_at certificate g)
-        (parent_of groups.rows c) None
+    (parent_of groups.rows c) None
 
 -- no amount is above the capacity of the largest host
 abbrev pub AreSmall : List ℕ → Type 0

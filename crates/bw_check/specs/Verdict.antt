@@ -21,7 +21,7 @@ use Rattle.bw_check.specs.Faults.{check_fault_number}
 abbrev pub AreOnePerRow : Groups → List ℕ → Certified → Type 0
 AreOnePerRow groups amounts certificate =
     (length amounts ≡ length groups.rows) × (length certificate.tight ≡ length groups.rows)
-        × (length certificate.levels ≡ length groups.rows)
+    × (length certificate.levels ≡ length groups.rows)
 
 -- the amount of a group is at most its limit
 abbrev pub IsWithinLimit : Groups → List ℕ → ℕ → Type 0
@@ -51,20 +51,20 @@ HasLevel groups amounts certificate g =
 abbrev pub IsLastMarkKept : Groups → List ℕ → Certified → ℕ → Type 0
 IsLastMarkKept groups amounts certificate c =
     (g : ℕ) (level : Mark) → parent_of groups.rows c ≡ Some g → 0 < slice_index amounts g
-        → level_at certificate g ≡ Some level →
+    → level_at certificate g ≡ Some level →
     0 < slice_index amounts c →
     IsAtMost (last_mark (slice_index amounts c) (weight_of groups.rows c)
-        (sibling_place groups.rows g c)) (price_of level)
+    (sibling_place groups.rows g c)) (price_of level)
 
 -- the next mark of a child below its bound is above that level
 abbrev pub IsNextMarkKept : Groups → List ℕ → Certified → List ℕ → ℕ → Type 0
 IsNextMarkKept groups amounts certificate bounds c =
     (g : ℕ) (level : Mark) → parent_of groups.rows c ≡ Some g → 0 < slice_index amounts g
-        → level_at certificate g ≡ Some level →
+    → level_at certificate g ≡ Some level →
     slice_index amounts c < slice_index bounds c →
     IsBelow (price_of level)
-        (next_mark (slice_index amounts c) (weight_of groups.rows c)
-        (sibling_place groups.rows g c))
+    (next_mark (slice_index amounts c) (weight_of groups.rows c)
+    (sibling_place groups.rows g c))
 
 -- a group is free of the fault
 abbrev pub IsFree : Groups → List ℕ → Certified → List ℕ → CheckFault → ℕ → Type 0

@@ -28,9 +28,9 @@ filter-more p a zero = let e : a ≡ a + 0 = omega arith in elim (cases_Bool (p 
 filter-more p a (suc n) =
     let e : a + 1 + n ≡ a + suc n = omega arith in
     let more : filter p (range_with_len (a + 1) (suc n)) ≡ filter p (range_with_len (a + 1) n)
-        ++ cond (p (a + suc n)) ((a + suc n) ∷ []) [] =
+    ++ cond (p (a + suc n)) ((a + suc n) ∷ []) [] =
     filter-more p (a + 1) n
-        ∙ ap (λ (k : ℕ). filter p (range_with_len (a + 1) n) ++ cond (p k) (k ∷ []) []) e in
+    ∙ ap (λ (k : ℕ). filter p (range_with_len (a + 1) n) ++ cond (p k) (k ∷ []) []) e in
     elim (cases_Bool (p a)) [
       | inl h ↦ rw h (ap (λ (xs : List ℕ). a ∷ xs) more)
       | inr h ↦ rw h more
@@ -46,8 +46,8 @@ pub record IsListing (groups : Groups) (d : Demands) (g : ℕ) (covered : List B
       (λ h. is_tight groups d.most h && not (has_tight_above groups d.most h)) (range_with_len 0 g)
   pub added : rest ≡ sum_below g
       (λ l. cond (is_leaf groups.rows l
-          && not (is_tight groups d.most l || has_tight_above groups d.most l))
-          (demand_of groups.rows l) 0)
+      && not (is_tight groups d.most l || has_tight_above groups d.most l))
+      (demand_of groups.rows l) 0)
 
 module _ (groups : Groups) (valid : IsInstance groups) (d : Demands)
     (known : IsGathered groups d) where
@@ -65,7 +65,7 @@ module _ (groups : Groups) (valid : IsInstance groups) (d : Demands)
   outside_le l below =
       let s : demand_of groups.rows l ≤ MAX_DEMAND = valid.demands l below in
       elim (cases_Bool (is_leaf groups.rows l
-          && not (is_tight groups d.most l || has_tight_above groups d.most l))) [
+      && not (is_tight groups d.most l || has_tight_above groups d.most l))) [
         | inl e ↦ rw e s
         | inr e ↦ rw e (omega arith)
       ]
@@ -84,7 +84,7 @@ module _ (groups : Groups) (valid : IsInstance groups) (d : Demands)
   pub above_by_parent : (g : ℕ) (covered : List Bool) (list : List ℕ) (rest : ℕ)
       → IsListing groups d g covered list rest → (above : Bool) →
       above ≡ option_map_or (λ p. get_or covered p false) (parent_of groups.rows g) false
-          → above ≡ has_tight_above groups d.most g
+      → above ≡ has_tight_above groups d.most g
   above_by_parent g covered list rest so_far above e = e ∙
       (elim (parent_of groups.rows g) as (λ o. parent_of groups.rows g ≡ o →
       option_map_or (λ p. get_or covered p false) o false ≡ has_tight_above groups d.most g) [
@@ -99,11 +99,11 @@ module _ (groups : Groups) (valid : IsInstance groups) (d : Demands)
       (here : Bool) (list' : List ℕ) (rest' : ℕ) →
       here ≡ (is_tight groups d.most g || has_tight_above groups d.most g) →
       list' ≡ list ++ cond (is_tight groups d.most g && not (has_tight_above groups d.most g))
-          (g ∷ []) [] →
+      (g ∷ []) [] →
       rest' ≡ rest + cond
-          (is_leaf groups.rows g
-          && not (is_tight groups d.most g || has_tight_above groups d.most g))
-          (demand_of groups.rows g) 0 →
+      (is_leaf groups.rows g
+      && not (is_tight groups d.most g || has_tight_above groups d.most g))
+      (demand_of groups.rows g) 0 →
       IsListing groups d next (set covered g here) list' rest'
   listed_more g next covered list rest en below so_far here list' rest' eh el er = rw en (record {
     one_each = length-set covered g here ∙ so_far.one_each;
@@ -118,7 +118,7 @@ module _ (groups : Groups) (valid : IsInstance groups) (d : Demands)
         so_far.listed
         ∙ at_zero
         ∙ sym (filter-more (λ h. is_tight groups d.most h && not (has_tight_above groups d.most h))
-            0 g);
+        0 g);
     added = omega (arith, er, so_far.added);
   })
     where
@@ -126,13 +126,13 @@ module _ (groups : Groups) (valid : IsInstance groups) (d : Demands)
           (range_with_len 0 g)
           ++ cond (is_tight groups d.most g && not (has_tight_above groups d.most g)) (g ∷ []) []
           ≡ filter (λ h. is_tight groups d.most h && not (has_tight_above groups d.most h))
-              (range_with_len 0 g)
+          (range_with_len 0 g)
           ++ cond (is_tight groups d.most (0 + g) && not (has_tight_above groups d.most (0 + g)))
-              ((0 + g) ∷ []) []
+          ((0 + g) ∷ []) []
       at_zero = let e : g ≡ 0 + g = omega arith in
           ap (λ (k : ℕ).
-              filter (λ h. is_tight groups d.most h && not (has_tight_above groups d.most h))
-              (range_with_len 0 g)
+          filter (λ h. is_tight groups d.most h && not (has_tight_above groups d.most h))
+          (range_with_len 0 g)
           ++ cond (is_tight groups d.most k && not (has_tight_above groups d.most k)) (k ∷ []) []) e
 
   -- the sum so far is small
@@ -141,8 +141,8 @@ module _ (groups : Groups) (valid : IsInstance groups) (d : Demands)
       → rest ≤ MAX_DEMAND * MAX_GROUPS
   rest_small g covered list rest below so_far =
       let s : sum_below g
-          (λ l. cond (is_leaf groups.rows l
-          && not (is_tight groups d.most l || has_tight_above groups d.most l))
+      (λ l. cond (is_leaf groups.rows l
+      && not (is_tight groups d.most l || has_tight_above groups d.most l))
       (demand_of groups.rows l) 0) ≤ MAX_DEMAND * g =
       sum_below-bound g _ (λ l lt. unfold outside in outside_le l (omega arith)) in
       let f = valid.few in
@@ -155,24 +155,26 @@ module _ (groups : Groups) (valid : IsInstance groups) (d : Demands)
   unfolding limiting_groups
   all_listed g covered list rest e so_far =
       let whole : list
-          ≡ filter (λ h. is_tight groups d.most h && not (has_tight_above groups d.most h))
-          (range_with_len 0 (length groups.rows)) =
+      ≡ filter (λ h. is_tight groups d.most h && not (has_tight_above groups d.most h))
+      (range_with_len 0 (length groups.rows)) =
       so_far.listed
-          ∙ ap (λ (n : ℕ).
-          filter (λ h. is_tight groups d.most h && not (has_tight_above groups d.most h))
-          (range_with_len 0 n)) e in
+      ∙ ap (λ (n : ℕ).
+      filter (λ h. is_tight groups d.most h && not (has_tight_above groups d.most h))
+      (range_with_len 0 n)) e in
       let rests : rest ≡ demand_outside groups.rows
       (filter (λ h. is_tight groups d.most h && not (has_tight_above groups d.most h))
-          (range_with_len 0 (length groups.rows))) =
+      (range_with_len 0 (length groups.rows))) =
       so_far.added ∙ ap (λ (n : ℕ). sum_below n
       (λ l. cond (is_leaf groups.rows l
-          && not (is_tight groups d.most l || has_tight_above groups d.most l))
-          (demand_of groups.rows l) 0)) e
-      ∙ sym (demand_outside-is groups valid.tree d.most) in
-      (whole, rw whole rests,
-          rw (whole, rests)
-          (limited-IsGreatestTotal groups valid.tree d.most
-          (AreMaxTotals-capped groups valid.tree d.most known.mosts)))
+      && not (is_tight groups d.most l || has_tight_above groups d.most l))
+      (demand_of groups.rows l) 0)) e
+      ∙ sym (demand_outside-is groups valid.tree d.most) in (
+        whole,
+        rw whole rests,
+        rw (whole, rests)
+            (limited-IsGreatestTotal groups valid.tree d.most
+            (AreMaxTotals-capped groups valid.tree d.most known.mosts)),
+      )
 
 -- the default is not read within a list
 pub flag_within : (xs : List Bool) (i : ℕ) (x y : Bool) → i < length xs

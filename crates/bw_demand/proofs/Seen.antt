@@ -56,21 +56,21 @@ pub last_seen : (rows : List Row) (d k c : ℕ) → c < length rows → length (
     → seen_from rows d c ≡ seen_at rows d k c
 last_seen rows d k c below le =
     let whole : take k (rows_of_depth rows d) ≡ rows_of_depth rows d =
-        take_all k (rows_of_depth rows d) le in
+    take_all k (rows_of_depth rows d) le in
     rw whole (elim (cases_lt (depth_of rows c) d) [
       | inl lt ↦ ap not (lt-ltb (depth_of rows c) d lt)
           ∙ sym (rw (lt-ltb (depth_of rows c) (d + 1) (omega arith)) (false_from_ne_true _ (λ e.
           let r : (j : ℕ) × (j < k) × (j < length (rows_of_depth rows d))
-              × (get_or (rows_of_depth rows d) j 0 ≡ c) =
-              among (rows_of_depth rows d) k c (rw whole e) in
+          × (get_or (rows_of_depth rows d) j 0 ≡ c) =
+          among (rows_of_depth rows d) k c (rw whole e) in
           let at : depth_of rows c ≡ d = rw r.3 at (level_row rows d r.0 r.2).depth in
           omega (arith, at, lt))))
       | inr ge ↦ ap not (le-ltb (depth_of rows c) d ge) ∙ sym (elim (cases_eq (depth_of rows c) d) [
         | inl same ↦ rw (lt-ltb (depth_of rows c) (d + 1) (omega (arith, same)))
             (let r : (k : ℕ) × (k < length (rows_of_depth rows d))
-                × (get_or (rows_of_depth rows d) k 0 ≡ c) = level_has rows d c below same in
+            × (get_or (rows_of_depth rows d) k 0 ≡ c) = level_has rows d c below same in
             list_any_at (λ h. h == c) (rows_of_depth rows d) r.0 0 r.1
-                (eq-eqb (get_or (rows_of_depth rows d) r.0 0) c r.2))
+            (eq-eqb (get_or (rows_of_depth rows d) r.0 0) c r.2))
         | inr other ↦ rw (le-ltb (depth_of rows c) (d + 1) (omega (arith, ge, other))) refl
       ])
     ])
@@ -81,10 +81,10 @@ pub next_seen : (rows : List Row) (d k g c : ℕ) → k < length (rows_of_depth 
     seen_at rows d (k + 1) c ≡ (seen_at rows d k c || eqb g c)
 next_seen rows d k g c lt is =
     rw is (ap (λ (b : Bool). seen_from rows (d + 1) c || b)
-        (list_any_more (λ h. h == c) (rows_of_depth rows d) k 0 lt)
+    (list_any_more (λ h. h == c) (rows_of_depth rows d) k 0 lt)
     ∙ sym (or_assoc (seen_from rows (d + 1) c)
-        (list_any (λ h. h == c) (take k (rows_of_depth rows d)))
-        (get_or (rows_of_depth rows d) k 0 == c)))
+    (list_any (λ h. h == c) (take k (rows_of_depth rows d)))
+    (get_or (rows_of_depth rows d) k 0 == c)))
 
 -- it had not been seen, nor had the one above it
 pub fresh : (rows : List Row) (d k g : ℕ) → k < length (rows_of_depth rows d)
@@ -93,9 +93,9 @@ fresh rows d k g lt is =
     let at : depth_of rows g ≡ d = ap (depth_of rows) is ∙ (level_row rows d k lt).depth in
     rw (lt-ltb (depth_of rows g) (d + 1) (omega (arith, at))) (false_from_ne_true _ (λ e.
     let r : (j : ℕ) × (j < k) × (j < length (rows_of_depth rows d))
-        × (get_or (rows_of_depth rows d) j 0 ≡ g) = among (rows_of_depth rows d) k g e in
+    × (get_or (rows_of_depth rows d) j 0 ≡ g) = among (rows_of_depth rows d) k g e in
     let up : get_or (rows_of_depth rows d) r.0 0 < get_or (rows_of_depth rows d) k 0 =
-        level_rises rows d r.0 k r.1 lt in
+    level_rises rows d r.0 k r.1 lt in
     omega (arith, up, r.3, is)))
 
 pub parent_unseen : (rows : List Row) → AreTreeRows rows → (d k g p : ℕ)
@@ -106,7 +106,7 @@ parent_unseen rows tree d k g p lt is e =
     let up : depth_of rows g ≡ depth_of rows p + 1 = depth_of-step rows tree g p e in
     rw (lt-ltb (depth_of rows p) (d + 1) (omega (arith, at, up))) (false_from_ne_true _ (λ f.
     let r : (j : ℕ) × (j < k) × (j < length (rows_of_depth rows d))
-        × (get_or (rows_of_depth rows d) j 0 ≡ p) = among (rows_of_depth rows d) k p f in
+    × (get_or (rows_of_depth rows d) j 0 ≡ p) = among (rows_of_depth rows d) k p f in
     let level : depth_of rows p ≡ d = rw r.3 at (level_row rows d r.0 r.2).depth in
     omega (arith, level, at, up)))
 

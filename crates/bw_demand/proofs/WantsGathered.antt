@@ -30,11 +30,11 @@ sum_below-changed zero i f h below e = absurd (omega arith)
 sum_below-changed (suc n) i f h below e = elim (cases_eq n i) [
   | inl same ↦
       let front : sum_below n h ≡ sum_below n f =
-          sum_below-ap n h f (λ k lt. e k (omega arith) (λ eq. omega arith)) in
+      sum_below-ap n h f (λ k lt. e k (omega arith) (λ eq. omega arith)) in
       rw (← same) (omega (arith, front))
   | inr other ↦
       let front : sum_below n h + f i ≡ sum_below n f + h i =
-          sum_below-changed n i f h (omega (arith, other)) (λ k lt. e k (omega arith)) in
+      sum_below-changed n i f h (omega (arith, other)) (λ k lt. e k (omega arith)) in
       let last : h n ≡ f n = e n (omega arith) other in
       omega (arith, front, last)
 ]
@@ -54,7 +54,7 @@ sum_below-two n i j f one two apart =
     let h : ℕ → ℕ = λ k. cond (eqb k i) 0 (f k) in
     let change : sum_below n h + f i ≡ sum_below n f + h i =
     sum_below-changed n i f h one
-        (λ k _ other. ap (λ (b : Bool). cond b 0 (f k)) (ne_eqb k i other)) in
+    (λ k _ other. ap (λ (b : Bool). cond b 0 (f k)) (ne_eqb k i other)) in
     let gone : h i ≡ 0 = ap (λ (b : Bool). cond b 0 (f i)) (eq-eqb i i refl) in
     let kept : h j ≡ f j = ap (λ (b : Bool). cond b 0 (f j)) (ne_eqb j i apart) in
     let term : h j ≤ sum_below n h = sum_below-term n j h two in
@@ -73,18 +73,18 @@ pub record IsGathering (groups : Groups) (seen : ℕ → Bool) (want most : List
   pub unseen : (c : ℕ) → c < length groups.rows → seen c ≡ false → get_or most c 0 ≡ 0
   pub sums : (r : ℕ) → r < length groups.rows →
       get_or want r 0 ≡ demand_of groups.rows r
-          + sum_by (slice_index most) (children_of groups.rows r)
+      + sum_by (slice_index most) (children_of groups.rows r)
   pub cut : (c : ℕ) → c < length groups.rows → seen c ≡ true
       → get_or most c 0 ≡ capped (limit_of groups c) (get_or want c 0)
   pub flags : (c : ℕ) → c < length groups.rows → seen c ≡ true →
       get_or tight c false ≡ option_map_or (λ limit. ltb limit (get_or want c 0))
-          (limit_of groups c) false
+      (limit_of groups c) false
   pub small : sum_below (length groups.rows) (left seen want) ≤ MAX_DEMAND * MAX_GROUPS
 
 -- the same groups are seen
 pub same_seen : (groups : Groups) (seen next : ℕ → Bool) (want most : List ℕ) (tight : List Bool) →
     ((c : ℕ) → c < length groups.rows → next c ≡ seen c) → IsGathering groups seen want most tight
-        → IsGathering groups next want most tight
+    → IsGathering groups next want most tight
 same_seen groups seen next want most tight same so_far = record {
   wants_each = so_far.wants_each;
   mosts_each = so_far.mosts_each;
@@ -95,9 +95,9 @@ same_seen groups seen next want most tight same so_far = record {
   flags = λ c below e. so_far.flags c below (sym (same c below) ∙ e);
   small =
       let e : sum_below (length groups.rows) (left next want)
-          ≡ sum_below (length groups.rows) (left seen want) =
+      ≡ sum_below (length groups.rows) (left seen want) =
       sum_below-ap (length groups.rows) (left next want) (left seen want)
-          (λ k below. ap (λ (b : Bool). cond b 0 (get_or want k 0)) (same k below)) in
+      (λ k below. ap (λ (b : Bool). cond b 0 (get_or want k 0)) (same k below)) in
       omega (arith, e, so_far.small);
 }
 
@@ -126,7 +126,7 @@ nothing_gathered groups valid seen nothing n en want most tight ew em et = recor
       let all : sum_by (slice_index most) (children_of groups.rows r) ≡ 0 =
       sum_by-children groups.rows (slice_index most) r
       ∙ sum_below-zero (length groups.rows)
-          (λ c. cond (is_child groups.rows r c) (get_or most c 0) 0)
+      (λ c. cond (is_child groups.rows r c) (get_or most c 0) 0)
       (λ c _. zero_if (is_child groups.rows r c) (get_or most c 0) (none c)) in
       omega (arith, all, at r);
   cut = λ c below e. absurd (true≢false (sym e ∙ nothing c below));
@@ -136,7 +136,7 @@ nothing_gathered groups valid seen nothing n en want most tight ew em et = recor
       sum_below-bound (length groups.rows) (left seen want) (λ k lt.
       let d : demand_of groups.rows k ≤ MAX_DEMAND = valid.demands k lt in
       let is : left seen want k ≡ get_or want k 0 =
-          ap (λ (b : Bool). cond b 0 (get_or want k 0)) (nothing k lt) in
+      ap (λ (b : Bool). cond b 0 (get_or want k 0)) (nothing k lt) in
       omega (arith, d, is, at k)) in
       let f = valid.few in
       omega (arith, s, f);
@@ -157,11 +157,11 @@ cut-capped (Some limit) want = refl
 module _ (groups : Groups) (tree : AreTreeRows groups.rows) (seen next : ℕ → Bool) (g : ℕ)
     (below : g < length groups.rows)
     (fresh : seen g ≡ false)
-        (marks : (c : ℕ) → c < length groups.rows → next c ≡ (seen c || eqb g c))
+    (marks : (c : ℕ) → c < length groups.rows → next c ≡ (seen c || eqb g c))
     (above : (p : ℕ) → parent_of groups.rows g ≡ Some p → seen p ≡ false)
     (want most : List ℕ) (tight : List Bool)
     (so_far : IsGathering groups seen want most tight) (given : ℕ)
-        (is_given : given ≡ capped (limit_of groups g) (get_or want g 0)) where
+    (is_given : given ≡ capped (limit_of groups g) (get_or want g 0)) where
   given_le : given ≤ get_or want g 0
   given_le = rw is_given (capped_le_want (limit_of groups g) (get_or want g 0))
 
@@ -177,30 +177,32 @@ module _ (groups : Groups) (tree : AreTreeRows groups.rows) (seen next : ℕ →
   sum_fits p e =
       let up : p < g = parent_before p e in
       let both : left seen want g + left seen want p
-          ≤ sum_below (length groups.rows) (left seen want) =
+      ≤ sum_below (length groups.rows) (left seen want) =
       sum_below-two (length groups.rows) g p (left seen want) below (omega (arith, up))
-          (λ same. omega (arith, same, up)) in
+      (λ same. omega (arith, same, up)) in
       let its : left seen want p ≡ get_or want p 0 =
-          ap (λ (b : Bool). cond b 0 (get_or want p 0)) (above p e) in
+      ap (λ (b : Bool). cond b 0 (get_or want p 0)) (above p e) in
       omega (arith, both, own_left, its, so_far.small, given_le)
 
   children_sum : (r : ℕ) → sum_by (slice_index (set most g given)) (children_of groups.rows r)
       ≡ sum_by (slice_index most) (children_of groups.rows r)
-          + cond (is_child groups.rows r g) given 0
+      + cond (is_child groups.rows r g) given 0
   children_sum r =
       let f : ℕ → ℕ = λ c. cond (is_child groups.rows r c) (get_or most c 0) 0 in
       let h : ℕ → ℕ = λ c. cond (is_child groups.rows r c) (get_or (set most g given) c 0) 0 in
       let change : sum_below (length groups.rows) h + f g ≡ sum_below (length groups.rows) f + h g =
       sum_below-changed (length groups.rows) g f h below
       (λ k _ other. ap (λ (x : ℕ). cond (is_child groups.rows r k) x 0)
-          (get_or-set_other most g k given 0 other)) in
+      (get_or-set_other most g k given 0 other)) in
       let old : f g ≡ 0 =
-          zero_if (is_child groups.rows r g) (get_or most g 0) (so_far.unseen g below fresh) in
+      zero_if (is_child groups.rows r g) (get_or most g 0) (so_far.unseen g below fresh) in
       let new : h g ≡ cond (is_child groups.rows r g) given 0 =
       ap (λ (x : ℕ). cond (is_child groups.rows r g) x 0)
-          (get_or-set_same most g given 0 (omega (arith, so_far.mosts_each))) in
-      rw (sum_by-children groups.rows (slice_index (set most g given)) r,
-          sum_by-children groups.rows (slice_index most) r)
+      (get_or-set_same most g given 0 (omega (arith, so_far.mosts_each))) in
+      rw (
+        sum_by-children groups.rows (slice_index (set most g given)) r,
+        sum_by-children groups.rows (slice_index most) r,
+      )
       (omega (arith, change, old, new))
 
   now_seen : next g ≡ true
@@ -215,7 +217,7 @@ module _ (groups : Groups) (tree : AreTreeRows groups.rows) (seen next : ℕ →
   not_seen : (c : ℕ) → c < length groups.rows → next c ≡ false → (seen c ≡ false) × (c ≡ g → ⊥)
   not_seen c lt e =
       let both : (seen c ≡ false) × (eqb g c ≡ false) =
-          or_parts (seen c) (eqb g c) (sym (marks c lt) ∙ e) in
+      or_parts (seen c) (eqb g c) (sym (marks c lt) ∙ e) in
       (both.0, λ same. true≢false (sym (eq-eqb g c (sym same)) ∙ both.1))
 
   -- what is left by the others once g is seen
@@ -223,18 +225,18 @@ module _ (groups : Groups) (tree : AreTreeRows groups.rows) (seen next : ℕ →
       ≡ sum_below (length groups.rows) (left seen want)
   left_next =
       let change : sum_below (length groups.rows) (left next want) + left seen want g
-          ≡ sum_below (length groups.rows) (left seen want) + left next want g =
+      ≡ sum_below (length groups.rows) (left seen want) + left next want g =
       sum_below-changed (length groups.rows) g (left seen want) (left next want) below
       (λ k lt other. ap (λ (b : Bool). cond b 0 (get_or want k 0))
       (marks k lt ∙ ap (λ (b : Bool). seen k || b) (ne_eqb g k (λ e. other (sym e)))
-          ∙ or-false (seen k))) in
+      ∙ or-false (seen k))) in
       let gone : left next want g ≡ 0 = ap (λ (b : Bool). cond b 0 (get_or want g 0)) now_seen in
       omega (arith, change, own_left, gone)
 
   -- by what the wants become
   step : (after : List ℕ) (flag : Bool) → length after ≡ length groups.rows →
       ((r : ℕ) → r < length groups.rows
-          → get_or after r 0 ≡ get_or want r 0 + cond (is_child groups.rows r g) given 0) →
+      → get_or after r 0 ≡ get_or want r 0 + cond (is_child groups.rows r g) given 0) →
       flag ≡ option_map_or (λ limit. ltb limit (get_or want g 0)) (limit_of groups g) false →
       sum_below (length groups.rows) (left next after) ≤ MAX_DEMAND * MAX_GROUPS →
       IsGathering groups next after (set most g given) (set tight g flag)
@@ -267,19 +269,19 @@ module _ (groups : Groups) (tree : AreTreeRows groups.rows) (seen next : ℕ →
       own_kept : get_or after g 0 ≡ get_or want g 0
       own_kept =
           let no' : is_child groups.rows g g ≡ false =
-              is_child_no groups.rows g g (λ e. let up : g < g =
-              parent_before g e in omega arith) in
+          is_child_no groups.rows g g (λ e. let up : g < g =
+          parent_before g e in omega arith) in
           added g below ∙ rw no' (omega arith)
 
       kept : (c : ℕ) → c < length groups.rows → seen c ≡ true → get_or after c 0 ≡ get_or want c 0
       kept c lt yes' =
           let no' : is_child groups.rows c g ≡ false =
-              is_child_no groups.rows c g (λ e. true≢false (sym yes' ∙ above c e)) in
+          is_child_no groups.rows c g (λ e. true≢false (sym yes' ∙ above c e)) in
           added c lt ∙ rw no' (omega arith)
 
       flag_ap : {x y : ℕ} → (c : ℕ) → x ≡ y →
           option_map_or (λ limit. ltb limit x) (limit_of groups c) false
-              ≡ option_map_or (λ limit. ltb limit y) (limit_of groups c) false
+          ≡ option_map_or (λ limit. ltb limit y) (limit_of groups c) false
       flag_ap {x} {y} c e =
           ap (λ (w : ℕ). option_map_or (λ limit. ltb limit w) (limit_of groups c) false) e
 
@@ -297,21 +299,21 @@ module _ (groups : Groups) (tree : AreTreeRows groups.rows) (seen next : ℕ →
         | inl same ↦ rw (same, is_child_from_parent groups.rows p g e) (here ∙ is_v)
         | inr other ↦
             let no' : is_child groups.rows r g ≡ false =
-                is_child_no groups.rows r g (λ f. other (same_parent r p (sym f ∙ e))) in
+            is_child_no groups.rows r g (λ f. other (same_parent r p (sym f ∙ e))) in
             rw no' (get_or-set_other want p r v 0 other ∙ omega arith)
       ])
       is_flag
       (let still : next p ≡ false = marks p (omega (arith, up, below))
-          ∙ rw (above p e) (ne_eqb g p (λ same. omega (arith, same, up))) in
+      ∙ rw (above p e) (ne_eqb g p (λ same. omega (arith, same, up))) in
       let change : sum_below (length groups.rows) (left next (set want p v)) + left next want p
       ≡ sum_below (length groups.rows) (left next want) + left next (set want p v) p =
       sum_below-changed (length groups.rows) p (left next want) (left next (set want p v))
-          (omega (arith, up, below))
+      (omega (arith, up, below))
       (λ k _ other. ap (λ (x : ℕ). cond (next k) 0 x) (get_or-set_other want p k v 0 other)) in
       let old : left next want p ≡ get_or want p 0 =
-          ap (λ (b : Bool). cond b 0 (get_or want p 0)) still in
+      ap (λ (b : Bool). cond b 0 (get_or want p 0)) still in
       let new : left next (set want p v) p ≡ v =
-          ap (λ (b : Bool). cond b 0 (get_or (set want p v) p 0)) still ∙ here in
+      ap (λ (b : Bool). cond b 0 (get_or (set want p v) p 0)) still ∙ here in
       omega (arith, change, old, new, is_v, left_next, so_far.small, given_le))
     where
       same_parent : (r p : ℕ) → Some r ≡ Some p → r ≡ p
@@ -324,7 +326,7 @@ module _ (groups : Groups) (tree : AreTreeRows groups.rows) (seen next : ℕ →
   gathered_root flag e is_flag =
       step want flag so_far.wants_each
       (λ r _. let no' : is_child groups.rows r g ≡ false =
-          is_child_no groups.rows r g (λ f. some_none r (sym f ∙ e)) in rw no' (omega arith))
+      is_child_no groups.rows r g (λ f. some_none r (sym f ∙ e)) in rw no' (omega arith))
       is_flag
       (omega (arith, left_next, so_far.small))
     where
@@ -335,7 +337,7 @@ module _ (groups : Groups) (tree : AreTreeRows groups.rows) (seen next : ℕ →
   gathered_row : (flag : Bool) → flag
       ≡ option_map_or (λ limit. ltb limit (get_or want g 0)) (limit_of groups g) false →
       IsGathering groups next (added_above (parent_of groups.rows g) want given) (set most g given)
-          (set tight g flag)
+      (set tight g flag)
   gathered_row flag is_flag =
       (elim (parent_of groups.rows g) as (λ o. parent_of groups.rows g ≡ o →
       IsGathering groups next (added_above o want given) (set most g given) (set tight g flag)) [
@@ -347,7 +349,7 @@ module _ (groups : Groups) (tree : AreTreeRows groups.rows) (seen next : ℕ →
   row_fits : IfSome (parent_of groups.rows g) (λ p. get_or want p 0 + given < 2 ^ 64)
   row_fits =
       (elim (parent_of groups.rows g) as
-          (λ o. parent_of groups.rows g ≡ o → IfSome o (λ p. get_or want p 0 + given < 2 ^ 64)) [
+      (λ o. parent_of groups.rows g ≡ o → IfSome o (λ p. get_or want p 0 + given < 2 ^ 64)) [
         | Some p ↦ λ e. let fits = sum_fits p e in omega (arith, fits)
         | None ↦ λ e. tt
       ]) refl
@@ -356,10 +358,10 @@ module _ (groups : Groups) (tree : AreTreeRows groups.rows) (seen next : ℕ →
 module _ (groups : Groups) (tree : AreTreeRows groups.rows) (seen next : ℕ → Bool) (g : ℕ)
     (below : g < length groups.rows)
     (fresh : seen g ≡ false)
-        (marks : (c : ℕ) → c < length groups.rows → next c ≡ (seen c || eqb g c))
+    (marks : (c : ℕ) → c < length groups.rows → next c ≡ (seen c || eqb g c))
     (above : (p : ℕ) → parent_of groups.rows g ≡ Some p → seen p ≡ false)
     (want most : List ℕ) (tight : List Bool)
-        (so_far : IsGathering groups seen want most tight) where
+    (so_far : IsGathering groups seen want most tight) where
   is_given : given_to groups want g ≡ capped (limit_of groups g) (get_or want g 0)
   is_given = cut-capped (limit_of groups g) (get_or want g 0)
 
@@ -380,7 +382,7 @@ module _ (groups : Groups) (tree : AreTreeRows groups.rows) (seen next : ℕ →
       (set tight g (is_cut groups want g))
   row_gathered =
       gathered_row groups tree seen next g below fresh marks above want most tight so_far
-          (given_to groups want g) is_given (is_cut groups want g) refl
+      (given_to groups want g) is_given (is_cut groups want g) refl
 
 -- once all are seen
 pub all_gathered : (groups : Groups) → IsInstance groups → (seen : ℕ → Bool)

@@ -36,13 +36,13 @@ abbrev pub MostIsTheWantCut : Type 0
 MostIsTheWantCut = (groups : Groups) (most : List ℕ) → IsInstance groups → AreMaxTotals groups most
     → (g : ℕ) → g < length groups.rows →
     slice_index most g ≡ option_map_or (min (want_of groups most g)) (limit_of groups g)
-        (want_of groups most g)
+    (want_of groups most g)
 
 -- allocations of the children of a group join into one
 abbrev pub AllocationsJoin : Type 0
 AllocationsJoin = (groups : Groups) (g : ℕ) (parts : ℕ → List ℕ) → IsInstance groups →
     ((c : ℕ) → c < length groups.rows → parent_of groups.rows c ≡ Some g
-        → IsWithinUnder groups c (parts c)) → IsJoined groups g parts
+    → IsWithinUnder groups c (parts c)) → IsJoined groups g parts
 
 -- whichever groups are flagged, no allocation within has a total above the bound
 abbrev pub BoundsHold : Type 0

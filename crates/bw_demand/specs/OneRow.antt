@@ -10,8 +10,11 @@ use Rattle.bw_demand.specs.Demands.{Demands}
 -- each wants its own demand, and nothing is given
 abbrev pub ungathered : List Row → Demands
 ungathered rows =
-    record { want = map (λ row. row.demand) rows; most = replicate (length rows) 0;
-    tight = replicate (length rows) false }
+    record {
+      want = map (λ row. row.demand) rows;
+      most = replicate (length rows) 0;
+      tight = replicate (length rows) false;
+    }
 
 -- what its limit leaves of a row's want
 abbrev pub given_to : Groups → List ℕ → ℕ → ℕ

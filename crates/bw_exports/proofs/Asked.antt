@@ -54,7 +54,7 @@ pub host_refused : (shape : Shape) (table : Table) (fault : HostFault) → are_e
 host_refused shape table fault e h =
     asked_even shape table e
     ∙ ap (λ (o : Option HostFault). option_map_or host_fault_number o
-        (option_map_or instance_fault_number (refusal (rows_in table)) 0)) h
+    (option_map_or instance_fault_number (refusal (rows_in table)) 0)) h
 
 -- even columns, a host, and the refusal of the rows
 asked_rows : (shape : Shape) (table : Table) (r : Option InstanceFault) → are_even table ≡ true
@@ -63,7 +63,7 @@ asked_rows : (shape : Shape) (table : Table) (r : Option InstanceFault) → are_
 asked_rows shape table r e host h =
     asked_even shape table e
     ∙ ap (λ (o : Option HostFault). option_map_or host_fault_number o
-        (option_map_or instance_fault_number (refusal (rows_in table)) 0))
+    (option_map_or instance_fault_number (refusal (rows_in table)) 0))
     (IsHost-accepted shape host)
     ∙ ap (λ (o : Option InstanceFault). option_map_or instance_fault_number o 0) h
 
@@ -120,16 +120,16 @@ pub limiting_short : (shape : Shape) (table : Table) (most : List ℕ)
 unfolding limiting_groups
 limiting_short shape table most =
     let rows : length (rows_in table) ≡ length table.parents =
-        length-map-range_with_len (row_in table) 0 (length table.parents) in
+    length-map-range_with_len (row_in table) 0 (length table.parents) in
     let range : length (range_with_len 0 (length (rows_in table))) ≡ length (rows_in table) =
-        length-range_with_len 0 (length (rows_in table)) in
+    length-range_with_len 0 (length (rows_in table)) in
     let g = groups_in shape table in
     let p : ℕ → Bool = λ (h : ℕ). is_tight g most h && not (has_tight_above g most h) in
     let kept : length (filter p (range_with_len 0 (length (rows_in table))))
-        ≡ count_by p (range_with_len 0 (length (rows_in table))) =
+    ≡ count_by p (range_with_len 0 (length (rows_in table))) =
     length-filter p (range_with_len 0 (length (rows_in table))) in
     let some : count_by p (range_with_len 0 (length (rows_in table)))
-        ≤ length (range_with_len 0 (length (rows_in table))) =
+    ≤ length (range_with_len 0 (length (rows_in table))) =
     count_by-le-length p (range_with_len 0 (length (rows_in table))) in
     omega (arith, rows, range, kept, some)
 
@@ -138,7 +138,7 @@ pub few_rows : (groups : Groups) (shape : Shape) (table : Table) → groups ≡ 
     → IsInstance groups → length table.parents ≤ MAX_GROUPS
 few_rows groups shape table e i =
     let rows : length (rows_in table) ≡ length table.parents =
-        length-map-range_with_len (row_in table) 0 (length table.parents) in
+    length-map-range_with_len (row_in table) 0 (length table.parents) in
     let here : IsInstance (groups_in shape table) = subst IsInstance e i in
     let few : length (rows_in table) ≤ MAX_GROUPS = here.few in
     rw rows at few

@@ -15,9 +15,14 @@ flags_again (false ∷ flags) = ap (λ (rest : List Bool). false ∷ rest) (flag
 
 level_again : (level : Option Mark)
     → IsLevel (num_of level) (den_of level) (place_of_level level) level
-level_again None =
-    ((λ some. absurd (true≢false (sym some)), λ both. let none : 0 < 0 =
-        both.0 in absurd (omega (arith, none))), tt)
+level_again None = (
+  (
+    λ some. absurd (true≢false (sym some)),
+    λ both. let none : 0 < 0 =
+        both.0 in absurd (omega (arith, none)),
+  ),
+  tt,
+)
 level_again (Some mark) =
     ((λ some. (mark.num_positive, mark.den_positive), λ both. refl), (refl, refl, refl))
 
@@ -27,7 +32,7 @@ long_map f (x ∷ xs) = ap (λ (n : ℕ). suc n) (long_map f xs)
 
 level_here : (levels : List (Option Mark)) (k : ℕ) → k < length (map num_of levels) →
     IsLevel (get_or (map num_of levels) k 0) (get_or (map den_of levels) k 0)
-        (get_or (map place_of_level levels) k 0) (get_or levels k None)
+    (get_or (map place_of_level levels) k 0) (get_or levels k None)
 level_here levels k within =
     let here : k < length levels = rw (long_map num_of levels) at within in
     rw (get_or-map num_of levels k None 0 here)

@@ -84,7 +84,7 @@ are_even table =
 abbrev pub refusal_number : Groups → ℕ
 refusal_number groups =
     option_map_or host_fault_number (host_refusal groups.shape)
-        (option_map_or instance_fault_number (refusal groups.rows) 0)
+    (option_map_or instance_fault_number (refusal groups.rows) 0)
 
 -- the number that refuses what is asked, 0 where none does: 50 where the columns are of several
 -- lengths

@@ -53,8 +53,12 @@ pub record IsCertifiedPlan (groups : Groups) (amounts : List ℕ) (claimed : Cla
 -- what the program has found, as columns
 abbrev pub claimed_in : Found → Claimed
 claimed_in found =
-    record { flags = found.flags.items; nums = found.nums.items; dens = found.dens.items;
-    places = found.places.items }
+    record {
+      flags = found.flags.items;
+      nums = found.nums.items;
+      dens = found.dens.items;
+      places = found.places.items;
+    }
 
 -- one entry for each row in each column
 pub record AreLong (found : Found) (count : ℕ) : Type 0 where

@@ -30,21 +30,25 @@ claimed_columns flags nums dens places =
 -- what the program holds of a claim, as lists
 abbrev pub claimed_of : Claim → Claimed
 claimed_of claim =
-    record { flags = claim.flags.now; nums = claim.nums.now; dens = claim.dens.now;
-    places = claim.places.now }
+    record {
+      flags = claim.flags.now;
+      nums = claim.nums.now;
+      dens = claim.dens.now;
+      places = claim.places.now;
+    }
 
 -- the level that three numbers give: none where num or den is 0
 abbrev pub IsLevel : ℕ → ℕ → ℕ → Option Mark → Type 0
 IsLevel num den place level =
     (IsSome level ↔ ((0 < num) × (0 < den)))
-        × IfSome level (λ mark. (mark.num ≡ num) × (mark.den ≡ den) × (mark.place ≡ place))
+    × IfSome level (λ mark. (mark.num ≡ num) × (mark.den ≡ den) × (mark.place ≡ place))
 
 -- the first n levels are those of the columns
 pub record AreLevels (claimed : Claimed) (n : ℕ) (levels : List (Option Mark)) : Type 0 where
   pub long : length levels ≡ n
   pub each : (k : ℕ) → k < n →
       IsLevel (slice_index claimed.nums k) (slice_index claimed.dens k)
-          (slice_index claimed.places k) (slice_index_or levels k None)
+      (slice_index claimed.places k) (slice_index_or levels k None)
 
 -- whether the columns of the levels are of one length
 abbrev pub are_levels_even : Claimed → Bool
@@ -103,4 +107,4 @@ pub record IsRefused (refused before after number : ℕ) : Type 0 where
 abbrev pub IsOutcome : ℕ → Groups → List ℕ → Claimed → ℕ → ℕ → ℕ → Type 0
 IsOutcome refused groups amounts claimed before after number =
     IsRefused refused before after number
-        ⊎ IsFound refused groups amounts claimed before after number
+    ⊎ IsFound refused groups amounts claimed before after number

@@ -40,7 +40,7 @@ after_at rows g before parts i below =
 
 after-IsShared : (groups : Groups) (most before : List ℕ) (g : ℕ) (parts : List ℕ) →
     IsBestSplit (get_or before g 0) (child_weights groups.rows g)
-        (map (slice_index most) (children_of groups.rows g)) parts →
+    (map (slice_index most) (children_of groups.rows g)) parts →
     IsShared groups most g before (after groups.rows g before parts)
 unfolding written
 after-IsShared groups most before g parts best = record {
@@ -59,24 +59,26 @@ after-IsShared groups most before g parts best = record {
         (λ k below.
         let c = child_at groups.rows g k below in
         after_at groups.rows g before parts (get_or (children_of groups.rows g) k 0) c.within
-        ∙ rw (is_child_from_parent groups.rows g (get_or (children_of groups.rows g) k 0) c.parent,
-            c.place) refl)
+        ∙ rw (
+          is_child_from_parent groups.rows g (get_or (children_of groups.rows g) k 0) c.parent,
+          c.place,
+        ) refl)
 
 -- There is a plan that goes down by best splits, so the plan does.
 module _ (groups : Groups) (valid : IsInstance groups) (most : List ℕ)
     (rule : (g : ℕ) → g < length groups.rows
-        → get_or most g 0 ≡ capped (limit_of groups g) (want_of groups most g)) where
+    → get_or most g 0 ≡ capped (limit_of groups g) (want_of groups most g)) where
   planned_to : (g : ℕ) → g ≤ length groups.rows
       → (amounts : List ℕ) × IsPlanning groups most (rows_before g) amounts
   planned_to zero le = (
     set (replicate {A = ℕ} (length groups.rows) 0) 0 (get_or most 0 0),
     begun groups valid most rule (rows_before 0) (λ h _. le-ltb h 0 (omega arith))
         (length groups.rows) (get_or most 0 0)
-            (set (replicate {A = ℕ} (length groups.rows) 0) 0 (get_or most 0 0)) refl refl refl,
+        (set (replicate {A = ℕ} (length groups.rows) 0) 0 (get_or most 0 0)) refl refl refl,
   )
   planned_to (suc g) le =
       let so_far : (amounts : List ℕ) × IsPlanning groups most (rows_before g) amounts =
-          planned_to g (omega arith) in
+      planned_to g (omega arith) in
       next so_far.0 so_far.1
     where
       next : (amounts : List ℕ) → IsPlanning groups most (rows_before g) amounts
@@ -87,17 +89,17 @@ module _ (groups : Groups) (valid : IsInstance groups) (most : List ℕ)
           leaf_more groups valid most rule (rows_before g) (rows_before (suc g)) g (omega arith)
               (next_fresh groups valid.tree g)
               (next_marks groups valid.tree g) (before_closed groups valid.tree g) amounts leaf
-                  so_far,
+              so_far,
         )
         | inr inner ↦
             let cs : List ℕ = children_of groups.rows g in
             let most_sum : sum (map (slice_index most) cs) ≡ sum_by (slice_index most) cs =
-                sum-map (slice_index most) cs in
+            sum-map (slice_index most) cs in
             let fits : get_or amounts g 0 ≤ sum_by (slice_index most) cs =
             enough groups valid most rule (rows_before g) g amounts (omega arith) inner so_far
-                (parent_done groups valid.tree g) in
+            (parent_done groups valid.tree g) in
             let found : (parts : List ℕ) × IsBestSplit (get_or amounts g 0)
-                (child_weights groups.rows g) (map (slice_index most) cs) parts =
+            (child_weights groups.rows g) (map (slice_index most) cs) parts =
             best_split (child_weights groups.rows g) (map (slice_index most) cs)
             (length-map cs (weight_of groups.rows) ∙ sym (length-map cs (slice_index most)))
             (λ k below. let w = weights_in_range groups valid g k below in omega (arith, w.0))
@@ -106,7 +108,7 @@ module _ (groups : Groups) (valid : IsInstance groups) (most : List ℕ)
               shared_more groups valid most rule (rows_before g) (rows_before (suc g)) g
                   (omega arith) (next_fresh groups valid.tree g)
                   (next_marks groups valid.tree g) (before_closed groups valid.tree g) amounts
-                      (after groups.rows g amounts found.0) so_far
+                  (after groups.rows g amounts found.0) so_far
                   (after-IsShared groups most amounts g found.0 found.1),
             )
       ]
@@ -119,26 +121,26 @@ module _ (groups : Groups) (valid : IsInstance groups) (most : List ℕ)
       → IsPlanning groups most (λ _. true) amounts
   plan-IsPlanning amounts is_plan =
       let other : (amounts : List ℕ) × IsPlanning groups most (rows_before (length groups.rows))
-          amounts = planned_to (length groups.rows) (omega arith) in
+      amounts = planned_to (length groups.rows) (omega arith) in
       let other_plan : IsPlan groups other.0 =
       all_planned groups valid most rule (rows_before (length groups.rows)) other.0
-          (λ h below _. all_before h below) other.1 in
+      (λ h below _. all_before h below) other.1 in
       let same : other.0 ≡ amounts =
-          IsPlan-unique groups other.0 amounts valid.tree other_plan is_plan in
+      IsPlan-unique groups other.0 amounts valid.tree other_plan is_plan in
       subst (λ (xs : List ℕ). IsPlanning groups most (λ _. true) xs) same
       (same_done groups valid most rule (rows_before (length groups.rows)) (λ _. true) other.0
-          (λ h below. sym (all_before h below)) other.1)
+      (λ h below. sym (all_before h below)) other.1)
 
 -- Each instance has one plan.
 pub one_plan : (groups : Groups) → IsInstance groups → HasOnePlan groups
 one_plan groups valid =
     let found : (amounts : List ℕ)
-        × IsPlanning groups (mosts groups valid.tree) (rows_before (length groups.rows)) amounts =
+    × IsPlanning groups (mosts groups valid.tree) (rows_before (length groups.rows)) amounts =
     planned_to groups valid (mosts groups valid.tree) (mosts-capped groups valid.tree)
-        (length groups.rows) (omega arith) in
+    (length groups.rows) (omega arith) in
     let is_plan : IsPlan groups found.0 =
     all_planned groups valid (mosts groups valid.tree) (mosts-capped groups valid.tree)
-        (rows_before (length groups.rows)) found.0
+    (rows_before (length groups.rows)) found.0
     (λ h below _. lt-ltb h (length groups.rows) below) found.1 in
     record {
       amounts = found.0;

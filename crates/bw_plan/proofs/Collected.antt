@@ -10,7 +10,7 @@ use Rattle.rayon.proofs.ToStd.{slice-AllZip}
 -- where each answer is an `Ok`, what the rule says of these
 all_ok : {Z V : Type 0} (R : Z → V → Type 0) (zs : List Z) (ys : List V) →
     AllZip (λ z (x : Result V AllocError). IfOk x (λ v. R z v)) zs (map (λ v. Ok v) ys)
-        → AllZip R zs ys
+    → AllZip R zs ys
 all_ok R [] [] h = tt
 all_ok R [] (y ∷ ys) h = absurd h
 all_ok R (z ∷ zs) [] h = absurd h
@@ -21,7 +21,7 @@ pub collected : (R : ℕ → Vec ℕ Global → Type 0) (level : List ℕ) (zs :
     (r : Result (Vec (Vec ℕ Global) Global) AllocError) → map (λ (z : Bor ℕ). z.now) zs ≡ level →
     AllZip (λ z x. IfOk x (λ v. R z.now v)) zs xs →
     MatchResult r (λ v. (ys : List (Vec ℕ Global)) × (xs ≡ map (λ y. Ok y) ys) × (v.items ≡ ys))
-        (λ e. Contains xs (Err e)) →
+    (λ e. Contains xs (Err e)) →
     IfOk r (λ v. AllZip R level v.items)
 collected R level zs xs (Err e) shown each found = tt
 collected R level zs xs (Ok v) shown each found =

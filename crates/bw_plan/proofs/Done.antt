@@ -29,10 +29,10 @@ pub inner_above : (rows : List Row) → AreTreeRows rows → (levels : List (Vec
     (h : ℕ) → is_leaf rows h ≡ false → is_above rows d h ≡ true
 inner_above rows tree levels d known le h inner =
     let child : (c : ℕ) × (c < length rows) × (parent_of rows c ≡ Some h) =
-        inner_has_child rows h inner in
+    inner_has_child rows h inner in
     let at : depth_of rows child.0 < length levels = known.all child.0 child.1 in
     let step : depth_of rows child.0 ≡ depth_of rows h + 1 =
-        depth_of-step rows tree child.0 h child.2 in
+    depth_of-step rows tree child.0 h child.2 in
     lt-ltb (depth_of rows h) d (omega (arith, at, le, step))
 
 pub first_done : (rows : List Row) (d h : ℕ) → done_at rows d 0 h ≡ is_above rows d h
@@ -42,7 +42,7 @@ pub last_done : (rows : List Row) (d k h : ℕ) → h < length rows → length (
     → is_above rows (d + 1) h ≡ done_at rows d k h
 last_done rows d k h below le =
     let whole : take k (rows_of_depth rows d) ≡ rows_of_depth rows d =
-        take_all k (rows_of_depth rows d) le in
+    take_all k (rows_of_depth rows d) le in
     rw whole (elim (cases_lt (depth_of rows h) d) [
       | inl lt ↦ lt-ltb (depth_of rows h) (d + 1) (omega (arith, lt))
           ∙ sym (rw (lt-ltb (depth_of rows h) d lt) refl)
@@ -50,14 +50,14 @@ last_done rows d k h below le =
         | inl same ↦ lt-ltb (depth_of rows h) (d + 1) (omega (arith, same))
             ∙ sym (rw (le-ltb (depth_of rows h) d ge)
             (let r : (k : ℕ) × (k < length (rows_of_depth rows d))
-                × (get_or (rows_of_depth rows d) k 0 ≡ h) = level_has rows d h below same in
+            × (get_or (rows_of_depth rows d) k 0 ≡ h) = level_has rows d h below same in
             list_any_at (λ x. x == h) (rows_of_depth rows d) r.0 0 r.1
-                (eq-eqb (get_or (rows_of_depth rows d) r.0 0) h r.2)))
+            (eq-eqb (get_or (rows_of_depth rows d) r.0 0) h r.2)))
         | inr other ↦ le-ltb (depth_of rows h) (d + 1) (omega (arith, ge, other))
             ∙ sym (rw (le-ltb (depth_of rows h) d ge) (false_from_ne_true _ (λ e.
             let r : (j : ℕ) × (j < k) × (j < length (rows_of_depth rows d))
-                × (get_or (rows_of_depth rows d) j 0 ≡ h) =
-                among (rows_of_depth rows d) k h (rw whole e) in
+            × (get_or (rows_of_depth rows d) j 0 ≡ h) =
+            among (rows_of_depth rows d) k h (rw whole e) in
             let at : depth_of rows h ≡ d = rw r.3 at (level_row rows d r.0 r.2).depth in
             other at)))
       ]
@@ -68,9 +68,9 @@ pub next_done : (rows : List Row) (d k g h : ℕ) → k < length (rows_of_depth 
     done_at rows d (k + 1) h ≡ (done_at rows d k h || eqb g h)
 next_done rows d k g h lt is =
     rw is (ap (λ (b : Bool). is_above rows d h || b)
-        (list_any_more (λ x. x == h) (rows_of_depth rows d) k 0 lt)
+    (list_any_more (λ x. x == h) (rows_of_depth rows d) k 0 lt)
     ∙ sym (or_assoc (is_above rows d h) (list_any (λ x. x == h) (take k (rows_of_depth rows d)))
-        (get_or (rows_of_depth rows d) k 0 == h)))
+    (get_or (rows_of_depth rows d) k 0 == h)))
 
 pub fresh : (rows : List Row) (d k g : ℕ) → k < length (rows_of_depth rows d)
     → g ≡ get_or (rows_of_depth rows d) k 0 → done_at rows d k g ≡ false
@@ -78,22 +78,22 @@ fresh rows d k g lt is =
     let at : depth_of rows g ≡ d = ap (depth_of rows) is ∙ (level_row rows d k lt).depth in
     rw (le-ltb (depth_of rows g) d (omega (arith, at))) (false_from_ne_true _ (λ e.
     let r : (j : ℕ) × (j < k) × (j < length (rows_of_depth rows d))
-        × (get_or (rows_of_depth rows d) j 0 ≡ g) = among (rows_of_depth rows d) k g e in
+    × (get_or (rows_of_depth rows d) j 0 ≡ g) = among (rows_of_depth rows d) k g e in
     let up : get_or (rows_of_depth rows d) r.0 0 < get_or (rows_of_depth rows d) k 0 =
-        level_rises rows d r.0 k r.1 lt in
+    level_rises rows d r.0 k r.1 lt in
     omega (arith, up, r.3, is)))
 
 -- what is done is no deeper, and what is less deep is done
 not_deeper : (rows : List Row) (d k h : ℕ) → done_at rows d k h ≡ true → depth_of rows h ≤ d
 not_deeper rows d k h e =
     elim (or_cases (is_above rows d h) (list_any (λ x. x == h) (take k (rows_of_depth rows d))) e) [
-  | inl up ↦ let lt : depth_of rows h < d = ltb-true (depth_of rows h) d up in omega (arith, lt)
-  | inr here ↦
-      let r : (j : ℕ) × (j < k) × (j < length (rows_of_depth rows d))
+      | inl up ↦ let lt : depth_of rows h < d = ltb-true (depth_of rows h) d up in omega (arith, lt)
+      | inr here ↦
+          let r : (j : ℕ) × (j < k) × (j < length (rows_of_depth rows d))
           × (get_or (rows_of_depth rows d) j 0 ≡ h) = among (rows_of_depth rows d) k h here in
-      let at : depth_of rows h ≡ d = rw r.3 at (level_row rows d r.0 r.2).depth in
-      omega (arith, at)
-]
+          let at : depth_of rows h ≡ d = rw r.3 at (level_row rows d r.0 r.2).depth in
+          omega (arith, at)
+    ]
 
 less_deep : (rows : List Row) (d k p : ℕ) → depth_of rows p < d → done_at rows d k p ≡ true
 less_deep rows d k p lt = or_left (is_above rows d p)

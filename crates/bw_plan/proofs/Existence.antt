@@ -16,7 +16,7 @@ module _ (weights most : List ℕ) (same : length weights ≡ length most)
   scanned parts e zero below = (None, λ k lt. absurd (omega arith))
   scanned parts e (suc i) below =
       let so_far : (best : Option ℕ) × BestOf weights most parts i best =
-          scanned parts e i (omega arith) in
+      scanned parts e i (omega arith) in
       more so_far.0 so_far.1
     where
       pos : (k : ℕ) → k < i + 1 → 0 < get_or weights k 0
@@ -32,18 +32,23 @@ module _ (weights most : List ℕ) (same : length weights ≡ length most)
         | inr full ↦ (best, at_next best (best_kept weights most parts i pos best b full))
         | inl room ↦ (elim best as (λ o. BestOf weights most parts i o
             → (next : Option ℕ) × BestOf weights most parts (suc i) next) [
-          | None ↦ λ none.
-              (Some i, at_next (Some i) (best_first weights most parts i pos none room))
-          | Some b' ↦ λ some.
-              elim (cases_lt ((2 * get_or parts i 0 + 1) * get_or weights b' 0)
-              ((2 * get_or parts b' 0 + 1) * get_or weights i 0)) [
-            | inl cheaper ↦
-                (Some i, at_next (Some i)
-                (best_taken weights most parts i pos b' some room cheaper))
-            | inr dearer ↦
-                (Some b', at_next (Some b') (best_stays weights most parts i pos b' some dearer))
-          ]
-        ]) b
+              | None ↦ λ none.
+                  (Some i, at_next (Some i) (best_first weights most parts i pos none room))
+              | Some b' ↦ λ some.
+                  elim (cases_lt ((2 * get_or parts i 0 + 1) * get_or weights b' 0)
+                  ((2 * get_or parts b' 0 + 1) * get_or weights i 0)) [
+                    | inl cheaper ↦ (
+                      Some i,
+                      at_next (Some i)
+                          (best_taken weights most parts i pos b' some room cheaper),
+                    )
+                    | inr dearer ↦ (
+                      Some b',
+                      at_next (Some b')
+                          (best_stays weights most parts i pos b' some dearer),
+                    )
+                  ]
+            ]) b
       ]
 
   filled : (amount given : ℕ) → amount ≤ sum most → given ≤ amount
@@ -52,10 +57,10 @@ module _ (weights most : List ℕ) (same : length weights ≡ length most)
       (replicate (length most) 0, none_filled weights most (length most) refl)
   filled amount (suc given) enough le =
       let so_far : (parts : List ℕ) × IsFilled given weights most parts =
-          filled amount given enough (omega arith) in
+      filled amount given enough (omega arith) in
       let e : length so_far.0 ≡ length most = so_far.1.split.lengths in
       let best : (best : Option ℕ) × BestOf weights most so_far.0 (length so_far.0) best =
-          scanned so_far.0 e (length so_far.0) (omega arith) in
+      scanned so_far.0 e (length so_far.0) (omega arith) in
       given_to so_far.0 so_far.1 best.0 best.1
     where
       given_to : (parts : List ℕ) → IsFilled given weights most parts → (best : Option ℕ)
@@ -74,5 +79,5 @@ module _ (weights most : List ℕ) (same : length weights ≡ length most)
       → (parts : List ℕ) × IsBestSplit amount weights most parts
   best_split amount enough =
       let f : (parts : List ℕ) × IsFilled amount weights most parts =
-          filled amount amount enough (omega arith) in
+      filled amount amount enough (omega arith) in
       (f.0, filled-IsBestSplit amount weights most f.0 same positive f.1)

@@ -24,12 +24,15 @@ none-IsBestSplit : (weights most parts : List ℕ) → length parts ≡ length m
     → ((k : ℕ) → k < length parts → get_or parts k 0 ≡ 0) →
     IsBestSplit 0 weights most parts
 none-IsBestSplit weights most parts long none = record {
-  split = record { lengths = long; whole = sum_none parts none;
-      within = λ k below. let e : get_or parts k 0 ≡ 0 = none k below in omega (arith, e) };
+  split = record {
+    lengths = long;
+    whole = sum_none parts none;
+    within = λ k below. let e : get_or parts k 0 ≡ 0 = none k below in omega (arith, e);
+  };
   best = λ others split. IsNoWorse-same weights parts others
       (same_number_lists parts others (long ∙ sym split.lengths) (λ k below.
       none k below ∙ sym (part_none others split.whole k
-          (omega (arith, below, long, split.lengths)))));
+      (omega (arith, below, long, split.lengths)))));
 }
 
 -- all to the only one
@@ -57,21 +60,21 @@ only-IsBestSplit weights most amount le = record {
 pub shared-none : (groups : Groups) (most : List ℕ) (g : ℕ) (amounts : List ℕ)
     → length amounts ≡ length groups.rows → get_or amounts g 0 ≡ 0 →
     ((c : ℕ) → c < length groups.rows → parent_of groups.rows c ≡ Some g → get_or amounts c 0 ≡ 0)
-        → IsShared groups most g amounts amounts
+    → IsShared groups most g amounts amounts
 shared-none groups most g amounts one_each nothing unshared = record {
   one_each = one_each;
   split = rw nothing
       (none-IsBestSplit (child_weights groups.rows g)
-          (map (slice_index most) (children_of groups.rows g))
+      (map (slice_index most) (children_of groups.rows g))
       (map (slice_index amounts) (children_of groups.rows g))
       (length-map (children_of groups.rows g) (slice_index amounts)
-          ∙ sym (length-map (children_of groups.rows g) (slice_index most)))
+      ∙ sym (length-map (children_of groups.rows g) (slice_index most)))
       (λ k below.
       let inside : k < length (children_of groups.rows g) =
-          omega (arith, below, length-map (children_of groups.rows g) (slice_index amounts)) in
+      omega (arith, below, length-map (children_of groups.rows g) (slice_index amounts)) in
       let c = child_at groups.rows g k inside in
       get_or-map (slice_index amounts) (children_of groups.rows g) k inside
-          ∙ unshared (get_or (children_of groups.rows g) k 0) c.within c.parent));
+      ∙ unshared (get_or (children_of groups.rows g) k 0) c.within c.parent));
   others = λ i below no'. refl;
 }
 
@@ -95,44 +98,45 @@ pub given-IsShared : (groups : Groups) (most : List ℕ) (g : ℕ) (parts before
     length before ≡ length groups.rows → get_or before g 0 ≤ sum_of_children groups.rows most g →
     ((c : ℕ) → c < length groups.rows → parent_of groups.rows c ≡ Some g → get_or before c 0 ≡ 0) →
     AreParts groups most before g parts → IsGiven groups.rows g parts before after
-        → IsShared groups most g before after
+    → IsShared groups most g before after
 given-IsShared groups most g parts before after inner one_each enough unshared are_parts given =
     elim (cases_eq (get_or before g 0) 0) [
-  | inl nothing ↦
-      rw (given.nothing nothing) (shared-none groups most g before one_each nothing unshared)
-  | inr some ↦
-      let has : 0 < get_or before g 0 = omega (arith, some) in
-      elim (cases_eq (length (children_of groups.rows g)) 1) [
-        | inl one ↦
-            let list : children_of groups.rows g ≡ get_or (children_of groups.rows g) 0 0 ∷ [] =
+      | inl nothing ↦
+          rw (given.nothing nothing) (shared-none groups most g before one_each nothing unshared)
+      | inr some ↦
+          let has : 0 < get_or before g 0 = omega (arith, some) in
+          elim (cases_eq (length (children_of groups.rows g)) 1) [
+            | inl one ↦
+                let list : children_of groups.rows g ≡ get_or (children_of groups.rows g) 0 0 ∷ [] =
                 one_element (children_of groups.rows g) one in
-            let whole : sum_of_children groups.rows most g
+                let whole : sum_of_children groups.rows most g
                 ≡ get_or most (get_or (children_of groups.rows g) 0 0) 0 =
-            ap (sum_by (slice_index most)) list
+                ap (sum_by (slice_index most)) list
                 ∙ sum_of_one (slice_index most) (get_or (children_of groups.rows g) 0 0) in
-            record {
-              one_each = given.one_each ∙ one_each;
-              split = best_of (child_weights groups.rows g) most after
-                  (get_or (children_of groups.rows g) 0 0) (get_or before g 0)
-                  (children_of groups.rows g) list
-                  (given.only has (get_or (children_of groups.rows g) 0 0) list)
+                record {
+                  one_each = given.one_each ∙ one_each;
+                  split = best_of (child_weights groups.rows g) most after
+                      (get_or (children_of groups.rows g) 0 0) (get_or before g 0)
+                      (children_of groups.rows g) list
+                      (given.only has (get_or (children_of groups.rows g) 0 0) list)
                       (omega (arith, enough, whole));
-              others = λ i _ no'. given.others i no';
-            }
-        | inr many ↦
-            let child : (c : ℕ) × (c < length groups.rows) × (parent_of groups.rows c ≡ Some g) =
+                  others = λ i _ no'. given.others i no';
+                }
+            | inr many ↦
+                let child : (c : ℕ) × (c < length groups.rows)
+                × (parent_of groups.rows c ≡ Some g) =
                 inner_has_child groups.rows g inner in
-            let place : (k : ℕ) × (k < length (children_of groups.rows g))
+                let place : (k : ℕ) × (k < length (children_of groups.rows g))
                 × (get_or (children_of groups.rows g) k 0 ≡ child.0) =
-            listed_child groups.rows g child.0 child.1 child.2 in
-            let two : 1 < length (children_of groups.rows g) = omega (arith, many, place.1) in
-            record {
-              one_each = given.one_each ∙ one_each;
-              split = rw (given.among has two) (are_parts has two);
-              others = λ i _ no'. given.others i no';
-            }
-      ]
-]
+                listed_child groups.rows g child.0 child.1 child.2 in
+                let two : 1 < length (children_of groups.rows g) = omega (arith, many, place.1) in
+                record {
+                  one_each = given.one_each ∙ one_each;
+                  split = rw (given.among has two) (are_parts has two);
+                  others = λ i _ no'. given.others i no';
+                }
+          ]
+    ]
 
 -- a leaf gives out nothing
 pub given-leaf : (rows : List Row) (g : ℕ) (parts before after : List ℕ) → is_leaf rows g ≡ true
@@ -141,4 +145,4 @@ pub given-leaf : (rows : List Row) (g : ℕ) (parts before after : List ℕ) →
 given-leaf rows g parts before after leaf one_each given =
     same_number_lists after before given.one_each
     (λ k below. given.others k
-        (leaf_no_child rows g k leaf (omega (arith, below, given.one_each, one_each))))
+    (leaf_no_child rows g k leaf (omega (arith, below, given.one_each, one_each))))

@@ -39,7 +39,7 @@ map_is f (x ∷ xs) [] e h = absurd (omega arith)
 map_is f (x ∷ xs) (y ∷ ys) e h =
     let head : f x ≡ y = h 0 (omega arith) in
     let rest : map f xs ≡ ys = map_is f xs ys (omega arith) (λ k below. h (suc k) (omega arith)) in
-        cc
+    cc
 
 -- two children at different places differ
 pub children_apart : (rows : List Row) (g j k : ℕ) → j < k → k < length (children_of rows g)
@@ -54,12 +54,12 @@ children_apart rows g j k lt below e =
 pub weights_in_range : (groups : Groups) → IsInstance groups → (g k : ℕ)
     → k < length (child_weights groups.rows g) →
     (MIN_WEIGHT ≤ get_or (child_weights groups.rows g) k 0)
-        × (get_or (child_weights groups.rows g) k 0 ≤ MAX_WEIGHT)
+    × (get_or (child_weights groups.rows g) k 0 ≤ MAX_WEIGHT)
 weights_in_range groups valid g k below =
     let inside : k < length (children_of groups.rows g) =
-        omega (arith, below, length-map (children_of groups.rows g) (weight_of groups.rows)) in
+    omega (arith, below, length-map (children_of groups.rows g) (weight_of groups.rows)) in
     let w = valid.weights (get_or (children_of groups.rows g) k 0)
-        (child_at groups.rows g k inside).within in
+    (child_at groups.rows g k inside).within in
     rw (get_or-map (weight_of groups.rows) (children_of groups.rows g) k inside) w
 
 -- the rows before g
@@ -80,25 +80,25 @@ before_next h g = elim (cases_lt h g) [
 
 module _ (groups : Groups) (valid : IsInstance groups) (most : List ℕ)
     (rule : (g : ℕ) → g < length groups.rows
-        → get_or most g 0 ≡ capped (limit_of groups g) (want_of groups most g)) where
+    → get_or most g 0 ≡ capped (limit_of groups g) (want_of groups most g)) where
   root_small : get_or most 0 0 ≤ MAX_CAPACITY
   root_small =
       let c : get_or most 0 0 ≤ capacity_of groups.shape =
-          most_le_limit groups valid.tree most rule 0 (capacity_of groups.shape) valid.tree.has_root
-          refl in
+      most_le_limit groups valid.tree most rule 0 (capacity_of groups.shape) valid.tree.has_root
+      refl in
       let s : capacity_of groups.shape ≤ MAX_CAPACITY = capacity_le groups.shape valid.host in
       omega (arith, c, s)
 
   -- the root has its most
   pub begun : (done : ℕ → Bool) → ((h : ℕ) → h < length groups.rows → done h ≡ false) →
       (n v : ℕ) (amounts : List ℕ) → n ≡ length groups.rows → v ≡ get_or most 0 0
-          → amounts ≡ set (replicate {A = ℕ} n 0) 0 v
+      → amounts ≡ set (replicate {A = ℕ} n 0) 0 v
       → IsPlanning groups most done amounts
   begun done none n v amounts en ev ea =
       let root : 0 < length groups.rows = valid.tree.has_root in
       let long : length (replicate {A = ℕ} n 0) ≡ n = length-replicate {A = ℕ} n 0 in
       let top' : get_or (set (replicate {A = ℕ} n 0) 0 v) 0 0
-          ≡ v = get_or-set_same (replicate {A = ℕ} n 0) 0 v 0 (omega (arith, root, long, en)) in
+      ≡ v = get_or-set_same (replicate {A = ℕ} n 0) 0 v 0 (omega (arith, root, long, en)) in
       rw ea (record {
         one_each = length-set (replicate {A = ℕ} n 0) 0 v ∙ long ∙ en;
         top = top' ∙ ev;
@@ -133,23 +133,25 @@ module _ (groups : Groups) (valid : IsInstance groups) (most : List ℕ)
   -- a group whose parent is done has at most its most
   pub at_most : (done : ℕ → Bool) (h : ℕ) (amounts : List ℕ) → IsPlanning groups most done amounts →
       ((p : ℕ) → parent_of groups.rows h ≡ Some p → done p ≡ true) → h < length groups.rows
-          → get_or amounts h 0 ≤ get_or most h 0
+      → get_or amounts h 0 ≤ get_or most h 0
   at_most done h amounts so_far above below = elim (cases_eq h 0) [
     | inl root ↦ rw root (omega (arith, so_far.top))
     | inr lower ↦
         let known : (p : ℕ) × (parent_of groups.rows h ≡ Some p) × (p < h) =
-            valid.tree.parent_before h (omega (arith, lower)) below in
+        valid.tree.parent_before h (omega (arith, lower)) below in
         let cs : List ℕ = children_of groups.rows known.0 in
         let here : (k : ℕ) × (k < length cs) × (get_or cs k 0 ≡ h) =
-            listed_child groups.rows known.0 h below known.1 in
+        listed_child groups.rows known.0 h below known.1 in
         let up : known.0 < length groups.rows = omega (arith, known.2, below) in
         let parts : length (map (slice_index amounts) cs) ≡ length cs =
-            length-map cs (slice_index amounts) in
+        length-map cs (slice_index amounts) in
         let w = (so_far.splits known.0 up (above known.0 known.1)
-            (parent_not_leaf groups.rows known.0 h below known.1)).split.within here.0
+        (parent_not_leaf groups.rows known.0 h below known.1)).split.within here.0
         (omega (arith, here.1, parts)) in
-        let v = rw (get_or-map (slice_index amounts) cs here.0 here.1,
-            get_or-map (slice_index most) cs here.0 here.1) at w in
+        let v = rw (
+          get_or-map (slice_index amounts) cs here.0 here.1,
+          get_or-map (slice_index most) cs here.0 here.1,
+        ) at w in
         rw here.2 at v
   ]
 
@@ -157,10 +159,10 @@ module _ (groups : Groups) (valid : IsInstance groups) (most : List ℕ)
   pub enough : (done : ℕ → Bool) (g : ℕ) (amounts : List ℕ) → g < length groups.rows
       → is_leaf groups.rows g ≡ false → IsPlanning groups most done amounts →
       ((p : ℕ) → parent_of groups.rows g ≡ Some p → done p ≡ true)
-          → get_or amounts g 0 ≤ sum_of_children groups.rows most g
+      → get_or amounts g 0 ≤ sum_of_children groups.rows most g
   enough done g amounts below inner so_far above =
       let w : get_or most g 0 ≤ sum_of_children groups.rows most g =
-          rw inner at (most_le_want groups valid.tree most rule g below) in
+      rw inner at (most_le_want groups valid.tree most rule g below) in
       let m : get_or amounts g 0 ≤ get_or most g 0 = at_most done g amounts so_far above below in
       omega (arith, w, m)
 
@@ -179,7 +181,7 @@ module _ (groups : Groups) (valid : IsInstance groups) (most : List ℕ)
   module _ (done next : ℕ → Bool) (g : ℕ) (below : g < length groups.rows) (fresh : done g ≡ false)
       (marks : (h : ℕ) → h < length groups.rows → next h ≡ (done h || eqb g h))
       (closed : (h p : ℕ) → h < length groups.rows → done h ≡ true
-          → parent_of groups.rows h ≡ Some p → done p ≡ true) where
+      → parent_of groups.rows h ≡ Some p → done p ≡ true) where
     was_done : (h : ℕ) → h < length groups.rows → next h ≡ true → (h ≡ g → ⊥) → done h ≡ true
     was_done h lt e other = elim (or_cases (done h) (eqb g h) (sym (marks h lt) ∙ e)) [
       | inl yes' ↦ yes'
@@ -189,7 +191,7 @@ module _ (groups : Groups) (valid : IsInstance groups) (most : List ℕ)
     not_done : (h : ℕ) → h < length groups.rows → next h ≡ false → (done h ≡ false) × (h ≡ g → ⊥)
     not_done h lt e =
         let both : (done h ≡ false) × (eqb g h ≡ false) =
-            or_parts (done h) (eqb g h) (sym (marks h lt) ∙ e) in
+        or_parts (done h) (eqb g h) (sym (marks h lt) ∙ e) in
         (both.0, λ same. true≢false (sym (eq-eqb g h (sym same)) ∙ both.1))
 
     pub shared_more : (before after : List ℕ) → IsPlanning groups most done before
@@ -212,10 +214,10 @@ module _ (groups : Groups) (valid : IsInstance groups) (most : List ℕ)
       unshared = λ c p here e unshared_yet.
           let up : p < c = parent_lt groups.rows valid.tree c p e in
           let was : (done p ≡ false) × (p ≡ g → ⊥) =
-              not_done p (omega (arith, up, here)) unshared_yet in
+          not_done p (omega (arith, up, here)) unshared_yet in
           shared.others c here
-              (is_child_no groups.rows g c (λ f. was.1 (same_Some p g (sym e ∙ f))))
-              ∙ so_far.unshared c p here e was.0;
+          (is_child_no groups.rows g c (λ f. was.1 (same_Some p g (sym e ∙ f))))
+          ∙ so_far.unshared c p here e was.0;
     }
       where
         own_kept : get_or after g 0 ≡ get_or before g 0
@@ -233,7 +235,7 @@ module _ (groups : Groups) (valid : IsInstance groups) (most : List ℕ)
         kept_children h other = same_map (slice_index after) (slice_index before)
             (children_of groups.rows h) (λ k inside.
             shared.others (get_or (children_of groups.rows h) k 0)
-                (child_at groups.rows h k inside).within
+            (child_at groups.rows h k inside).within
             (is_child_no groups.rows g (get_or (children_of groups.rows h) k 0)
             (λ e. other (same_Some h g (sym (child_at groups.rows h k inside).parent ∙ e)))))
 
@@ -242,17 +244,17 @@ module _ (groups : Groups) (valid : IsInstance groups) (most : List ℕ)
         child_small h here e =
             let cs : List ℕ = children_of groups.rows g in
             let r : (k : ℕ) × (k < length cs) × (get_or cs k 0 ≡ h) =
-                listed_child groups.rows g h here e in
+            listed_child groups.rows g h here e in
             let parts : length (map (slice_index after) cs) ≡ length cs =
-                length-map cs (slice_index after) in
+            length-map cs (slice_index after) in
             let term : get_or (map (slice_index after) cs) r.0 0
-                ≤ sum (map (slice_index after) cs) =
+            ≤ sum (map (slice_index after) cs) =
             get_or-le-sum_by (λ n. n) (map (slice_index after) cs) r.0 0
-                (omega (arith, r.1, parts)) in
+            (omega (arith, r.1, parts)) in
             let is : get_or (map (slice_index after) cs) r.0 0 ≡ get_or after h 0 =
-                get_or-map (slice_index after) cs r.0 r.1 ∙ ap (slice_index after) r.2 in
+            get_or-map (slice_index after) cs r.0 r.1 ∙ ap (slice_index after) r.2 in
             let whole : sum (map (slice_index after) cs) ≡ get_or before g 0 =
-                shared.split.split.whole in
+            shared.split.split.whole in
             omega (arith, term, is, whole, so_far.small g below)
 
     -- a leaf shares out nothing
@@ -278,13 +280,13 @@ module _ (groups : Groups) (valid : IsInstance groups) (most : List ℕ)
           IsGiven groups.rows g parts before after → IsPlanning groups most next after
       given_more parts before after so_far are_parts given =
           elim (cases_Bool (is_leaf groups.rows g)) [
-        | inl leaf ↦ rw (given-leaf groups.rows g parts before after leaf so_far.one_each given)
-            (leaf_more before leaf so_far)
-        | inr inner ↦ shared_more before after so_far
-            (given-IsShared groups most g parts before after inner so_far.one_each
+            | inl leaf ↦ rw (given-leaf groups.rows g parts before after leaf so_far.one_each given)
+                (leaf_more before leaf so_far)
+            | inr inner ↦ shared_more before after so_far
+                (given-IsShared groups most g parts before after inner so_far.one_each
                 (enough done g before below inner so_far above)
-            (λ c lt e. so_far.unshared c g lt e fresh) are_parts given)
-      ]
+                (λ c lt e. so_far.unshared c g lt e fresh) are_parts given)
+          ]
 
   -- all is shared out
   pub all_planned : (done : ℕ → Bool) (amounts : List ℕ)
@@ -292,7 +294,7 @@ module _ (groups : Groups) (valid : IsInstance groups) (most : List ℕ)
       → IsPlanning groups most done amounts → IsPlan groups amounts
   all_planned done amounts all so_far =
       planned-IsPlan groups valid.tree most rule amounts so_far.one_each so_far.top
-          (λ h here inner. so_far.splits h here (all h here inner) inner)
+      (λ h here inner. so_far.splits h here (all h here inner) inner)
 
 -- the rows are done in order
 module _ (groups : Groups) (tree : AreTreeRows groups.rows) (g : ℕ) where
@@ -346,10 +348,10 @@ few_children rows g tree = by (length rows) refl
     by zero e = absurd (omega (arith, e, tree.has_root))
     by (suc n) e =
         let top : is_child rows g 0 ≡ false =
-            is_child_no rows g 0 (λ e. let wrong : None ≡ Some g =
-            sym tree.root_on_top ∙ e in absurd cc) in
+        is_child_no rows g 0 (λ e. let wrong : None ≡ Some g =
+        sym tree.root_on_top ∙ e in absurd cc) in
         let rest : length (filter (is_child rows g) (range_with_len 1 n))
-            ≤ length (range_with_len 1 n) = filter_le (is_child rows g) (range_with_len 1 n) in
+        ≤ length (range_with_len 1 n) = filter_le (is_child rows g) (range_with_len 1 n) in
         rw top (omega (arith, rest, length-range_with_len 1 n))
 
 -- what a group has can be split among its children
@@ -359,12 +361,12 @@ pub children-CanSplit : (groups : Groups) → IsInstance groups
     amount ≤ sum_of_children groups.rows most g → amount ≤ MAX_CAPACITY → CanSplit amount ws ms
 children-CanSplit groups valid most g amount ws ms ew em enough small =
     let long : length ws ≡ length (children_of groups.rows g) =
-        ap length ew ∙ length-map (children_of groups.rows g) (weight_of groups.rows) in
+    ap length ew ∙ length-map (children_of groups.rows g) (weight_of groups.rows) in
     let le : length (children_of groups.rows g) < length groups.rows =
-        few_children groups.rows g valid.tree in
+    few_children groups.rows g valid.tree in
     let few : length groups.rows ≤ MAX_GROUPS = valid.few in
     let whole : sum ms ≡ sum_of_children groups.rows most g =
-        ap sum em ∙ sum-map (slice_index most) (children_of groups.rows g) in
+    ap sum em ∙ sum-map (slice_index most) (children_of groups.rows g) in
     record {
       one_each = ap length em ∙ length-map (children_of groups.rows g) (slice_index most)
           ∙ sym long;

@@ -20,15 +20,32 @@ use std::thread::Threads;
 // levels': several threads pay where the groups of a depth have twice as many.
 const PIECE_CHILDREN: usize = 2048;
 
-// Number of groups in each piece of work, or None if one thread is as fast as several. An only
-// child gets all, so it is not split among.
+// Number of children of a group that share its amount: 0 for an only child, which gets all. A
+// product in place of a branch, since which groups have several children is hard to predict.
+fn sharers(instance: &Instance, g: u32) -> usize
+    requires { g < length instance.now.rows }
+{
+    let children = instance.children(g).len();
+    children.wrapping_mul(usize::from(children > 1))
+}
+
+// Whether the groups below the root have enough sharers for two pieces. The root is alone at its
+// depth. Trees without them need no lists by depth.
+fn may_be_cut(instance: &Instance) -> bool {
+    let mut sharing = 0usize;
+    for g in 1..instance.group_count() {
+        sharing = sharing.saturating_add(sharers(instance, g));
+    }
+    sharing >= 2 * PIECE_CHILDREN
+}
+
+// Number of groups in each piece of work, or None if one thread is as fast as several.
 fn piece_of(instance: &Instance, groups: &[u32]) -> Option<usize>
     requires { All (λ g. g < length instance.now.rows) groups.now }
 {
     let mut split_among = 0usize;
     for g in groups {
-        let children = instance.children(*g).len();
-        split_among = split_among.saturating_add(children.wrapping_mul(usize::from(children > 1)));
+        split_among = split_among.saturating_add(sharers(instance, *g));
     }
     if groups.len() < 2 || split_among < 2 * PIECE_CHILDREN {
         return None;
@@ -186,8 +203,8 @@ pub fn plan_gathered(
     requires { IsGathered instance.now (demands_of gathered.now) }
     ensures { IfOk result (λ plan. IsPlan instance.now plan.amounts.items) }
 {
-    // On one thread pieces take turns, and so few groups have no depth with two pieces.
-    if current_num_threads(rt) < 2 || instance.rows().len() <= 2 * PIECE_CHILDREN {
+    // on one thread pieces take turns
+    if current_num_threads(rt) < 2 || !may_be_cut(instance) {
         return plan_rows(alloc, instance, gathered);
     }
     let depths = levels(alloc, instance)?;

@@ -21,5 +21,5 @@ module _ {M : Type 1} {𝓤 : Ura M} {𝓛 : Logic 𝓤} {K : Type 0} {Γ : List
   empty_made t = step (λ s.
       nothing t $ feq_i t (List Val) (empty ∷ []) (empty ∷ []) refl $ fjoin t $
       fpack t (Valss [])
-          (within (record { name = []; args = []; types = []; fields = [] }) tt (empty ∷ [])) tt $
-          s)
+      (within (record { name = []; args = []; types = []; fields = [] }) tt (empty ∷ [])) tt $
+      s)

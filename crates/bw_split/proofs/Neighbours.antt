@@ -34,34 +34,37 @@ module _ (weights parts : List ℕ) (same_length : length weights ≡ length par
         | inl some' ↦
             (elim best as (λ o. LastOf weights parts i o
             → (next : Option ℕ) × LastOf weights parts (suc i) next) [
-          | None ↦ λ n. (Some i, at_next (Some i) (last_first weights parts i pos n some'))
-          | Some b' ↦ λ s.
-              elim (cases_lt ((2 * get_or parts i 0 - 1) * get_or weights b' 0)
-              ((2 * get_or parts b' 0 - 1) * get_or weights i 0)) [
-            | inl cheaper ↦
-                (Some b', at_next (Some b') (last_stays weights parts i pos b' s cheaper))
-            | inr dearer ↦
-                (Some i, at_next (Some i) (last_taken weights parts i pos b' s some' dearer))
-          ]
-        ]) b
+              | None ↦ λ n. (Some i, at_next (Some i) (last_first weights parts i pos n some'))
+              | Some b' ↦ λ s.
+                  elim (cases_lt ((2 * get_or parts i 0 - 1) * get_or weights b' 0)
+                  ((2 * get_or parts b' 0 - 1) * get_or weights i 0)) [
+                    | inl cheaper ↦
+                        (Some b', at_next (Some b') (last_stays weights parts i pos b' s cheaper))
+                    | inr dearer ↦ (
+                      Some i,
+                      at_next (Some i)
+                          (last_taken weights parts i pos b' s some' dearer),
+                    )
+                  ]
+            ]) b
       ]
 
 -- where no move gains, each next mark of a part with room is above each last mark
 next_above : (weights most parts : List ℕ) → length weights ≡ length parts
     → ((k : ℕ) → k < length weights → 0 < get_or weights k 0) →
     NoMoveGains weights most parts → (i j : ℕ) → i < length parts → j < length parts
-        → 0 < get_or parts i 0 → get_or parts j 0 < get_or most j 0 →
+    → 0 < get_or parts i 0 → get_or parts j 0 < get_or most j 0 →
     IsBelow (last_mark (get_or parts i 0) (get_or weights i 0) i)
-        (next_mark (get_or parts j 0) (get_or weights j 0) j)
+    (next_mark (get_or parts j 0) (get_or weights j 0) j)
 next_above weights most parts same_length weights_pos unmoved i j i_in j_in some' room =
     move-marks-apart weights parts same_length weights_pos i j i_in j_in some'
-        (λ apart. unmoved i j i_in j_in apart some' room)
+    (λ apart. unmoved i j i_in j_in apart some' room)
 
 pub unmoved_is_best : UnmovedIsBest
 unmoved_is_best amount weights most parts each weights_pos split unmoved =
     let same_length : length weights ≡ length parts = each ∙ sym split.lengths in
     let last : (best : Option ℕ) × LastOf weights parts (length parts) best =
-        last_of weights parts same_length weights_pos (length parts) (omega arith) in
+    last_of weights parts same_length weights_pos (length parts) (omega arith) in
     by_last same_length last.0 last.1
   where
     by_last : length weights ≡ length parts → (best : Option ℕ)
@@ -70,11 +73,11 @@ unmoved_is_best amount weights most parts each weights_pos split unmoved =
         level-IsBestSplit (record { num = 0; den = 1; place = 0 }) weights most parts (omega arith)
         same_length
         (λ k below. weights_pos k (omega (arith, same_length)))
-            (none-IsAtLevel weights most parts none') amount split
+        (none-IsAtLevel weights most parts none') amount split
     by_last same_length (Some b) s =
         level-IsBestSplit (last_mark (get_or parts b 0) (get_or weights b 0) b) weights most parts
         (weights_pos b (omega (arith, same_length, s.seen))) same_length
-            (λ k below. weights_pos k (omega (arith, same_length)))
+        (λ k below. weights_pos k (omega (arith, same_length)))
         (record {
           last = s.others;
           next = λ j below room. next_above weights most parts same_length weights_pos unmoved b j
@@ -85,4 +88,4 @@ pub best_is_unmoved : BestIsUnmoved
 best_is_unmoved amount weights most parts best i j i_in j_in apart some' room =
     best.best (moved parts i j)
     (moved-IsSplit parts i j (get_or parts i 0 - 1) (get_or parts j 0 + 1) i_in j_in apart
-        (omega (arith, some')) (omega arith) amount most best.split room)
+    (omega (arith, some')) (omega arith) amount most best.split room)

@@ -102,20 +102,28 @@ module _ {X : Type 0} (mark_of : X → Mark) where
   pub lined-more : (n : ℕ) (weights most parts : List ℕ) (xs ys : List X) (x : X)
       → IsLined n weights most parts xs →
       IsNextOf weights most parts x → (mark_of x).place ≡ n → IsPermutation (x ∷ xs) ys
-          → IsLined (n + 1) weights most parts ys
+      → IsLined (n + 1) weights most parts ys
   lined-more n weights most parts xs ys x lined next place perm = record {
     right = All-permutation (IsNextOf weights most parts) (x ∷ xs) ys perm
         (All-cons (IsNextOf weights most parts) x xs next lined.right);
     early = All-permutation (λ x. (mark_of x).place < n + 1) (x ∷ xs) ys perm
         (All-cons (λ x. (mark_of x).place < n + 1) x xs (omega (arith, place))
         (All-weaker (λ x. (mark_of x).place < n) (λ x. (mark_of x).place < n + 1)
-            (λ x h. omega (arith, h)) xs lined.early));
+        (λ x h. omega (arith, h)) xs lined.early));
     once = λ k below room. elim (cases_eq k n) [
       | inl e ↦ rw e
-          (omega (arith, sum_by_pushed (at_place n) x xs ys perm, at_same n x place,
-          none_at n xs lined.early))
-      | inr e ↦ omega (arith, sum_by_pushed (at_place k) x xs ys perm,
-          at_other k x (λ same. e (sym same ∙ place)), lined.once k (omega (arith, e)) room)
+          (omega (
+            arith,
+            sum_by_pushed (at_place n) x xs ys perm,
+            at_same n x place,
+            none_at n xs lined.early,
+          ))
+      | inr e ↦ omega (
+        arith,
+        sum_by_pushed (at_place k) x xs ys perm,
+        at_other k x (λ same. e (sym same ∙ place)),
+        lined.once k (omega (arith, e)) room,
+      )
     ];
   }
 
@@ -142,23 +150,23 @@ module _ {X : Type 0} (mark_of : X → Mark) where
       room = top.room;
       least = λ k below apart room.
           let f : (y : X)
-              × (IsNextOf weights most parts y
-              × (IsBelow (price_of (mark_of y)) (price_of (mark_of x)) → ⊥))
-              × ((mark_of y).place ≡ k) =
+          × (IsNextOf weights most parts y
+          × (IsBelow (price_of (mark_of y)) (price_of (mark_of x)) → ⊥))
+          × ((mark_of y).place ≡ k) =
           found (λ y. IsNextOf weights most parts y
-              × (IsBelow (price_of (mark_of y)) (price_of (mark_of x)) → ⊥)) k old
+          × (IsBelow (price_of (mark_of y)) (price_of (mark_of x)) → ⊥)) k old
           (λ j d j_in. (lined.right j d j_in, least j d j_in))
-              (omega (arith, lined.once k (omega (arith, below, whole)) room)) in
+          (omega (arith, lined.once k (omega (arith, below, whole)) room)) in
           let y : X = f.0 in
           let next : IsNextOf weights most parts y = f.1.0 in
           let is_x : price_of (mark_of x) ≡ next_mark (get_or parts (mark_of x).place 0)
-              (get_or weights (mark_of x).place 0) (mark_of x).place =
+          (get_or weights (mark_of x).place 0) (mark_of x).place =
           price-is (mark_of x) (get_or parts (mark_of x).place 0)
-              (get_or weights (mark_of x).place 0) (mark_of x).place top.num top.den refl in
+          (get_or weights (mark_of x).place 0) (mark_of x).place top.num top.den refl in
           let is_y : price_of (mark_of y) ≡ next_mark (get_or parts k 0) (get_or weights k 0) k =
           price-is (mark_of y) (get_or parts k 0) (get_or weights k 0) k
           (next.num ∙ ap (λ (p : ℕ). 2 * get_or parts p 0 + 1) f.2)
-              (next.den ∙ ap (λ (p : ℕ). get_or weights p 0) f.2) f.2 in
+          (next.den ∙ ap (λ (p : ℕ). get_or weights p 0) f.2) f.2 in
           elim (IsBelow-cases (price_of (mark_of x)) (price_of (mark_of y))) [
             | inl under ↦
                 subst (λ (p : MarkValue). IsBelow p
@@ -183,12 +191,12 @@ module _ {X : Type 0} (mark_of : X → Mark) where
           let y : X = get_or rest j d in
           let next : IsNextOf weights most parts y =
           All-tail (IsNextOf weights most parts) x rest
-              (All-permutation (IsNextOf weights most parts) old (x ∷ rest) popped lined.right) j d
-              j_in in
+          (All-permutation (IsNextOf weights most parts) old (x ∷ rest) popped lined.right) j d
+          j_in in
           let other : (mark_of y).place ≡ (mark_of x).place → ⊥ =
-              absent (mark_of x).place rest gone j d j_in in
+          absent (mark_of x).place rest gone j d j_in in
           let same : get_or (set parts (mark_of x).place v) (mark_of y).place 0
-              ≡ get_or parts (mark_of y).place 0 =
+          ≡ get_or parts (mark_of y).place 0 =
           get_or-set_other parts (mark_of x).place (mark_of y).place v 0 other in
           record {
             within = omega (arith, next.within, length-set parts (mark_of x).place v);
@@ -220,8 +228,8 @@ module _ {X : Type 0} (mark_of : X → Mark) where
         once = λ k below room. elim (cases_eq k (mark_of x).place) [
           | inl e ↦ absurd (
               let r : v < get_or most (mark_of x).place 0 =
-                  rw (e, get_or-set_same parts (mark_of x).place v 0 top.within) at room in
-                  omega (arith, r, full)
+              rw (e, get_or-set_same parts (mark_of x).place v 0 top.within) at room in
+              omega (arith, r, full)
               )
           | inr other ↦ now_once k below other room
         ];
@@ -231,12 +239,12 @@ module _ {X : Type 0} (mark_of : X → Mark) where
       pub given-room : (z : X) (ys : List X) → v ≡ suc (get_or parts (mark_of x).place 0)
           → v < get_or most (mark_of x).place 0 →
           (mark_of z).num ≡ (mark_of x).num + 2 → (mark_of z).den ≡ (mark_of x).den
-              → (mark_of z).place ≡ (mark_of x).place →
+          → (mark_of z).place ≡ (mark_of x).place →
           IsPermutation (z ∷ rest) ys → IsLined n weights most (set parts (mark_of x).place v) ys
       given-room z ys is room num den place pushed =
           let at_z : get_or (set parts (mark_of x).place v) (mark_of z).place 0 ≡ v =
           ap (λ (p : ℕ). get_or (set parts (mark_of x).place v) p 0) place
-              ∙ get_or-set_same parts (mark_of x).place v 0 top.within in
+          ∙ get_or-set_same parts (mark_of x).place v 0 top.within in
           let next : IsNextOf weights most (set parts (mark_of x).place v) z = record {
             within = omega (arith, top.within, place, length-set parts (mark_of x).place v);
             room = rw (at_z, place) room;
@@ -247,14 +255,18 @@ module _ {X : Type 0} (mark_of : X → Mark) where
             right = All-permutation (IsNextOf weights most (set parts (mark_of x).place v))
                 (z ∷ rest) ys pushed
                 (All-cons (IsNextOf weights most (set parts (mark_of x).place v)) z rest next
-                    now_right);
+                now_right);
             early = All-permutation (λ y. (mark_of y).place < n) (z ∷ rest) ys pushed
                 (All-cons (λ y. (mark_of y).place < n) z rest
-                    (omega (arith, place, top.within, whole)) now_early);
+                (omega (arith, place, top.within, whole)) now_early);
             once = λ k below free. elim (cases_eq k (mark_of x).place) [
               | inl e ↦ rw e
-                  (omega (arith, sum_by_pushed (at_place (mark_of x).place) z rest ys pushed,
-                  at_same (mark_of x).place z place, gone))
+                  (omega (
+                    arith,
+                    sum_by_pushed (at_place (mark_of x).place) z rest ys pushed,
+                    at_same (mark_of x).place z place,
+                    gone,
+                  ))
               | inr other ↦ omega (
                 arith,
                 sum_by_pushed (at_place k) z rest ys pushed,
@@ -280,7 +292,7 @@ pub least_of : (x : Reverse Mark) (xs : List (Reverse Mark)) → IsUpperBound by
 least_of x xs h = All-weaker (λ y. is_lt (mark_cmp y.0 x.0) ≡ false)
     (λ y. IsBelow (price_of (mark_in y)) (price_of (mark_in x)) → ⊥)
     (λ y e. not_below y.0 x.0 e) xs
-        (All-from_recursion (λ y. is_lt (mark_cmp y.0 x.0) ≡ false) xs h)
+    (All-from_recursion (λ y. is_lt (mark_cmp y.0 x.0) ≡ false) xs h)
 
 -- an empty heap is of children that are full
 pub empty-full : (n : ℕ) (weights most parts : List ℕ) (xs : List (Reverse Mark)) → length xs ≡ 0
@@ -288,9 +300,9 @@ pub empty-full : (n : ℕ) (weights most parts : List ℕ) (xs : List (Reverse M
     (k : ℕ) → k < n → get_or most k 0 ≤ get_or parts k 0
 empty-full n weights most parts [] e lined k below =
     elim (cases_lt (get_or parts k 0) (get_or most k 0)) [
-  | inl room ↦ absurd (omega (arith, lined.once k below room))
-  | inr full ↦ full
-]
+      | inl room ↦ absurd (omega (arith, lined.once k below room))
+      | inr full ↦ full
+    ]
 empty-full n weights most parts (x ∷ xs) e lined k below = absurd (omega arith)
 
 -- the first mark of one more child
@@ -298,7 +310,7 @@ pub first-lined : (n : ℕ) (weights most : List ℕ) (size : ℕ) (xs ys : List
     (x : Reverse Mark) → IsPermutation (x ∷ xs) ys →
     IsLined mark_in n weights most (replicate size 0) xs → n < size → 0 < get_or most n 0 →
     x.0.num ≡ 1 → x.0.den ≡ get_or weights n 0 → x.0.place ≡ n
-        → IsLined mark_in (n + 1) weights most (replicate size 0) ys
+    → IsLined mark_in (n + 1) weights most (replicate size 0) ys
 first-lined n weights most size xs ys x perm lined below room num den place =
     let z : ◌≡◌ {A = ℕ} (get_or (replicate size 0) x.0.place 0) 0 = zeros size x.0.place in
     lined-more mark_in n weights most (replicate size 0) xs ys x lined
@@ -316,7 +328,7 @@ pub back-lined : (n : ℕ) (weights most parts : List ℕ) (old rest ys : List (
     IsPermutation old (x ∷ rest) → IsLined mark_in n weights most parts old → length parts ≡ n →
     (v : ℕ) → v ≡ suc (get_or parts x.0.place 0) → v < get_or most x.0.place 0 →
     z.0.num ≡ x.0.num + 2 → z.0.den ≡ x.0.den → z.0.place ≡ x.0.place
-        → IsLined mark_in n weights most (set parts x.0.place v) ys
+    → IsLined mark_in n weights most (set parts x.0.place v) ys
 back-lined n weights most parts old rest ys x z pushed popped lined whole v is room num den place =
     given-room mark_in n weights most parts old rest x lined whole popped v z ys is room num den
-        place pushed
+    place pushed

@@ -32,10 +32,10 @@ given-none level weights most parts lengths taken = record {
   lengths = lengths;
   sums =
       let each : sum_below (length weights) (λ k. get_or parts k 0)
-          ≡ sum_below (length weights) (each_takes level weights most) =
+      ≡ sum_below (length weights) (each_takes level weights most) =
       sum_below-ap (length weights) (λ k. get_or parts k 0) (each_takes level weights most) taken in
       let all : sum_below (length parts) (λ k. get_or parts k 0)
-          ≡ sum_below (length weights) (λ k. get_or parts k 0) =
+      ≡ sum_below (length weights) (λ k. get_or parts k 0) =
       ap (λ n. sum_below n (λ k. get_or parts k 0)) lengths in
       omega (arith, sum-is parts, all, each, by_all-is level weights most);
   seen = λ k below. absurd (omega arith);
@@ -60,11 +60,11 @@ module _ (level given from : ℕ) (weights most parts : List ℕ)
   -- the next slice goes to the first child from the place on that takes more than its part
   pub given-more : (i x : ℕ) → from ≤ i → i < length weights → get_or weights i 0 ≤ MAX_WEIGHT →
       TakesMore (level + 1) weights most parts i
-          → NoneTakesMore (level + 1) weights most parts from i → x ≡ get_or parts i 0 + 1 →
+      → NoneTakesMore (level + 1) weights most parts from i → x ≡ get_or parts i 0 + 1 →
       IsGiven level (given + 1) (i + 1) weights most (set parts i x)
   given-more i x later inside light more none is =
       let here : get_or parts i 0 ≡ each_takes level weights most i =
-          so_far.unseen i later inside in
+      so_far.unseen i later inside in
       let step : each_takes (level + 1) weights most i ≤ each_takes level weights most i + 1 =
       taken-step level (get_or weights i 0) (get_or most i 0) light in
       let i_in : i < length parts = omega (arith, so_far.lengths, inside) in
@@ -90,19 +90,27 @@ module _ (level given from : ℕ) (weights most parts : List ℕ)
       given < rest → NoneTakesMore (level + 1) weights most parts from (length weights) → ⊥
   not_given rest amount whole enough left none =
       let full : sum_below (length weights) (λ k. get_or parts k 0)
-          ≡ sum_below (length weights) (each_takes (level + 1) weights most) =
+      ≡ sum_below (length weights) (each_takes (level + 1) weights most) =
       sum_below-ap (length weights) (λ k. get_or parts k 0) (each_takes (level + 1) weights most)
       (all_seen (length weights) (omega arith) none) in
       let all : sum_below (length parts) (λ k. get_or parts k 0)
-          ≡ sum_below (length weights) (λ k. get_or parts k 0) =
+      ≡ sum_below (length weights) (λ k. get_or parts k 0) =
       ap (λ n. sum_below n (λ k. get_or parts k 0)) so_far.lengths in
-      omega (arith, sum-is parts, all, full, so_far.sums, by_all-is (level + 1) weights most, whole,
-          enough)
+      omega (
+        arith,
+        sum-is parts,
+        all,
+        full,
+        so_far.sums,
+        by_all-is (level + 1) weights most,
+        whole,
+        enough,
+      )
 
   -- a part is what its child takes at the level or one step above
   one_of : (k : ℕ) → k < length weights →
       (get_or parts k 0 ≡ each_takes level weights most k)
-          ⊎ (get_or parts k 0 ≡ each_takes (level + 1) weights most k)
+      ⊎ (get_or parts k 0 ≡ each_takes (level + 1) weights most k)
   one_of k below = elim (cases_lt k from)
       [ inl earlier ↦ inr (so_far.seen k earlier) | inr later ↦ inl (so_far.unseen k later below) ]
 
@@ -129,16 +137,16 @@ module _ (level given from : ℕ) (weights most parts : List ℕ)
         let wj = in_range j j_below in
         let wi = in_range i i_below in
         let lj : IsTaken level (get_or weights j 0) (get_or most j 0)
-            (each_takes level weights most j) =
+        (each_takes level weights most j) =
         taken-is level (get_or weights j 0) (get_or most j 0) in
         let hj : IsTaken (level + 1) (get_or weights j 0) (get_or most j 0)
-            (each_takes (level + 1) weights most j) =
+        (each_takes (level + 1) weights most j) =
         taken-is (level + 1) (get_or weights j 0) (get_or most j 0) in
         let li : IsTaken level (get_or weights i 0) (get_or most i 0)
-            (each_takes level weights most i) =
+        (each_takes level weights most i) =
         taken-is level (get_or weights i 0) (get_or most i 0) in
         let hi : IsTaken (level + 1) (get_or weights i 0) (get_or most i 0)
-            (each_takes (level + 1) weights most i) =
+        (each_takes (level + 1) weights most i) =
         taken-is (level + 1) (get_or weights i 0) (get_or most i 0) in
         -- the next mark of j is above the level
         let j_above : level * get_or weights j 0 < (2 * get_or parts j 0 + 1) * STEPS =
@@ -154,38 +162,38 @@ module _ (level given from : ℕ) (weights most parts : List ℕ)
           | inr not_more ↦
               -- the last mark of i is at or below it
               let i_low : (2 * get_or parts i 0 - 1) * STEPS ≤ level * get_or weights i 0 =
-                  omega (arith, li.low, not_more) in
+              omega (arith, li.low, not_more) in
               inl (cross_lt_right (2 * get_or parts i 0 - 1) (get_or weights i 0) level STEPS
-                  (2 * get_or parts j 0 + 1) (get_or weights j 0)
+              (2 * get_or parts j 0 + 1) (get_or weights j 0)
               wi.0 i_low j_above)
           | inl more ↦
               let i_is : get_or parts i 0 ≡ each_takes (level + 1) weights most i =
               elim (one_of i i_below) [ inl is ↦ absurd (omega (arith, is, more)) | inr is ↦ is ] in
               let i_low : (2 * get_or parts i 0 - 1) * STEPS ≤ (level + 1) * get_or weights i 0 =
-                  omega (arith, hi.low, i_is) in
+              omega (arith, hi.low, i_is) in
               elim (cases_lt (get_or parts j 0) (each_takes (level + 1) weights most j)) [
                 | inr full ↦
                     let j_over : (level + 1) * get_or weights j 0
-                        < (2 * get_or parts j 0 + 1) * STEPS =
+                    < (2 * get_or parts j 0 + 1) * STEPS =
                     (let h : (level + 1) * get_or weights j 0
-                        < (2 * STEPS) * each_takes (level + 1) weights most j + STEPS =
+                    < (2 * STEPS) * each_takes (level + 1) weights most j + STEPS =
                     hj.high (omega (arith, full, room)) in omega (arith, h, full)) in
                     inl (cross_lt_right (2 * get_or parts i 0 - 1) (get_or weights i 0) (level + 1)
-                        STEPS (2 * get_or parts j 0 + 1) (get_or weights j 0)
+                    STEPS (2 * get_or parts j 0 + 1) (get_or weights j 0)
                     wi.0 i_low j_over)
                 | inl short ↦
                     -- both marks are between the two levels
                     let i_over : level * get_or weights i 0 < STEPS * (2 * get_or parts i 0 - 1) =
                     (let h : level * get_or weights i 0
-                        < (2 * STEPS) * each_takes level weights most i + STEPS =
+                    < (2 * STEPS) * each_takes level weights most i + STEPS =
                     li.high (omega (arith, more, i_is, hi.within)) in omega (arith, h, more)) in
                     let j_under : STEPS * (2 * get_or parts j 0 + 1)
-                        ≤ (level + 1) * get_or weights j 0 = omega (arith, hj.low, short) in
+                    ≤ (level + 1) * get_or weights j 0 = omega (arith, hj.low, short) in
                     inr (
                       same_cost level (2 * get_or parts i 0 - 1) (get_or weights i 0)
                           (2 * get_or parts j 0 + 1) (get_or weights j 0)
                           wi.0 wj.0 wi.1 wj.1 i_over (omega (arith, i_low)) (omega (arith, j_above))
-                              j_under,
+                          j_under,
                       inl (in_order j i j_below i_below short more),
                     )
               ]
@@ -194,12 +202,12 @@ module _ (level given from : ℕ) (weights most parts : List ℕ)
 
   pub given-IsBestSplit : (rest amount : ℕ) → length most ≡ length weights →
       ((k : ℕ) → k < length weights → (MIN_WEIGHT ≤ get_or weights k 0)
-          × (get_or weights k 0 ≤ MAX_WEIGHT)) →
+      × (get_or weights k 0 ≤ MAX_WEIGHT)) →
       rest + taken_by_all level weights most ≡ amount → given ≡ rest
-          → IsBestSplit amount weights most parts
+      → IsBestSplit amount weights most parts
   given-IsBestSplit rest amount one_each in_range whole all =
       pairwise-IsBestSplit weights most parts (sym so_far.lengths)
-          (λ k below. (in_range k (omega (arith, so_far.lengths, below))).0)
+      (λ k below. (in_range k (omega (arith, so_far.lengths, below))).0)
       amount
       (record {
         lengths = omega (arith, so_far.lengths, one_each);
@@ -211,7 +219,7 @@ module _ (level given from : ℕ) (weights most parts : List ℕ)
           | inr is ↦ (let t : IsTaken (level + 1) (get_or weights k 0) (get_or most k 0)
               (each_takes (level + 1) weights most k) =
               taken-is (level + 1) (get_or weights k 0) (get_or most k 0) in
-                  omega (arith, t.within, is))
+              omega (arith, t.within, is))
         ];
       })
       (given-IsPairwise in_range)

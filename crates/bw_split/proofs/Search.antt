@@ -16,13 +16,13 @@ use Rattle.bw_split.specs.declared.limits.TheConstants.{STEPS, GREATEST_LEVEL, M
 pub raised : (low high total part i : ℕ) (weights most : List ℕ) → low ≤ high
     → part ≤ get_or most i 0 →
     (2 * STEPS) * part ≤ high * get_or weights i 0 + STEPS
-        → total ≤ sum_below i (each_takes low weights most) →
+    → total ≤ sum_below i (each_takes low weights most) →
     total + part ≤ sum_below (i + 1) (each_takes high weights most)
 raised low high total part i weights most up within reached so_far =
     let here : part ≤ each_takes high weights most i =
-        taken-ge high (get_or weights i 0) (get_or most i 0) part within reached in
+    taken-ge high (get_or weights i 0) (get_or most i 0) part within reached in
     let front : sum_below i (each_takes low weights most)
-        ≤ sum_below i (each_takes high weights most) =
+    ≤ sum_below i (each_takes high weights most) =
     sum_below-le i (each_takes low weights most) (each_takes high weights most)
     (λ k _. taken-mono low high (get_or weights k 0) (get_or most k 0) up) in
     omega (arith, here, front, so_far, sum_below-more i (each_takes high weights most))
@@ -33,16 +33,16 @@ pub next_reach : (round reach : ℕ) → round < MAX_ROUNDS → reach ≡ 2 ^ (M
 next_reach round reach few is =
     let e : MAX_ROUNDS - round ≡ suc (MAX_ROUNDS - (round + 1)) = omega arith in
     let p : 2 ^ (MAX_ROUNDS - round) ≡ 2 * 2 ^ (MAX_ROUNDS - (round + 1)) =
-        ap (λ n. 2 ^ n) e ∙ omega (arith, pow-suc 2 (MAX_ROUNDS - (round + 1))) in
+    ap (λ n. 2 ^ n) e ∙ omega (arith, pow-suc 2 (MAX_ROUNDS - (round + 1))) in
     (omega (arith, p, is), omega (arith, p, is))
 
 -- Where the amount is the sum of the maxima, they are the split.
 pub all-IsBestSplit : (amount : ℕ) (weights most : List ℕ) → length most ≡ length weights →
     ((k : ℕ) → k < length weights → 0 < get_or weights k 0) → sum most ≡ amount
-        → IsBestSplit amount weights most most
+    → IsBestSplit amount weights most most
 all-IsBestSplit amount weights most e positive whole =
     pairwise-IsBestSplit weights most most (sym e) (λ k below. positive k (omega (arith, e, below)))
-        amount
+    amount
     (record { lengths = refl; whole = whole; within = λ k _. omega arith })
     (record { above = λ j i j_in i_in room some. absurd (omega arith) })
 
@@ -75,8 +75,14 @@ one-IsBestSplit amount weights (m ∷ []) one each positive enough =
 pub past_bound : (xs : List ℕ) (i left bound : ℕ) → i < length xs → left + sum (take i xs) ≡ bound
     → left < get_or xs i 0 → sum xs ≤ bound → ⊥
 past_bound xs i left bound below so_far over fits =
-    omega (arith, sum_by_more (λ x. x) xs i 0 below, sum_by-take-le (λ x. x) xs (i + 1), so_far,
-        over, fits)
+    omega (
+      arith,
+      sum_by_more (λ x. x) xs i 0 below,
+      sum_by-take-le (λ x. x) xs (i + 1),
+      so_far,
+      over,
+      fits,
+    )
 
 -- the least level that reaches a mark above a lower level
 pub mark_level : (part weight level d : ℕ) → 0 < weight → part ≤ MAX_CAPACITY
@@ -85,7 +91,7 @@ pub mark_level : (part weight level d : ℕ) → 0 < weight → part ≤ MAX_CAP
     (level ≤ d) × (d ≤ GREATEST_LEVEL) × ((2 * STEPS) * part ≤ d * weight + STEPS)
 mark_level part weight level d pos small over is =
     let t : (2 * part * STEPS - STEPS ≤ d * weight)
-        × (d * weight < (2 * part * STEPS - STEPS) + weight) =
+    × (d * weight < (2 * part * STEPS - STEPS) + weight) =
     rw is (div_ceil_times (2 * part * STEPS - STEPS) weight pos) in
     let lower = t.0 in
     let upper = t.1 in (

@@ -73,7 +73,7 @@ by_all-mono s t weights most h = rw (by_all-is s weights most, by_all-is t weigh
 pub by_all-zero : (weights most : List ℕ) → taken_by_all 0 weights most ≡ 0
 by_all-zero weights most = by_all-is 0 weights most ∙
     sum_below-zero (length weights) (each_takes 0 weights most)
-        (λ k _. taken-zero (get_or weights k 0) (get_or most k 0))
+    (λ k _. taken-zero (get_or weights k 0) (get_or most k 0))
 
 -- no child takes a slice at level 1
 pub by_all-one : (weights most : List ℕ)
@@ -81,7 +81,7 @@ pub by_all-one : (weights most : List ℕ)
     → taken_by_all 1 weights most ≡ 0
 by_all-one weights most light = by_all-is 1 weights most ∙
     sum_below-zero (length weights) (each_takes 1 weights most)
-        (λ k below. taken-one (get_or weights k 0) (get_or most k 0) (light k below))
+    (λ k below. taken-one (get_or weights k 0) (get_or most k 0) (light k below))
 
 pub sum_below-more : (n : ℕ) (f : ℕ → ℕ) → sum_below (n + 1) f ≡ sum_below n f + f n
 sum_below-more n f = rw add-one refl
@@ -96,25 +96,25 @@ capped : (n : ℕ) (f g : ℕ → ℕ) → ((k : ℕ) → k < n → min MAX_CAPA
 capped zero f g h = omega arith
 capped (suc n) f g h =
     let a : min MAX_CAPACITY (sum_below n g) ≤ sum_below n f =
-        capped n f g (λ k below. h k (omega arith)) in
+    capped n f g (λ k below. h k (omega arith)) in
     let b : min MAX_CAPACITY (g n) ≤ f n = h n (omega arith) in omega (arith, a, b)
 
 -- at the greatest level the children take every amount that they can
 pub by_all-top : (amount : ℕ) (weights most : List ℕ) → length most ≡ length weights →
     ((k : ℕ) → k < length weights → 0 < get_or weights k 0) → amount ≤ MAX_CAPACITY
-        → amount ≤ sum most →
+    → amount ≤ sum most →
     amount ≤ taken_by_all GREATEST_LEVEL weights most
 by_all-top amount weights most e positive small enough = rw (by_all-is GREATEST_LEVEL weights most)
     (let s : sum most ≡ sum_below (length most) (λ k. get_or most k 0) = sum-is most in
     let s' : sum most ≡ sum_below (length weights) (λ k. get_or most k 0) = rw e at s in
     let c : min MAX_CAPACITY (sum_below (length weights) (λ k. get_or most k 0))
-        ≤ sum_below (length weights) (each_takes GREATEST_LEVEL weights most) =
+    ≤ sum_below (length weights) (each_takes GREATEST_LEVEL weights most) =
     capped (length weights) (each_takes GREATEST_LEVEL weights most) (λ k. get_or most k 0)
     (λ k below. taken-ge GREATEST_LEVEL (get_or weights k 0) (get_or most k 0)
-        (min MAX_CAPACITY (get_or most k 0)) (omega arith)
+    (min MAX_CAPACITY (get_or most k 0)) (omega arith)
     (let p : 0 < get_or weights k 0 = positive k below in
     let q : GREATEST_LEVEL * 1 ≤ GREATEST_LEVEL * get_or weights k 0 =
-        mul-le-mul_left GREATEST_LEVEL p in omega (arith, q)))
+    mul-le-mul_left GREATEST_LEVEL p in omega (arith, q)))
     in omega (arith, s', c, small, enough))
 
 -- two marks that lie between two levels a step apart are of one cost
@@ -136,7 +136,7 @@ pub same_cost : (t a p b q : ℕ) → 0 < p → 0 < q → p ≤ MAX_WEIGHT → q
     t * q < STEPS * b → STEPS * b ≤ (t + 1) * q → a * q ≡ b * p
 same_cost t a p b q pp pq hp hq a_above a_below b_above b_below =
     elim (cases_order (a * q) (b * p)) [
-  | inl same ↦ same
-  | inr (inl less) ↦ absurd (not_less t a p b q pq hp hq a_above b_below less)
-  | inr (inr more) ↦ absurd (not_less t b q a p pp hq hp b_above a_below (omega arith))
-]
+      | inl same ↦ same
+      | inr (inl less) ↦ absurd (not_less t a p b q pq hp hq a_above b_below less)
+      | inr (inr more) ↦ absurd (not_less t b q a p pp hq hp b_above a_below (omega arith))
+    ]

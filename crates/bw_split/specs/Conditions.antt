@@ -7,7 +7,7 @@ use Rattle.bw_split.specs.declared.limits.TheConstants.{MAX_CHILDREN}
 abbrev pub AreWeights : List ℕ → Type 0
 AreWeights weights =
     (k : ℕ) → k < length weights → (MIN_WEIGHT ≤ slice_index weights k)
-        × (slice_index weights k ≤ MAX_WEIGHT)
+    × (slice_index weights k ≤ MAX_WEIGHT)
 
 -- weights and maxima that can be split, and an amount that they can take
 pub record CanSplit (amount : ℕ) (weights most : List ℕ) : Type 0 where

@@ -14,13 +14,13 @@ taken level weight most = min ((level * weight + STEPS) / (2 * STEPS)) most
 unfoldable pub taken_by_all : ℕ → List ℕ → List ℕ → ℕ
 taken_by_all level weights most =
     sum_by (λ k. taken level (slice_index weights k) (slice_index most k))
-        (range_with_len 0 (length weights))
+    (range_with_len 0 (length weights))
 
 -- each child's part is what it takes at a level
 abbrev pub AreTaken : ℕ → List ℕ → List ℕ → List ℕ → Type 0
 AreTaken level weights most parts =
     (k : ℕ) → k < length weights → slice_index parts k
-        ≡ taken level (slice_index weights k) (slice_index most k)
+    ≡ taken level (slice_index weights k) (slice_index most k)
 
 -- a child takes more at a level than its part
 abbrev pub TakesMore : ℕ → List ℕ → List ℕ → List ℕ → ℕ → Type 0

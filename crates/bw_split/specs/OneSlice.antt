@@ -21,7 +21,7 @@ abbrev pub UnmovedIsBest : Type 0
 UnmovedIsBest = (amount : ℕ) (weights most parts : List ℕ) → length weights ≡ length most
     → ((k : ℕ) → k < length weights → 0 < slice_index weights k)
     → IsSplit amount most parts → NoMoveGains weights most parts
-        → IsBestSplit amount weights most parts
+    → IsBestSplit amount weights most parts
 
 -- in the best split no move of one slice gains
 abbrev pub BestIsUnmoved : Type 0

@@ -18,7 +18,7 @@ level_of-requires-clause-few c =
     ap (length {A = ℕ}) (c.as_slice.ensures ∙ c.in_ok-parts.ensures)
     ∙ length-map (children_of c.args.instance.now.rows c.args.g) (slice_index c.args.amounts.now) in
     let le : length (children_of c.args.instance.now.rows c.args.g)
-        < length c.args.instance.now.rows =
+    < length c.args.instance.now.rows =
     few_children c.args.instance.now.rows c.args.g c.rows-rows.ensures.valid.tree in
     let few : length c.args.instance.now.rows ≤ MAX_GROUPS = c.rows-rows.ensures.valid.few in
     omega (arith, e, le, few)
@@ -26,23 +26,23 @@ level_of-requires-clause-few c =
 pub level_of-requires-clause-weights_in_range : goal.level_of-requires-clause-weights_in_range
 level_of-requires-clause-weights_in_range c =
     let e : c.as_slice-2.result.now ≡ child_weights c.args.instance.now.rows c.args.g =
-        c.as_slice-2.ensures ∙ c.in_ok-weights.ensures in
+    c.as_slice-2.ensures ∙ c.in_ok-weights.ensures in
     rw e (weights_in_range c.args.instance.now c.rows-rows.ensures.valid c.args.g)
 
 pub level_of-requires-clause-small : goal.level_of-requires-clause-small
 level_of-requires-clause-small c =
     small_parts c.args.instance.now.rows c.args.g c.args.amounts.now c.as_slice.result.now
-        c.requires.amount_each
+    c.requires.amount_each
     (c.as_slice.ensures ∙ c.in_ok-parts.ensures) c.requires.small
 
 pub returns : goal.returns
 returns c =
     let ew : c.as_slice-2.result.now ≡ child_weights c.args.instance.now.rows c.args.g =
-        c.as_slice-2.ensures ∙ c.in_ok-weights.ensures in
+    c.as_slice-2.ensures ∙ c.in_ok-weights.ensures in
     let ep : c.as_slice.result.now
-        ≡ map (slice_index c.args.amounts.now) (children_of c.args.instance.now.rows c.args.g) =
+    ≡ map (slice_index c.args.amounts.now) (children_of c.args.instance.now.rows c.args.g) =
     c.as_slice.ensures ∙ c.in_ok-parts.ensures in
     to_level c.args.instance.now c.args.amounts.now c.args.g c.as_slice.result.now
-        c.as_slice-2.result.now (sym c.if-is_leaf.ensures)
+    c.as_slice-2.result.now (sym c.if-is_leaf.ensures)
     (c.requires.whole (sym c.if-is_leaf.ensures)) ep ew c.level_of.result
-        c.level_of.ensures.greatest c.level_of.ensures.none
+    c.level_of.ensures.greatest c.level_of.ensures.none

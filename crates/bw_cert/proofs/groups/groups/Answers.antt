@@ -18,12 +18,12 @@ returns-in_err-line c =
       levels = map (option_map price_of) c.loop.levels.items;
     } in
     let p = err_from_is_err_and c.from_residual-in_err-line.result
-        c.from_residual-in_err-line.ensures.1 in
+    c.from_residual-in_err-line.ensures.1 in
     rw (p.1, p.2)
-        (line_ends c.in_err-line.field-0.0 front c.args.count c.loop.counter
-        (text_lines c.loop.rest.now)
+    (line_ends c.in_err-line.field-0.0 front c.args.count c.loop.counter
+    (text_lines c.loop.rest.now)
     (groups_at c.args.count (text_lines c.args.text.now)) c.loop-test.true
-        (sym c.in_err-line.ensures) c.loop.invariant)
+    (sym c.in_err-line.ensures) c.loop.invariant)
 
 pub returns-in_err-next : goal.returns-in_err-next
 returns-in_err-next c =
@@ -34,12 +34,12 @@ returns-in_err-next c =
       levels = map (option_map price_of) c.loop.levels.items;
     } in
     let p = err_from_is_err_and c.from_residual-in_err-next.result
-        c.from_residual-in_err-next.ensures.1 in
+    c.from_residual-in_err-next.ensures.1 in
     rw (p.1, p.2)
-        (group_ends c.in_err-next.field-0.0 front c.args.count c.loop.counter
-        (text_lines c.loop.rest.now)
+    (group_ends c.in_err-next.field-0.0 front c.args.count c.loop.counter
+    (text_lines c.loop.rest.now)
     (text_lines c.in_ok-line.after.now) c.in_ok-line.line.now
-        (groups_at c.args.count (text_lines c.args.text.now)) c.loop-test.true
+    (groups_at c.args.count (text_lines c.args.text.now)) c.loop-test.true
     (sym c.in_ok-line.ensures) (sym c.in_err-next.ensures) c.loop.invariant)
 
 pub loop-preserved : goal.loop-preserved
@@ -58,9 +58,9 @@ loop-preserved c =
       map_push (option_map price_of) c.loop.levels.items c.in_ok-next.next.level,
     )
     (goes_on front c.args.count c.loop.counter (text_lines c.loop.rest.now)
-        (text_lines c.in_ok-line.after.now) c.in_ok-line.line.now
+    (text_lines c.in_ok-line.after.now) c.in_ok-line.line.now
     (group_view c.in_ok-next.next) (groups_at c.args.count (text_lines c.args.text.now))
-        c.loop-test.true (sym c.in_ok-line.ensures)
+    c.loop-test.true (sym c.in_ok-line.ensures)
     (sym c.in_ok-next.ensures) c.loop.invariant)
 
 pub returns : goal.returns
@@ -72,4 +72,4 @@ returns c =
       levels = map (option_map price_of) c.loop.levels.items;
     } in
     is_done front c.args.count c.loop.counter (text_lines c.loop.rest.now)
-        (groups_at c.args.count (text_lines c.args.text.now)) c.loop-test.false c.loop.invariant
+    (groups_at c.args.count (text_lines c.args.text.now)) c.loop-test.false c.loop.invariant

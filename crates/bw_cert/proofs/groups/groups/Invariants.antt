@@ -9,7 +9,11 @@ use Rattle.bw_cert.proofs.groups.groups.Given as goal
 
 abbrev pub invariant-loop : goal.invariant-loop
 invariant-loop l =
-    with_front (record { rows = l.rows.items; amounts = l.amounts.items; flags = l.tight.items;
-        levels = map (option_map price_of) l.levels.items })
+    with_front (record {
+      rows = l.rows.items;
+      amounts = l.amounts.items;
+      flags = l.tight.items;
+      levels = map (option_map price_of) l.levels.items;
+    })
     (groups_at (l.count - l.counter) (text_lines l.rest))
     ≡ groups_at l.count (text_lines l.text)

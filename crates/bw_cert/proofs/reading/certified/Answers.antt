@@ -11,17 +11,17 @@ pub returns-then-not-is_empty : goal.returns-then-not-is_empty
 returns-then-not-is_empty c =
     trailing (text_lines c.args.text.now) (text_lines c.in_ok-line.rest.now)
     (text_lines c.in_ok-columns.rest.now) c.in_ok-line.line.now c.in_ok-shape.shape
-        c.in_ok-shape.count (columns_view c.in_ok-columns.columns)
+    c.in_ok-shape.count (columns_view c.in_ok-columns.columns)
     (sym c.in_ok-line.ensures) (sym c.in_ok-shape.ensures) c.in_ok-columns.ensures
-        (not_over c.in_ok-columns.rest.now (search rules))
+    (not_over c.in_ok-columns.rest.now (search rules))
 
 pub returns : goal.returns
 returns c =
     let is = c.in-Ok.ensures.groups in
     let fine : refusal c.in_ok-columns.columns.rows.items ≡ None =
-        rw is at (IsInstance-accepted c.in-Ok.instance c.in-Ok.ensures.valid) in
+    rw is at (IsInstance-accepted c.in-Ok.instance c.in-Ok.ensures.valid) in
     rw is (whole (text_lines c.args.text.now) (text_lines c.in_ok-line.rest.now)
     (text_lines c.in_ok-columns.rest.now) c.in_ok-line.line.now c.in_ok-shape.shape
-        c.in_ok-shape.count (columns_view c.in_ok-columns.columns)
+    c.in_ok-shape.count (columns_view c.in_ok-columns.columns)
     (sym c.in_ok-line.ensures) (sym c.in_ok-shape.ensures) c.in_ok-columns.ensures
-        (over c.in_ok-columns.rest.now (search rules)) fine)
+    (over c.in_ok-columns.rest.now (search rules)) fine)

@@ -19,6 +19,6 @@ returns-clause-text c =
       c.in_ok-push_row.ensures,
     )
     (group_text (string_bytes c.args.out.now) (parent_word c.args.row.parent)
-        (decimal c.args.row.weight) (limit_word c.args.row.limit)
+    (decimal c.args.row.weight) (limit_word c.args.row.limit)
     (decimal c.args.row.demand) (decimal c.args.amount) (flag_word c.args.flag)
-        (level_word (option_map price_of c.args.level)))
+    (level_word (option_map price_of c.args.level)))

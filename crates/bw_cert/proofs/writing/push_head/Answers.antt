@@ -19,5 +19,5 @@ returns c =
     )
     (rw (c.processors.ensures.value, c.period_us.ensures.value, c.slice_us.ensures.value)
     (head_text (string_bytes c.args.out.now) (decimal c.args.shape.processors)
-        (decimal c.args.shape.period_us) (decimal c.args.shape.slice_us)
+    (decimal c.args.shape.period_us) (decimal c.args.shape.slice_us)
     (decimal c.args.count)))

@@ -13,11 +13,16 @@ pub loop-i-init : goal.loop-i-init
 loop-i-init c =
     let text : string_bytes c.push_head.new.out
     ++ rest_text c.args.instance.now.rows c.args.amounts.now c.args.certificate.now.tight.items
-        c.args.certificate.now.levels.items 0
+    c.args.certificate.now.levels.items 0
     ≡ spelling (certified_value c.args.instance.now c.args.amounts.now c.args.certificate.now) =
-        search rules in
-    (text, record { of_rows = first_none IsSmallRow _; of_amounts = first_none (λ n. n < 2 ^ 64) _;
-        of_levels = first_none IsSmallMark _ })
+    search rules in (
+      text,
+      record {
+        of_rows = first_none IsSmallRow _;
+        of_amounts = first_none (λ n. n < 2 ^ 64) _;
+        of_levels = first_none IsSmallMark _;
+      },
+    )
 
 pub loop-i-preserved : goal.loop-i-preserved
 loop-i-preserved c =
@@ -26,12 +31,12 @@ loop-i-preserved c =
     let small = c.loop-i.invariant.1 in (
       written_more (string_bytes c.loop-i.out) (string_bytes c.push_group.new.out) _
           (rest_text rows c.args.amounts.now c.args.certificate.now.tight.items
-              c.args.certificate.now.levels.items c.loop-i.i) _ _
+          c.args.certificate.now.levels.items c.loop-i.i) _ _
           (rw c.rows-rows.ensures.rows at c.in_ok-push_group.ensures.text)
           (rest_step rows c.args.amounts.now c.args.certificate.now.tight.items
-              c.args.certificate.now.levels.items c.loop-i.i _ _ _ _ _ _ _ _ lt
+          c.args.certificate.now.levels.items c.loop-i.i _ _ _ _ _ _ _ _ lt
           (omega arith) (omega arith) (omega arith) refl refl c.index.ensures
-              c.index-in-loop-i.ensures)
+          c.index-in-loop-i.ensures)
           c.loop-i.invariant.0,
       record {
         of_rows = first_more IsSmallRow rows c.loop-i.i _ _ refl
@@ -49,9 +54,9 @@ returns-clause-text c =
     let rows = c.args.instance.now.rows in
     written_all (string_bytes c.loop-i.out)
     (rest_text rows c.args.amounts.now c.args.certificate.now.tight.items
-        c.args.certificate.now.levels.items c.loop-i.i) _
+    c.args.certificate.now.levels.items c.loop-i.i) _
     (rest_none rows c.args.amounts.now c.args.certificate.now.tight.items
-        c.args.certificate.now.levels.items c.loop-i.i
+    c.args.certificate.now.levels.items c.loop-i.i
     (omega (arith, ap length c.rows-rows.ensures.rows)))
     c.loop-i.invariant.0
 
@@ -71,5 +76,5 @@ returns-clause-valid c =
           (omega (arith, last, c.requires.amounts)) small.of_amounts;
       small_levels = all_levels c.args.certificate.now.levels.items
           (first_all IsSmallMark c.args.certificate.now.levels.items c.loop-i.i
-              (omega (arith, last, c.requires.levels)) small.of_levels);
+          (omega (arith, last, c.requires.levels)) small.of_levels);
     }

@@ -16,8 +16,11 @@ returns-then-not-are_one_per_row c =
     let clash : true ≡ false = sym yes ∙ c.if-not-are_one_per_row.true in cc) in
     record {
       verdict = refused;
-      exact = (λ e. cc, λ a.
-          absurd (refused-not-accepted groups c.args.amounts.now certificate _ _ tree refused a));
+      exact = (
+        λ e. cc,
+        λ a.
+            absurd (refused-not-accepted groups c.args.amounts.now certificate _ _ tree refused a),
+      );
       plan = λ e. cc;
     }
 
@@ -27,22 +30,25 @@ returns-in-Some c =
     let certificate = certified_of c.args.certificate.now in
     let tree = c.are_one_per_row.ensures.valid.tree in
     let refused = refused_at groups c.args.amounts.now certificate tree
-        c.in_ok-tables.tables.bounds.items c.in_ok-tables.ensures.bounded
+    c.in_ok-tables.tables.bounds.items c.in_ok-tables.ensures.bounded
     c.loop-fault.fault-index c.loop-fault.invariant c.in-Some.group c.loop-fault-test.true
-        c.in-Some.ensures in
+    c.in-Some.ensures in
     record {
       verdict = refused;
-      exact = (λ e. cc, λ a.
-          absurd (refused-not-accepted groups c.args.amounts.now certificate _ _ tree refused a));
+      exact = (
+        λ e. cc,
+        λ a.
+            absurd (refused-not-accepted groups c.args.amounts.now certificate _ _ tree refused a),
+      );
       plan = λ e. cc;
     }
 
 pub loop-fault-preserved : goal.loop-fault-preserved
 loop-fault-preserved c =
     one_fault_more c.args.instance.now c.args.amounts.now (certified_of c.args.certificate.now)
-        c.are_one_per_row.ensures.valid.tree
+    c.are_one_per_row.ensures.valid.tree
     c.in_ok-tables.tables.bounds.items c.in_ok-tables.ensures.bounded c.loop-fault.fault-index
-        c.loop-fault.invariant c.in_default.ensures
+    c.loop-fault.invariant c.in_default.ensures
 
 pub returns : goal.returns
 returns c =
@@ -51,10 +57,10 @@ returns c =
     let valid = c.are_one_per_row.ensures.valid in
     let bounds = c.in_ok-tables.tables.bounds.items in
     let certified = all_free groups c.args.amounts.now certificate valid.tree bounds
-        c.in_ok-tables.ensures.bounded
+    c.in_ok-tables.ensures.bounded
     c.loop-fault.fault-index c.loop-fault.invariant (omega (arith, c.loop-fault-test.false)) in
     let accepted : IsAccepted groups c.args.amounts.now certificate =
-        record { bounds = bounds; certified = certified } in
+    record { bounds = bounds; certified = certified } in
     record {
       verdict = accepted;
       exact = (λ _. accepted, λ _. refl);
@@ -64,7 +70,7 @@ returns c =
 pub first_group-requires-clause-small : goal.first_group-requires-clause-small
 first_group-requires-clause-small c =
     small_at c.args.instance.now c.args.amounts.now (certified_of c.args.certificate.now)
-        c.are_one_per_row.ensures.valid.tree
+    c.are_one_per_row.ensures.valid.tree
     c.in_ok-tables.tables.bounds.items c.in_ok-tables.ensures.bounded c.loop-fault.fault-index
-        c.loop-fault.invariant
+    c.loop-fault.invariant
     c.are_one_per_row.ensures.valid c.loop-fault-test.true

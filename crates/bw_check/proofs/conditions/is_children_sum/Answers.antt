@@ -13,7 +13,7 @@ returns-else-is_leaf c =
     let sums = c.args.sums.now in
     let read : get_or sums c.args.g 0 ≡ sum_of_children rows amounts c.args.g =
     c.requires.summed.each c.args.g c.requires.within
-        ∙ first-all rows (slice_index amounts) c.args.g in
+    ∙ first-all rows (slice_index amounts) c.args.g in
     let inner : is_leaf rows c.args.g ≡ false = sym c.is_leaf.ensures ∙ c.if-is_leaf.false in (
       λ e _. sym c.from.ensures ∙ eqb-true c.from.result (get_or sums c.args.g 0) e ∙ read,
       λ h. eq-eqb c.from.result (get_or sums c.args.g 0) (c.from.ensures ∙ h inner ∙ sym read),

@@ -16,25 +16,25 @@ returns-else-bounds-c c =
     let places = c.args.places.now in
     let bounds = c.args.bounds.now in
     let claim : Mark → ℕ → Type 0 =
-        λ level place. IsBelow (price_of level)
-        (next_mark (get_or amounts c.args.c 0) (weight_of groups.rows c.args.c) place) in
+    λ level place. IsBelow (price_of level)
+    (next_mark (get_or amounts c.args.c 0) (weight_of groups.rows c.args.c) place) in
     let price : price_of c.next_mark.result ≡ next_mark (get_or amounts c.args.c 0)
-        (weight_of groups.rows c.args.c) (get_or places c.args.c 0) =
+    (weight_of groups.rows c.args.c) (get_or places c.args.c 0) =
     c.next_mark.ensures
-        ∙ ap (λ (w : ℕ). next_mark (get_or amounts c.args.c 0) w (get_or places c.args.c 0))
-        c.weight-weight.ensures.value in
+    ∙ ap (λ (w : ℕ). next_mark (get_or amounts c.args.c 0) w (get_or places c.args.c 0))
+    c.weight-weight.ensures.value in
     let ordered = is_lt-IsBelow c.in-Some.level c.next_mark.result in
     let room : get_or amounts c.args.c 0 < get_or bounds c.args.c 0 =
-        omega (arith, c.from.ensures, c.if-bounds-c.false) in (
+    omega (arith, c.from.ensures, c.if-bounds-c.false) in (
       λ e g other up shares is _.
           each_above groups amounts certificate c.args.c places c.requires.places c.requires.within
-              claim c.in-Some.level (sym c.in-Some.ensures)
+          claim c.in-Some.level (sym c.in-Some.ensures)
           (subst (λ (p : MarkValue). IsBelow (price_of c.in-Some.level) p) price
-              (ordered.0 (sym c.lt.ensures ∙ e)))
+          (ordered.0 (sym c.lt.ensures ∙ e)))
           g other up shares is,
       λ h. c.lt.ensures
           ∙ ordered.1 (subst (λ (p : MarkValue). IsBelow (price_of c.in-Some.level) p) (sym price)
           (from_above groups amounts certificate c.args.c places c.requires.places c.requires.within
-              claim c.in-Some.level (sym c.in-Some.ensures)
+          claim c.in-Some.level (sym c.in-Some.ensures)
           (λ g other up shares is. h g other up shares is room))),
     )

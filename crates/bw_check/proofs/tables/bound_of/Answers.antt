@@ -37,7 +37,7 @@ returns-then-is_leaf-clause-value c =
     let demand : c.from-then-is_leaf.result ≡ demand_of groups.rows c.args.g =
     c.from-then-is_leaf.ensures ∙ ap (λ (row : Row). row.demand) c.row.ensures in
     let none : cond (is_flagged certificate c.args.g) (limit_of groups c.args.g) None ≡ None =
-        elim c.if-index.branch [
+    elim c.if-index.branch [
       | then-index+in_default w ↦ no_limit (is_flagged certificate c.args.g)
           (limit_of groups c.args.g) (sym w.limit.ensures ∙ w.in_default.is)
       | else-index w ↦ no_flag (is_flagged certificate c.args.g) (limit_of groups c.args.g)
@@ -55,7 +55,7 @@ returns-else-is_leaf-clause-value c =
     c.index.ensures ∙ get_or_default tight c.args.g c.index.result.now false there in
     let inner : is_leaf groups.rows c.args.g ≡ false = sym c.is_leaf.ensures ∙ c.if-is_leaf.false in
     let none : cond (is_flagged certificate c.args.g) (limit_of groups c.args.g) None ≡ None =
-        elim c.if-index.branch [
+    elim c.if-index.branch [
       | then-index+in_default w ↦ no_limit (is_flagged certificate c.args.g)
           (limit_of groups c.args.g) (sym w.limit.ensures ∙ w.in_default.is)
       | else-index w ↦ no_flag (is_flagged certificate c.args.g) (limit_of groups c.args.g)

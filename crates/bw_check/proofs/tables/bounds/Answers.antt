@@ -13,9 +13,9 @@ loop-g-init c =
     let rows = c.args.instance.now.rows in
     let count : c.group_count-count.result ≡ length rows = c.group_count-count.ensures.count in
     let below_are : c.in_ok-below.below.items ≡ replicate c.group_count-count.result 0 =
-        search rules in
+    search rules in
     let bounds_are : c.in_ok-bounds.bounds.items ≡ replicate c.group_count-count.result 0 =
-        search rules in
+    search rules in
     let below_all = below_are ∙ ap (λ (n : ℕ). replicate n 0) count in
     let bounds_all = bounds_are ∙ ap (λ (n : ℕ). replicate n 0) count in
     rw count (record {
@@ -32,17 +32,17 @@ overflow_add-sum c =
     let below = c.loop-g.below.items in
     let next : c.loop-g.g ≡ suc (c.loop-g.g - 1) = omega (arith, c.loop-g-test.true) in
     let within : c.loop-g.g - 1 < length rows =
-        omega (arith, c.loop-g-test.true, c.loop-g.auto.g, c.group_count-count.ensures.count) in
+    omega (arith, c.loop-g-test.true, c.loop-g.auto.g, c.group_count-count.ensures.count) in
     let long : length below ≡ length rows = c.loop-g.invariant.made.summed.one_each in
     let here : c.index.result.now ≡ get_or below (c.loop-g.g - 1) 0 =
     c.index.ensures ∙ get_or_default_zero below (c.loop-g.g - 1) c.index.result.now
-        (omega (arith, within, long)) in
+    (omega (arith, within, long)) in
     let before : c.in-Some.parent < c.loop-g.g - 1 = c.in-Some.ensures.before in
     let read : c.index-sum.result.now ≡ get_or below c.in-Some.parent 0 =
     c.index-sum.ensures ∙ get_or_default_zero below c.in-Some.parent c.index-sum.result.now
-        (omega (arith, within, long, before)) in
+    (omega (arith, within, long, before)) in
     let fits = sum_small c.args.instance.now c.loop-g.g (c.loop-g.g - 1) c.bound_of-bound.result
-        below next c.loop-g.invariant.small
+    below next c.loop-g.invariant.small
     (omega (arith, c.bound_of-bound.ensures.small, here)) c.in-Some.parent before in
     omega (arith, fits, read, c.group_count-count.ensures.valid.few)
 
@@ -52,35 +52,35 @@ loop-g-preserved-in-Some c =
     let below = c.loop-g.below.items in
     let next : c.loop-g.g ≡ suc (c.loop-g.g - 1) = omega (arith, c.loop-g-test.true) in
     let within : c.loop-g.g - 1 < length rows =
-        omega (arith, c.loop-g-test.true, c.loop-g.auto.g, c.group_count-count.ensures.count) in
+    omega (arith, c.loop-g-test.true, c.loop-g.auto.g, c.group_count-count.ensures.count) in
     let long : length below ≡ length rows = c.loop-g.invariant.made.summed.one_each in
     let here : c.index.result.now ≡ get_or below (c.loop-g.g - 1) 0 =
     c.index.ensures ∙ get_or_default_zero below (c.loop-g.g - 1) c.index.result.now
-        (omega (arith, within, long)) in
+    (omega (arith, within, long)) in
     let before : c.in-Some.parent < c.loop-g.g - 1 = c.in-Some.ensures.before in
     let read : c.index-sum.result.now ≡ get_or below c.in-Some.parent 0 =
     c.index-sum.ensures ∙ get_or_default_zero below c.in-Some.parent c.index-sum.result.now
-        (omega (arith, within, long, before)) in
+    (omega (arith, within, long, before)) in
     let value : c.bound_of-bound.result
     ≡ bound_over c.args.instance.now (certified_of c.args.certificate.now)
-        (get_or below (c.loop-g.g - 1) 0) (c.loop-g.g - 1) =
+    (get_or below (c.loop-g.g - 1) 0) (c.loop-g.g - 1) =
     c.bound_of-bound.ensures.value
-        ∙ ap (λ (x : ℕ). bound_over c.args.instance.now (certified_of c.args.certificate.now) x
-        (c.loop-g.g - 1)) here in
+    ∙ ap (λ (x : ℕ). bound_over c.args.instance.now (certified_of c.args.certificate.now) x
+    (c.loop-g.g - 1)) here in
     let sum = c.index-sum.result.now + c.bound_of-bound.result in
     let sum_is : c.index-sum.result.now + c.bound_of-bound.result
-        ≡ get_or below c.in-Some.parent 0 + c.bound_of-bound.result =
+    ≡ get_or below c.in-Some.parent 0 + c.bound_of-bound.result =
     ap (λ (x : ℕ). x + c.bound_of-bound.result) read in
     record {
       made = made_child c.args.instance.now (certified_of c.args.certificate.now)
           c.group_count-count.ensures.valid.tree
           c.loop-g.g (c.loop-g.g - 1) c.bound_of-bound.result below c.loop-g.bounds.items next
-              within c.loop-g.invariant.made value
+          within c.loop-g.invariant.made value
           c.in-Some.parent sum (sym c.parent.ensures.value ∙ c.in-Some.is) sum_is;
       small = small_child c.args.instance.now c.loop-g.g (c.loop-g.g - 1) c.bound_of-bound.result
           below next c.loop-g.invariant.small
           (omega (arith, c.bound_of-bound.ensures.small, here)) c.in-Some.parent sum before
-              (omega (arith, within, long, before)) sum_is;
+          (omega (arith, within, long, before)) sum_is;
     }
 
 pub loop-g-preserved : goal.loop-g-preserved
@@ -89,22 +89,22 @@ loop-g-preserved c =
     let below = c.loop-g.below.items in
     let next : c.loop-g.g ≡ suc (c.loop-g.g - 1) = omega (arith, c.loop-g-test.true) in
     let within : c.loop-g.g - 1 < length rows =
-        omega (arith, c.loop-g-test.true, c.loop-g.auto.g, c.group_count-count.ensures.count) in
+    omega (arith, c.loop-g-test.true, c.loop-g.auto.g, c.group_count-count.ensures.count) in
     let long : length below ≡ length rows = c.loop-g.invariant.made.summed.one_each in
     let here : c.index.result.now ≡ get_or below (c.loop-g.g - 1) 0 =
     c.index.ensures ∙ get_or_default_zero below (c.loop-g.g - 1) c.index.result.now
-        (omega (arith, within, long)) in
+    (omega (arith, within, long)) in
     let value : c.bound_of-bound.result
     ≡ bound_over c.args.instance.now (certified_of c.args.certificate.now)
-        (get_or below (c.loop-g.g - 1) 0) (c.loop-g.g - 1) =
+    (get_or below (c.loop-g.g - 1) 0) (c.loop-g.g - 1) =
     c.bound_of-bound.ensures.value
-        ∙ ap (λ (x : ℕ). bound_over c.args.instance.now (certified_of c.args.certificate.now) x
-        (c.loop-g.g - 1)) here in
+    ∙ ap (λ (x : ℕ). bound_over c.args.instance.now (certified_of c.args.certificate.now) x
+    (c.loop-g.g - 1)) here in
     record {
       made = made_top c.args.instance.now (certified_of c.args.certificate.now)
           c.group_count-count.ensures.valid.tree
           c.loop-g.g (c.loop-g.g - 1) c.bound_of-bound.result below c.loop-g.bounds.items next
-              within c.loop-g.invariant.made value
+          within c.loop-g.invariant.made value
           (sym c.parent.ensures.value ∙ c.in_default.is);
       small = small_top c.args.instance.now c.loop-g.g (c.loop-g.g - 1) c.bound_of-bound.result
           below next c.loop-g.invariant.small
@@ -115,7 +115,7 @@ pub returns : goal.returns
 returns c =
     let done : c.loop-g.g ≡ 0 = omega (arith, c.loop-g-test.false) in
     all_made c.args.instance.now (certified_of c.args.certificate.now)
-        c.group_count-count.ensures.valid.tree c.loop-g.below.items c.loop-g.bounds.items
+    c.group_count-count.ensures.valid.tree c.loop-g.below.items c.loop-g.bounds.items
     (subst (λ (g : ℕ). AreMadeFrom c.args.instance.now
     (certified_of c.args.certificate.now) g c.loop-g.below.items c.loop-g.bounds.items) done
-        c.loop-g.invariant.made)
+    c.loop-g.invariant.made)

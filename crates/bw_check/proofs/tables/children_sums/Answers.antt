@@ -16,13 +16,17 @@ overflow_add-sum c =
     let amounts = c.args.amounts.now in
     let sums = c.loop-c.sums.items in
     let within : c.in-Some.parent < length rows =
-        omega (arith, c.in-Some.ensures.before, c.loop-c-test.true,
-        c.group_count-count.ensures.count) in
+    omega (
+      arith,
+      c.in-Some.ensures.before,
+      c.loop-c-test.true,
+      c.group_count-count.ensures.count,
+    ) in
     let read : c.index-sum.result.now ≡ get_or sums c.in-Some.parent 0 =
     c.index-sum.ensures ∙ get_or_default_zero sums c.in-Some.parent c.index-sum.result.now
-        (omega (arith, within, c.loop-c.invariant.one_each)) in
+    (omega (arith, within, c.loop-c.invariant.one_each)) in
     let most = first-le rows (slice_index amounts) (2 ^ 64 - 1) c.loop-c.c c.in-Some.parent
-        (λ k _. omega (arith, c.type_inv.amounts k)) in
+    (λ k _. omega (arith, c.type_inv.amounts k)) in
     let few : length rows ≤ MAX_GROUPS = c.group_count-count.ensures.valid.few in
     omega (
       arith,
@@ -43,20 +47,24 @@ loop-c-preserved c = elim c.match-parent.branch [
       let amounts = c.args.amounts.now in
       let sums = c.loop-c.sums.items in
       let within : w.in-Some.parent < length rows =
-          omega (arith, w.in-Some.ensures.before, c.loop-c-test.true,
-          c.group_count-count.ensures.count) in
+      omega (
+        arith,
+        w.in-Some.ensures.before,
+        c.loop-c-test.true,
+        c.group_count-count.ensures.count,
+      ) in
       let read : w.index-sum.result.now ≡ get_or sums w.in-Some.parent 0 =
       w.index-sum.ensures ∙ get_or_default_zero sums w.in-Some.parent w.index-sum.result.now
-          (omega (arith, within, c.loop-c.invariant.one_each)) in
+      (omega (arith, within, c.loop-c.invariant.one_each)) in
       let stored = ap (λ (v : Vec ℕ Global). v.items) w.sums-is in
       let up : parent_of rows c.loop-c.c ≡ Some w.in-Some.parent =
-          sym c.parent.ensures.value ∙ w.in-Some.is in
+      sym c.parent.ensures.value ∙ w.in-Some.is in
       rw stored (gathered_child rows (slice_index amounts) c.loop-c.c w.in-Some.parent
-          (w.index-sum.result.now + w.from.result) sums up within
+      (w.index-sum.result.now + w.from.result) sums up within
       (omega (arith, read, w.from.ensures)) c.loop-c.invariant)
   | in_default w ↦
       let stored = ap (λ (v : Vec ℕ Global). v.items) w.sums-is in
       rw stored (gathered_top c.args.instance.now.rows (slice_index c.args.amounts.now) c.loop-c.c
-          c.loop-c.sums.items
+      c.loop-c.sums.items
       (sym c.parent.ensures.value ∙ w.in_default.is) c.loop-c.invariant)
 ]

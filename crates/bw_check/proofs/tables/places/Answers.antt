@@ -13,8 +13,12 @@ overflow_add-place c =
     let rows = c.args.instance.now.rows in
     let children = c.loop-c.children.items in
     let within : c.in-Some.parent < length rows =
-        omega (arith, c.in-Some.ensures.before, c.loop-c-test.true,
-        c.group_count-count.ensures.count) in
+    omega (
+      arith,
+      c.in-Some.ensures.before,
+      c.loop-c-test.true,
+      c.group_count-count.ensures.count,
+    ) in
     let read : c.index-place.result.now ≡ get_or children c.in-Some.parent 0 =
     c.index-place.ensures ∙ get_or_default_zero children c.in-Some.parent c.index-place.result.now
     (omega (arith, within, c.loop-c.invariant.counted.one_each)) in
@@ -35,7 +39,7 @@ loop-c-preserved c = elim c.match-parent.branch [
       let rows = c.args.instance.now.rows in
       let children = c.loop-c.children.items in
       let here : c.loop-c.c < length rows =
-          omega (arith, c.loop-c-test.true, c.group_count-count.ensures.count) in
+      omega (arith, c.loop-c-test.true, c.group_count-count.ensures.count) in
       let within : w.in-Some.parent < length rows = omega (arith, w.in-Some.ensures.before, here) in
       let read : w.index-place.result.now ≡ get_or children w.in-Some.parent 0 =
       w.index-place.ensures ∙ get_or_default_zero children w.in-Some.parent w.index-place.result.now
@@ -43,7 +47,7 @@ loop-c-preserved c = elim c.match-parent.branch [
       let places_are = ap (λ (v : Vec ℕ Global). v.items) w.places-is in
       let children_are = ap (λ (v : Vec ℕ Global). v.items) w.children-is in
       let up : parent_of rows c.loop-c.c ≡ Some w.in-Some.parent =
-          sym c.parent.ensures.value ∙ w.in-Some.is in
+      sym c.parent.ensures.value ∙ w.in-Some.is in
       rw (places_are, children_are) (record {
         placed = placed_child rows c.loop-c.c c.loop-c.places.items c.loop-c.invariant.placed
             children w.in-Some.parent w.index-place.result.now

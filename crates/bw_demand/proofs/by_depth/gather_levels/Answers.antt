@@ -16,47 +16,47 @@ loop-depth-init c =
     nothing_gathered c.args.instance.now c.rows-rows.ensures.valid
     (seen_from c.args.instance.now.rows (length c.args.levels.now))
     (none_seen c.args.instance.now.rows c.args.levels.now (length c.args.levels.now)
-        c.requires.levels refl)
+    c.requires.levels refl)
     (length c.rows-rows.result.now) (rw c.rows-rows.ensures.rows)
     c.in_ok-gathered.gathered.want.items c.in_ok-gathered.gathered.most.items
-        c.in_ok-gathered.gathered.tight.items
+    c.in_ok-gathered.gathered.tight.items
     (ap (λ (d : Demands). d.want) c.in_ok-gathered.ensures ∙ rw c.rows-rows.ensures.rows)
     (ap (λ (d : Demands). d.most) c.in_ok-gathered.ensures)
-        (ap (λ (d : Demands). d.tight) c.in_ok-gathered.ensures)
+    (ap (λ (d : Demands). d.tight) c.in_ok-gathered.ensures)
 
 pub loop-k-init : goal.loop-k-init
 loop-k-init c =
     let next : c.loop-depth.depth - 1 + 1 ≡ c.loop-depth.depth =
-        omega (arith, c.loop-depth-test.true) in
+    omega (arith, c.loop-depth-test.true) in
     record {
       level = level_is c.args.instance.now.rows c.args.levels.now (c.loop-depth.depth - 1)
           c.index-levels-depth.result c.as_slice-level.result.now
           c.requires.levels
-              (slice_get_read c.args.levels.now (length c.args.levels.now) (c.loop-depth.depth - 1)
-              c.index-levels-depth.result refl
+          (slice_get_read c.args.levels.now (length c.args.levels.now) (c.loop-depth.depth - 1)
+          c.index-levels-depth.result refl
           (omega (arith, c.loop-depth-test.true, c.loop-depth.auto.depth)) c.index-levels-depth.is)
-              c.as_slice-level.ensures.value;
+          c.as_slice-level.ensures.value;
       gathering = same_seen c.args.instance.now
           (seen_from c.args.instance.now.rows c.loop-depth.depth)
           (seen_at c.args.instance.now.rows (c.loop-depth.depth - 1) 0)
           c.loop-depth.gathered.want.items c.loop-depth.gathered.most.items
-              c.loop-depth.gathered.tight.items
+          c.loop-depth.gathered.tight.items
           (λ r _. first_seen c.args.instance.now.rows (c.loop-depth.depth - 1) r
-              ∙ ap (λ (d : ℕ). seen_from c.args.instance.now.rows d r) next)
+          ∙ ap (λ (d : ℕ). seen_from c.args.instance.now.rows d r) next)
           c.loop-depth.invariant;
     }
 
 pub loop-depth-preserved : goal.loop-depth-preserved
 loop-depth-preserved c =
     let whole : length (rows_of_depth c.args.instance.now.rows (c.loop-depth.depth - 1))
-        ≤ c.loop-k.k =
+    ≤ c.loop-k.k =
     omega (arith, c.loop-k-test.false, ap (length {A = ℕ}) c.loop-k.invariant.level) in
     same_seen c.args.instance.now
-        (seen_at c.args.instance.now.rows (c.loop-depth.depth - 1) c.loop-k.k)
+    (seen_at c.args.instance.now.rows (c.loop-depth.depth - 1) c.loop-k.k)
     (seen_from c.args.instance.now.rows (c.loop-depth.depth - 1))
     c.loop-k.gathered.want.items c.loop-k.gathered.most.items c.loop-k.gathered.tight.items
     (λ r below. last_seen c.args.instance.now.rows (c.loop-depth.depth - 1) c.loop-k.k r below
-        whole)
+    whole)
     c.loop-k.invariant.gathering
 
 pub gather_row-requires : goal.gather_row-requires
@@ -69,7 +69,7 @@ gather_row-requires c =
     let so_far = c.loop-k.invariant.gathering in
     let tree = c.rows-rows.ensures.valid.tree in
     let inside = level_within rows d c.loop-k.k c.as_slice-level.result.now level
-        c.loop-k-test.true in
+    c.loop-k-test.true in
     let here : c.loop-k.k < length (rows_of_depth rows d) = rw level at c.loop-k-test.true in
     let is : g ≡ get_or (rows_of_depth rows d) c.loop-k.k 0 = rw level refl in
     row_can groups tree (seen_at rows d c.loop-k.k) (seen_at rows d (c.loop-k.k + 1)) g inside
@@ -87,7 +87,7 @@ loop-k-preserved c =
     let so_far = c.loop-k.invariant.gathering in
     let tree = c.rows-rows.ensures.valid.tree in
     let inside = level_within rows d c.loop-k.k c.as_slice-level.result.now level
-        c.loop-k-test.true in
+    c.loop-k-test.true in
     let here : c.loop-k.k < length (rows_of_depth rows d) = rw level at c.loop-k-test.true in
     let is : g ≡ get_or (rows_of_depth rows d) c.loop-k.k 0 = rw level refl in
     record {
@@ -96,18 +96,18 @@ loop-k-preserved c =
           (λ (e : Demands). IsGathering groups (seen_at rows d (c.loop-k.k + 1)) e.want e.most
           e.tight) (sym c.gather_row.ensures)
           (row_gathered groups tree (seen_at rows d c.loop-k.k) (seen_at rows d (c.loop-k.k + 1)) g
-              inside
+          inside
           (fresh rows d c.loop-k.k g here is) (λ r _. next_seen rows d c.loop-k.k g r here is)
           (λ p f. parent_unseen rows tree d c.loop-k.k g p here is f)
           c.loop-k.gathered.want.items c.loop-k.gathered.most.items c.loop-k.gathered.tight.items
-              so_far);
+          so_far);
     }
 
 pub returns : goal.returns
 returns c =
     let all : c.loop-depth.depth ≡ 0 = omega (arith, c.loop-depth-test.false) in
     all_gathered c.args.instance.now c.rows-rows.ensures.valid
-        (seen_from c.args.instance.now.rows c.loop-depth.depth)
+    (seen_from c.args.instance.now.rows c.loop-depth.depth)
     (λ r _. all_seen c.args.instance.now.rows c.loop-depth.depth r all)
     c.loop-depth.gathered.want.items c.loop-depth.gathered.most.items
-        c.loop-depth.gathered.tight.items c.loop-depth.invariant
+    c.loop-depth.gathered.tight.items c.loop-depth.invariant

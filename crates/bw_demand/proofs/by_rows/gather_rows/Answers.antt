@@ -11,30 +11,30 @@ use Rattle.bw_demand.proofs.by_rows.gather_rows.Goals as goal
 pub loop-g-init : goal.loop-g-init
 loop-g-init c =
     nothing_gathered c.args.instance.now c.rows-rows.ensures.valid
-        (rows_from (length c.rows-rows.result.now))
+    (rows_from (length c.rows-rows.result.now))
     (λ r below. no_rows (length c.rows-rows.result.now) r
-        (omega (arith, below, ap (length {A = Row}) c.rows-rows.ensures.rows)))
+    (omega (arith, below, ap (length {A = Row}) c.rows-rows.ensures.rows)))
     (length c.rows-rows.result.now) (rw c.rows-rows.ensures.rows)
     c.in_ok-gathered.gathered.want.items c.in_ok-gathered.gathered.most.items
-        c.in_ok-gathered.gathered.tight.items
+    c.in_ok-gathered.gathered.tight.items
     (ap (λ (d : Demands). d.want) c.in_ok-gathered.ensures ∙ rw c.rows-rows.ensures.rows)
     (ap (λ (d : Demands). d.most) c.in_ok-gathered.ensures)
-        (ap (λ (d : Demands). d.tight) c.in_ok-gathered.ensures)
+    (ap (λ (d : Demands). d.tight) c.in_ok-gathered.ensures)
 
 pub gather_row-requires : goal.gather_row-requires
 gather_row-requires c =
     let groups = c.args.instance.now in
     let long : length c.rows-rows.result.now ≡ length groups.rows =
-        ap (length {A = Row}) c.rows-rows.ensures.rows in
+    ap (length {A = Row}) c.rows-rows.ensures.rows in
     let below : c.loop-g.g - 1 < length groups.rows =
-        omega (arith, long, c.loop-g-test.true, c.loop-g.auto.g) in
+    omega (arith, long, c.loop-g-test.true, c.loop-g.auto.g) in
     let so_far : IsGathering groups (rows_from (c.loop-g.g - 1 + 1)) c.loop-g.gathered.want.items
-        c.loop-g.gathered.most.items c.loop-g.gathered.tight.items =
+    c.loop-g.gathered.most.items c.loop-g.gathered.tight.items =
     subst (λ (g : ℕ). IsGathering groups (rows_from g) c.loop-g.gathered.want.items
-        c.loop-g.gathered.most.items c.loop-g.gathered.tight.items)
+    c.loop-g.gathered.most.items c.loop-g.gathered.tight.items)
     (omega arith) c.loop-g.invariant in
     row_can groups c.rows-rows.ensures.valid.tree (rows_from (c.loop-g.g - 1 + 1))
-        (rows_from (c.loop-g.g - 1)) (c.loop-g.g - 1)
+    (rows_from (c.loop-g.g - 1)) (c.loop-g.g - 1)
     below (fresh_row (c.loop-g.g - 1)) (λ r _. next_row (c.loop-g.g - 1) r)
     (λ p f. parent_row_unseen groups.rows c.rows-rows.ensures.valid.tree (c.loop-g.g - 1) p f)
     c.loop-g.gathered.want.items c.loop-g.gathered.most.items c.loop-g.gathered.tight.items so_far
@@ -43,18 +43,18 @@ pub loop-g-preserved : goal.loop-g-preserved
 loop-g-preserved c =
     let groups = c.args.instance.now in
     let long : length c.rows-rows.result.now ≡ length groups.rows =
-        ap (length {A = Row}) c.rows-rows.ensures.rows in
+    ap (length {A = Row}) c.rows-rows.ensures.rows in
     let below : c.loop-g.g - 1 < length groups.rows =
-        omega (arith, long, c.loop-g-test.true, c.loop-g.auto.g) in
+    omega (arith, long, c.loop-g-test.true, c.loop-g.auto.g) in
     let so_far : IsGathering groups (rows_from (c.loop-g.g - 1 + 1)) c.loop-g.gathered.want.items
-        c.loop-g.gathered.most.items c.loop-g.gathered.tight.items =
+    c.loop-g.gathered.most.items c.loop-g.gathered.tight.items =
     subst (λ (g : ℕ). IsGathering groups (rows_from g) c.loop-g.gathered.want.items
-        c.loop-g.gathered.most.items c.loop-g.gathered.tight.items)
+    c.loop-g.gathered.most.items c.loop-g.gathered.tight.items)
     (omega arith) c.loop-g.invariant in
     subst (λ (d : Demands). IsGathering groups (rows_from (c.loop-g.g - 1)) d.want d.most d.tight)
-        (sym c.gather_row.ensures)
+    (sym c.gather_row.ensures)
     (row_gathered groups c.rows-rows.ensures.valid.tree (rows_from (c.loop-g.g - 1 + 1))
-        (rows_from (c.loop-g.g - 1)) (c.loop-g.g - 1)
+    (rows_from (c.loop-g.g - 1)) (c.loop-g.g - 1)
     below (fresh_row (c.loop-g.g - 1)) (λ r _. next_row (c.loop-g.g - 1) r)
     (λ p f. parent_row_unseen groups.rows c.rows-rows.ensures.valid.tree (c.loop-g.g - 1) p f)
     c.loop-g.gathered.want.items c.loop-g.gathered.most.items c.loop-g.gathered.tight.items so_far)
@@ -63,6 +63,6 @@ pub returns : goal.returns
 returns c =
     let all : c.loop-g.g ≡ 0 = omega arith in
     all_gathered c.args.instance.now c.rows-rows.ensures.valid (rows_from c.loop-g.g)
-        (λ r _. all_rows c.loop-g.g r all)
+    (λ r _. all_rows c.loop-g.g r all)
     c.loop-g.gathered.want.items c.loop-g.gathered.most.items c.loop-g.gathered.tight.items
-        c.loop-g.invariant
+    c.loop-g.invariant

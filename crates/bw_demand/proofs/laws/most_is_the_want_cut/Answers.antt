@@ -11,5 +11,5 @@ returns c = record {
   unique = IsMost-unique;
   rule = λ groups most valid known g below.
       AreMaxTotals-capped groups valid.tree most known g below
-          ∙ sym (cut-capped (limit_of groups g) (want_of groups most g));
+      ∙ sym (cut-capped (limit_of groups g) (want_of groups most g));
 }

@@ -18,7 +18,7 @@ use Rattle.bw_demand.proofs.limiting_groups.limiting.Goals.{else-is_limiting}
 pub loop-g-init : goal.loop-g-init
 loop-g-init c =
     nothing_listed c.args.instance.now c.rows-rows.ensures.valid (demands_of c.args.gathered.now)
-        c.requires.gathered
+    c.requires.gathered
     (length c.rows-rows.result.now) (ap (length {A = Row}) c.rows-rows.ensures.rows)
     c.in_ok-covered.covered.items (search rules) _ (search rules)
 
@@ -26,49 +26,55 @@ pub is_parent_covered-above-requires-clause-parent
     : goal.is_parent_covered-above-requires-clause-parent
 is_parent_covered-above-requires-clause-parent c = λ p e.
     let e' : parent_of c.args.instance.now.rows c.loop-g.g ≡ Some p =
-        rw c.rows-rows.ensures.rows at e in
+    rw c.rows-rows.ensures.rows at e in
     let long : length c.rows-rows.result.now ≡ length c.args.instance.now.rows =
-        ap (length {A = Row}) c.rows-rows.ensures.rows in
+    ap (length {A = Row}) c.rows-rows.ensures.rows in
     let up : p < c.loop-g.g =
-        parent_lt c.args.instance.now.rows c.rows-rows.ensures.valid.tree c.loop-g.g p e' in
-    omega (arith, up, long, c.loop-g-test.true, c.loop-g.invariant.one_each,
-        ap (length {A = Bool}) c.as_slice.ensures.value)
+    parent_lt c.args.instance.now.rows c.rows-rows.ensures.valid.tree c.loop-g.g p e' in
+    omega (
+      arith,
+      up,
+      long,
+      c.loop-g-test.true,
+      c.loop-g.invariant.one_each,
+      ap (length {A = Bool}) c.as_slice.ensures.value,
+    )
 
 pub overflow_add-rest : goal.overflow_add-rest
 overflow_add-rest c =
     let long : length c.rows-rows.result.now ≡ length c.args.instance.now.rows =
-        ap (length {A = Row}) c.rows-rows.ensures.rows in
+    ap (length {A = Row}) c.rows-rows.ensures.rows in
     let below : c.loop-g.g < length c.args.instance.now.rows =
-        omega (arith, c.loop-g-test.true, long) in
+    omega (arith, c.loop-g-test.true, long) in
     let so_far : c.loop-g.rest ≤ MAX_DEMAND * MAX_GROUPS =
     rest_small c.args.instance.now c.rows-rows.ensures.valid (demands_of c.args.gathered.now)
-        c.requires.gathered
+    c.requires.gathered
     c.loop-g.g c.loop-g.covered.items c.loop-g.groups.items c.loop-g.rest below
-        c.loop-g.invariant in
+    c.loop-g.invariant in
     let more : demand_of c.rows-rows.result.now c.loop-g.g ≤ MAX_DEMAND =
-        rw c.rows-rows.ensures.rows (c.rows-rows.ensures.valid.demands c.loop-g.g below) in
+    rw c.rows-rows.ensures.rows (c.rows-rows.ensures.valid.demands c.loop-g.g below) in
     omega (arith, so_far, more, c.demand_if_outside-rest.ensures.bound)
 
 pub loop-g-preserved : goal.loop-g-preserved
 loop-g-preserved c =
     let long : length c.rows-rows.result.now ≡ length c.args.instance.now.rows =
-        ap (length {A = Row}) c.rows-rows.ensures.rows in
+    ap (length {A = Row}) c.rows-rows.ensures.rows in
     let below : c.loop-g.g < length c.args.instance.now.rows =
-        omega (arith, c.loop-g-test.true, long) in
+    omega (arith, c.loop-g-test.true, long) in
     let tight : c.index-tight.result.now
-        ≡ is_tight c.args.instance.now c.args.gathered.now.most.items c.loop-g.g =
+    ≡ is_tight c.args.instance.now c.args.gathered.now.most.items c.loop-g.g =
     c.index-tight.ensures
-        ∙ flag_within c.args.gathered.now.tight.items c.loop-g.g c.index-tight.result.now false
+    ∙ flag_within c.args.gathered.now.tight.items c.loop-g.g c.index-tight.result.now false
     (omega (arith, below, c.requires.gathered.flags_each))
     ∙ c.requires.gathered.flags c.loop-g.g below in
     let above : c.is_parent_covered-above.result
-        ≡ has_tight_above c.args.instance.now c.args.gathered.now.most.items c.loop-g.g =
+    ≡ has_tight_above c.args.instance.now c.args.gathered.now.most.items c.loop-g.g =
     above_by_parent c.args.instance.now c.rows-rows.ensures.valid (demands_of c.args.gathered.now)
-        c.requires.gathered
+    c.requires.gathered
     c.loop-g.g c.loop-g.covered.items c.loop-g.groups.items c.loop-g.rest c.loop-g.invariant
-        c.is_parent_covered-above.result
+    c.is_parent_covered-above.result
     (c.is_parent_covered-above.ensures
-        ∙ rw (c.as_slice.ensures.value, c.rows-rows.ensures.rows) refl) in
+    ∙ rw (c.as_slice.ensures.value, c.rows-rows.ensures.rows) refl) in
     let here : c.is_covered-here.result
     ≡ (is_tight c.args.instance.now c.args.gathered.now.most.items c.loop-g.g
     || has_tight_above c.args.instance.now c.args.gathered.now.most.items c.loop-g.g) =
@@ -77,15 +83,15 @@ loop-g-preserved c =
     ≡ cond (is_leaf c.args.instance.now.rows c.loop-g.g
     && not (is_tight c.args.instance.now c.args.gathered.now.most.items c.loop-g.g
     || has_tight_above c.args.instance.now c.args.gathered.now.most.items c.loop-g.g))
-        (demand_of c.args.instance.now.rows c.loop-g.g) 0 =
+    (demand_of c.args.instance.now.rows c.loop-g.g) 0 =
     c.demand_if_outside-rest.ensures.value
-        ∙ rw (c.is_leaf.ensures, here, c.rows-rows.ensures.rows) refl in
+    ∙ rw (c.is_leaf.ensures, here, c.rows-rows.ensures.rows) refl in
     let limits : c.is_limiting.result
     ≡ (is_tight c.args.instance.now c.args.gathered.now.most.items c.loop-g.g
     && not (has_tight_above c.args.instance.now c.args.gathered.now.most.items c.loop-g.g)) =
     c.is_limiting.ensures ∙ rw (tight, above) refl in
     let list : c.if-is_limiting.groups.items ≡ c.loop-g.groups.items
-        ++ cond c.is_limiting.result (c.loop-g.g ∷ []) [] =
+    ++ cond c.is_limiting.result (c.loop-g.g ∷ []) [] =
     elim c.if-is_limiting.branch [
       | then-is_limiting+in_ok-push w ↦ ap (λ (v : Vec ℕ Global). v.items) w.groups-is
           ∙ w.in_ok-push.ensures.items ∙ rw w.if-is_limiting.true refl
@@ -93,20 +99,20 @@ loop-g-preserved c =
           ∙ rw w.if-is_limiting.false (sym (append-nil c.loop-g.groups.items))
     ] in
     listed_more c.args.instance.now c.rows-rows.ensures.valid (demands_of c.args.gathered.now)
-        c.requires.gathered
+    c.requires.gathered
     c.loop-g.g (c.loop-g.g + 1) c.loop-g.covered.items c.loop-g.groups.items c.loop-g.rest
-        (omega arith) below c.loop-g.invariant
+    (omega arith) below c.loop-g.invariant
     c.is_covered-here.result c.if-is_limiting.groups.items
-        (c.loop-g.rest + c.demand_if_outside-rest.result) here
+    (c.loop-g.rest + c.demand_if_outside-rest.result) here
     (list ∙ ap (λ (b : Bool). c.loop-g.groups.items ++ cond b (c.loop-g.g ∷ []) []) limits)
-        (omega (arith, more))
+    (omega (arith, more))
 
 pub returns : goal.returns
 returns c =
     let long : length c.rows-rows.result.now ≡ length c.args.instance.now.rows =
-        ap (length {A = Row}) c.rows-rows.ensures.rows in
+    ap (length {A = Row}) c.rows-rows.ensures.rows in
     let all = all_listed c.args.instance.now c.rows-rows.ensures.valid
-        (demands_of c.args.gathered.now) c.requires.gathered
+    (demands_of c.args.gathered.now) c.requires.gathered
     c.loop-g.g c.loop-g.covered.items c.loop-g.groups.items c.loop-g.rest (omega (arith, long))
-        c.loop-g.invariant in
+    c.loop-g.invariant in
     record { groups = all.0; rest = all.1; greatest = all.2 }

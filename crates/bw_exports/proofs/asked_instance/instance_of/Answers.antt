@@ -17,27 +17,27 @@ pub returns-in-Err-clause-err : goal.returns-in-Err-clause-err
 returns-in-Err-clause-err c =
     let e : are_even (table_of c.args.columns.now) ≡ true = search rules in
     inl (sym (host_refused (shape_of c.args.host) (table_of c.args.columns.now) c.in-Err.fault e
-        c.in-Err.ensures.err))
+    c.in-Err.ensures.err))
 
 pub returns-in-Ok-new-clause-none : goal.returns-in-Ok-new-clause-none
 returns-in-Ok-new-clause-none c =
     let e : are_even (table_of c.args.columns.now) ≡ true = search rules in
     let host : IsHost (shape_of c.args.host) =
-        subst IsHost c.in-Ok.ensures.ok c.in-Ok.ensures.valid in
+    subst IsHost c.in-Ok.ensures.ok c.in-Ok.ensures.valid in
     let of_rows : IsInstance
-        (record { shape = c.in-Ok.shape; rows = rows_in (table_of c.args.columns.now) }) =
+    (record { shape = c.in-Ok.shape; rows = rows_in (table_of c.args.columns.now) }) =
     subst (λ (rows : List Row). IsInstance (record { shape = c.in-Ok.shape; rows = rows }))
-        c.in_ok-rows.ensures
+    c.in_ok-rows.ensures
     (subst IsInstance c.in-Ok-new.ensures.groups c.in-Ok-new.ensures.valid) in
     asked_none (shape_of c.args.host) (table_of c.args.columns.now) e host
     (subst (λ (shape : Shape). IsInstance
-        (record { shape = shape; rows = rows_in (table_of c.args.columns.now) })) c.in-Ok.ensures.ok
-        of_rows)
+    (record { shape = shape; rows = rows_in (table_of c.args.columns.now) })) c.in-Ok.ensures.ok
+    of_rows)
 
 pub returns-in-Err-new-clause-err : goal.returns-in-Err-new-clause-err
 returns-in-Err-new-clause-err c =
     let e : are_even (table_of c.args.columns.now) ≡ true = search rules in
     rows_refused (shape_of c.args.host) (table_of c.args.columns.now) c.in-Err-new.fault e
-        (subst IsHost c.in-Ok.ensures.ok c.in-Ok.ensures.valid)
+    (subst IsHost c.in-Ok.ensures.ok c.in-Ok.ensures.valid)
     (subst (λ (rows : List Row). IsRefused (refusal rows) c.in-Err-new.fault) c.in_ok-rows.ensures
-        c.in-Err-new.ensures.err)
+    c.in-Err-new.ensures.err)

@@ -17,13 +17,13 @@ returns-clause-held c =
     let certificate : Certified = certified_of c.in_ok-certificate.certificate in
     let amounts = c.in_ok-plan.plan.amounts.items in
     let flags = c.in_ok-flag_numbers.ensures
-        ∙ ap (λ (l : List Bool). map flag_number l) c.as_slice.ensures.value in
+    ∙ ap (λ (l : List Bool). map flag_number l) c.as_slice.ensures.value in
     let nums = c.in_ok-nums.ensures
-        ∙ ap (λ (l : List (Option Mark)). map num_of l) c.as_slice-levels.ensures.value in
+    ∙ ap (λ (l : List (Option Mark)). map num_of l) c.as_slice-levels.ensures.value in
     let dens = c.in_ok-dens.ensures
-        ∙ ap (λ (l : List (Option Mark)). map den_of l) c.as_slice-levels.ensures.value in
+    ∙ ap (λ (l : List (Option Mark)). map den_of l) c.as_slice-levels.ensures.value in
     let places = c.in_ok-places.ensures
-        ∙ ap (λ (l : List (Option Mark)). map place_of_level l) c.as_slice-levels.ensures.value in
+    ∙ ap (λ (l : List (Option Mark)). map place_of_level l) c.as_slice-levels.ensures.value in
     record {
       plan = subst (λ (g : Groups). IsPlan g amounts) groups c.in_ok-plan.ensures;
       certificate = certificate;
@@ -46,24 +46,24 @@ returns-clause-long c =
     let certificate : Certified = certified_of c.in_ok-certificate.certificate in
     let amounts = c.in_ok-plan.plan.amounts.items in
     let accepted : IsAccepted (groups_in (shape_of c.args.host) (table_of c.args.columns.now))
-        amounts certificate =
+    amounts certificate =
     subst (λ (g : Groups). IsAccepted g amounts certificate) groups
-        c.in_ok-certificate.ensures.certified in
+    c.in_ok-certificate.ensures.certified in
     let rows : length (rows_in (table_of c.args.columns.now)) ≡ count =
-        rows_length (table_of c.args.columns.now) in
+    rows_length (table_of c.args.columns.now) in
     let levels : length certificate.levels ≡ count = accepted.certified.levels_each ∙ rows in
     record {
       amounts = accepted.certified.amounts_each ∙ rows;
       flags = long_by flag_number certificate.tight c.in_ok-flag_numbers.field-0.items count
           (c.in_ok-flag_numbers.ensures ∙ ap (λ (l : List Bool). map flag_number l)
-              c.as_slice.ensures.value) (accepted.certified.flags_each ∙ rows);
+          c.as_slice.ensures.value) (accepted.certified.flags_each ∙ rows);
       nums = long_by num_of certificate.levels c.in_ok-nums.field-0.items count
           (c.in_ok-nums.ensures ∙ ap (λ (l : List (Option Mark)). map num_of l)
-              c.as_slice-levels.ensures.value) levels;
+          c.as_slice-levels.ensures.value) levels;
       dens = long_by den_of certificate.levels c.in_ok-dens.field-0.items count
           (c.in_ok-dens.ensures ∙ ap (λ (l : List (Option Mark)). map den_of l)
-              c.as_slice-levels.ensures.value) levels;
+          c.as_slice-levels.ensures.value) levels;
       places = long_by place_of_level certificate.levels c.in_ok-places.field-0.items count
           (c.in_ok-places.ensures ∙ ap (λ (l : List (Option Mark)). map place_of_level l)
-              c.as_slice-levels.ensures.value) levels;
+          c.as_slice-levels.ensures.value) levels;
     }

@@ -10,22 +10,22 @@ pub returns-then-not-is_even-clause-err : goal.returns-then-not-is_even-clause-e
 returns-then-not-is_even-clause-err c =
     let e : are_levels_even (claimed_of c.args.claim.now) ≡ false = search rules in
     inl (sym (claimed_uneven (shape_of c.args.host) (table_of c.args.columns.now)
-        (claimed_of c.args.claim.now) e))
+    (claimed_of c.args.claim.now) e))
 
 pub returns-in_err-instance-clause-err : goal.returns-in_err-instance-clause-err
 returns-in_err-instance-clause-err c =
     let e : are_levels_even (claimed_of c.args.claim.now) ≡ true = search rules in
     let known : Answers
-        (claimed_number (shape_of c.args.host) (table_of c.args.columns.now)
-        (claimed_of c.args.claim.now))
+    (claimed_number (shape_of c.args.host) (table_of c.args.columns.now)
+    (claimed_of c.args.claim.now))
     (number_of_refusal c.in_err-instance.field-0.0) =
     subst (λ (n : ℕ). Answers n (number_of_refusal c.in_err-instance.field-0.0))
     (sym (claimed_even (shape_of c.args.host) (table_of c.args.columns.now)
-        (claimed_of c.args.claim.now) e)) c.in_err-instance.ensures.err in
+    (claimed_of c.args.claim.now) e)) c.in_err-instance.ensures.err in
     search (known, rules)
 
 pub returns-clause-none : goal.returns-clause-none
 returns-clause-none c =
     let e : are_levels_even (claimed_of c.args.claim.now) ≡ true = search rules in
     claimed_even (shape_of c.args.host) (table_of c.args.columns.now) (claimed_of c.args.claim.now)
-        e ∙ c.in_ok-instance.ensures.none
+    e ∙ c.in_ok-instance.ensures.none

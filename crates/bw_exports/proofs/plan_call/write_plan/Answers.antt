@@ -8,5 +8,5 @@ pub copy_from_slice-requires : goal.copy_from_slice-requires
 copy_from_slice-requires c =
     let long : length c.in-Ok.plan.amounts.items ≡ length c.args.columns.now.parents.now =
     planned_length (shape_of c.args.host) (table_of c.args.columns.now) c.in-Ok.plan.amounts.items
-        c.in-Ok.ensures.plan in
+    c.in-Ok.ensures.plan in
     search (long, rules)

@@ -15,22 +15,22 @@ loop-below-init g c =
     let valid = c.rows.ensures.valid in
     let most = c.as_slice-most.result.now in
     let known : AreMaxTotals groups most =
-        rw c.as_slice-most.ensures.value c.requires.gathered.mosts in
+    rw c.as_slice-most.ensures.value c.requires.gathered.mosts in
     let long : length c.rows.result.now ≡ length groups.rows =
-        ap (length {A = Row}) c.rows.ensures.rows in
+    ap (length {A = Row}) c.rows.ensures.rows in
     let zeros : c.in_ok-amounts.amounts.items
-        ≡ replicate {A = ℕ} (length c.rows.result.now) 0 = search rules in
+    ≡ replicate {A = ℕ} (length c.rows.result.now) 0 = search rules in
     begun groups valid most (AreMaxTotals-capped groups valid.tree most known)
     (is_above groups.rows 0) (λ h _. none_above groups.rows h)
     (length c.rows.result.now) (get_or most 0 0)
-        (set c.in_ok-amounts.amounts.items 0 (get_or most 0 0)) long refl
+    (set c.in_ok-amounts.amounts.items 0 (get_or most 0 0)) long refl
     (ap (λ (xs : List ℕ). set xs 0 (get_or most 0 0)) zeros)
 
 pub loop-below-preserved : goal.loop-below-preserved
 loop-below-preserved g c =
     let next : c.loop-below.below - 1 + 1 ≡ c.loop-below.below + 1 - 1 = omega arith in
     subst (λ (n : ℕ). IsPlanning c.args.instance.now c.as_slice-most.result.now
-        (is_above c.args.instance.now.rows n) c.share_depth.new.amounts.items) next
+    (is_above c.args.instance.now.rows n) c.share_depth.new.amounts.items) next
     c.in_ok-share_depth.ensures
 
 pub returns : goal.returns
@@ -39,10 +39,10 @@ returns g c =
     let valid = c.rows.ensures.valid in
     let most = c.as_slice-most.result.now in
     let known : AreMaxTotals groups most =
-        rw c.as_slice-most.ensures.value c.requires.gathered.mosts in
+    rw c.as_slice-most.ensures.value c.requires.gathered.mosts in
     all_planned groups valid most (AreMaxTotals-capped groups valid.tree most known)
     (is_above groups.rows (c.loop-below.below - 1)) c.loop-below.amounts.items
     (λ h _ inner. inner_above groups.rows valid.tree c.args.depths.now (c.loop-below.below - 1)
-        c.requires.depths
+    c.requires.depths
     (omega (arith, c.loop-below-test.false, c.loop-below.auto.below-end)) h inner)
     c.loop-below.invariant

@@ -7,7 +7,7 @@ use Rattle.bw_plan.proofs.by_depth.rows_at.Goals as goal
 pub returns : goal.returns
 returns c =
     level_is c.args.instance.now.rows c.args.depths.now c.args.depth c.index-depths-depth.result
-        c.as_slice.result.now c.requires.depths
+    c.as_slice.result.now c.requires.depths
     (slice_get_read c.args.depths.now
     (length c.args.depths.now) c.args.depth c.index-depths-depth.result refl c.requires.depth
-        c.index-depths-depth.is) c.as_slice.ensures.value
+    c.index-depths-depth.is) c.as_slice.ensures.value

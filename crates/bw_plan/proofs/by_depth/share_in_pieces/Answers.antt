@@ -26,11 +26,11 @@ parts_of_each-requires-after_bounds g c = λ κs outlives k d lt.
     let at_depth = level_row groups.rows c.args.depth k here in
     rw (get_or_default c.rows_at-groups.result.now k d 0 lt, level, c.as_slice.ensures.value)
     (can_share groups valid most (AreMaxTotals-capped groups valid.tree most c.requires.mosts)
-        c.requires.mosts.one_each
+    c.requires.mosts.one_each
     (is_above groups.rows c.args.depth) (get_or (rows_of_depth groups.rows c.args.depth) k 0) before
-        at_depth.within c.requires.planning
+    at_depth.within c.requires.planning
     (λ p up. parent_above groups.rows valid.tree c.args.depth
-        (get_or (rows_of_depth groups.rows c.args.depth) k 0) p at_depth.depth up))
+    (get_or (rows_of_depth groups.rows c.args.depth) k 0) p at_depth.depth up))
 
 pub loop-k-init : goal.loop-k-init
 loop-k-init g c = record {
@@ -40,7 +40,7 @@ loop-k-init g c = record {
       let most = c.args.most.now in
       same_done groups valid most (AreMaxTotals-capped groups valid.tree most c.requires.mosts)
       (is_above groups.rows c.args.depth) (done_at groups.rows c.args.depth 0)
-          c.args.amounts.now.items
+      c.args.amounts.now.items
       (λ h _. first_done groups.rows c.args.depth h) c.requires.planning;
   held = λ j _. refl;
 }
@@ -52,18 +52,18 @@ returns g c =
     let most = c.args.most.now in
     let level = c.rows_at-groups.ensures in
     let whole : length (rows_of_depth groups.rows c.args.depth) ≤ c.loop-k.k =
-        omega (arith, c.loop-k-test.false, ap (length {A = ℕ}) level) in
+    omega (arith, c.loop-k-test.false, ap (length {A = ℕ}) level) in
     same_done groups valid most (AreMaxTotals-capped groups valid.tree most c.requires.mosts)
     (done_at groups.rows c.args.depth c.loop-k.k) (is_above groups.rows (c.args.depth + 1))
-        c.loop-k.amounts.items
+    c.loop-k.amounts.items
     (λ h below. last_done groups.rows c.args.depth c.loop-k.k h below whole)
-        c.loop-k.invariant.planning
+    c.loop-k.invariant.planning
 
 pub index-requires : goal.index-requires
 index-requires g c =
     let long : length c.in_ok-parts.parts.items ≡ length c.rows_at-groups.result.now =
     zip_long (λ row v. AreParts c.args.instance.now c.args.most.now c.as_slice.result.now row
-        v.items) c.rows_at-groups.result.now
+    v.items) c.rows_at-groups.result.now
     c.in_ok-parts.parts.items c.in_ok-parts.ensures in
     omega (arith, long, c.loop-k-test.true)
 
@@ -72,7 +72,7 @@ give-requires-clause-row g c =
     let groups = c.args.instance.now in
     let level = c.rows_at-groups.ensures in
     level_within groups.rows c.args.depth c.loop-k.k c.rows_at-groups.result.now level
-        c.loop-k-test.true
+    c.loop-k-test.true
 
 pub give-requires-clause-part_each : goal.give-requires-clause-part_each
 give-requires-clause-part_each g c = λ has two.
@@ -81,14 +81,14 @@ give-requires-clause-part_each g c = λ has two.
     let row : ℕ = get_or c.rows_at-groups.result.now c.loop-k.k 0 in
     let kept : get_or c.loop-k.amounts.items row 0 ≡ get_or c.as_slice.result.now row 0 =
     c.loop-k.invariant.held c.loop-k.k c.loop-k-test.true
-        ∙ ap (λ (xs : List ℕ). get_or xs row 0) (sym c.as_slice.ensures.value) in
+    ∙ ap (λ (xs : List ℕ). get_or xs row 0) (sym c.as_slice.ensures.value) in
     let found = at_place
-        (λ row v. AreParts groups c.args.most.now c.as_slice.result.now row v.items)
-        c.rows_at-groups.result.now c.in_ok-parts.parts.items
+    (λ row v. AreParts groups c.args.most.now c.as_slice.result.now row v.items)
+    c.rows_at-groups.result.now c.in_ok-parts.parts.items
     c.loop-k.k 0 c.index.result.now c.in_ok-parts.ensures c.loop-k-test.true in
     let best = found (rw kept at has) two in
     ap (length {A = ℕ})
-        (c.as_slice-in-loop-k.ensures.value ∙ ap (λ (v : Vec ℕ Global). v.items) c.index.ensures)
+    (c.as_slice-in-loop-k.ensures.value ∙ ap (λ (v : Vec ℕ Global). v.items) c.index.ensures)
     ∙ best.split.lengths ∙ length-map (children_of groups.rows row) (slice_index c.args.most.now)
 
 pub loop-k-preserved : goal.loop-k-preserved
@@ -101,44 +101,44 @@ loop-k-preserved g c =
     let level = c.rows_at-groups.ensures in
     let here : c.loop-k.k < length (rows_of_depth groups.rows d) = rw level at c.loop-k-test.true in
     let is : row ≡ get_or (rows_of_depth groups.rows d) c.loop-k.k 0 =
-        ap (λ (xs : List ℕ). get_or xs c.loop-k.k 0) level in
+    ap (λ (xs : List ℕ). get_or xs c.loop-k.k 0) level in
     let inside : row < length groups.rows =
-        level_within groups.rows d c.loop-k.k c.rows_at-groups.result.now level
-        c.loop-k-test.true in
+    level_within groups.rows d c.loop-k.k c.rows_at-groups.result.now level
+    c.loop-k-test.true in
     let deep : depth_of groups.rows row ≡ d =
-        ap (depth_of groups.rows) is ∙ (level_row groups.rows d c.loop-k.k here).depth in
+    ap (depth_of groups.rows) is ∙ (level_row groups.rows d c.loop-k.k here).depth in
     let kept : get_or c.loop-k.amounts.items row 0 ≡ get_or c.as_slice.result.now row 0 =
     c.loop-k.invariant.held c.loop-k.k c.loop-k-test.true
-        ∙ ap (λ (xs : List ℕ). get_or xs row 0) (sym c.as_slice.ensures.value) in
+    ∙ ap (λ (xs : List ℕ). get_or xs row 0) (sym c.as_slice.ensures.value) in
     let found = at_place
-        (λ row v. AreParts groups c.args.most.now c.as_slice.result.now row v.items)
-        c.rows_at-groups.result.now c.in_ok-parts.parts.items
+    (λ row v. AreParts groups c.args.most.now c.as_slice.result.now row v.items)
+    c.rows_at-groups.result.now c.in_ok-parts.parts.items
     c.loop-k.k 0 c.index.result.now c.in_ok-parts.ensures c.loop-k-test.true in
     let parts_are : c.as_slice-in-loop-k.result.now
-        ≡ (get_or c.in_ok-parts.parts.items c.loop-k.k c.index.result.now).items =
+    ≡ (get_or c.in_ok-parts.parts.items c.loop-k.k c.index.result.now).items =
     c.as_slice-in-loop-k.ensures.value ∙ ap (λ (v : Vec ℕ Global). v.items) c.index.ensures in
     let parts : AreParts groups most c.loop-k.amounts.items row c.as_slice-in-loop-k.result.now =
-        λ has two.
+    λ has two.
     rw (kept, parts_are) (found (rw kept at has) two) in
     record {
       planning = given_more groups valid most
           (AreMaxTotals-capped groups valid.tree most c.requires.mosts)
           (done_at groups.rows d c.loop-k.k) (done_at groups.rows d (c.loop-k.k + 1)) row inside
           (fresh groups.rows d c.loop-k.k row here is)
-              (λ h _. next_done groups.rows d c.loop-k.k row h here is)
+          (λ h _. next_done groups.rows d c.loop-k.k row h here is)
           (λ h p _ e up. closed groups.rows valid.tree d c.loop-k.k h p e up)
           (λ p up. parent_done groups.rows valid.tree d c.loop-k.k row p deep up)
           c.as_slice-in-loop-k.result.now c.loop-k.amounts.items c.give.new.amounts.items
-              c.loop-k.invariant.planning parts c.give.ensures;
+          c.loop-k.invariant.planning parts c.give.ensures;
       held = λ j lt.
           let other : ℕ = get_or c.rows_at-groups.result.now j 0 in
           let there : j < length (rows_of_depth groups.rows d) = rw level at lt in
           let same : other ≡ get_or (rows_of_depth groups.rows d) j 0 =
-              ap (λ (xs : List ℕ). get_or xs j 0) level in
+          ap (λ (xs : List ℕ). get_or xs j 0) level in
           let as_deep : depth_of groups.rows other ≡ d =
-              ap (depth_of groups.rows) same ∙ (level_row groups.rows d j there).depth in
+          ap (depth_of groups.rows) same ∙ (level_row groups.rows d j there).depth in
           c.give.ensures.others other
-              (is_child_no groups.rows row other
-              (λ up. no_child groups.rows valid.tree d row other deep as_deep up))
+          (is_child_no groups.rows row other
+          (λ up. no_child groups.rows valid.tree d row other deep as_deep up))
           ∙ c.loop-k.invariant.held j lt;
     }

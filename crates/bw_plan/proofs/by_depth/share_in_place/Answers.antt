@@ -17,7 +17,7 @@ loop-k-init c =
     let most = c.args.most.now in
     same_done groups valid most (AreMaxTotals-capped groups valid.tree most c.requires.mosts)
     (is_above groups.rows c.args.depth) (done_at groups.rows c.args.depth 0)
-        c.args.amounts.now.items
+    c.args.amounts.now.items
     (λ h _. first_done groups.rows c.args.depth h) c.requires.planning
 
 pub share_out-requires : goal.share_out-requires
@@ -30,14 +30,14 @@ share_out-requires c =
     let row : ℕ = get_or c.rows_at-groups.result.now c.loop-k.k 0 in
     let here : c.loop-k.k < length (rows_of_depth groups.rows d) = rw level at c.loop-k-test.true in
     let is : row ≡ get_or (rows_of_depth groups.rows d) c.loop-k.k 0 =
-        ap (λ (xs : List ℕ). get_or xs c.loop-k.k 0) level in
+    ap (λ (xs : List ℕ). get_or xs c.loop-k.k 0) level in
     let inside : row < length groups.rows =
-        level_within groups.rows d c.loop-k.k c.rows_at-groups.result.now level
-        c.loop-k-test.true in
+    level_within groups.rows d c.loop-k.k c.rows_at-groups.result.now level
+    c.loop-k-test.true in
     let deep : depth_of groups.rows row ≡ d =
-        ap (depth_of groups.rows) is ∙ (level_row groups.rows d c.loop-k.k here).depth in
+    ap (depth_of groups.rows) is ∙ (level_row groups.rows d c.loop-k.k here).depth in
     (can_share groups valid most (AreMaxTotals-capped groups valid.tree most c.requires.mosts)
-        c.requires.mosts.one_each
+    c.requires.mosts.one_each
     (done_at groups.rows d c.loop-k.k) row c.loop-k.amounts.items inside c.loop-k.invariant
     (λ p up. parent_done groups.rows valid.tree d c.loop-k.k row p deep up))
 
@@ -51,18 +51,18 @@ loop-k-preserved c =
     let row : ℕ = get_or c.rows_at-groups.result.now c.loop-k.k 0 in
     let here : c.loop-k.k < length (rows_of_depth groups.rows d) = rw level at c.loop-k-test.true in
     let is : row ≡ get_or (rows_of_depth groups.rows d) c.loop-k.k 0 =
-        ap (λ (xs : List ℕ). get_or xs c.loop-k.k 0) level in
+    ap (λ (xs : List ℕ). get_or xs c.loop-k.k 0) level in
     let inside : row < length groups.rows =
-        level_within groups.rows d c.loop-k.k c.rows_at-groups.result.now level
-        c.loop-k-test.true in
+    level_within groups.rows d c.loop-k.k c.rows_at-groups.result.now level
+    c.loop-k-test.true in
     let deep : depth_of groups.rows row ≡ d =
-        ap (depth_of groups.rows) is ∙ (level_row groups.rows d c.loop-k.k here).depth in
+    ap (depth_of groups.rows) is ∙ (level_row groups.rows d c.loop-k.k here).depth in
     let shared = c.in_ok-share_out.ensures in
     let parts : AreParts groups most c.loop-k.amounts.items row shared.0 = shared.1 in
     given_more groups valid most (AreMaxTotals-capped groups valid.tree most c.requires.mosts)
     (done_at groups.rows d c.loop-k.k) (done_at groups.rows d (c.loop-k.k + 1)) row inside
     (fresh groups.rows d c.loop-k.k row here is)
-        (λ h _. next_done groups.rows d c.loop-k.k row h here is)
+    (λ h _. next_done groups.rows d c.loop-k.k row h here is)
     (λ h p _ e up. closed groups.rows valid.tree d c.loop-k.k h p e up)
     (λ p up. parent_done groups.rows valid.tree d c.loop-k.k row p deep up)
     shared.0 c.loop-k.amounts.items c.share_out.new.amounts.items c.loop-k.invariant parts shared.2
@@ -73,8 +73,8 @@ returns c =
     let valid = c.rows-rows.ensures.valid in
     let most = c.args.most.now in
     let whole : length (rows_of_depth groups.rows c.args.depth) ≤ c.loop-k.k =
-        omega (arith, c.loop-k-test.false, ap (length {A = ℕ}) c.rows_at-groups.ensures) in
+    omega (arith, c.loop-k-test.false, ap (length {A = ℕ}) c.rows_at-groups.ensures) in
     same_done groups valid most (AreMaxTotals-capped groups valid.tree most c.requires.mosts)
     (done_at groups.rows c.args.depth c.loop-k.k) (is_above groups.rows (c.args.depth + 1))
-        c.loop-k.amounts.items
+    c.loop-k.amounts.items
     (λ h below. last_done groups.rows c.args.depth c.loop-k.k h below whole) c.loop-k.invariant

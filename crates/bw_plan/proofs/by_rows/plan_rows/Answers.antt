@@ -12,19 +12,19 @@ use Rattle.bw_plan.proofs.by_rows.plan_rows.Goals as goal
 pub loop-g-init : goal.loop-g-init
 loop-g-init c =
     let long : length c.rows-count.result.now ≡ length c.args.instance.now.rows =
-        ap (length {A = Row}) c.rows-count.ensures.rows in
+    ap (length {A = Row}) c.rows-count.ensures.rows in
     let root : 0 < length c.args.instance.now.rows = c.rows-count.ensures.valid.tree.has_root in
     let read : c.index.result.now ≡ get_or c.args.gathered.now.most.items 0 0 =
     c.index.ensures ∙ get_or_within c.args.gathered.now.most.items 0 c.index.result.now
-        (omega (arith, root, c.requires.mosts.one_each)) in
+    (omega (arith, root, c.requires.mosts.one_each)) in
     let zeros : c.in_ok-amounts.amounts.items
-        ≡ replicate {A = ℕ} (length c.rows-count.result.now) 0 = search rules in
+    ≡ replicate {A = ℕ} (length c.rows-count.result.now) 0 = search rules in
     begun c.args.instance.now c.rows-count.ensures.valid c.args.gathered.now.most.items
     (AreMaxTotals-capped c.args.instance.now c.rows-count.ensures.valid.tree
-        c.args.gathered.now.most.items c.requires.mosts)
+    c.args.gathered.now.most.items c.requires.mosts)
     (rows_before 0) (λ h _. le-ltb h 0 (omega arith))
     (length c.rows-count.result.now) c.index.result.now
-        (set c.in_ok-amounts.amounts.items 0 c.index.result.now) long read
+    (set c.in_ok-amounts.amounts.items 0 c.index.result.now) long read
     (ap (λ (xs : List ℕ). set xs 0 c.index.result.now) zeros)
 
 pub share_out-requires : goal.share_out-requires
@@ -33,13 +33,13 @@ share_out-requires c =
     let valid = c.rows-count.ensures.valid in
     let most = c.args.gathered.now.most.items in
     let long : length c.rows-count.result.now ≡ length groups.rows =
-        ap (length {A = Row}) c.rows-count.ensures.rows in
+    ap (length {A = Row}) c.rows-count.ensures.rows in
     let inside : c.loop-g.g < length groups.rows = omega (arith, long, c.loop-g-test.true) in
     rw c.as_slice-most.ensures.value
     (can_share groups valid most (AreMaxTotals-capped groups valid.tree most c.requires.mosts)
-        c.requires.mosts.one_each
+    c.requires.mosts.one_each
     (rows_before c.loop-g.g) c.loop-g.g c.loop-g.amounts.items inside c.loop-g.invariant
-        (parent_done groups valid.tree c.loop-g.g))
+    (parent_done groups valid.tree c.loop-g.g))
 
 pub loop-g-preserved : goal.loop-g-preserved
 loop-g-preserved c =
@@ -48,18 +48,18 @@ loop-g-preserved c =
     let most = c.args.gathered.now.most.items in
     let before = c.loop-g.amounts.items in
     let long : length c.rows-count.result.now ≡ length groups.rows =
-        ap (length {A = Row}) c.rows-count.ensures.rows in
+    ap (length {A = Row}) c.rows-count.ensures.rows in
     let inside : c.loop-g.g < length groups.rows = omega (arith, long, c.loop-g-test.true) in
     let shared = c.in_ok-share_out.ensures in
     let parts : AreParts groups most before c.loop-g.g shared.0 =
-        rw c.as_slice-most.ensures.value at shared.1 in
+    rw c.as_slice-most.ensures.value at shared.1 in
     let next : suc c.loop-g.g ≡ c.loop-g.g + 1 = omega arith in
     subst (λ (n : ℕ). IsPlanning groups most (rows_before n) c.share_out.new.amounts.items) next
     (given_more groups valid most (AreMaxTotals-capped groups valid.tree most c.requires.mosts)
     (rows_before c.loop-g.g) (rows_before (suc c.loop-g.g)) c.loop-g.g inside
-        (next_fresh groups valid.tree c.loop-g.g)
+    (next_fresh groups valid.tree c.loop-g.g)
     (next_marks groups valid.tree c.loop-g.g) (before_closed groups valid.tree c.loop-g.g)
-        (parent_done groups valid.tree c.loop-g.g)
+    (parent_done groups valid.tree c.loop-g.g)
     shared.0 before c.share_out.new.amounts.items c.loop-g.invariant parts shared.2)
 
 pub returns : goal.returns
@@ -68,8 +68,8 @@ returns c =
     let valid = c.rows-count.ensures.valid in
     let most = c.args.gathered.now.most.items in
     let long : length c.rows-count.result.now ≡ length groups.rows =
-        ap (length {A = Row}) c.rows-count.ensures.rows in
+    ap (length {A = Row}) c.rows-count.ensures.rows in
     all_planned groups valid most (AreMaxTotals-capped groups valid.tree most c.requires.mosts)
     (rows_before c.loop-g.g) c.loop-g.amounts.items
-        (λ h below _. lt-ltb h c.loop-g.g (omega (arith, long, below, c.loop-g-test.false)))
-        c.loop-g.invariant
+    (λ h below _. lt-ltb h c.loop-g.g (omega (arith, long, below, c.loop-g-test.false)))
+    c.loop-g.invariant

@@ -6,5 +6,5 @@ use Rattle.bw_plan.proofs.children.child_weights.Goals as goal
 pub weights_of-requires : goal.weights_of-requires
 weights_of-requires c = all_below (length c.rows.result.now) c.children.result.now
     (rw c.rows.ensures.rows
-        (children_within c.args.instance.now.rows c.args.g c.children.result.now
-        c.children.ensures))
+    (children_within c.args.instance.now.rows c.args.g c.children.result.now
+    c.children.ensures))

@@ -18,18 +18,18 @@ not_listed : (rows : List Row) (g i : ℕ) (children : List ℕ) → children �
     (k : ℕ) → k < length children → get_or children k 0 ≡ i → ⊥
 not_listed rows g i children e no' = rw e (λ k below same.
     both_ways (is_child rows g i) no'
-        (is_child_from_parent rows g i (rw same at (child_at rows g k below).parent)))
+    (is_child_from_parent rows g i (rw same at (child_at rows g k below).parent)))
 
 pub index_mut-requires : goal.index_mut-requires
 index_mut-requires c =
     let inside = children_within c.args.instance.now.rows c.args.g c.children.result.now
-        c.children.ensures 0 (omega (arith, c.in-len1.len_at_least)) in
+    c.children.ensures 0 (omega (arith, c.in-len1.len_at_least)) in
     omega (arith, inside, c.requires.amount_each)
 
 pub write_parts-requires-clause-within : goal.write_parts-requires-clause-within
 write_parts-requires-clause-within c =
     rw c.requires.amount_each
-        (children_within c.args.instance.now.rows c.args.g c.children.result.now c.children.ensures)
+    (children_within c.args.instance.now.rows c.args.g c.children.result.now c.children.ensures)
 
 pub write_parts-requires-clause-apart : goal.write_parts-requires-clause-apart
 write_parts-requires-clause-apart c =
@@ -41,25 +41,25 @@ returns-in-len1 c =
     let before = c.args.amounts.now.items in
     let here : c.args.g < length before = omega (arith, c.requires.row, c.requires.amount_each) in
     let read : c.index-amount.result.now ≡ get_or before c.args.g 0 =
-        c.index-amount.ensures ∙ get_or_within before c.args.g c.index-amount.result.now here in
+    c.index-amount.ensures ∙ get_or_within before c.args.g c.index-amount.result.now here in
     let first : 0 < length c.children.result.now = omega (arith, c.in-len1.len_at_least) in
     let inside : get_or c.children.result.now 0 0 < length before =
     let at = children_within rows c.args.g c.children.result.now c.children.ensures 0 first in
-        omega (arith, at, c.requires.amount_each) in
+    omega (arith, at, c.requires.amount_each) in
     record {
       one_each = length-set before (get_or c.children.result.now 0 0) c.index-amount.result.now;
       nothing = λ e. absurd (c.if-amount-eq0.false (read ∙ e));
       only = λ _ child list.
           let same : get_or c.children.result.now 0 0 ≡ child =
-              ap (λ (xs : List ℕ). get_or xs 0 0) (c.children.ensures ∙ list) in
+          ap (λ (xs : List ℕ). get_or xs 0 0) (c.children.ensures ∙ list) in
           rw (← same) (get_or-set_same before (get_or c.children.result.now 0 0)
-              c.index-amount.result.now 0 inside ∙ read);
+          c.index-amount.result.now 0 inside ∙ read);
       among = λ _ two. absurd (let e = ap (length {A = ℕ}) c.children.ensures in
           omega (arith, e, two, c.in-len1.len_below));
       others = λ i no'. get_or-set_other before (get_or c.children.result.now 0 0) i
           c.index-amount.result.now 0
           (λ same. not_listed rows c.args.g i c.children.result.now c.children.ensures no' 0 first
-              (sym same));
+          (sym same));
     }
 
 pub returns-in_default : goal.returns-in_default
@@ -68,19 +68,19 @@ returns-in_default c =
     let before = c.args.amounts.now.items in
     let here : c.args.g < length before = omega (arith, c.requires.row, c.requires.amount_each) in
     let read : c.index-amount.result.now ≡ get_or before c.args.g 0 =
-        c.index-amount.ensures ∙ get_or_within before c.args.g c.index-amount.result.now here in
+    c.index-amount.ensures ∙ get_or_within before c.args.g c.index-amount.result.now here in
     let long : length c.children.result.now ≡ length (children_of rows c.args.g) =
-        ap (length {A = ℕ}) c.children.ensures in
+    ap (length {A = ℕ}) c.children.ensures in
     record {
       one_each = c.write_parts.ensures.len;
       nothing = λ e. absurd (c.if-amount-eq0.false (read ∙ e));
       only = λ _ child list. absurd
           (let one : length (children_of rows c.args.g) ≡ 1 =
-              ap (length {A = ℕ}) list in omega (arith, one, long, c.in_default.len_at_least));
+          ap (length {A = ℕ}) list in omega (arith, one, long, c.in_default.len_at_least));
       among = λ has two.
           ap (map (slice_index c.write_parts.new.amounts.items)) (sym c.children.ensures)
           ∙ map_is (slice_index c.write_parts.new.amounts.items) c.children.result.now
-              c.args.parts.now
+          c.args.parts.now
           (c.requires.part_each has two ∙ sym long) c.write_parts.ensures.written;
       others = λ i no'. c.write_parts.ensures.others i
           (not_listed rows c.args.g i c.children.result.now c.children.ensures no');

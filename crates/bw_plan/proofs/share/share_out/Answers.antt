@@ -8,6 +8,6 @@ use Rattle.bw_plan.proofs.share.share_out.Goals as goal
 pub share_among-requires-clause-inner : goal.share_among-requires-clause-inner
 share_among-requires-clause-inner c =
     let two : 1 < length (children_of c.args.instance.now.rows c.args.g) =
-        omega (arith, c.if-children-lt2.false, ap (length {A = ℕ}) c.children.ensures) in
+    omega (arith, c.if-children-lt2.false, ap (length {A = ℕ}) c.children.ensures) in
     sym (is_leaf-length c.args.instance.now.rows c.args.g) ∙ ne_eqb
-        (length (children_of c.args.instance.now.rows c.args.g)) 0 (λ e. omega (arith, e, two))
+    (length (children_of c.args.instance.now.rows c.args.g)) 0 (λ e. omega (arith, e, two))

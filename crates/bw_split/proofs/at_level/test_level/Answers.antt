@@ -8,5 +8,5 @@ pub returns-clause-all : goal.returns-clause-all
 returns-clause-all c =
     let all : c.loop-i.i ≡ length c.args.weights.now = omega arith in
     c.loop-i.invariant.total_is
-        ∙ ap (λ n. sum_below n (each_takes c.args.level c.args.weights.now c.args.most.now)) all
+    ∙ ap (λ n. sum_below n (each_takes c.args.level c.args.weights.now c.args.most.now)) all
     ∙ sym (by_all-is c.args.level c.args.weights.now c.args.most.now)

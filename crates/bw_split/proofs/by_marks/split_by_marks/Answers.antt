@@ -35,14 +35,14 @@ loop-i-preserved c =
         lined = first-lined c.loop-i.i c.args.weights.now c.args.most.now
             (length c.args.weights.now) (heap_items c.loop-i.heap)
             (heap_items w.push.new.self) _ w.in_ok-push.ensures.permutation inv.lined
-                c.loop-i-test.true w.if-most-i-gt0.true refl refl refl;
+            c.loop-i-test.true w.if-most-i-gt0.true refl refl refl;
         heap = w.in_ok-push.ensures.heap_order inv.heap;
       })
       | else-most-i-gt0 w ↦ rw w.heap-is (record {
         lined = lined-full mark_in c.loop-i.i c.args.weights.now c.args.most.now
             (replicate (length c.args.weights.now) 0) (heap_items c.loop-i.heap)
             inv.lined (let z = zeros (length c.args.weights.now) c.loop-i.i in
-                omega (arith, z, w.if-most-i-gt0.false));
+            omega (arith, z, w.if-most-i-gt0.false));
         heap = inv.heap;
       })
     ]
@@ -66,31 +66,31 @@ pub index_mut-requires : goal.index_mut-requires
 index_mut-requires c =
     let inv = c.loop-slice.invariant in
     let whole : length c.loop-slice.parts.items ≡ length c.args.weights.now =
-        inv.filled.split.lengths ∙ c.requires.one_each in
+    inv.filled.split.lengths ∙ c.requires.one_each in
     let top : IsNextOf mark_in c.args.weights.now c.args.most.now c.loop-slice.parts.items
-        c.in-Some.field-0 =
+    c.in-Some.field-0 =
     popped-IsNextOf mark_in (length c.args.weights.now) c.args.weights.now c.args.most.now
-        c.loop-slice.parts.items
+    c.loop-slice.parts.items
     (heap_items c.loop-slice.heap) (heap_items c.pop.new.self) c.in-Some.field-0 inv.lined whole
-        c.in-Some.ensures.permutation in
+    c.in-Some.ensures.permutation in
     let within : c.in-Some.field-0.0.place < length c.loop-slice.parts.items =
-        top.within in search rules
+    top.within in search rules
 
 pub overflow_add-index_mut : goal.overflow_add-index_mut
 overflow_add-index_mut c =
     let inv = c.loop-slice.invariant in
     let whole : length c.loop-slice.parts.items ≡ length c.args.weights.now =
-        inv.filled.split.lengths ∙ c.requires.one_each in
+    inv.filled.split.lengths ∙ c.requires.one_each in
     let top : IsNextOf mark_in c.args.weights.now c.args.most.now c.loop-slice.parts.items
-        c.in-Some.field-0 =
+    c.in-Some.field-0 =
     popped-IsNextOf mark_in (length c.args.weights.now) c.args.weights.now c.args.most.now
-        c.loop-slice.parts.items
+    c.loop-slice.parts.items
     (heap_items c.loop-slice.heap) (heap_items c.pop.new.self) c.in-Some.field-0 inv.lined whole
-        c.in-Some.ensures.permutation in
+    c.in-Some.ensures.permutation in
     let read : c.index_mut.result.now
-        ≡ get_or c.loop-slice.parts.items c.in-Some.field-0.0.place 0 =
+    ≡ get_or c.loop-slice.parts.items c.in-Some.field-0.0.place 0 =
     c.index_mut.ensures.value ∙ get_or_within c.loop-slice.parts.items c.in-Some.field-0.0.place
-        c.index_mut.result.now top.within in
+    c.index_mut.result.now top.within in
     let fits = c.type_inv.most c.in-Some.field-0.0.place in
     omega (arith, read, top.room, fits)
 
@@ -98,42 +98,42 @@ pub index-requires : goal.index-requires
 index-requires c =
     let inv = c.loop-slice.invariant in
     let whole : length c.loop-slice.parts.items ≡ length c.args.weights.now =
-        inv.filled.split.lengths ∙ c.requires.one_each in
+    inv.filled.split.lengths ∙ c.requires.one_each in
     let top : IsNextOf mark_in c.args.weights.now c.args.most.now c.loop-slice.parts.items
-        c.in-Some.field-0 =
+    c.in-Some.field-0 =
     popped-IsNextOf mark_in (length c.args.weights.now) c.args.weights.now c.args.most.now
-        c.loop-slice.parts.items
+    c.loop-slice.parts.items
     (heap_items c.loop-slice.heap) (heap_items c.pop.new.self) c.in-Some.field-0 inv.lined whole
-        c.in-Some.ensures.permutation in
+    c.in-Some.ensures.permutation in
     let within : c.in-Some.field-0.0.place < length c.loop-slice.parts.items =
-        top.within in search rules
+    top.within in search rules
 
 pub bounds-most-i-in-Some : goal.bounds-most-i-in-Some
 bounds-most-i-in-Some c =
     let inv = c.loop-slice.invariant in
     let whole : length c.loop-slice.parts.items ≡ length c.args.weights.now =
-        inv.filled.split.lengths ∙ c.requires.one_each in
+    inv.filled.split.lengths ∙ c.requires.one_each in
     let top : IsNextOf mark_in c.args.weights.now c.args.most.now c.loop-slice.parts.items
-        c.in-Some.field-0 =
+    c.in-Some.field-0 =
     popped-IsNextOf mark_in (length c.args.weights.now) c.args.weights.now c.args.most.now
-        c.loop-slice.parts.items
+    c.loop-slice.parts.items
     (heap_items c.loop-slice.heap) (heap_items c.pop.new.self) c.in-Some.field-0 inv.lined whole
-        c.in-Some.ensures.permutation in
+    c.in-Some.ensures.permutation in
     omega (arith, top.within, inv.filled.split.lengths)
 
 pub overflow_add-mark : goal.overflow_add-mark
 overflow_add-mark c =
     let inv = c.loop-slice.invariant in
     let whole : length c.loop-slice.parts.items ≡ length c.args.weights.now =
-        inv.filled.split.lengths ∙ c.requires.one_each in
+    inv.filled.split.lengths ∙ c.requires.one_each in
     let top : IsNextOf mark_in c.args.weights.now c.args.most.now c.loop-slice.parts.items
-        c.in-Some.field-0 =
+    c.in-Some.field-0 =
     popped-IsNextOf mark_in (length c.args.weights.now) c.args.weights.now c.args.most.now
-        c.loop-slice.parts.items
+    c.loop-slice.parts.items
     (heap_items c.loop-slice.heap) (heap_items c.pop.new.self) c.in-Some.field-0 inv.lined whole
-        c.in-Some.ensures.permutation in
+    c.in-Some.ensures.permutation in
     let part : get_or c.loop-slice.parts.items c.in-Some.field-0.0.place 0
-        ≤ sum c.loop-slice.parts.items =
+    ≤ sum c.loop-slice.parts.items =
     get_or-le-sum_by (λ x. x) c.loop-slice.parts.items c.in-Some.field-0.0.place 0 top.within in
     omega (arith, top.num, part, inv.filled.split.whole, c.loop-slice-test.true, c.requires.small)
 
@@ -141,45 +141,45 @@ pub loop-slice-preserved : goal.loop-slice-preserved
 loop-slice-preserved c =
     let inv = c.loop-slice.invariant in
     let whole : length c.loop-slice.parts.items ≡ length c.args.weights.now =
-        inv.filled.split.lengths ∙ c.requires.one_each in
+    inv.filled.split.lengths ∙ c.requires.one_each in
     let top : IsNextOf mark_in c.args.weights.now c.args.most.now c.loop-slice.parts.items
-        c.in-Some.field-0 =
+    c.in-Some.field-0 =
     popped-IsNextOf mark_in (length c.args.weights.now) c.args.weights.now c.args.most.now
-        c.loop-slice.parts.items
+    c.loop-slice.parts.items
     (heap_items c.loop-slice.heap) (heap_items c.pop.new.self) c.in-Some.field-0 inv.lined whole
-        c.in-Some.ensures.permutation in
+    c.in-Some.ensures.permutation in
     let read : c.index_mut.result.now
-        ≡ get_or c.loop-slice.parts.items c.in-Some.field-0.0.place 0 =
+    ≡ get_or c.loop-slice.parts.items c.in-Some.field-0.0.place 0 =
     c.index_mut.ensures.value ∙ get_or_within c.loop-slice.parts.items c.in-Some.field-0.0.place
-        c.index_mut.result.now top.within in
+    c.index_mut.result.now top.within in
     let popped = c.in-Some.ensures.heap_order inv.heap in
     let cheap : IsCheapest c.args.weights.now c.args.most.now c.loop-slice.parts.items
-        c.in-Some.field-0.0.place =
+    c.in-Some.field-0.0.place =
     popped-IsCheapest mark_in (length c.args.weights.now) c.args.weights.now c.args.most.now
-        c.loop-slice.parts.items
+    c.loop-slice.parts.items
     (heap_items c.loop-slice.heap) (heap_items c.pop.new.self) c.in-Some.field-0 inv.lined whole
-        c.in-Some.ensures.permutation
+    c.in-Some.ensures.permutation
     (least_of c.in-Some.field-0 (heap_items c.loop-slice.heap) popped.1) in
     let filled : IsFilled (c.loop-slice._slice + 1) c.args.weights.now c.args.most.now
     (set c.loop-slice.parts.items c.in-Some.field-0.0.place (c.index_mut.result.now + 1)) =
     filled_more c.loop-slice._slice (c.loop-slice._slice + 1) c.args.weights.now c.args.most.now
-        c.loop-slice.parts.items c.in-Some.field-0.0.place
+    c.loop-slice.parts.items c.in-Some.field-0.0.place
     (c.index_mut.result.now + 1) (omega arith) (omega (arith, read)) (sym c.requires.one_each)
     (λ k below. (c.requires.weights_in_range k below).0) inv.filled cheap in
     let now : c.index.result.now ≡ c.index_mut.result.now + 1 =
     c.index.ensures ∙ get_or-set_same c.loop-slice.parts.items c.in-Some.field-0.0.place
-        (c.index_mut.result.now + 1) c.index.result.now top.within in
+    (c.index_mut.result.now + 1) c.index.result.now top.within in
     let one_more : c.index_mut.result.now + 1
-        ≡ suc (get_or c.loop-slice.parts.items c.in-Some.field-0.0.place 0) = omega (arith, read) in
+    ≡ suc (get_or c.loop-slice.parts.items c.in-Some.field-0.0.place 0) = omega (arith, read) in
     elim c.if-index-most.branch [
       | then-index-most+in_ok-push-in-Some w ↦ rw w.heap-is (record {
         filled = filled;
         lined = back-lined (length c.args.weights.now) c.args.weights.now c.args.most.now
             c.loop-slice.parts.items
             (heap_items c.loop-slice.heap) (heap_items c.pop.new.self)
-                (heap_items w.push-then-index-most.new.self) c.in-Some.field-0 _
+            (heap_items w.push-then-index-most.new.self) c.in-Some.field-0 _
             w.in_ok-push-in-Some.ensures.permutation c.in-Some.ensures.permutation inv.lined whole
-                (c.index_mut.result.now + 1) one_more
+            (c.index_mut.result.now + 1) one_more
             (omega (arith, now, w.if-index-most.true)) refl refl refl;
         heap = w.in_ok-push-in-Some.ensures.heap_order popped.0;
       })
@@ -188,7 +188,7 @@ loop-slice-preserved c =
         lined = given-full mark_in (length c.args.weights.now) c.args.weights.now c.args.most.now
             c.loop-slice.parts.items
             (heap_items c.loop-slice.heap) (heap_items c.pop.new.self) c.in-Some.field-0 inv.lined
-                whole c.in-Some.ensures.permutation
+            whole c.in-Some.ensures.permutation
             (c.index_mut.result.now + 1) (omega (arith, now, w.if-index-most.false));
         heap = popped.0;
       })
@@ -200,10 +200,10 @@ unreachable-requires c =
     let none = c.in-None.ensures.none in
     let z : length (heap_items c.loop-slice.heap) ≡ 0 = search rules in
     not_full c.loop-slice._slice c.args.amount c.args.weights.now c.args.most.now
-        c.loop-slice.parts.items inv.filled
+    c.loop-slice.parts.items inv.filled
     c.loop-slice-test.true c.requires.enough
     (λ k below. empty-full (length c.args.weights.now) c.args.weights.now c.args.most.now
-        c.loop-slice.parts.items (heap_items c.loop-slice.heap) z inv.lined k
+    c.loop-slice.parts.items (heap_items c.loop-slice.heap) z inv.lined k
     (omega (arith, below, inv.filled.split.lengths, c.requires.one_each)))
 
 pub returns : goal.returns
@@ -214,5 +214,5 @@ returns c =
           c.loop-slice.parts.items
           (sym c.requires.one_each) (λ k below. (c.requires.weights_in_range k below).0)
           (subst (λ (given : ℕ). IsFilled given c.args.weights.now c.args.most.now
-              c.loop-slice.parts.items) all c.loop-slice.invariant.filled);
+          c.loop-slice.parts.items) all c.loop-slice.invariant.filled);
     }

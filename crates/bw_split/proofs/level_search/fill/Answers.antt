@@ -15,7 +15,7 @@ loop-i-preserved c =
     elim c.if-mark-level.branch [
       | then-mark-level w ↦
           let m = mark_level c.min-part.result (get_or c.args.weights.now c.loop-i.i 0)
-              c.loop-i.level w.div_ceil-level.result
+          c.loop-i.level w.div_ceil-level.result
           in_range.0 small w.if-mark-level.true w.div_ceil-level.ensures in
           rw w.level-is (record {
             in_range = m.1;
@@ -35,7 +35,7 @@ loop-i-preserved c =
             reached = raised c.loop-i.level c.loop-i.level c.loop-i.sum c.min-part.result c.loop-i.i
                 c.args.weights.now c.args.most.now
                 (omega arith) within (omega (arith, w.if-mark-level.false))
-                    c.loop-i.invariant.reached;
+                c.loop-i.invariant.reached;
           })
     ]
 
@@ -43,6 +43,10 @@ pub returns-clause-reached : goal.returns-clause-reached
 returns-clause-reached c =
     let all : c.loop-i.i ≡ length c.args.weights.now = omega arith in
     let same = ap (λ (n : ℕ). sum_below n
-        (each_takes c.loop-i.level c.args.weights.now c.args.most.now)) all in
-    omega (arith, same, by_all-is c.loop-i.level c.args.weights.now c.args.most.now,
-        c.loop-i.invariant.reached)
+    (each_takes c.loop-i.level c.args.weights.now c.args.most.now)) all in
+    omega (
+      arith,
+      same,
+      by_all-is c.loop-i.level c.args.weights.now c.args.most.now,
+      c.loop-i.invariant.reached,
+    )

@@ -93,7 +93,7 @@ loop-round-init c = record {
   first = λ _. (
     above_one c.args.amount c.upper_level-upper.result.level c.args.weights.now c.args.most.now
         (λ k below. (c.requires.weights_in_range k below).1) c.if-rest-eq0.false
-            c.upper_level-upper.ensures.enough,
+        c.upper_level-upper.ensures.enough,
     omega (arith, c.if-rest-eq0.false),
   );
 }

@@ -37,19 +37,21 @@ loop-slice-init c = record {
       | inr one ↦ c.if-weights-eq1.false one
     ])
   ];
-  counted = (omega (arith, c.find_level-found.ensures.counted),
-      omega (arith, c.find_level-found.ensures.picks));
+  counted = (
+    omega (arith, c.find_level-found.ensures.counted),
+    omega (arith, c.find_level-found.ensures.picks),
+  );
 }
 
 pub unreachable-requires : goal.unreachable-requires
 unreachable-requires c =
     let looked_at : c.deref.result.now ≡ c.loop-slice.parts.items = search rules in
     not_given c.find_level-found.result.level c.loop-slice._slice c.loop-slice.from
-        c.args.weights.now c.args.most.now
+    c.args.weights.now c.args.most.now
     c.loop-slice.parts.items c.loop-slice.invariant.given c.find_level-found.result.rest
-        c.args.amount
+    c.args.amount
     c.find_level-found.ensures.rest c.find_level-found.ensures.enough
-        (omega (arith, c.loop-slice-test.true)) (rw looked_at at c.in-None.ensures.none)
+    (omega (arith, c.loop-slice-test.true)) (rw looked_at at c.in-None.ensures.none)
 
 pub loop-slice-preserved : goal.loop-slice-preserved
 loop-slice-preserved c =
@@ -57,7 +59,7 @@ loop-slice-preserved c =
     let taker = c.in-Some.ensures.takes in
     let looked_at : c.deref.result.now ≡ c.loop-slice.parts.items = search rules in
     let there : c.in-Some.i < length c.loop-slice.parts.items =
-        omega (arith, taker.1, inv.given.lengths) in
+    omega (arith, taker.1, inv.given.lengths) in
     let read : c.index.result.now ≡ get_or c.loop-slice.parts.items c.in-Some.i 0 =
     c.index.ensures ∙ get_or_within c.loop-slice.parts.items c.in-Some.i c.index.result.now there in
     record {
@@ -65,15 +67,17 @@ loop-slice-preserved c =
           c.args.weights.now c.args.most.now
           c.loop-slice.parts.items inv.given c.in-Some.i c.with_one_more.result
           taker.0 taker.1 (c.requires.can.weights_in_range c.in-Some.i taker.1).1
-              (rw looked_at at taker.2) (rw looked_at at c.in-Some.ensures.first)
+          (rw looked_at at taker.2) (rw looked_at at c.in-Some.ensures.first)
           (omega (arith, c.with_one_more.ensures.part, read));
       inside = omega (arith, taker.1);
       rounds = omega (arith, c.with_one_more.ensures.rounds, inv.rounds);
       picks = omega (arith, c.with_one_more.ensures.picks, inv.picks, taker.0);
       searched = λ wanted. omega (arith, c.with_one_more.ensures.rounds, inv.searched wanted);
       no_search = λ plain. c.with_one_more.ensures.rounds ∙ inv.no_search plain;
-      counted = (omega (arith, c.with_one_more.ensures.rounds, inv.counted.0),
-          omega (arith, c.with_one_more.ensures.picks, inv.counted.1));
+      counted = (
+        omega (arith, c.with_one_more.ensures.rounds, inv.counted.0),
+        omega (arith, c.with_one_more.ensures.picks, inv.counted.1),
+      );
     }
 
 pub returns-then-weights-eq1-clause-best : goal.returns-then-weights-eq1-clause-best
@@ -82,16 +86,16 @@ returns-then-weights-eq1-clause-best c =
     IfOk-weaker c.to_vec.result (λ v. v.items ≡ c.args.amount ∷ [])
     (λ parts. IsBestSplit c.args.amount c.args.weights.now c.args.most.now parts.items)
     (λ v is. rw is
-        (one-IsBestSplit c.args.amount c.args.weights.now c.args.most.now c.if-weights-eq1.true
-        c.requires.can.one_each
+    (one-IsBestSplit c.args.amount c.args.weights.now c.args.most.now c.if-weights-eq1.true
+    c.requires.can.one_each
     (c.requires.can.weights_in_range 0 (omega (arith, c.if-weights-eq1.true))).0
-        c.requires.can.enough)) copied
+    c.requires.can.enough)) copied
 
 pub returns-clause-best : goal.returns-clause-best
 returns-clause-best c =
     let all : c.loop-slice._slice ≡ c.find_level-found.result.rest = omega arith in
     given-IsBestSplit c.find_level-found.result.level c.loop-slice._slice c.loop-slice.from
-        c.args.weights.now c.args.most.now
+    c.args.weights.now c.args.most.now
     c.loop-slice.parts.items c.loop-slice.invariant.given c.find_level-found.result.rest
-        c.args.amount
+    c.args.amount
     c.requires.can.one_each c.requires.can.weights_in_range c.find_level-found.ensures.rest all

@@ -18,8 +18,8 @@ returns-then-fits_in-clause-best c =
     let copied : IfOk c.to_vec.result (λ v. v.items ≡ c.args.most.now) = search rules in
     let whole : sum c.args.most.now ≤ c.args.amount = c.fits_in.ensures.0 c.if-fits_in.true in
     IfOk-weaker c.to_vec.result (λ v. v.items ≡ c.args.most.now)
-        (λ parts. IsBestSplit c.args.amount c.args.weights.now c.args.most.now parts.items)
+    (λ parts. IsBestSplit c.args.amount c.args.weights.now c.args.most.now parts.items)
     (λ v is. rw is
-        (all-IsBestSplit c.args.amount c.args.weights.now c.args.most.now c.requires.one_each
+    (all-IsBestSplit c.args.amount c.args.weights.now c.args.most.now c.requires.one_each
     (λ k below. (c.requires.weights_in_range k below).0) (omega (arith, whole, c.requires.enough))))
-        copied
+    copied

@@ -6,4 +6,4 @@ pub returns-clause-enough : goal.returns-clause-enough
 returns-clause-enough c =
     by_all-top c.args.amount c.args.weights.now c.args.most.now c.requires.can.one_each
     (λ k below. (c.requires.can.weights_in_range k below).0) c.requires.can.small
-        c.requires.can.enough
+    c.requires.can.enough

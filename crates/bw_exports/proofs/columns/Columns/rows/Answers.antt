@@ -6,5 +6,8 @@ use Rattle.bw_exports.proofs.columns.Columns.rows.Goals as goal
 
 pub loop-g-preserved : goal.loop-g-preserved
 loop-g-preserved c =
-    search (map-range_with_len_more (row_in (table_of c.args.self.now)) 0 c.loop-g.g c.loop-g.g
-    (omega arith), rules)
+    search (
+      map-range_with_len_more (row_in (table_of c.args.self.now)) 0 c.loop-g.g c.loop-g.g
+          (omega arith),
+      rules,
+    )

@@ -27,7 +27,7 @@ none_spec 𝓤 𝓛 𝓜 𝓡 wired =
     let y : W.Ghost = ((κs, qs, bounds, a, tt), g) in
     let made : Count.the_row.Denot = record { steps = 0 } in
     qed 𝓛 ((raw (alive 𝓛 F.ended.signature κs qs) ⊛ ‵ ftrue) ∷ ‵ ftrue ∷ []) ∵ keep ! (0 ∷ []) $
-        split ! $ keep ! (0 ∷ []) $
+    split ! $ keep ! (0 ∷ []) $
     enter ! _ _ _ _ _ $ alloc_all ! (λ l. pass_all ! refl tt $
     sets ! (agg ! (no_more !)) refl (tt, tt) $
     nothing ! $ empty_made ! $ fjoin ! $
