@@ -1,0 +1,23 @@
+"""The crates of crates.txt. Read at the top of the repository."""
+
+
+def crates():
+    """Each crate, and the crates of the repository that its line names."""
+    found = {}
+    with open("crates.txt", encoding="utf-8") as lines:
+        for line in lines:
+            name, _, named = line.partition("#")[0].partition(":")
+            if name.split():
+                found[name.split()[0]] = named.split()
+    return {name: [each for each in named if each in found] for name, named in found.items()}
+
+
+def with_all_below(name):
+    """A crate and all crates below it."""
+    stands_on, found, waiting = crates(), [], [name]
+    while waiting:
+        each = waiting.pop()
+        if each not in found:
+            found.append(each)
+            waiting += stands_on[each]
+    return found

@@ -1,0 +1,44 @@
+# shellcheck shell=bash
+# Runs the tests of tests/ by pytest. For ./test.
+
+# Debian's python3, which has Debian's pytest, although another python3 can be first on the PATH.
+python=/usr/bin/python3
+test_report=out/tests.xml
+# Seconds that all tests may take.
+test_seconds=2400
+test_folders=(tests)
+[ -d python/tests ] && test_folders+=(python/tests)
+
+has_pytest() {
+  "$python" -c 'import pytest' 2>/dev/null
+}
+
+# Installs pytest if it is missing and this may be done, otherwise names the command.
+need_pytest() {
+  local words=(apt-get install -y python3-pytest)
+  has_pytest && return
+  if [ "$(id -u)" = 0 ] && command -v apt-get >/dev/null; then
+    echo "test: installing pytest: ${words[*]}"
+    { apt-get update && DEBIAN_FRONTEND=noninteractive "${words[@]}"; } >out/apt.log 2>&1 </dev/null
+    has_pytest && return
+    tail -n 20 out/apt.log
+  fi
+  echo "test: pytest is missing: sudo ${words[*]}" >&2
+  exit 2
+}
+
+pytest_all() {
+  rm -f "$test_report"
+  timeout --kill-after=10 "$test_seconds" "$python" -m pytest "${test_folders[@]}" \
+    --junitxml="$test_report" -q </dev/null
+}
+
+# Prints the numbers of passed and failed tests. Skipped tests are neither.
+pytest_counts() {
+  local suite name tests=0 failures=0 errors=0 skipped=0
+  suite=$(grep -o '<testsuite [^>]*>' "$test_report" 2>/dev/null)
+  for name in tests failures errors skipped; do
+    [[ $suite =~ \ $name=\"([0-9]+)\" ]] && printf -v "$name" '%s' "${BASH_REMATCH[1]}"
+  done
+  echo "$((tests - failures - errors - skipped)) $((failures + errors))"
+}
