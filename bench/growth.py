@@ -1,12 +1,12 @@
 #!/usr/bin/env python3
 """Measures the native program by itself and prints the tables of docs/MEASURED.md.
 
-    ./bench                          all: some minutes
-    ./bench --quick                  1024 and 4096 groups, fewer repeats
-    ./bench --shapes flat,random     some shapes of tree alone
-    ./bench --instructions           counts instructions in place of time, by valgrind: the same on a loaded machine
-    ./bench --periods                periods of some processors alone: the lock, with nothing else running and beside busy loops
-    ./bench --program FILE           another program than the one that ./build made
+    bench/growth.py                          all: some minutes
+    bench/growth.py --quick                  1024 and 4096 groups, fewer repeats
+    bench/growth.py --shapes flat,random     some shapes of tree alone
+    bench/growth.py --instructions           counts instructions in place of time, by valgrind: the same on a loaded machine
+    bench/growth.py --periods                periods of some processors alone: the lock, with nothing else running and beside busy loops
+    bench/growth.py --program FILE           another program than the one that ./build made
 
 A time is processor time, user and system, of whole processes: the least of some runs of a script with the lines that
 are measured, less the least of the same script without them. So other work on the machine tells little in it. A run
@@ -27,7 +27,7 @@ import sys
 import tempfile
 import time
 
-TOP = os.path.dirname(os.path.abspath(__file__))
+TOP = os.path.dirname(os.path.dirname(os.path.abspath(__file__)))
 PROGRAM = "crates/arbiter/out/arbiter"
 SIZES = [1024, 4096, 16384]
 DEPTHS = [8, 32, 64]
@@ -430,7 +430,7 @@ def parts(options):
 
 
 def main():
-    asked = argparse.ArgumentParser(prog="bench", description="Measures the native program and prints the tables of docs/MEASURED.md.")
+    asked = argparse.ArgumentParser(prog="growth.py", description="Measures the native program and prints the tables of docs/MEASURED.md.")
     asked.add_argument("--quick", action="store_true", help="1024 and 4096 groups, fewer repeats")
     asked.add_argument("--shapes", default="", help=f"some of {', '.join(SHAPES)}, joined by commas")
     asked.add_argument("--instructions", action="store_true", help="count instructions by valgrind in place of time")
@@ -441,7 +441,7 @@ def main():
         asked.error("an unknown shape")
     if not options.program:
         options.program = f"{TOP}/{PROGRAM}"
-        if subprocess.run(["bash", "-c", ". tests/lib.sh; is_current"], cwd=TOP, check=False).returncode:
+        if subprocess.run(["bash", "-c", ". scripts/current.sh; is_current"], cwd=TOP, check=False).returncode:
             stop("there is no current native program: ./build makes it")
     if options.instructions and options.periods:
         asked.error("instructions tell nothing of what waits")
@@ -453,7 +453,7 @@ def main():
         if len(lines) > 2:
             print(f"{name}\n", *lines, "", sep="\n", flush=True)
     share = (taken() - before) / (time.monotonic() - start)
-    print(f"Measured by `{' '.join(['./bench', *sys.argv[1:]])}` on {began}; at its end {machine()}. The host took {share:.0%} of one processor's time.")
+    print(f"Measured by `{' '.join(['bench/growth.py', *sys.argv[1:]])}` on {began}; at its end {machine()}. The host took {share:.0%} of one processor's time.")
 
 
 if __name__ == "__main__":

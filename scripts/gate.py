@@ -29,10 +29,10 @@ from progress import Progress
 GATE = ["rt", "ci"]
 # Lines of the gate that tell of no failure.
 GOOD = re.compile(
-    r"^rt: .*( proved| is kept: .*|: trying its must-fail edits .*|: refused, as it must be.*"
-    r"|ran( \(.*\))?, and wrote what its file stdout has|: its tests passed"
-    r"|were tried by an earlier run on this machine.*|: begins with what a check kept .*"
-    r"|chose .*)$"
+    r"^rt: (\w+(: its tests are)? proved|\w+ is kept: .*|.*(: trying its must-fail edits .*|: refused, as it must be.*"
+    r"| ran( \(.*\))?, and wrote what its file stdout has|: its tests passed"
+    r"| were tried by an earlier run on this machine.*|: begins with what a check kept .*"
+    r"|chose .*))$"
 )
 # The lines of the log that say that a crate, or its tests, were proved or taken from an earlier run.
 PROVED = re.compile(r"^rt: (\w+) (?:proved|is kept: .*)$")
@@ -230,7 +230,9 @@ def main():
         print(f"gate: {' '.join(GATE)} cannot be started: {error.strerror}", file=sys.stderr)
         return 2
     # the gate puts back what it set aside, and ends all that it started
-    for number in (signal.SIGINT, signal.SIGTERM, signal.SIGHUP):
+    # (an interrupt from the terminal reaches it by itself)
+    signal.signal(signal.SIGINT, lambda *_: None)
+    for number in (signal.SIGTERM, signal.SIGHUP):
         signal.signal(number, lambda number, _: run.gate.send_signal(number))
     status = run.end()
     run.tell(time.monotonic() - began, children_used() - used)

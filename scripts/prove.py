@@ -93,7 +93,9 @@ class Run:
 def main():
     run = Run(*sys.argv[1:])
     # rt ends all that it started; what was proved stays
-    for number in (signal.SIGINT, signal.SIGTERM, signal.SIGHUP):
+    # (an interrupt from the terminal reaches it by itself)
+    signal.signal(signal.SIGINT, lambda *_: None)
+    for number in (signal.SIGTERM, signal.SIGHUP):
         signal.signal(number, lambda number, _: run.rt.send_signal(number))
     status = run.end()
     if status:

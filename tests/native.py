@@ -8,8 +8,8 @@ TOP = os.path.dirname(os.path.dirname(os.path.abspath(__file__)))
 
 
 def current(what, made, by):
-    """The path that tests/lib.sh has for the program or the library, where that is current."""
-    asked = f'. tests/lib.sh && of_{what} && is_current && echo "${made}"'
+    """The path that scripts/current.sh has for the program or the library, where that is current."""
+    asked = f'. scripts/current.sh && of_{what} && is_current && echo "${made}"'
     found = subprocess.run(["bash", "-c", asked], cwd=TOP, stdout=subprocess.PIPE, check=False).stdout.decode().strip()
     if not found:
         print(f"FAILED: no current {by} makes it")

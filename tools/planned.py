@@ -227,7 +227,7 @@ class ByProgram:
 
 def current_library():
     """The C library that was built here; None where it is not current, as ./arbiter runs no stale program."""
-    asked = ". tests/lib.sh && of_library && is_current"
+    asked = ". scripts/current.sh && of_library && is_current"
     if not os.path.exists(arbiter.BUILT) or subprocess.run(["bash", "-c", asked], cwd=TOP, stdin=subprocess.DEVNULL, check=False).returncode != 0:
         return None
     return arbiter.BUILT

@@ -1,4 +1,4 @@
-# Completion of arbiter for bash. Written by hand; tests/install.py compares it with what the program's own help says.
+# Completion of arbiter for bash. Written by hand; tests/test_share.py compares it with what the program's own help says.
 
 _arbiter() {
     local word=${COMP_WORDS[COMP_CWORD]} before=${COMP_WORDS[COMP_CWORD - 1]} given=''

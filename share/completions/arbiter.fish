@@ -1,4 +1,4 @@
-# Completion of arbiter for fish. Written by hand; tests/install.py compares it with what the program's own help says.
+# Completion of arbiter for fish. Written by hand; tests/test_share.py compares it with what the program's own help says.
 
 complete -c arbiter -f
 

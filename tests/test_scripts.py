@@ -1,0 +1,488 @@
+"""The commands ./arbiter, ./build and ./test, in copies with stand-ins for the kit and its programs.
+
+What they run, what counts as up to date, what they say, and how an interrupted build goes on.
+"""
+import concurrent.futures
+import os
+import pty
+import re
+import shutil
+import signal
+import subprocess
+import time
+
+import pytest
+
+from stand_in import (LIBRARY, LIBRARY_PROVED, NATIVE, OUT, PROGRAM, PROVED, STAMP, Copy, holds,
+                      sources, version)
+from support import ROOT, run, same
+
+RUNNING = "arbiter: running the checked build, which proves nothing; ./build makes the native program\n"
+NO_KIT = "the command rt of the Rattle kit is not on the PATH."
+
+
+@pytest.fixture
+def copy(scratch):
+    return Copy(os.path.realpath(scratch))
+
+
+def test_passes_all_through(copy):
+    """Words, standard input, output and status are the program's; also by a link."""
+    copy.build()
+    os.symlink(f"{copy.top}/arbiter", f"{copy.bin}/linked")
+    ways = ((["./arbiter"], copy.top), (["bash", "arbiter"], copy.top),
+            ([f"{copy.top}/arbiter"], "/"), ([f"{copy.bin}/linked"], copy.folder))
+    for words, cwd in ways:
+        answer = copy.call([*words, "a b", "", "*"], b"in\0", cwd)
+        wanted = (7, "native: a b\nnative: \nnative: *\nin\0", "")
+        same(answer, wanted, f"{words} from {cwd}")
+
+
+def test_first_and_second_run(copy):
+    """The first run compiles the checked build. The second one begins at once."""
+    status, out, err = copy.call(["./arbiter", "a"], b"in\n")
+    same((status, out), (5, "checked: a\nin\n"), "the first run")
+    wanted = ("arbiter: no native program of these sources: compiling the checked build, which "
+              "proves nothing.\narbiter: that took 1 min 7 s on a machine with 4 processors; "
+              f"later runs begin at once.\n{RUNNING}")
+    same(err, wanted, "standard error of the first run")
+    same(len([line for line in copy.log() if line.startswith("rt try")]), 1, "compilations")
+    began = time.monotonic()
+    same(copy.call(["./arbiter", "a"], b"in\n"), (5, "checked: a\nin\n", RUNNING), "the second run")
+    same((time.monotonic() - began < 2, "rt try" in " ".join(copy.log())), (True, False), "at once")
+    same(os.listdir(f"{copy.cache}/arbiter/checked") != [], True, "what is kept")
+
+
+def test_tells_the_time_of_this_machine(copy):
+    """A second compilation is told the time that the first one took on this machine."""
+    copy.is_checked("the first run")
+    copy.write(sources("bw_plan")[0], "edited\n")
+    err = copy.call(["./arbiter", "a"])[2]
+    assert re.search(r"^arbiter: that took \d s on [\d-]{10} on this machine; later", err, re.M), err
+
+
+def test_checked_build_of_each_source_and_kit(copy):
+    """An edit and another kit have a checked build of their own. Four are kept."""
+    copy.is_checked("the first run")
+    for number in range(5):
+        copy.log()
+        copy.write(sources("bw_cert")[1], f"edit {number}\n")
+        copy.is_checked("an edit")
+        same("rt try" in " ".join(copy.log()), True, "an edit is compiled")
+    copy.write("../kit/KIT-ID", "kit 2\n")
+    copy.is_checked("another kit")
+    same("rt try" in " ".join(copy.log()), True, "another kit compiles")
+    same(len(os.listdir(f"{copy.cache}/arbiter/checked")), 4, "kept programs")
+
+
+def test_checked_build_that_fails(copy):
+    """What the kit says is shown, nothing is kept, and the status is 2."""
+    copy.write("../kit/while", "echo it is wrong >&2; exit 1\n")
+    status, out, err = copy.call(["./arbiter", "a"])
+    same((status, out), (2, ""), "a checked build that fails")
+    holds("it is wrong\narbiter: the checked build cannot be compiled\n", err, "standard error")
+    same(os.listdir(f"{copy.cache}/arbiter/checked"), [], "what is kept")
+
+
+def test_nothing_can_be_kept(copy):
+    """Without a folder to keep it in, the checked build is compiled for one run."""
+    copy.cache = f"{copy.folder}/file/below"
+    copy.write("../file", "no folder\n")
+    status, out, err = copy.call(["./arbiter", "a"])
+    same((status, out), (0, ""), "rt try itself runs")
+    holds("arbiter: the checked build cannot be kept on this machine", err, "standard error")
+    holds("run=ended status=0", err, "standard error")
+
+
+def test_help_and_version_need_no_build(copy):
+    """Help and the version are answered without the kit."""
+    copy.rt_there(False)
+    pages = {"arbiter": (["--help"], ["-h"], ["help"]),
+             "run": (["run", "--help"], ["run", "-h"], ["help", "run"]),
+             "check": (["check", "--help"], ["check", "-h"], ["help", "check"])}
+    for name, ways in pages.items():
+        text = (ROOT / f"share/help/{name}.txt").read_text()
+        for words in ways:
+            same(copy.call(["./arbiter", *words]), (0, text, ""), f"{words}")
+    for words in (["--version"], ["-V"]):
+        same(copy.call(["./arbiter", *words]), (0, f"arbiter {version()}\n", ""), f"{words}")
+    same(copy.call(["./arbiter", "help run"])[0], 2, "two words in one")
+
+
+def test_runs_without_the_kit(copy):
+    """Without rt on the PATH a current program runs. Otherwise the kit and its page are named."""
+    copy.build()
+    copy.rt_there(False)
+    copy.is_native("without the kit")
+    copy.write(sources("bw_model")[0], "edited\n")
+    for command in ("arbiter", "build", "test"):
+        status, out, err = copy.call([f"./{command}", *["run"][: command == "arbiter"]])
+        same((status, out), (2, ""), f"./{command} without the kit")
+        for part in (f"{command}: {NO_KIT}\n", "rattle-kit-13f or rattle-kit-13b (logic dac8208d",
+                     "README.md, 'Build and run'", "an installed program or a .deb needs no kit"):
+            holds(part, err, f"./{command} without the kit")
+
+
+def test_sees_every_source(copy):
+    """An edit of a source of any crate of the program is seen, and so is that it was undone."""
+    copy.build()
+    same(len(copy.ours) > 10, True, "crates of the program")
+    for at, crate in enumerate(sorted(copy.ours - {"bw_words"})):
+        path = sources(crate)[at % 3]
+        copy.write(path, "edited\n")
+        copy.is_checked(f"an edit of {path}")
+        copy.write(path, f"of {crate}\n")
+        copy.is_native(f"an edit of {path}, undone")
+
+
+def test_sees_an_edit_in_disguise(copy):
+    """A source or a program of the same size and time of the last write is seen."""
+    copy.build()
+    for path, text in ((sources("bw_split")[0], "OF bw_split\n"),
+                       (PROGRAM, NATIVE.replace("exit 7", "exit 8"))):
+        before, old = os.stat(f"{copy.top}/{path}"), copy.read(path)
+        copy.write(path, text)
+        os.utime(f"{copy.top}/{path}", ns=(before.st_atime_ns, before.st_mtime_ns))
+        copy.is_checked(f"{path} in disguise")
+        copy.write(path, old)
+        copy.is_native(f"{path} as it was")
+
+
+def test_leaves_other_crates_out(copy):
+    """The crates of tests are no part of the program."""
+    copy.build()
+    others = set(copy.crates) - copy.ours
+    same({"bw_laws", "plan_bench"} <= others and not {"bw_shell", "bw_model"} & others, True, f"{others}")
+    for crate in sorted(others):
+        for path in sources(crate):
+            copy.write(path, "edited\n")
+    copy.is_native("edits of tests")
+    copy.write("crates.txt", copy.read("crates.txt") + "more_tests: bw_model\n")
+    copy.is_native("a line of tests in crates.txt")
+
+
+def test_sees_the_lists(copy):
+    """crates.txt says which crates count; HANDLES counts."""
+    copy.build()
+    lines, handles = copy.read("crates.txt"), copy.read("HANDLES")
+    copy.write("HANDLES", "Handles allowed: none.\n")
+    copy.is_checked("other handles")
+    os.remove(f"{copy.top}/HANDLES")
+    status, _, err = copy.call(["./build"])
+    same(status, 1, "a build without a list")
+    holds("build: the kit or the sources cannot be read\nbuild: not built", err, "without a list")
+    copy.write("HANDLES", handles)
+    copy.is_native("the same handles")
+    with_new = re.sub(r"(?m)^(bw_shell .*?:)", r"\1\tbw_new", lines)
+    copy.write("crates.txt", with_new.replace("bw_model:", " bw_new :\nbw_model:", 1))
+    copy.is_checked("a new crate")
+    copy.write("crates/bw_new/src/lib.rt", "of bw_new\n")
+    copy.build()
+    copy.is_native("a new crate, built")
+    copy.write("crates/bw_new/specs/Meaning.antt", "more\n")
+    copy.is_checked("a first file in a folder of the new crate")
+
+
+def test_sees_files_come_and_go(copy):
+    """A file that is added, removed or renamed is seen; one that is no source is not."""
+    copy.build()
+    base = f"{copy.top}/crates/bw_plan"
+    copy.write("crates/bw_plan/src/notes.txt", "no source\n")
+    copy.write("crates/bw_plan/must-fail/one.edit", "no source\n")
+    copy.is_native("files that are no sources")
+    copy.write("crates/bw_plan/src/more.rt", "more\n")
+    copy.is_checked("a file that was added")
+    os.remove(f"{base}/src/more.rt")
+    os.rename(f"{base}/src/lib.rt", f"{base}/src/other.rt")
+    copy.is_checked("a file with another name")
+    os.rename(f"{base}/src/other.rt", f"{base}/src/lib.rt")
+    copy.is_native("and with its own")
+    os.rename(f"{base}/proofs", f"{base}/before")
+    copy.is_checked("a folder that is gone")
+
+
+def test_sees_the_kit(copy):
+    """Another kit is seen, without a call of rt where the kit's file is there."""
+    copy.build()
+    copy.is_native("the same kit")
+    same(copy.log().count("rt version"), 0, "calls of rt version")
+    copy.write("../kit/KIT-ID", "kit 2\n")
+    copy.is_checked("another kit")
+    copy.rt_there(False)
+    copy.is_native("no kit")
+    copy.rt_there(True)
+    os.remove(f"{copy.kit}/KIT-ID")
+    copy.log()
+    copy.is_native("a kit that says by its command what it is")
+    same(copy.log().count("rt version"), 1, "calls of rt version")
+    copy.write("../kit/version", "")
+    status, out, _ = copy.call(["./arbiter", "a"])
+    same((status, out), (2, ""), "a kit that says nothing")
+
+
+def test_needs_program_and_stamp(copy):
+    """Without a program or its stamp, or with another program, the checked build runs."""
+    copy.build()
+    for name in (PROGRAM, STAMP):
+        os.rename(f"{copy.top}/{name}", f"{copy.top}/aside")
+        copy.is_checked(f"without {name}")
+        os.rename(f"{copy.top}/aside", f"{copy.top}/{name}")
+        copy.is_native(f"{name}, back again")
+    os.chmod(f"{copy.top}/{PROGRAM}", 0o644)
+    copy.is_checked("a program that may not be run")
+    os.chmod(f"{copy.top}/{PROGRAM}", 0o755)
+    text = copy.read(STAMP)
+    for other in (text.replace(text.split("\n")[1], "0" * 64), ""):
+        copy.write(STAMP, other)
+        copy.is_checked("another stamp")
+
+
+def test_runs_at_once(copy):
+    """Many calls at once all run the program and leave nothing behind."""
+    copy.build()
+    with concurrent.futures.ThreadPoolExecutor(8) as pool:
+        same(set(pool.map(lambda _: copy.runs(), range(16))), {"native"}, "16 calls at once")
+    names = ["arbiter", "arbiter.sources", "build.log"]
+    same(sorted(os.listdir(f"{copy.top}/{OUT}")), names, "what is in out/")
+
+
+def test_builds_where_needed(copy):
+    """./build makes the program and its stamp, and does nothing if that is current."""
+    holds(f"build: {PROGRAM}, in ", copy.build(), "the first build")
+    same(copy.call(["./build"]), (0, f"build: {PROGRAM} is current\n", ""), "the second build")
+    same([line for line in copy.log() if line.startswith("rt ")], [], "calls of the second build")
+    copy.write(sources("bw_cert")[1], "edited\n")
+    copy.is_checked("an edit")
+    holds(f"build: {PROGRAM}, in ", copy.build(), "the build after an edit")
+    copy.is_native("after the build")
+
+
+def test_build_proves_side_by_side(copy):
+    """The kit is told a number of crates at a time; each crate that is proved is a line."""
+    status, _, err = copy.call(["./build"])
+    same(status, 0, err)
+    number = len(copy.ours)
+    lines = re.findall(r"^build: (\d+) of (\d+) crates \((\w+)\), \d+ s$", err, re.M)
+    same([line[:2] for line in lines], [(f"{at}", f"{number}") for at in range(1, number + 1)], err)
+    same({line[2] for line in lines}, copy.ours, "crates")
+    called = [line for line in copy.log() if line.startswith("rt all")]
+    assert re.fullmatch(r"rt all check --jobs [1-9]\d*", *called), called
+    holds("that took 29 min 48 s on a machine with 4 processors", err, "the time is told before")
+
+
+def test_build_on_a_terminal(copy):
+    """On a terminal one line is written anew, and nothing of it stays."""
+    copy.write("../kit/while", "sleep 1.5\n")
+    ours, theirs = pty.openpty()
+    with subprocess.Popen(["./build"], cwd=copy.top, stdin=theirs, stdout=subprocess.PIPE,
+                          stderr=theirs, env={**copy.environment(), "TERM": "xterm"}) as process:
+        os.close(theirs)
+        out = process.stdout.read()
+        text = b""
+        while True:
+            try:
+                piece = os.read(ours, 4096)
+            except OSError:
+                break
+            text += piece
+            if not piece:
+                break
+    os.close(ours)
+    same((process.returncode, out.startswith(b"build: crates/arbiter")), (0, True), f"{text}")
+    shown = [part for part in text.split(b"\r\x1b[K") if part.startswith(b"build: 0 of ")]
+    assert len(shown) > 1 and b"\n" not in b"".join(shown), text
+    assert re.fullmatch(rb"build: 0 of \d+ crates, \d+ s", shown[-1]), shown
+
+
+def group_is_gone(group):
+    """Whether all processes of a group end within some seconds."""
+    for _ in range(100):
+        try:
+            os.killpg(group, 0)
+        except ProcessLookupError:
+            return True
+        time.sleep(0.1)
+    return False
+
+
+def test_interrupted_build_goes_on(copy):
+    """A build that a signal ends leaves no stamp, ends the kit, and goes on the next time."""
+    copy.write("../kit/while", f"echo begun >>{copy.top}/begun\n[ -e {copy.top}/go ] || exec sleep 60\n")
+    for number in (signal.SIGINT, signal.SIGTERM):
+        with subprocess.Popen(["./build"], cwd=copy.top, stdin=subprocess.DEVNULL,
+                              stdout=subprocess.PIPE, stderr=subprocess.PIPE,
+                              env=copy.environment(), start_new_session=True) as process:
+            until = time.monotonic() + 30
+            while not copy.there("begun") and time.monotonic() < until:
+                time.sleep(0.05)
+            os.remove(f"{copy.top}/begun")
+            os.killpg(process.pid, number)
+            process.communicate(timeout=30)
+        same((process.returncode != 0, copy.there(STAMP)), (True, False), f"signal {number}")
+        same(group_is_gone(process.pid), True, "processes that are left end soon")
+    copy.write("go", "")
+    holds(f"build: {PROGRAM}, in ", copy.build(), "the build that goes on")
+    copy.is_native("after it")
+
+
+def test_build_that_fails_shows_the_crate(copy):
+    """What the kit says of a crate that failed is shown, and of no other."""
+    copy.write("../kit/while", "printf '== bw_model\\nfine\\n== bw_plan\\nsum is wrong\\n== summary\\n"
+               "bw_model: ok\\nbw_plan: failed (1)\\n'; exit 1\n")
+    status, _, err = copy.call(["./build"])
+    same(status, 1, err)
+    holds("build: not proved; all that the kit said is in crates/arbiter/out/build.log\n", err, "")
+    holds("== bw_plan\nsum is wrong\nbuild: not built; what was proved is kept", err, "")
+    same("fine" in err, False, "a crate that is proved")
+
+
+def test_takes_no_wrong_program(copy):
+    """A build that fails, or whose sources are changed meanwhile, gives no current program."""
+    copy.build()
+    path = sources("bw_stat")[2]
+    copy.write(path, "edited\n")
+    copy.write("../kit/while", "[ $1 = try ] || { echo it is wrong >&2; exit 1; }\n")
+    status, _, err = copy.call(["./build"])
+    same(status, 1, "a build that fails")
+    holds("it is wrong\nbuild: not built", err, "a build that fails")
+    copy.write(path, "of bw_stat\n")
+    copy.is_checked("after a build that failed, undone")
+    copy.write("../kit/while", f"[ $1 = try ] || echo late >>{copy.top}/{path}\n")
+    status, _, err = copy.call(["./build"])
+    same(status, 1, "sources that are changed meanwhile")
+    holds(f"{PROGRAM} is not taken as current: sources were changed while it was made", err, "")
+    copy.is_checked("after a build whose sources were changed")
+    copy.write("../kit/while", "")
+    copy.build()
+    copy.is_native("built again")
+
+
+def test_help_of_build(copy):
+    """Help names the option and every place; other words are refused, and nothing is built."""
+    status, out, err = copy.call(["./build", "--help"])
+    same((status, err), (0, ""), "--help")
+    same(copy.call(["./build", "-h"])[1], out, "-h")
+    places = re.findall(r"^  ((?:bin|lib|include|share)/\S+)$", out, re.M)
+    same(len(places), 11, "places in help")
+    page = (ROOT / "docs/BUILDING.md").read_text()
+    same(set(re.findall(r"^    DIR/(\S+)$", page, re.M)), set(places), "places in BUILDING.md")
+    no_folder = [(words, "needs a folder") for words in (["--install"], ["--install", ""])]
+    for words, part in ((["--frob"], "'--frob'"), (["dir"], "'dir'"), *no_folder):
+        status, out, err = copy.call(["./build", *words])
+        same((status, out), (2, ""), f"{words}")
+        holds(part, err, f"{words}")
+    same([line for line in copy.log() if line.startswith("rt ")], [], "what was called")
+
+
+# ./test
+
+GATE = """#!/bin/sh
+case $1 in
+  ci)
+    {during}
+    mkdir -p {out} && cp "{kit}/made" {program} && chmod 755 {program}
+    printf '== bw_text\\nsaid of it\\nrt: bw_text proved\\nrt: bw_plan NOT PROVED\\n' | {lines}
+    echo "{last}"
+    ;;
+  *) exec "{kit}/bin/kit" "$@" ;;
+esac
+"""
+# Stands in for pytest: the report of the tests, and the status.
+PYTHON = """#!/bin/sh
+case "$*" in
+  '-m pytest'*)
+    mkdir -p out
+    echo '<testsuite name="pytest" errors="0" failures="{failures}" skipped="1" tests="{tests}">' >out/tests.xml
+    exit {status}
+    ;;
+esac
+"""
+
+
+def with_gate(copy, last, lines="grep -v NOT", during=":", **tests):
+    """Puts stand-ins for the gate and for pytest into a copy."""
+    if not os.path.exists(f"{copy.kit}/bin/kit"):
+        shutil.copy(f"{copy.kit}/bin/rt", f"{copy.kit}/bin/kit")
+    copy.write("../kit/bin/rt", GATE.format(kit=copy.kit, out=OUT, program=PROGRAM, last=last,
+                                            lines=lines, during=during))
+    wanted = {"failures": 0, "tests": 12, "status": 0, **tests}
+    copy.write("../kit/python", PYTHON.format(**wanted))
+    os.chmod(f"{copy.kit}/python", 0o755)
+    text = copy.read("scripts/pytest.sh")
+    copy.write("scripts/pytest.sh", re.sub("(?m)^python=.*$", f"python={copy.kit}/python", text))
+
+
+def test_test_counts_all(copy):
+    """The last line counts the gate and the tests. The program is current, the library is linked."""
+    same(copy.call(["./test", "frob"])[0], 2, "./test with another word")
+    with_gate(copy, "5 passed, 0 failed")
+    copy.log()
+    status, out, err = copy.call(["./test"], stdin=subprocess.DEVNULL)
+    same((status, out.split("\n")[-2]), (0, "16 passed, 0 failed"), f"{out}{err}")
+    lines = out.split("\n")
+    took = "52 min 53 s on a machine with 4 processors; less where the gate passed a part before"
+    same(lines[0], f"test: from nothing this took {took}", "its begin")
+    holds("test: all that the gate says goes to out/gate.log\n", out, "the log")
+    holds("said of it\n", copy.read("out/gate.log"), "the log")
+    same("said of it" in out, False, "what a passed crate said")
+    holds("| Crate | proof, s |", out, "the table")
+    same(copy.proved(), [LIBRARY_PROVED], "what ./test proves after the gate")
+    copy.is_native("after ./test")
+    copy.installs(f"{copy.folder}/there", "after ./test")
+
+
+def test_test_sees_changed_sources(copy):
+    """A program of sources that changed while the gate ran is not taken as current."""
+    with_gate(copy, "5 passed, 0 failed", during=f"echo late >>{sources('bw_text')[0]}")
+    same(copy.call(["./test"])[0], 0, "./test")
+    copy.is_checked("after ./test")
+    copy.installs(f"{copy.folder}/there", "after ./test", [PROVED])
+
+
+@pytest.mark.parametrize("gate, tests, last", [
+    ("5 passed, 2 failed", {}, "16 passed, 2 failed"),
+    ("5 passed, 0 failed", {"failures": 3, "status": 1}, "13 passed, 3 failed"),
+    ("5 passed, 0 failed", {"status": 3}, "16 passed, 1 failed"),
+    ("killed", {}, "0 passed, 1 failed"),
+], ids=["a crate", "tests", "pytest itself", "no end of the gate"])
+def test_test_fails(copy, gate, tests, last):
+    """Each failure fails ./test, and counts."""
+    with_gate(copy, gate, **tests)
+    status, out, err = copy.call(["./test"])
+    same((status, out.split("\n")[-2]), (1, last), f"{out}{err}")
+
+
+def test_test_shows_failures(copy):
+    """Each failure of the gate is shown, with what the gate said of the crate."""
+    with_gate(copy, "5 passed, 2 failed", "cat; printf '== bw_plan\\nno proof\\nrt: bw_plan NOT PROVED\\n"
+              "rt: crates/bw_plan/must-fail/a.edit: NOT REFUSED: still proved\\n'")
+    out = copy.call(["./test"])[1]
+    for part in ("no proof\nrt: bw_plan NOT PROVED\n", "a.edit: NOT REFUSED: still proved\n"):
+        holds(part, out, "./test")
+    same("bw_text proved" in out, False, "what passed")
+
+
+# The scripts themselves
+
+
+def test_shellcheck():
+    """shellcheck finds nothing."""
+    if not shutil.which("shellcheck"):
+        pytest.skip("no shellcheck")
+    scripts = [ROOT / name for name in ("arbiter", "build", "test")]
+    ended = run(["shellcheck", "-x", *scripts, *sorted((ROOT / "scripts").glob("*.sh"))], cwd=ROOT)
+    same((ended.status, ended.out, ended.err), (0, b"", b""), "shellcheck")
+
+
+def test_readme_names_the_kits():
+    """README.md has the kits that the message of a missing kit names, and its heading."""
+    kits = re.search("^kits='(.*) \\((.*)\\)'$", (ROOT / "scripts/current.sh").read_text(), re.M)
+    page = (ROOT / "README.md").read_text()
+    for part in ("\n## Build and run\n", *kits[1].split(" or "), kits[2]):
+        holds(part, page, "README.md")
+
+
+def test_all_of_the_library(copy):
+    """The library's stamp speaks of its own crates."""
+    copy.installs("there", "a first installation", [PROVED, LIBRARY_PROVED])
+    same(copy.there(f"{LIBRARY}.sources"), True, "the library's stamp")
