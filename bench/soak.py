@@ -1,7 +1,7 @@
 #!/usr/bin/env python3
-"""Long runs of the native program, in which its memory has to stay flat and every answer right. Not a part of ./test.
+"""Long runs of the native program: its memory stays flat, and each answer is right.
 
-usage: tests/soak [PROGRAM]
+usage: bench/soak.py [PROGRAM]
 
 1,000 periods of 64 processors, 1,000,000 lines, 100,000 periods of one processor. About a minute with little else running;
 a part that has not ended after ten minutes is killed and has failed.
@@ -12,10 +12,8 @@ import sys
 import threading
 import time
 
-sys.path.insert(0, os.path.dirname(os.path.abspath(__file__)))
-
-from cases import PROGRAM, Cases, transcript
-
+TOP = os.path.dirname(os.path.dirname(os.path.abspath(__file__)))
+PROGRAM = os.path.abspath(sys.argv[1]) if len(sys.argv) > 1 else f"{TOP}/crates/arbiter/out/arbiter"
 PART_SECONDS = 600
 # How much more may be resident at the end than after the first tenth.
 GROWTH_KIB = 512
@@ -52,6 +50,13 @@ rmdir a/x
 rmdir a/y
 rmdir a
 """
+
+
+def transcript(words, texts):
+    """The answers to these texts, one behind the other."""
+    ended = subprocess.run([PROGRAM, *words], input=b"".join(texts), stdout=subprocess.PIPE,
+                           timeout=PART_SECONDS, check=True)
+    return ended.stdout
 
 
 def resident(process):
@@ -122,15 +127,18 @@ def part(name, words, first, block, times):
 
 def main():
     print(__doc__.split("\n\n")[2].strip(), flush=True)
-    cases = Cases()
-    blocks = LINES.count(b"\n")
+    lines, failed = LINES.count(b"\n"), 0
     for name, words, first, block, times in [
         ("1,000 periods of 64 processors", ["run", "--processors", "64"], TREE, b"period\n", 1000),
-        ("1,000,000 lines", ["run"], b"", LINES, 1000000 // blocks),
+        ("1,000,000 lines", ["run"], b"", LINES, 1000000 // lines),
         ("100,000 periods of one processor", ["run"], TREE, b"period\n", 100000),
     ]:
-        cases.case(name, part, name, words, first, block, times)
-    return cases.end()
+        wrong = part(name, words, first, block, times)
+        if wrong:
+            failed += 1
+            print(f"FAILED: {name}: {wrong}")
+    print(f"{3 - failed} passed, {failed} failed")
+    return 1 if failed else 0
 
 
 if __name__ == "__main__":

@@ -1,4 +1,5 @@
 /* The planner and the checker of arbiter, for programs in C and in what calls C.
+ * SPDX-License-Identifier: MIT OR Apache-2.0
  *
  * What C must uphold, for every call:
  *   - A pointer that is followed by its length points to so many entries, and no pointer is null, also where its length is 0.

@@ -1,0 +1,189 @@
+"""./build --install, in copies with stand-ins for the kit and its programs.
+
+What is installed, what is proved before, and that a file is replaced whole or not at all.
+"""
+import os
+import stat
+
+import pytest
+
+from stand_in import (LIBRARY, LIBRARY_PROVED, PROGRAM, PROVED, Copy, holds, sources, version)
+from support import run, same
+
+VERSION = version()
+SONAME = f"libarbiter.so.{VERSION.partition('.')[0]}"
+LINKS = {f"lib/{SONAME}": f"libarbiter.so.{VERSION}", "lib/libarbiter.so": SONAME}
+FILES = {
+    "bin/arbiter": (PROGRAM, 0o755),
+    f"lib/libarbiter.so.{VERSION}": (f"{LIBRARY}.so", 0o755),
+    "lib/libarbiter.a": (f"{LIBRARY}.a", 0o644),
+    "lib/pkgconfig/arbiter.pc": ("share/arbiter.pc", 0o644),
+    "include/arbiter.h": ("share/arbiter.h", 0o644),
+    "share/man/man1/arbiter.1": ("share/arbiter.1", 0o644),
+    "share/bash-completion/completions/arbiter": ("share/completions/arbiter.bash", 0o644),
+    "share/zsh/site-functions/_arbiter": ("share/completions/_arbiter", 0o644),
+    "share/fish/vendor_completions.d/arbiter.fish": ("share/completions/arbiter.fish", 0o644),
+}
+INSTALLED = {*FILES, *LINKS}
+
+
+@pytest.fixture
+def copy(scratch):
+    return Copy(os.path.realpath(scratch))
+
+
+def files_below(folder):
+    return {os.path.relpath(f"{at}/{name}", folder): f"{at}/{name}" for at, _, names in os.walk(folder) for name in names}
+
+
+def bytes_of(path):
+    with open(path, "rb") as file:
+        return file.read()
+
+
+def is_installed(copy, folder):
+    found = files_below(folder)
+    same(sorted(found), sorted(INSTALLED), "what is installed")
+    same({place: os.readlink(found[place]) for place in LINKS}, LINKS, "where links point to")
+    for place, (source, mode) in FILES.items():
+        same(bytes_of(found[place]) == bytes_of(f"{copy.top}/{source}"), True, f"the bytes of {place}")
+        same((stat.S_IMODE(os.stat(found[place]).st_mode), os.path.islink(found[place])), (mode, False), f"the mode of {place}")
+
+
+def test_installs(copy):
+    """All files come below a folder that was not there, named from where the caller stands; again over an old installation."""
+    os.makedirs(f"{copy.folder}/from here")
+    status, out, err = copy.call([f"{copy.top}/build", "--install", "to a/new place"], cwd=f"{copy.folder}/from here")
+    same(status, 0, f"./build --install: {err}")
+    folder = f"{copy.folder}/from here/to a/new place"
+    for place in INSTALLED:
+        holds(f"build: installed {folder}/{place}\n", out, "standard output")
+    same(copy.proved(), [PROVED, LIBRARY_PROVED], "what was proved")
+    is_installed(copy, folder)
+    copy.rt_there(False)
+    copy.write("precious", "precious\n")
+    os.remove(f"{folder}/bin/arbiter")
+    os.symlink(f"{copy.top}/precious", f"{folder}/bin/arbiter")
+    # as an installation without a version left it
+    os.remove(f"{folder}/lib/libarbiter.so")
+    for name in ("share/man/man1/arbiter.1", "lib/libarbiter.so"):
+        with open(f"{folder}/{name}", "w", encoding="utf-8") as file:
+            file.write("old\n")
+    os.chmod(f"{folder}/share/man/man1/arbiter.1", 0o400)
+    same(copy.call(["./build", f"--install={folder}"])[0], 0, "again, and without the kit")
+    is_installed(copy, folder)
+    same(copy.read("precious"), "precious\n", "what a link pointed to")
+    same(run([f"{folder}/bin/arbiter", "a"], b"", env={}, cwd="/").out, b"native: a\n", "the installed program by itself")
+
+
+def test_library_is_linked(copy):
+    """The two libraries are linked from the proved archive and what the kit's code needs, the shared one with its soname and the names that it shows; its proof is told before."""
+    _, err = copy.installs("there", "a first installation", [PROVED, LIBRARY_PROVED])
+    holds(f"build: proving and linking {LIBRARY}.so: from nothing that took ", err, "standard error")
+    same(copy.read(f"{LIBRARY}.a"), "archive\nrun time\n", "the static library")
+    for part in (" -shared ", f" -Wl,-soname,{SONAME} ", " -Wl,--version-script=share/arbiter.map ", " -Wl,--whole-archive crates/bw_exports/out/libbw_exports.a ", "/c/liblibc_c.a\n"):
+        holds(part, copy.read(f"{LIBRARY}.so"), "how the shared library is linked")
+    made = ["build.log", "libarbiter.a", "libarbiter.so", "libarbiter.sources", "libbw_exports.a"]
+    same(sorted(os.listdir(f"{copy.top}/crates/bw_exports/out")), made, "what is in out/")
+
+
+def test_library_where_needed(copy):
+    """The C library is made for an installation alone, and again where its own sources, or the files themselves, are others."""
+    copy.build()
+    same(copy.there(f"{LIBRARY}.so"), False, "a library without an installation")
+    out, _ = copy.installs("there", "a first installation", [LIBRARY_PROVED])
+    holds(f"build: {PROGRAM} is current\nbuild: {LIBRARY}.so, in ", out, "a first installation")
+    out, err = copy.installs("there", "a second one")
+    holds(f"build: {PROGRAM} is current\nbuild: {LIBRARY}.so is current\n", out, "a second one")
+    same(err, "", "standard error of a second one")
+    for crate, wanted in (("bw_exports", [LIBRARY_PROVED]), ("bw_shell", [PROVED]), ("bw_plan", [PROVED, LIBRARY_PROVED]), ("bw_planner_tests", [])):
+        copy.write(sources(crate)[0], "edited\n")
+        copy.installs("there", f"after an edit of {crate}", wanted)
+        copy.installs("there", f"again, after an edit of {crate}")
+    copy.write(f"{LIBRARY}.a", "another\n")
+    copy.installs("there", "another static library", [LIBRARY_PROVED])
+    os.remove(f"{copy.top}/{LIBRARY}.so")
+    copy.installs("there", "no shared library", [LIBRARY_PROVED])
+    is_installed(copy, f"{copy.top}/there")
+
+
+def test_library_of_another_version(copy):
+    """The library is linked again for other names and another version; one of another soname is put beside the old one, which stays."""
+    copy.installs("there", "a first installation", [PROVED, LIBRARY_PROVED])
+    copy.write("share/arbiter.map", copy.read("share/arbiter.map") + "# edited\n")
+    copy.installs("there", "other names", [LIBRARY_PROVED])
+    is_installed(copy, f"{copy.top}/there")
+    copy.write("crates/bw_words/src/lib.rt", 'pub const VERSION: &str = "2.3.4";\n')
+    copy.installs("there", "another version", [PROVED, LIBRARY_PROVED])
+    holds(" -Wl,-soname,libarbiter.so.2 ", copy.read("there/lib/libarbiter.so"), "the library that is linked with")
+    holds(f" -Wl,-soname,{SONAME} ", copy.read(f"there/lib/{SONAME}"), "the old library")
+    new = {"lib/libarbiter.so.2": "libarbiter.so.2.3.4", "lib/libarbiter.so": "libarbiter.so.2"}
+    same({place: os.readlink(f"{copy.top}/there/{place}") for place in {**LINKS, **new}}, {**LINKS, **new}, "where links point to")
+    copy.installs("there", "again")
+
+
+def test_no_wrong_library(copy):
+    """Where the library's proof or its linking fails, or sources are changed meanwhile, nothing is installed; without the kit neither."""
+    copy.build()
+    path = sources("bw_check")[1]
+    for hook, during, part in (("while", "echo it is wrong >&2; exit 1\n", "it is wrong\nbuild: not built"),
+                               ("toolchain/bin/while", "echo no room >&2; exit 1\n", "no room\nbuild: not built"),
+                               ("while", f"echo late >>{copy.top}/{path}\n", f"{LIBRARY}.so is not taken as current: sources were changed while it was made")):
+        copy.write(f"../kit/{hook}", during)
+        status, _, err = copy.call(["./build", "--install", "there"])
+        same((status, copy.there("there")), (1, False), part)
+        holds(part, err, part)
+        same([place for place in files_below(f"{copy.top}/crates/bw_exports") if "/link" in place], [], f"left in out/: {part}")
+        copy.write(f"../kit/{hook}", "")
+    copy.build()
+    copy.rt_there(False)
+    status, _, err = copy.call(["./build", "--install", "there"])
+    same((status, copy.there("there")), (2, False), "without the kit")
+    holds("build: the command rt of the Rattle kit is not on the PATH", err, "without the kit")
+
+
+def test_tells_where_it_cannot(copy):
+    """A folder that cannot be written is told, before anything is built, and nothing is made."""
+    copy.write("file", "precious\n")
+    places = [f"{copy.top}/file", f"{copy.top}/file/below", "/proc/nowhere"]
+    if os.geteuid():
+        os.makedirs(f"{copy.folder}/closed", mode=0o555)
+        places += [f"{copy.folder}/closed", f"{copy.folder}/closed/below"]
+    for built in (False, True):
+        if built:
+            copy.build()
+        for place in places:
+            status, out, err = copy.call(["./build", "--install", place])
+            same(status, 1, place)
+            same("installed" in out, False, f"{place}: {out}")
+            holds(f"build: not installed in {place}\n", err, place)
+            same(copy.proved(), [], f"what was proved before {place}")
+    same(copy.read("file"), "precious\n", "the file in the way")
+
+
+def test_installs_whole_or_not(copy):
+    """Where a copy is cut short, or a folder stands where a file belongs, the old files stay as they were and no other is there."""
+    folder = f"{copy.folder}/there"
+    copy.installs(f"{copy.folder}/elsewhere", "a first installation", [PROVED, LIBRARY_PROVED])
+    cut = ["bash", "-c", f"ulimit -f 2; exec ./build --install {folder}"]
+    made = max(os.path.getsize(f"{copy.top}/{name}") for name in (PROGRAM, f"{LIBRARY}.so", f"{LIBRARY}.a"))
+    same(os.path.getsize(f"{copy.top}/share/arbiter.1") > 2048 > made, True, "the man page is cut, and nothing that was made")
+    status, _, err = copy.call(cut)
+    same(status, 1, "a copy that is cut short")
+    holds(f"build: not installed in {folder}\n", err, "a copy that is cut short")
+    same(files_below(folder), {}, "files after a copy that was cut short")
+    same(copy.call(["./build", "--install", folder])[0], 0, "a whole copy")
+    is_installed(copy, folder)
+    for path in files_below(folder).values():
+        os.chmod(path, 0o600)
+        with open(path, "w", encoding="utf-8") as file:
+            file.write("old\n")
+    same(copy.call(cut)[0], 1, "a copy over old files that is cut short")
+    same({place: bytes_of(path) for place, path in files_below(folder).items()}, dict.fromkeys(INSTALLED, b"old\n"), "old files")
+    last = f"{folder}/share/fish/vendor_completions.d/arbiter.fish"
+    os.remove(last)
+    os.makedirs(last)
+    status, _, err = copy.call(["./build", "--install", folder])
+    same(status, 1, "a folder in the way")
+    holds(f"build: {last} is a folder\n", err, "a folder in the way")
+    same({bytes_of(path) for path in files_below(folder).values()}, {b"old\n"}, "old files beside a folder in the way")
