@@ -83,6 +83,18 @@ def test_files_of_the_walk():
     same([path for path in named if not (ROOT / "crates" / path).exists()], [], "missing files")
 
 
+def test_functions_of_the_walk():
+    """Each function that the way of a line names is in some crate."""
+    text = text_of("docs/ARCHITECTURE.md")
+    walk = text[text.index("## The way of a `plan` line"):text.index("## Rules")]
+    named = {name for name in re.findall(r"`(?:\w+::)?([a-z_]+)`", walk)} - {"plan", "period"}
+    assert len(named) >= 15
+    sources = "\n".join(path.read_text(encoding="utf-8")
+                        for path in sorted(ROOT.glob("crates/*/src/**/*.rt")))
+    same([name for name in sorted(named) if not re.search(rf"\bfn {name}\b", sources)], [],
+         "functions that are not")
+
+
 # Clauses and definitions
 
 
