@@ -1,18 +1,13 @@
-"""The tools: what each prints for scripts and folders whose answers were worked out by hand, and what it refuses.
+"""Checks of the tools: what each prints for scripts and folders whose answers were worked out by hand, and what it refuses.
 
-    tests/tools.py [PROGRAM]
-
-runs them over PROGRAM (default: the native program, where it is current). What plans are checked by is tried twice: by the
-C library, which ./build --install DIR or ./test made, and by the program. The last line is 'N passed, M failed'.
+test_tools.py runs them.
 """
-import concurrent.futures
 import json
 import os
 import random
 import re
 import shutil
 import stat
-import sys
 import tempfile
 import xml.etree.ElementTree
 
@@ -634,26 +629,3 @@ def series_refuses(tools):
 OF_PLANS = [explain_reasons, explain_limiting, explain_carry, explain_refused, explain_asks_the_library, explain_names, explain_compare,
             explain_believes_nothing, explain_random, picture_to_scale, picture_of_odd_trees, series_by_hand, series_picture, series_refuses]
 OTHERS = [are_programs, needs_a_program, systemd_host, kubernetes_node, odd_names, waits_and_refuses, reads_a_real_mount]
-
-
-def checked(check, tools):
-    try:
-        check(tools)
-    except (AssertionError, OSError, ValueError, KeyError, IndexError, native.subprocess.SubprocessError) as error:
-        return f"{check.__name__}, library {tools.library}: {error or type(error).__name__}"
-    return None
-
-
-def main():
-    program, library = native.program(sys.argv[1:]), f"{native.library()}.so"
-    checks = [*((check, library) for check in OF_PLANS), *((check, "none") for check in [*OF_PLANS, *OTHERS])]
-    with concurrent.futures.ThreadPoolExecutor(4) as pool:
-        wrong = [each for each in pool.map(lambda check: checked(check[0], Tools(program, check[1])), checks) if each]
-    for each in wrong:
-        print(f"FAILED: {each}")
-    print(f"{len(checks) - len(wrong)} passed, {len(wrong)} failed")
-    return 1 if wrong else 0
-
-
-if __name__ == "__main__":
-    sys.exit(main())
