@@ -1,7 +1,10 @@
 -- The command that a line names.
-use Rattle.std.specs.Prelude.{ℕ, List, [], ◌∷◌, Bool, true, false, ◌==◌, Option, Some, None, if◌then◌else◌, codes}
+use Rattle.std.specs.Prelude.{ℕ, List, [], ◌∷◌, Bool, true, false, ◌==◌, ◌||◌, nat_lt, if◌then◌else◌, codes}
+use Rattle.std.specs.Prelude.{Option, Some, None, Result, Ok, Err}
 use Rattle.std.specs.Str.{bytes_eq}
 use Rattle.bw_commands.specs.Word.{first_word, after_word}
+use Rattle.bw_commands.specs.declared.fault.ScriptFault.{ScriptFault}
+use Rattle.bw_commands.specs.declared.fault.ScriptFault.TheVariants.{BadCommand}
 
 -- What a line may ask for. Nothing is asked by a line with no word, or by a comment.
 pub data Command : Type 0 where
@@ -26,42 +29,59 @@ abbrev pub is_silent : List ℕ → Bool
 is_silent [] = true
 is_silent (b ∷ bs) = b == 35
 
--- the command of a line of one word
-unfoldable pub command_alone : List ℕ → Option Command
-command_alone verb =
-    (if bytes_eq verb (codes "total") then Some Total
-    else if bytes_eq verb (codes "plan") then Some Plan
-    else if bytes_eq verb (codes "cert") then Some Cert
-    else if bytes_eq verb (codes "period") then Some Period
-    else if bytes_eq verb (codes "report") then Some Report
-    else None)
+-- ---- the table of commands
 
--- the command of a line of two words
-unfoldable pub command_on_group : List ℕ → List ℕ → Option Command
-command_on_group verb path =
-    (if bytes_eq verb (codes "mkdir") then Some (Mkdir path)
-    else if bytes_eq verb (codes "rmdir") then Some (Rmdir path)
-    else None)
+-- What a first word means, and the least and the greatest number of words behind it.
+pub record Form : Type 0 where
+  pub meaning : Command
+  pub least : ℕ
+  pub most : ℕ
 
--- the command of a line of three words that is no `write`
-unfoldable pub command_with_word : List ℕ → List ℕ → List ℕ → Option Command
-command_with_word verb path word =
-    (if bytes_eq verb (codes "demand") then Some (Demand path word)
-    else if bytes_eq verb (codes "read") then Some (Read path word)
-    else None)
+abbrev pub form : ℕ → ℕ → Command → Form
+form least most meaning = record { meaning = meaning; least = least; most = most }
 
--- the command with its words, at most four, and all that stands after the third; a word that is not there is empty
-unfoldable pub command_of_words : List ℕ → List ℕ → List ℕ → List ℕ → List ℕ → Option Command
+-- The table: the first word, the least and the greatest number of words behind it, and the meaning. The words behind
+-- it are a path and a second word; the text is all that stands behind those. Three words behind it may be more.
+unfoldable pub forms : List ℕ → List ℕ → List ℕ → List (List ℕ × Form)
+forms path word text =
+    (codes "mkdir", form 1 1 (Mkdir path))
+    ∷ (codes "rmdir", form 1 1 (Rmdir path))
+    ∷ (codes "demand", form 2 2 (Demand path word))
+    ∷ (codes "read", form 2 2 (Read path word))
+    ∷ (codes "write", form 2 3 (Write path word text))
+    ∷ (codes "total", form 0 0 Total)
+    ∷ (codes "plan", form 0 0 Plan)
+    ∷ (codes "cert", form 0 0 Cert)
+    ∷ (codes "period", form 0 0 Period)
+    ∷ (codes "report", form 0 0 Report)
+    ∷ []
+
+-- the form of a first word, if the table has it
+abbrev pub form_named : List ℕ → List (List ℕ × Form) → Option Form
+form_named verb [] = None
+form_named verb (entry ∷ entries) = (if bytes_eq verb entry.0 then Some entry.1 else form_named verb entries)
+
+-- ---- lines
+
+-- the number of words behind the first, where 3 is three or more; a word that is not there is empty
+abbrev pub words_behind : List ℕ → List ℕ → List ℕ → ℕ
+words_behind first second third =
+    (if is_empty first then 0 else if is_empty second then 1 else if is_empty third then 2 else 3)
+
+-- the meaning of a form with so many words behind the first
+abbrev pub command_of_form : ℕ → Option Form → Result Command ScriptFault
+command_of_form count None = Err BadCommand
+command_of_form count (Some form) =
+    (if nat_lt count form.least || nat_lt form.most count then Err BadCommand else Ok form.meaning)
+
+-- the command that these words name; a line with no word and a comment ask for nothing
+unfoldable pub command_of_words : List ℕ → List ℕ → List ℕ → List ℕ → List ℕ → Result Command ScriptFault
 command_of_words verb first second third text =
-    (if is_silent verb then Some Nothing
-    else if is_empty first then command_alone verb
-    else if is_empty second then command_on_group verb first
-    else if bytes_eq verb (codes "write") then Some (Write first second text)
-    else if is_empty third then command_with_word verb first second
-    else None)
+    (if is_silent verb then Ok Nothing
+    else command_of_form (words_behind first second third) (form_named verb (forms first second text)))
 
--- the command that a line names, if it names one
-unfoldable pub command_of_line : List ℕ → Option Command
+-- the command that a line names, or the refusal of the line
+unfoldable pub command_of_line : List ℕ → Result Command ScriptFault
 command_of_line line =
     let a = after_word line in
     let b = after_word a in

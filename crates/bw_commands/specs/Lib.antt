@@ -4,6 +4,7 @@ pub mod Faults
 pub mod Word
 pub mod Command
 pub mod Parsed
+pub mod Forms
 pub mod Answers
 pub mod GroupLines
 pub mod PathList
@@ -14,4 +15,4 @@ pub mod Period
 pub mod Reported
 pub mod LineText
 pub mod Script
-pub mod Commands
+pub mod ScriptState

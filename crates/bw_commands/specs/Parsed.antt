@@ -1,7 +1,10 @@
 -- The command that a value of the program's enum stands for.
+use Rattle.std.specs.Prelude.{Result, Ok, Err}
 use Rattle.bw_commands.specs.Command as spec
-use Rattle.bw_commands.specs.declared.parse.Command.{Command}
-use Rattle.bw_commands.specs.declared.parse.Command.TheVariants.{Nothing, Mkdir, Rmdir, Demand, Read, Write, Total, Plan, Cert, Period, Report}
+use Rattle.bw_commands.specs.declared.command.Command.{Command}
+use Rattle.bw_commands.specs.declared.command.Command.TheVariants.{Nothing, Mkdir, Rmdir, Demand, Read, Write}
+use Rattle.bw_commands.specs.declared.command.Command.TheVariants.{Total, Plan, Cert, Period, Report}
+use Rattle.bw_commands.specs.declared.fault.ScriptFault.{ScriptFault}
 
 -- the command that the value tells of
 abbrev pub meaning_of : Command → spec.Command
@@ -16,3 +19,8 @@ meaning_of Plan = spec.Plan
 meaning_of Cert = spec.Cert
 meaning_of Period = spec.Period
 meaning_of Report = spec.Report
+
+-- the command that a line asks for, or its refusal
+abbrev pub request_of : Result Command ScriptFault → Result spec.Command ScriptFault
+request_of (Ok command) = Ok (meaning_of command)
+request_of (Err fault) = Err fault

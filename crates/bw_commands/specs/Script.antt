@@ -1,6 +1,5 @@
 -- What a line of a script means: the text that it prints, and the state after it.
 use Rattle.std.specs.Prelude.{ℕ, ◌≡◌, ◌⊎◌, List, [], ◌∷◌, ◌++◌, nat_lt, if◌then◌else◌, codes, length, Result, Ok, Err, Option, Some, None}
-use Rattle.std.specs.Option.{option_map_or}
 use Rattle.std.specs.Str.{is_utf8}
 use Rattle.bw_text.specs.Number.{number_spelled}
 use Rattle.bw_hierarchy.specs.State.{with_tree, rmdir_of, demand_set_of}
@@ -93,21 +92,22 @@ outcome_of_command s command.Cert = Cert
 outcome_of_command s command.Period = Period
 outcome_of_command s command.Report = Report
 
--- what was asked: what the command does, or the refusal where it is none
-abbrev pub outcome_of_asked : State → Option Command → Outcome
-outcome_of_asked s asked = option_map_or (outcome_of_command s) asked (refused s fault.BadCommand)
-
--- a line of text: what it asks for
-unfoldable pub outcome_of_text : State → List ℕ → Outcome
-outcome_of_text s line = outcome_of_asked s (command_of_line line)
-
 -- what is kept of a line: nothing where it is too long
 abbrev pub kept_of : List ℕ → Option (List ℕ)
 kept_of line = (if nat_lt line_bytes (length line) then None else Some line)
 
+-- what is asked by what is kept of a line: a command, or the refusal of the line
+unfoldable pub request_of_kept : Option (List ℕ) → Result Command ScriptFault
+request_of_kept None = Err fault.LineTooLong
+request_of_kept (Some line) = (if is_utf8 line then command_of_line line else Err fault.BadText)
+
+-- what a request does: what its command does, or the refusal
+abbrev pub outcome_of_request : State → Result Command ScriptFault → Outcome
+outcome_of_request s (Ok command) = outcome_of_command s command
+outcome_of_request s (Err f) = refused s f
+
 unfoldable pub outcome_of_kept : State → Option (List ℕ) → Outcome
-outcome_of_kept s None = refused s fault.LineTooLong
-outcome_of_kept s (Some line) = (if is_utf8 line then outcome_of_text s line else refused s fault.BadText)
+outcome_of_kept s kept = outcome_of_request s (request_of_kept kept)
 
 -- a line
 abbrev pub outcome_of : State → List ℕ → Outcome

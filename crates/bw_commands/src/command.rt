@@ -1,8 +1,11 @@
 //! The command that a line of a script names.
-ghost use Rattle.std.specs.Prelude.{◌≡◌, option_map};
-ghost use Rattle.bw_commands.specs.Command.{command_alone, command_on_group, command_with_word, command_of_words, command_of_line};
-ghost use Rattle.bw_commands.specs.Parsed.{meaning_of};
+ghost use Rattle.std.specs.Prelude.{◌≡◌, Some, option_map};
+ghost use Rattle.bw_commands.specs.Command.{form, form_named, forms, words_behind};
+ghost use Rattle.bw_commands.specs.Command.{command_of_form, command_of_words};
+ghost use Rattle.bw_commands.specs.Forms.{form_of};
+ghost use Rattle.bw_commands.specs.Parsed.{meaning_of, request_of};
 
+use crate::fault::ScriptFault;
 use crate::word::split_word;
 
 /// What a line of a script asks for.
@@ -28,13 +31,14 @@ pub enum Command<'a> {
         path: &'a str,
         file: &'a str,
     },
-    /// `write P FILE TEXT` writes a file of a group. The text is all that stands after the third word.
+    /// `write P FILE TEXT` writes a file of a group. The text is all that follows the third word.
     Write {
         path: &'a str,
         file: &'a str,
         text: &'a str,
     },
-    /// `total` prints the greatest total, the limits that hold it down, and the demands outside them.
+    /// `total` prints the greatest total, the limits that hold it down, and the demands outside
+    /// them.
     Total,
     /// `plan` prints what each group gets.
     Plan,
@@ -46,15 +50,27 @@ pub enum Command<'a> {
     Report,
 }
 
-impl<'a> Command<'a> {
-    ghost use Rattle.std.specs.Prelude.{◌≡◌, option_map};
-    ghost use Rattle.bw_commands.specs.Command.{command_of_line};
-    ghost use Rattle.bw_commands.specs.Parsed.{meaning_of};
+// What a first word means, and the least and the greatest number of words behind it.
+#[derive(Clone, Copy)]
+struct Form<'a> {
+    meaning: Command<'a>,
+    least: usize,
+    most: usize,
+}
 
-    /// The command that a line names. `None` where its first word names none, or not with so many words.
+impl<'a> Command<'a> {
+    ghost use Rattle.std.specs.Prelude.{◌≡◌};
+    ghost use Rattle.bw_commands.specs.Command.{command_of_line};
+    ghost use Rattle.bw_commands.specs.Parsed.{request_of};
+
+    /// Reads the command that a line names.
+    ///
+    /// # Errors
+    ///
+    /// `BadCommand` if its first word names no command, or not with that number of words.
     #[tactic(auto, unfolding(crate::specs::Command::command_of_line))]
-    pub fn parse(line: &'a str) -> Option<Command<'a>>
-        ensures { option_map meaning_of result ≡ command_of_line line.now }
+    pub fn parse(line: &'a str) -> Result<Command<'a>, ScriptFault>
+        ensures { request_of result ≡ command_of_line line.now }
     {
         let (verb, rest) = split_word(line);
         let (first, rest) = split_word(rest);
@@ -64,7 +80,7 @@ impl<'a> Command<'a> {
     }
 }
 
-// The command of at most four words, and all that stands after the third. A word that is not there is empty.
+// The command of at most four words, and the text behind the third. An absent word is empty.
 #[tactic(auto, unfolding(crate::specs::Command::command_of_words))]
 fn of_words<'a>(
     verb: &str,
@@ -72,64 +88,82 @@ fn of_words<'a>(
     second: &'a str,
     third: &str,
     text: &'a str,
-) -> Option<Command<'a>>
-    ensures { option_map meaning_of result ≡ command_of_words verb.now first.now second.now third.now text.now }
+) -> Result<Command<'a>, ScriptFault>
+    ensures { request_of result
+        ≡ command_of_words verb.now first.now second.now third.now text.now }
 {
     if verb.is_empty() || verb.as_bytes()[0] == b'#' {
-        return Some(Command::Nothing);
+        return Ok(Command::Nothing);
     }
+    let count = words_behind(first, second, third);
+    match form_named(verb, first, second, text) {
+        Some(form) => checked(form, count),
+        None => Err(ScriptFault::BadCommand),
+    }
+}
+
+// The command of a form with `count` words behind the first.
+fn checked<'a>(form: Form<'a>, count: usize) -> Result<Command<'a>, ScriptFault>
+    ensures { request_of result ≡ command_of_form count (Some (form_of form.entry)) }
+{
+    if count < form.least || form.most < count {
+        return Err(ScriptFault::BadCommand);
+    }
+    Ok(form.meaning)
+}
+
+// The number of words behind the first, 0 to 3, where 3 is three or more.
+fn words_behind(first: &str, second: &str, third: &str) -> usize
+    ensures { result ≡ words_behind first.now second.now third.now }
+{
     if first.is_empty() {
-        alone(verb)
+        0
     } else if second.is_empty() {
-        on_group(verb, first)
-    } else if verb == "write" {
-        Some(Command::Write {
-            path: first,
-            file: second,
-            text,
-        })
+        1
     } else if third.is_empty() {
-        with_word(verb, first, second)
+        2
     } else {
-        None
+        3
     }
 }
 
-// The command of a line of one word.
-#[tactic(auto, unfolding(crate::specs::Command::command_alone))]
-fn alone<'a>(verb: &str) -> Option<Command<'a>>
-    ensures { option_map meaning_of result ≡ command_alone verb.now }
+fn with_words<'a>(least: usize, most: usize, meaning: Command<'a>) -> Form<'a>
+    ensures { form_of result ≡ form least most (meaning_of meaning.entry) }
 {
-    match verb {
-        "total" => Some(Command::Total),
-        "plan" => Some(Command::Plan),
-        "cert" => Some(Command::Cert),
-        "period" => Some(Command::Period),
-        "report" => Some(Command::Report),
-        _ => None,
+    Form {
+        meaning,
+        least,
+        most,
     }
 }
 
-// The command of a line of two words.
-#[tactic(auto, unfolding(crate::specs::Command::command_on_group))]
-fn on_group<'a>(verb: &str, path: &'a str) -> Option<Command<'a>>
-    ensures { option_map meaning_of result ≡ command_on_group verb.now path.now }
+// The form of a first word, if the table of commands has it.
+#[tactic(auto, unfolding(crate::specs::Command::forms))]
+fn form_named<'a>(verb: &str, path: &'a str, word: &'a str, text: &'a str) -> Option<Form<'a>>
+    ensures { option_map form_of result
+        ≡ form_named verb.now (forms path.now word.now text.now) }
 {
     match verb {
-        "mkdir" => Some(Command::Mkdir { path }),
-        "rmdir" => Some(Command::Rmdir { path }),
-        _ => None,
-    }
-}
-
-// The command of a line of three words that is no `write`.
-#[tactic(auto, unfolding(crate::specs::Command::command_with_word))]
-fn with_word<'a>(verb: &str, path: &'a str, word: &'a str) -> Option<Command<'a>>
-    ensures { option_map meaning_of result ≡ command_with_word verb.now path.now word.now }
-{
-    match verb {
-        "demand" => Some(Command::Demand { path, number: word }),
-        "read" => Some(Command::Read { path, file: word }),
+        "mkdir" => Some(with_words(1, 1, Command::Mkdir { path })),
+        "rmdir" => Some(with_words(1, 1, Command::Rmdir { path })),
+        "demand" => Some(with_words(2, 2, Command::Demand { path, number: word })),
+        "read" => Some(with_words(2, 2, Command::Read { path, file: word })),
+        "write" => Some(
+            with_words(
+                2,
+                3,
+                Command::Write {
+                    path,
+                    file: word,
+                    text,
+                },
+            ),
+        ),
+        "total" => Some(with_words(0, 0, Command::Total)),
+        "plan" => Some(with_words(0, 0, Command::Plan)),
+        "cert" => Some(with_words(0, 0, Command::Cert)),
+        "period" => Some(with_words(0, 0, Command::Period)),
+        "report" => Some(with_words(0, 0, Command::Report)),
         _ => None,
     }
 }

@@ -3,14 +3,14 @@
 #![tactic(auto)]
 
 mod answers;
+mod command;
 mod fault;
-mod parse;
-mod perform;
 mod refusal;
+mod script_state;
 mod span;
 mod word;
 
+pub use command::Command;
 pub use fault::ScriptFault;
-pub use parse::Command;
-pub use perform::Commands;
 pub use refusal::{REFUSAL_BYTES, put_error};
+pub use script_state::Script;

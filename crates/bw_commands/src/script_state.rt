@@ -1,19 +1,20 @@
-//! The commands of a script, on a host and its tree of groups.
-ghost use Rattle.std.specs.Prelude.{option_map, ◌≡◌, ◌≤◌, [], IfOk, IfErr};
+//! The state of a script, and what each command does to it.
+ghost use Rattle.std.specs.Prelude.{◌≡◌, ◌≤◌, [], IfOk, IfErr};
 ghost use Rattle.bw_tree.specs.declared.fault.TreeFault.TheVariants.{OutOfMemory};
 ghost use Rattle.bw_hierarchy.specs.declared.fault.Fault.TheVariants.{Tree};
 ghost use Rattle.std.specs.Vec.{vec_capacity};
 ghost use Rattle.bw_text.specs.Number.{number_spelled};
-ghost use Rattle.bw_commands.specs.Script.{outcome_of_command, outcome_of_asked, mkdir_outcome, rmdir_outcome, demand_outcome, read_outcome, write_outcome};
-ghost use Rattle.bw_commands.specs.Script.{ok_line, Performs, Period};
+ghost use Rattle.bw_commands.specs.Script.{outcome_of_command, mkdir_outcome, rmdir_outcome};
+ghost use Rattle.bw_commands.specs.Script.{demand_outcome, read_outcome, write_outcome};
+ghost use Rattle.bw_commands.specs.Script.{ok_line, Performs};
 ghost use Rattle.bw_commands.specs.State.{start};
-ghost use Rattle.bw_commands.specs.Commands.{state_of};
+ghost use Rattle.bw_commands.specs.ScriptState.{state_of};
 ghost use Rattle.bw_commands.specs.Parsed.{meaning_of};
 ghost use Rattle.bw_commands.specs.declared.refusal.TheConstants.{REFUSAL_BYTES};
 
 use crate::answers::{put_certified, put_plan, put_report, put_total, serve_period};
+use crate::command::Command;
 use crate::fault::ScriptFault;
-use crate::parse::Command;
 use crate::refusal::REFUSAL_BYTES;
 use bw_hierarchy::{Fault, Hierarchy};
 use bw_model::HostShape;
@@ -25,21 +26,30 @@ use std::rt::Clock;
 use std::sync::Wait;
 use std::thread::Threads;
 
-/// A host and its tree of groups, on which the lines of a script work, and the gate of its workers.
+/// State of a script: a host with its tree of groups, and the gate of its workers.
 #[derive(Drop)]
-pub struct Commands<'a, G> {
+pub struct Script<'a, G> {
+    alloc: Global,
     hierarchy: Hierarchy,
     gate: &'a G,
 }
 
-impl<'a, G: Gate> Commands<'a, G> {
-    /// The root alone. It fails only when out of memory.
-    pub fn new(alloc: Global, shape: HostShape, gate: &'a G) -> Result<Commands<'a, G>, Fault>
+impl<'a, G: Gate> Script<'a, G> {
+    /// Makes the root alone.
+    ///
+    /// # Errors
+    ///
+    /// `OutOfMemory` if an allocation failed.
+    pub fn new(alloc: Global, shape: HostShape, gate: &'a G) -> Result<Script<'a, G>, Fault>
         ensures made { IfOk result (λ c. state_of G.used c ≡ start shape (G.used gate.now)) }
         ensures err { IfErr result (λ fault. fault ≡ Tree OutOfMemory) }
     {
         let hierarchy = Hierarchy::new(alloc, shape)?;
-        Ok(Commands { hierarchy, gate })
+        Ok(Script {
+            alloc,
+            hierarchy,
+            gate,
+        })
     }
 
     // `mkdir P`, whose answer is `ok`.
@@ -96,26 +106,15 @@ impl<'a, G: Gate> Commands<'a, G> {
         Ok(self.hierarchy.write_file(path, file, text.as_bytes())?)
     }
 
-    // `period`
-    fn period<H: Threads + Wait + Clock + Sync>(
-        &mut self,
-        rt: &H,
-        alloc: Global,
-        answer: &mut Vec<u8>,
-    ) -> Result<(), ScriptFault>
-        requires { answer.old.items ≡ [] }
-        ensures outcome { Performs (state_of G.used self.old) Period result answer.new.items (state_of G.used self.new) }
-        ensures room { vec_capacity answer.old ≤ vec_capacity answer.new }
-    {
-        Ok(serve_period(rt, alloc, &mut self.hierarchy, self.gate, answer)?)
-    }
-
-    // Forms the whole answer to a command in an empty buffer, and then makes its change.
+    /// Forms the whole answer to a command in an empty buffer, and then makes its change.
+    ///
+    /// # Errors
+    ///
+    /// The refusal of the line; it changes nothing.
     #[tactic(auto, unfolding(crate::specs::Faults::error_line))]
-    fn perform<H: Threads + Wait + Clock + Sync>(
+    pub fn perform<H: Threads + Wait + Clock + Sync>(
         &mut self,
         rt: &H,
-        alloc: Global,
         command: Command<'_>,
         answer: &mut Vec<u8>,
     ) -> Result<(), ScriptFault>
@@ -144,32 +143,11 @@ impl<'a, G: Gate> Commands<'a, G> {
                 put(answer, b"ok\n");
                 self.write(path, file, text)
             }
-            Command::Total => Ok(put_total(alloc, &self.hierarchy, answer)?),
-            Command::Plan => Ok(put_plan(rt, alloc, &self.hierarchy, answer)?),
-            Command::Cert => Ok(put_certified(rt, alloc, &self.hierarchy, answer)?),
-            Command::Period => self.period(rt, alloc, answer),
-            Command::Report => Ok(put_report(alloc, &self.hierarchy, answer)?),
-        }
-    }
-
-    /// Forms the whole answer to what a line asks for in an empty buffer, and then makes its change; where it asks for
-    /// nothing known, the refusal. An `Err` changes nothing.
-    pub fn answer<H: Threads + Wait + Clock + Sync>(
-        &mut self,
-        rt: &H,
-        alloc: Global,
-        asked: Option<Command<'_>>,
-        answer: &mut Vec<u8>,
-    ) -> Result<(), ScriptFault>
-        requires empty { answer.old.items ≡ [] }
-        requires room { REFUSAL_BYTES ≤ vec_capacity answer.old }
-        ensures outcome { Performs (state_of G.used self.old) (outcome_of_asked (state_of G.used self.old) (option_map meaning_of asked.entry))
-            result answer.new.items (state_of G.used self.new) }
-        ensures room { vec_capacity answer.old ≤ vec_capacity answer.new }
-    {
-        match asked {
-            Some(command) => self.perform(rt, alloc, command, answer),
-            None => Err(ScriptFault::BadCommand),
+            Command::Total => Ok(put_total(self.alloc, &self.hierarchy, answer)?),
+            Command::Plan => Ok(put_plan(rt, self.alloc, &self.hierarchy, answer)?),
+            Command::Cert => Ok(put_certified(rt, self.alloc, &self.hierarchy, answer)?),
+            Command::Period => serve_period(rt, self.alloc, &mut self.hierarchy, self.gate, answer),
+            Command::Report => Ok(put_report(self.alloc, &self.hierarchy, answer)?),
         }
     }
 }

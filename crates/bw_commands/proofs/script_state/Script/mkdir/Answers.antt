@@ -1,13 +1,13 @@
--- The goals of `Commands::mkdir` that are answered by hand.
+-- The goals of `Script::mkdir` that are answered by hand.
 use Rattle.std.proofs.Common.{ap}
 use Rattle.std.proofs.lemmas.Result.{err_from_is_err_and}
 use Rattle.bw_hierarchy.specs.State.{with_tree}
 use Rattle.bw_hierarchy.specs.Calls.{mkdir_of}
-use Rattle.bw_commands.specs.Commands.{state_of}
+use Rattle.bw_commands.specs.ScriptState.{state_of}
 use Rattle.bw_commands.specs.State.{State, with_hierarchy}
 use Rattle.bw_commands.specs.Script.{mkdir_outcome, ok_line}
 use Rattle.bw_commands.proofs.Refusals.{call_outcome-IsRefusal}
-use Rattle.bw_commands.proofs.perform.Commands.mkdir.Goals as goal
+use Rattle.bw_commands.proofs.script_state.Script.mkdir.Goals as goal
 
 pub returns-in_err-_id : goal.returns-in_err-_id
 unfolding mkdir_outcome

@@ -1,12 +1,12 @@
--- The goals of `Commands::read` that are answered by hand.
+-- The goals of `Script::read` that are answered by hand.
 use Rattle.std.proofs.Common.{refl}
 use Rattle.std.proofs.lemmas.Result.{err_from_is_err_and}
 use Rattle.bw_hierarchy.specs.Files.{read_of}
-use Rattle.bw_commands.specs.Commands.{state_of}
+use Rattle.bw_commands.specs.ScriptState.{state_of}
 use Rattle.bw_commands.specs.State.{State}
 use Rattle.bw_commands.specs.Script.{read_outcome}
 use Rattle.bw_commands.proofs.Refusals.{call_outcome-IsRefusal}
-use Rattle.bw_commands.proofs.perform.Commands.read.Goals as goal
+use Rattle.bw_commands.proofs.script_state.Script.read.Goals as goal
 
 pub returns-in_err-text-clause-outcome : goal.returns-in_err-text-clause-outcome
 unfolding read_outcome
