@@ -1,5 +1,6 @@
 -- A script byte by byte: the state, and what is kept of the line so far.
-use Rattle.std.specs.Prelude.{ℕ, ◌≡◌, ◌≢◌, List, [], ◌∷◌, ◌++◌, nat_lt, if◌then◌else◌, length, Option, Some, None}
+use Rattle.std.specs.Prelude.{ℕ, ◌≡◌, ◌≢◌, List, [], ◌∷◌, ◌++◌, nat_lt, if◌then◌else◌, length}
+use Rattle.std.specs.Prelude.{Option, Some, None}
 use Rattle.bw_commands.specs.State.{State}
 use Rattle.bw_commands.specs.Script.{outcome_of_kept, IsOutcome, line_bytes}
 
@@ -38,9 +39,11 @@ pub record TakesByte (a : Scan) (byte : ℕ) (text : List ℕ) (b : Scan) : Type
 -- bytes, one after another
 unfoldable pub TakesBytes : Scan → List ℕ → List ℕ → Scan → Type 0
 TakesBytes a [] text b = (text ≡ []) × (b ≡ a)
-TakesBytes a (byte ∷ bytes) text b = (first rest : List ℕ) × (mid : Scan) × TakesByte a byte first mid × TakesBytes mid bytes rest b × (text ≡ first ++ rest)
+TakesBytes a (byte ∷ bytes) text b = (first rest : List ℕ) × (mid : Scan)
+    × TakesByte a byte first mid × TakesBytes mid bytes rest b × (text ≡ first ++ rest)
 
 -- the end: a last line without its newline is answered
 pub record Finishes (a : Scan) (text : List ℕ) : Type 0 where
   pub none : a.kept ≡ Some [] → text ≡ []
-  pub last : a.kept ≢ Some [] → (t : State) × IsOutcome a.state (outcome_of_kept a.state a.kept) text t
+  pub last : a.kept ≢ Some [] → (t : State)
+      × IsOutcome a.state (outcome_of_kept a.state a.kept) text t

@@ -6,11 +6,15 @@ use Rattle.bw_streams.specs.Fronts.{AppendsFront}
 use Rattle.bw_shell.specs.Transcript.{IsTranscript}
 
 -- What was written is the transcript of the lines of what was read.
-abbrev pub Transcribes : State → (List ℕ → List (List ℕ)) → Option (List ℕ) → Option (List ℕ) → Option (List ℕ) → Option (List ℕ) → Type 0
+abbrev pub Transcribes : State → (List ℕ → List (List ℕ)) → Option (List ℕ) → Option (List ℕ)
+    → Option (List ℕ) → Option (List ℕ) → Type 0
 Transcribes s lines left_old left_new held_old held_new =
-    (input text : List ℕ) × Consumes left_old left_new input × IsTranscript s (lines input) text × Appends held_old held_new text
+    (input text : List ℕ) × Consumes left_old left_new input × IsTranscript s (lines input) text
+    × Appends held_old held_new text
 
 -- What was written is a front of that transcript.
-abbrev pub TranscribesFront : State → (List ℕ → List (List ℕ)) → Option (List ℕ) → Option (List ℕ) → Option (List ℕ) → Option (List ℕ) → Type 0
+abbrev pub TranscribesFront : State → (List ℕ → List (List ℕ)) → Option (List ℕ) → Option (List ℕ)
+    → Option (List ℕ) → Option (List ℕ) → Type 0
 TranscribesFront s lines left_old left_new held_old held_new =
-    (input text : List ℕ) × Consumes left_old left_new input × IsTranscript s (lines input) text × AppendsFront held_old held_new text
+    (input text : List ℕ) × Consumes left_old left_new input × IsTranscript s (lines input) text
+    × AppendsFront held_old held_new text

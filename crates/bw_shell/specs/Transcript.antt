@@ -6,7 +6,8 @@ use Rattle.bw_commands.specs.Script.{IsAnswer}
 -- From s these lines may print this text, with the state t after them.
 unfoldable pub Answers : State → List (List ℕ) → List ℕ → State → Type 0
 Answers s [] text t = (text ≡ []) × (t ≡ s)
-Answers s (line ∷ lines) text t = (answer rest : List ℕ) × (mid : State) × IsAnswer s line answer mid × Answers mid lines rest t × (text ≡ answer ++ rest)
+Answers s (line ∷ lines) text t = (answer rest : List ℕ) × (mid : State)
+    × IsAnswer s line answer mid × Answers mid lines rest t × (text ≡ answer ++ rest)
 
 -- From s these lines may print this text.
 abbrev pub IsTranscript : State → List (List ℕ) → List ℕ → Type 0

@@ -1,9 +1,9 @@
-//! The limit of a line, said once more: the definitions read it from the code, so a wrong one would go unseen there.
+//! The limit of a line, as a number. The definitions take it from the code.
 ghost use Rattle.std.specs.Prelude.{◌≡◌};
 
 use crate::session::LINE_BYTES;
 
-/// A script has lines of up to 65536 bytes.
+/// States the limit: a line of a script has up to 65536 bytes.
 pub fn script_numbers()
     ensures { LINE_BYTES ≡ 65536 }
 {}

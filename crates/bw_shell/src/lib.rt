@@ -1,5 +1,5 @@
-//! The shell of the arbiter: a script is read line by line from any reader, and each line's answer
-//! is written to any writer.
+//! The shell of the arbiter: reads a script line by line from any reader, and writes each line's
+//! answer to any writer.
 #![tactic(auto)]
 
 mod laws;

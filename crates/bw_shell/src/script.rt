@@ -1,12 +1,14 @@
-//! A whole script.
-ghost use Rattle.std.specs.Prelude.{◌≡◌, ◌≢◌, ◌||◌, ◌<◌, ◌+◌, ◌-◌, ◌^◌, ℕ, List, [], Some, min, length, true, false, OnOk, IfOk, IfErr, IsErrOf};
+//! Runs of whole scripts.
+ghost use Rattle.std.specs.Prelude.{◌≡◌, ◌≢◌, ◌||◌, ◌<◌, ◌+◌, ◌-◌, ◌^◌, ℕ, List, [], Some, min};
+ghost use Rattle.std.specs.Prelude.{length, true, false, OnOk, IfOk, IfErr, IsErrOf};
 ghost use Rattle.std.specs.Io.KnownBytes.{Appends, Consumes, IsAtEnd, Keeps};
 ghost use Rattle.bw_commands.specs.State.{start};
 ghost use Rattle.bw_shell.specs.Scan.{Scan, TakesBytes};
 ghost use Rattle.bw_shell.specs.Session.{scan_of};
 ghost use Rattle.bw_shell.specs.Runs.{Runs};
 ghost use Rattle.bw_streams.specs.Fronts.{AppendsFront};
-ghost use Rattle.bw_streams.specs.Watched.{inner_of, has_failed, has_stalled, read_calls, is_flushed, IsFresh, HasNoFault};
+ghost use Rattle.bw_streams.specs.Watched.{inner_of, has_failed, has_stalled, read_calls};
+ghost use Rattle.bw_streams.specs.Watched.{is_flushed, IsFresh, HasNoFault};
 
 use crate::session::Session;
 use bw_model::HostShape;
@@ -17,7 +19,7 @@ use std::rt::Clock;
 use std::sync::Wait;
 use std::thread::Threads;
 
-// One read, and the bytes that it gave; no answer waits for it in the writer. `false` is the end of the script.
+// Reads once and answers the lines that end in the chunk. `false` is the end of the script.
 fn read_some<H: Threads + Wait + Clock + Sync, G: Gate, R: Read, W: Write>(
     rt: &H,
     session: &mut Session<'_, G>,
@@ -38,14 +40,16 @@ fn read_some<H: Threads + Wait + Clock + Sync, G: Gate, R: Read, W: Write>(
     ensures writer_quiet { OnOk result (HasNoFault writer.new) }
     ensures writer_flushed { OnOk result (is_flushed writer.new ≡ true) }
     ensures end { IfOk result (λ more. more ≡ false → IsAtEnd (R.remaining (inner_of reader.new))) }
-    ensures read { IsErrOf result RunFault.Read → Keeps (R.remaining (inner_of reader.old)) (R.remaining (inner_of reader.new)) }
+    ensures read { IsErrOf result RunFault.Read
+        → Keeps (R.remaining (inner_of reader.old)) (R.remaining (inner_of reader.new)) }
     ensures read_when { IsErrOf result RunFault.Read → has_failed reader.new ≡ true }
     ensures read_writes { IsErrOf result RunFault.Read → writer.new ≡ writer.old }
     ensures write { IsErrOf result RunFault.Write → (input text : List ℕ) × (t : Scan)
         × TakesBytes (scan_of G.used session.old) input text t
         × Consumes (R.remaining (inner_of reader.old)) (R.remaining (inner_of reader.new)) input
         × AppendsFront (W.contents (inner_of writer.old)) (W.contents (inner_of writer.new)) text }
-    ensures write_when { IsErrOf result RunFault.Write → (has_failed writer.new || has_stalled writer.new) ≡ true }
+    ensures write_when { IsErrOf result RunFault.Write
+        → (has_failed writer.new || has_stalled writer.new) ≡ true }
     ensures memory { IfErr result (λ f. f ≢ RunFault.Memory) }
 {
     match reader.read(piece) {
@@ -58,8 +62,8 @@ fn read_some<H: Threads + Wait + Clock + Sync, G: Gate, R: Read, W: Write>(
     }
 }
 
-// Reads a script to its end, and writes the answer to each line. It borrows what answers: where that is owned, each end
-// of the loop is a place at which all of it is dropped, and has to be proved.
+// Reads a script to its end, and writes the answer to each line. It takes `&mut Session`: an owned
+// session would be dropped at every return, with a proof goal each.
 fn read_script<H: Threads + Wait + Clock + Sync, G: Gate, R: Read, W: Write>(
     rt: &H,
     session: &mut Session<'_, G>,
@@ -71,7 +75,8 @@ fn read_script<H: Threads + Wait + Clock + Sync, G: Gate, R: Read, W: Write>(
     requires room { 0 < length piece.old }
     requires reader { IsFresh reader.old }
     requires writer { IsFresh writer.old }
-    ensures { Runs R.remaining W.contents (scan_of G.used session.old).state reader.old reader.new writer.old writer.new result }
+    ensures { Runs R.remaining W.contents
+        (scan_of G.used session.old).state reader.old reader.new writer.old writer.new result }
 {
     for turn in 0..READ_CALLS {
         match read_some(rt, session, piece, reader, writer) {
@@ -83,11 +88,14 @@ fn read_script<H: Threads + Wait + Clock + Sync, G: Gate, R: Read, W: Write>(
     Err(RunFault::Read)
 }
 
-/// Reads a script to its end, and writes the answer to each line; the workers of each `period` draw under the gate. All
-/// room is taken before the first read.
+/// Reads a script to its end, and writes the answer to each line. The workers of each `period` draw
+/// under the gate. All buffers are allocated before the first read.
 ///
-/// An `Err` is `Read` after a read that failed or `READ_CALLS` reads, `Write` after a write or flush that failed or a
-/// write that took no bytes, and `Memory` where nothing was read.
+/// # Errors
+///
+/// `Read` after a read that failed or after `READ_CALLS` reads.
+/// `Write` if a write or a flush failed, or a write took no bytes.
+/// `Memory` if an allocation failed before the first read.
 pub fn run_gated<H: AllocGlobal + Threads + Wait + Clock + Sync, G: Gate, R: Read, W: Write>(
     rt: &H,
     reader: &mut Watched<R>,
@@ -97,15 +105,22 @@ pub fn run_gated<H: AllocGlobal + Threads + Wait + Clock + Sync, G: Gate, R: Rea
 ) -> Result<(), RunFault>
     requires reader { IsFresh reader.old }
     requires writer { IsFresh writer.old }
-    ensures { Runs R.remaining W.contents (start shape (G.used gate.now)) reader.old reader.new writer.old writer.new result }
+    ensures { Runs R.remaining W.contents
+        (start shape (G.used gate.now)) reader.old reader.new writer.old writer.new result }
 {
     let mut piece = piece_room(rt.alloc())?;
     let mut session = Session::new(rt.alloc(), shape, gate)?;
     read_script(rt, &mut session, &mut piece, reader, writer)
 }
 
-/// Reads a script to its end, and writes the answer to each line; every leaf uses what its workers draw. All room is
-/// taken before the first read. An `Err` is that of `run_gated`.
+/// Reads a script to its end, and writes the answer to each line. Every leaf uses the slices that
+/// its workers draw. All buffers are allocated before the first read.
+///
+/// # Errors
+///
+/// `Read` after a read that failed or after `READ_CALLS` reads.
+/// `Write` if a write or a flush failed, or a write took no bytes.
+/// `Memory` if an allocation failed before the first read.
 pub fn run<H: AllocGlobal + Threads + Wait + Clock + Sync, R: Read, W: Write>(
     rt: &H,
     reader: &mut Watched<R>,
@@ -114,7 +129,8 @@ pub fn run<H: AllocGlobal + Threads + Wait + Clock + Sync, R: Read, W: Write>(
 ) -> Result<(), RunFault>
     requires reader { IsFresh reader.old }
     requires writer { IsFresh writer.old }
-    ensures { Runs R.remaining W.contents (start shape (λ leaf. true)) reader.old reader.new writer.old writer.new result }
+    ensures { Runs R.remaining W.contents
+        (start shape (λ leaf. true)) reader.old reader.new writer.old writer.new result }
 {
     run_gated(rt, reader, writer, shape, &NoGate)
 }

@@ -1,5 +1,6 @@
-//! A script so far: the commands' state and the line in hand.
-ghost use Rattle.std.specs.Prelude.{◌≡◌, ◌≤◌, ◌<◌, ◌+◌, ◌++◌, [], true, length, vec_len, IfOk, OnOk};
+//! A session: splits a script into lines and answers each.
+ghost use Rattle.std.specs.Prelude.{◌≡◌, ◌≤◌, ◌<◌, ◌+◌, ◌++◌, [], true, length, vec_len, IfOk};
+ghost use Rattle.std.specs.Prelude.{OnOk};
 ghost use Rattle.std.specs.Vec.{vec_capacity};
 ghost use Rattle.bw_streams.specs.Watched.{is_flushed, HasNoFault};
 ghost use Rattle.bw_streams.specs.Writes.{Writes};
@@ -15,16 +16,16 @@ use std::rt::Clock;
 use std::sync::Wait;
 use std::thread::Threads;
 
-/// A line with more bytes is refused.
+/// Maximum length of a line in bytes. A longer line is refused.
 pub const LINE_BYTES: usize = 65536;
 
-// So many bytes of a line are kept: one more tells that it is too long.
+// Number of bytes that are kept of a line: one more than its maximum shows that it is too long.
 pub(crate) const KEPT_BYTES: usize = LINE_BYTES + 1;
 
 ghost use Rattle.bw_shell.specs.declared.session.TheConstants.{KEPT_BYTES};
 
-/// The line in hand is what was read behind the last newline. A line that stands whole in the piece that was read is
-/// answered where it stands, and not copied.
+/// Splits input into lines and answers each. `line` buffers an incomplete line. A line that is
+/// complete in the input chunk is answered in place, without copying.
 #[derive(Drop)]
 pub struct Session<'a, G> {
     responder: Responder<'a, G>,
@@ -41,7 +42,11 @@ impl<'a, G: Gate> Session<'a, G> {
     ghost use Rattle.bw_streams.specs.Watched.{is_flushed, HasNoFault};
     ghost use Rattle.bw_streams.specs.Writes.{Writes};
 
-    /// Takes all the room that lines and refusals need.
+    /// Allocates all the space that lines and refusals need.
+    ///
+    /// # Errors
+    ///
+    /// `AllocError` if an allocation failed.
     pub fn new(alloc: Global, shape: HostShape, gate: &'a G) -> Result<Session<'a, G>, AllocError>
         ensures { IfOk result (λ s. scan_of G.used s ≡ begin (start shape (G.used gate.now))) }
     {
@@ -52,15 +57,19 @@ impl<'a, G: Gate> Session<'a, G> {
         })
     }
 
-    // Keeps more bytes of the line in hand, as long as it is not too long.
+    // Appends bytes to the incomplete line, up to `KEPT_BYTES`.
     fn keep(&mut self, bytes: &[u8])
-        ensures { scan_of G.used self.new ≡ record (scan_of G.used self.old) { kept = kept_after (scan_of G.used self.old).kept bytes.now } }
+        ensures { scan_of G.used self.new
+            ≡ record (scan_of G.used self.old) {
+              kept = kept_after
+                  (scan_of G.used self.old).kept bytes.now;
+            } }
     {
         let count = bytes.len().min(KEPT_BYTES - self.line.len());
         let _ = self.line.extend_from_slice(bytes.split_at(count).0);
     }
 
-    // Takes the bytes in front of a newline, which end the line in hand, and answers it.
+    // Answers the incomplete line, which ends with these bytes in front of a newline.
     fn end_line<H: Threads + Wait + Clock + Sync, W: Write>(
         &mut self,
         rt: &H,
@@ -85,7 +94,7 @@ impl<'a, G: Gate> Session<'a, G> {
         }
     }
 
-    // Takes bytes of the script.
+    // Answers each line that ends in the chunk, and keeps the rest.
     fn take_bytes<H: Threads + Wait + Clock + Sync, W: Write>(
         &mut self,
         rt: &H,
@@ -110,7 +119,11 @@ impl<'a, G: Gate> Session<'a, G> {
         Ok(())
     }
 
-    /// Takes a piece of the script, and flushes the writer, so that no answer waits for more of the script.
+    /// Answers each line that ends in a chunk of the script, and flushes the writer.
+    ///
+    /// # Errors
+    ///
+    /// `Write` if a write or a flush failed, or a write took no bytes.
     pub fn feed<H: Threads + Wait + Clock + Sync, W: Write>(
         &mut self,
         rt: &H,
@@ -127,14 +140,15 @@ impl<'a, G: Gate> Session<'a, G> {
         flush(writer)
     }
 
-    // Answers a last line that lacks its newline.
+    // Answers a last line without a newline.
     fn answer_last<H: Threads + Wait + Clock + Sync, W: Write>(
         &mut self,
         rt: &H,
         writer: &mut Watched<W>,
     ) -> Result<(), RunFault>
         requires { HasNoFault writer.old }
-        ensures { Writes W.contents writer.old writer.new result (Finishes (scan_of G.used self.old)) (Finishes (scan_of G.used self.old)) }
+        ensures { Writes W.contents writer.old writer.new result
+            (Finishes (scan_of G.used self.old)) (Finishes (scan_of G.used self.old)) }
     {
         if self.line.is_empty() {
             return Ok(());
@@ -142,14 +156,19 @@ impl<'a, G: Gate> Session<'a, G> {
         self.responder.reply(rt, self.line.as_slice(), writer)
     }
 
-    /// Answers a last line that lacks its newline, and flushes the writer.
+    /// Answers a last line without a newline, and flushes the writer.
+    ///
+    /// # Errors
+    ///
+    /// `Write` if a write or a flush failed, or a write took no bytes.
     pub fn finish<H: Threads + Wait + Clock + Sync, W: Write>(
         &mut self,
         rt: &H,
         writer: &mut Watched<W>,
     ) -> Result<(), RunFault>
         requires { HasNoFault writer.old }
-        ensures writes { Writes W.contents writer.old writer.new result (Finishes (scan_of G.used self.old)) (Finishes (scan_of G.used self.old)) }
+        ensures writes { Writes W.contents writer.old writer.new result
+            (Finishes (scan_of G.used self.old)) (Finishes (scan_of G.used self.old)) }
         ensures flushed { OnOk result (is_flushed writer.new ≡ true) }
     {
         self.answer_last(rt, writer)?;

@@ -1,9 +1,10 @@
-//! The exit number of a run.
+//! The exit status of a run.
 ghost use Rattle.std.specs.Prelude.{◌≡◌, is_ok, if◌then◌else◌};
 
 use bw_streams::RunFault;
 
-/// The exit number of a run: 0 where the script was read to its end, refused lines included, else 1.
+/// Exit status of a run: 0 if the script was read to its end, refused lines included, and 1
+/// otherwise.
 pub fn status_of_run(run: &Result<(), RunFault>) -> u8
     ensures { result ≡ (if is_ok run.now then 0 else 1) }
 {

@@ -1,21 +1,27 @@
 -- The goals of `text_of` that are answered by hand.
 use Rattle.std.proofs.Common.{◌∙◌, ap, sym, arith}
-use Rattle.bw_commands.specs.Script.{outcome_of_kept, outcome_of_text}
-use Rattle.bw_shell.proofs.Kept.{outcome_of_kept-text, outcome_of_kept-bad, outcome_of_kept-long}
+use Rattle.bw_commands.specs.Command.{command_of_line}
+use Rattle.bw_commands.specs.Script.{request_of_kept}
+use Rattle.bw_shell.proofs.Kept.{request_of_kept-text, request_of_kept-bad}
+use Rattle.bw_shell.proofs.Kept.{request_of_kept-long}
 use Rattle.bw_shell.proofs.Scanning.{kept_of-long, kept_of-short}
 use Rattle.bw_shell.proofs.responder.text_of.Goals as goal
 
 pub returns-then-line-gt-LINE_BYTES : goal.returns-then-line-gt-LINE_BYTES
-returns-then-line-gt-LINE_BYTES c = λ s.
-    ap (outcome_of_kept s) (kept_of-long c.args.line.now c.if-line-gt-LINE_BYTES.true) ∙ outcome_of_kept-long s
+returns-then-line-gt-LINE_BYTES c =
+    ap request_of_kept (kept_of-long c.args.line.now c.if-line-gt-LINE_BYTES.true)
+    ∙ request_of_kept-long
 
 pub returns-in-Ok : goal.returns-in-Ok
-returns-in-Ok c = λ s.
+returns-in-Ok c =
     let same = c.in-Ok.ensures.cases.0 in
-    let text = outcome_of_kept-text s c.args.line.now c.in-Ok.ensures.cases.1 in
-    ap (outcome_of_kept s) (kept_of-short c.args.line.now (omega (arith, c.if-line-gt-LINE_BYTES.false))) ∙ text ∙ ap (λ l. outcome_of_text s l) (sym same)
+    let text = request_of_kept-text c.args.line.now c.in-Ok.ensures.cases.1 in
+    ap request_of_kept
+    (kept_of-short c.args.line.now (omega (arith, c.if-line-gt-LINE_BYTES.false)))
+    ∙ text ∙ ap command_of_line (sym same)
 
 pub returns-in-Err : goal.returns-in-Err
-returns-in-Err c = λ s.
-    ap (outcome_of_kept s) (kept_of-short c.args.line.now (omega (arith, c.if-line-gt-LINE_BYTES.false)))
-    ∙ outcome_of_kept-bad s c.args.line.now c.in-Err.ensures.cases.0
+returns-in-Err c =
+    ap request_of_kept
+    (kept_of-short c.args.line.now (omega (arith, c.if-line-gt-LINE_BYTES.false)))
+    ∙ request_of_kept-bad c.args.line.now c.in-Err.ensures.cases.0

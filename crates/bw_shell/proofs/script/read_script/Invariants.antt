@@ -8,9 +8,12 @@ use Rattle.bw_shell.proofs.script.read_script.Given as goal
 
 abbrev pub invariant-loop-turn : goal.invariant-loop-turn
 invariant-loop-turn g l = record {
-  taken : (input text : List ℕ) × TakesBytes (begin (scan_of g.G.Gate.used l.initial.session).state) input text (scan_of g.G.Gate.used l.session)
-      × Consumes (g.R.Read.remaining (inner_of l.initial.reader)) (g.R.Read.remaining (inner_of l.reader)) input
-      × Appends (g.W.Write.contents (inner_of l.initial.writer)) (g.W.Write.contents (inner_of l.writer)) text;
+  taken : (input text : List ℕ) × TakesBytes (begin (scan_of g.G.Gate.used l.initial.session).state)
+      input text (scan_of g.G.Gate.used l.session)
+      × Consumes (g.R.Read.remaining (inner_of l.initial.reader))
+      (g.R.Read.remaining (inner_of l.reader)) input
+      × Appends (g.W.Write.contents (inner_of l.initial.writer))
+      (g.W.Write.contents (inner_of l.writer)) text;
   reader_quiet : HasNoFault l.reader;
   writer_quiet : HasNoFault l.writer;
   writer_flushed : is_flushed l.writer ≡ true;

@@ -15,10 +15,14 @@ returns-then-is_empty g c =
     let line = c.args.self.now.line.items in
     let zero : length line ≡ 0 = search rules in
     let empty = nil_from_length line zero in
-    let same : kept_of c.args.front.now ≡ kept_after (kept_of line) c.args.front.now = rw empty (sym (kept_after-kept_of [] c.args.front.now)) in
+    let same : kept_of c.args.front.now ≡ kept_after (kept_of line) c.args.front.now =
+    rw empty (sym (kept_after-kept_of [] c.args.front.now)) in
     Writes-map g.W.Write.contents c.args.writer.now c.reply.new.writer c.reply.result
     (λ text p. TakesLine-kept s t c.args.front.now line line c.args.front.now text same empty p)
-    (λ text p. (record { state = p.0; kept = Some [] }, TakesLine-kept s p.0 c.args.front.now line [] c.args.front.now text same refl p.1))
+    (λ text p. (
+      record { state = p.0; kept = Some [] },
+      TakesLine-kept s p.0 c.args.front.now line [] c.args.front.now text same refl p.1,
+    ))
     c.reply.ensures
 
 pub returns-in-Err : goal.returns-in-Err
@@ -26,11 +30,14 @@ returns-in-Err g c =
     let s = responder_state g.G.Gate.used c.args.self.now.responder in
     let line = c.args.self.now.line.items in
     let whole = c.as_slice.result.now in
-    let state : responder_state g.G.Gate.used c.keep.new.self.responder ≡ s = ap (λ (m : Scan). m.state) c.keep.ensures in
-    let same : kept_of whole ≡ kept_after (kept_of line) c.args.front.now = ap kept_of c.as_slice.ensures.value ∙ ap (λ (m : Scan). m.kept) c.keep.ensures in
+    let state : responder_state g.G.Gate.used c.keep.new.self.responder ≡ s =
+    ap (λ (m : Scan). m.state) c.keep.ensures in
+    let same : kept_of whole ≡ kept_after (kept_of line) c.args.front.now =
+    ap kept_of c.as_slice.ensures.value ∙ ap (λ (m : Scan). m.kept) c.keep.ensures in
     Writes-err g.W.Write.contents c.args.writer.now _ c.in-Err.fault
     (λ text p. (
       record { state = p.0; kept = Some [] },
-      TakesLine-kept s p.0 whole line [] c.args.front.now text same refl (subst (λ r. IsAnswer r whole text p.0) state p.1),
+      TakesLine-kept s p.0 whole line [] c.args.front.now text same refl
+          (subst (λ r. IsAnswer r whole text p.0) state p.1),
     ))
     c.in-Err.ensures

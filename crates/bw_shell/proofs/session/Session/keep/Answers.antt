@@ -9,7 +9,8 @@ pub returns : goal.returns
 returns g c =
     let old = c.args.self.now.line in
     let n = c.min-count.result in
-    let items : c.extend_from_slice.new.self.items ≡ old.items ++ take n c.args.bytes.now = search rules in
+    let items : c.extend_from_slice.new.self.items ≡ old.items ++ take n c.args.bytes.now =
+    search rules in
     let fits : length old.items ≤ 65537 = search rules in
     let count : n ≡ min (length c.args.bytes.now) (65537 - length old.items) = search rules in
     ap (λ k. record { state = responder_state g.G.Gate.used c.args.self.now.responder; kept = k })

@@ -8,8 +8,10 @@ use Rattle.bw_shell.proofs.session.Session.take_bytes.Given as goal
 
 abbrev pub invariant-loop-end : goal.invariant-loop-end
 invariant-loop-end g l = record {
-  taken : (input text : List ℕ) × TakesBytes (scan_of g.G.Gate.used l.initial.self) input text (scan_of g.G.Gate.used l.self)
-      × Appends (g.W.Write.contents (inner_of l.initial.writer)) (g.W.Write.contents (inner_of l.writer)) text × (l.piece ≡ input ++ l.rest);
+  taken : (input text : List ℕ)
+      × TakesBytes (scan_of g.G.Gate.used l.initial.self) input text (scan_of g.G.Gate.used l.self)
+      × Appends (g.W.Write.contents (inner_of l.initial.writer))
+      (g.W.Write.contents (inner_of l.writer)) text × (l.piece ≡ input ++ l.rest);
   quiet : HasNoFault l.writer;
 }
 
