@@ -1,12 +1,18 @@
 -- Refusals are short: a number of at most two digits, and a name of at most 20 bytes.
 use Rattle.std.proofs.Common.{◌<◌, ◌≤◌, length, arith}
-use Rattle.bw_tree.specs.declared.fault.TreeFault.TheVariants.{NotFound, Exists, BadName, HasChildren, HasDemand, ParentHasDemand, RootFixed, TreeFull}
-use Rattle.bw_tree.specs.declared.fault.TreeFault.TheVariants.{IdsSpent, TooDeep, InnerDemand, DemandTooLarge, OutOfMemory}
-use Rattle.bw_files.specs.declared.fault.FileFault.TheVariants.{BadNumber, WeightOutOfRange, QuotaTooSmall, QuotaTooLarge, PeriodOutOfRange, TooManyWords}
+use Rattle.bw_tree.specs.declared.fault.TreeFault.TheVariants.{NotFound, Exists, BadName}
+use Rattle.bw_tree.specs.declared.fault.TreeFault.TheVariants.{HasChildren, HasDemand}
+use Rattle.bw_tree.specs.declared.fault.TreeFault.TheVariants.{ParentHasDemand, RootFixed, TreeFull}
+use Rattle.bw_tree.specs.declared.fault.TreeFault.TheVariants.{IdsSpent, TooDeep, InnerDemand}
+use Rattle.bw_tree.specs.declared.fault.TreeFault.TheVariants.{DemandTooLarge, OutOfMemory}
+use Rattle.bw_files.specs.declared.fault.FileFault.TheVariants.{BadNumber, WeightOutOfRange}
+use Rattle.bw_files.specs.declared.fault.FileFault.TheVariants.{QuotaTooSmall, QuotaTooLarge}
+use Rattle.bw_files.specs.declared.fault.FileFault.TheVariants.{PeriodOutOfRange, TooManyWords}
 use Rattle.bw_files.specs.declared.fault.FileFault.TheVariants.{Empty}
 use Rattle.bw_hierarchy.specs.Faults.{hierarchy_fault_number, hierarchy_fault_name}
 use Rattle.bw_hierarchy.specs.declared.fault.Fault.{Fault}
-use Rattle.bw_hierarchy.specs.declared.fault.Fault.TheVariants.{Tree, File, NoSuchFile, ReadOnly, BurstAboveQuota}
+use Rattle.bw_hierarchy.specs.declared.fault.Fault.TheVariants.{Tree, File, NoSuchFile, ReadOnly}
+use Rattle.bw_hierarchy.specs.declared.fault.Fault.TheVariants.{BurstAboveQuota}
 
 pub hierarchy_fault_number-lt : (fault : Fault) → hierarchy_fault_number fault < 100
 hierarchy_fault_number-lt (Tree NotFound) = omega arith

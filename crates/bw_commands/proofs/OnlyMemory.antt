@@ -2,13 +2,17 @@
 use Rattle.std.proofs.Common.{◌≡◌, Option, Some, None, refl, sym, ◌∙◌}
 use Rattle.bw_tree.specs.Tree.{IsRefused}
 use Rattle.bw_tree.specs.declared.fault.TreeFault.{TreeFault}
-use Rattle.bw_tree.specs.declared.fault.TreeFault.TheVariants.{NotFound, Exists, BadName, HasChildren, HasDemand, ParentHasDemand, RootFixed, TreeFull}
-use Rattle.bw_tree.specs.declared.fault.TreeFault.TheVariants.{IdsSpent, TooDeep, InnerDemand, DemandTooLarge, OutOfMemory}
+use Rattle.bw_tree.specs.declared.fault.TreeFault.TheVariants.{NotFound, Exists, BadName}
+use Rattle.bw_tree.specs.declared.fault.TreeFault.TheVariants.{HasChildren, HasDemand}
+use Rattle.bw_tree.specs.declared.fault.TreeFault.TheVariants.{ParentHasDemand, RootFixed, TreeFull}
+use Rattle.bw_tree.specs.declared.fault.TreeFault.TheVariants.{IdsSpent, TooDeep, InnerDemand}
+use Rattle.bw_tree.specs.declared.fault.TreeFault.TheVariants.{DemandTooLarge, OutOfMemory}
 
 clash : (r : Option TreeFault) (e : TreeFault) → r ≡ None → r ≡ Some e → e ≡ OutOfMemory
 clash r e none some = let wrong : None ≡ Some e = sym none ∙ some in absurd (cc)
 
-pub only_memory : (r : Option TreeFault) (e : TreeFault) → r ≡ None → IsRefused r e → e ≡ OutOfMemory
+pub only_memory : (r : Option TreeFault) (e : TreeFault) → r ≡ None → IsRefused r e
+    → e ≡ OutOfMemory
 only_memory r OutOfMemory none h = refl
 only_memory r NotFound none h = clash r NotFound none h
 only_memory r Exists none h = clash r Exists none h

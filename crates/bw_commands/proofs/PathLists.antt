@@ -1,5 +1,6 @@
 -- Paths that stand one after another in one text.
-use Rattle.std.proofs.Common.{◌≡◌, ◌≤◌, ◌<◌, ◌+◌, ◌-◌, subst, ℕ, Bool, true, false, cond, eqb, Bor, Option, Some, None, is_some, zero, suc, List, [], ◌∷◌, ◌++◌}
+use Rattle.std.proofs.Common.{◌≡◌, ◌≤◌, ◌<◌, ◌+◌, ◌-◌, subst, ℕ, Bool, true, false, cond, eqb, Bor}
+use Rattle.std.proofs.Common.{Option, Some, None, is_some, zero, suc, List, [], ◌∷◌, ◌++◌}
 use Rattle.std.proofs.Common.{length, get_or, take, drop, refl, sym, ap, ◌∙◌, arith}
 use Rattle.std.specs.List.{range_with_len}
 use Rattle.std.specs.Prelude.{IfSome}
@@ -18,26 +19,34 @@ use Rattle.bw_commands.specs.GroupLines.{IsPathOf, ArePathsOf}
 use Rattle.bw_commands.specs.PathList.{cut, cuts, AreWithin, path_below}
 
 -- a span of a list of them lies in the text
-pub within_at : (bytes : ℕ) (spans : List Span) (g : ℕ) (d : Span) → AreWithin bytes spans → g < length spans
+pub within_at : (bytes : ℕ) (spans : List Span) (g : ℕ) (d : Span) → AreWithin bytes spans
+    → g < length spans
     → ((get_or spans g d).start ≤ (get_or spans g d).end) × ((get_or spans g d).end ≤ bytes)
 within_at bytes [] g d all lt = absurd (omega (arith, lt))
 within_at bytes (span ∷ spans) zero d all lt = (all.0, all.1)
-within_at bytes (span ∷ spans) (suc g) d all lt = within_at bytes spans g d all.2 (omega (arith, lt))
+within_at bytes (span ∷ spans) (suc g) d all lt =
+    within_at bytes spans g d all.2 (omega (arith, lt))
 
 -- a longer text, and one span more
-pub within_push : (bytes more : ℕ) (spans : List Span) (span : Span) → AreWithin bytes spans → bytes ≤ more → span.start ≤ span.end → span.end ≤ more
+pub within_push : (bytes more : ℕ) (spans : List Span) (span : Span) → AreWithin bytes spans
+    → bytes ≤ more → span.start ≤ span.end → span.end ≤ more
     → AreWithin more (spans ++ span ∷ [])
 within_push bytes more [] span all le up fits = (up, fits, tt)
-within_push bytes more (s ∷ spans) span all le up fits = (all.0, omega (arith, all.1, le), within_push bytes more spans span all.2 le up fits)
+within_push bytes more (s ∷ spans) span all le up fits =
+    (all.0, omega (arith, all.1, le), within_push bytes more spans span all.2 le up fits)
 
 -- what is cut out of a text stands in a longer one at the same place
-pub cut-append : (text more : List ℕ) (span : Span) → span.start ≤ span.end → span.end ≤ length text → cut (text ++ more) span ≡ cut text span
+pub cut-append : (text more : List ℕ) (span : Span) → span.start ≤ span.end → span.end ≤ length text
+    → cut (text ++ more) span ≡ cut text span
 cut-append text more span up fits =
-    ap (λ xs. take (span.end - span.start) xs) (drop-append-le span.start text more (omega (arith, up, fits)))
-    ∙ take-append-le (span.end - span.start) (drop span.start text) more (omega (arith, up, fits, length-drop span.start text))
+    ap (λ xs. take (span.end - span.start) xs)
+    (drop-append-le span.start text more (omega (arith, up, fits)))
+    ∙ take-append-le (span.end - span.start) (drop span.start text) more
+    (omega (arith, up, fits, length-drop span.start text))
 
 -- the last span of a text
-pub cut-last : (text more : List ℕ) (span : Span) → span.start ≡ length text → span.end ≡ length (text ++ more) → cut (text ++ more) span ≡ more
+pub cut-last : (text more : List ℕ) (span : Span) → span.start ≡ length text
+    → span.end ≡ length (text ++ more) → cut (text ++ more) span ≡ more
 cut-last text more span from to =
     ap (λ a. take (span.end - span.start) (drop a (text ++ more))) from
     ∙ ap (λ xs. take (span.end - span.start) xs) (behind text)
@@ -57,16 +66,19 @@ cut-last text more span from to =
     whole (x ∷ xs) (suc n) same = ap (λ ys. x ∷ ys) (whole xs n (omega (arith, same)))
 
 -- what stands at the spans of a text, and one span more
-pub cuts-push : (text more : List ℕ) (spans : List Span) (span : Span) → AreWithin (length text) spans → span.start ≡ length text
+pub cuts-push : (text more : List ℕ) (spans : List Span) (span : Span)
+    → AreWithin (length text) spans → span.start ≡ length text
     → span.end ≡ length (text ++ more)
     → cuts (text ++ more) (spans ++ span ∷ []) ≡ cuts text spans ++ more ∷ []
 cuts-push text more [] span all from to = ap (λ path. path ∷ []) (cut-last text more span from to)
 cuts-push text more (s ∷ spans) span all from to =
-    ap (λ path. path ∷ cuts (text ++ more) (spans ++ span ∷ [])) (cut-append text more s all.0 all.1)
+    ap (λ path. path ∷ cuts (text ++ more) (spans ++ span ∷ []))
+    (cut-append text more s all.0 all.1)
     ∙ ap (λ paths. cut text s ∷ paths) (cuts-push text more spans span all.2 from to)
 
 -- paths of rows from one on, by what holds of each
-paths_from : (tree : TreeState) (paths : List (List ℕ)) (a n : ℕ) → length paths ≡ n → ((k : ℕ) → k < n → IsPathOf tree (a + k) (get_or paths k []))
+paths_from : (tree : TreeState) (paths : List (List ℕ)) (a n : ℕ) → length paths ≡ n
+    → ((k : ℕ) → k < n → IsPathOf tree (a + k) (get_or paths k []))
     → ArePathsOf tree (range_with_len a n) paths
 paths_from tree [] a zero long each = tt
 paths_from tree [] a (suc n) long each = absurd (omega (arith, long))
@@ -74,37 +86,50 @@ paths_from tree (p ∷ ps) a zero long each = absurd (omega (arith, long))
 paths_from tree (p ∷ ps) a (suc n) long each = (
   let same : a + 0 ≡ a = omega arith in subst (λ k. IsPathOf tree k p) same (each 0 (omega arith)),
   paths_from tree ps (a + 1) n (omega (arith, long))
-      (λ k lt. let same : a + suc k ≡ a + 1 + k = omega arith in subst (λ j. IsPathOf tree j (get_or ps k [])) same (each (suc k) (omega (arith, lt)))),
+      (λ k lt. let same : a + suc k ≡ a + 1 + k = omega arith in
+      subst (λ j. IsPathOf tree j (get_or ps k [])) same (each (suc k) (omega (arith, lt)))),
 )
 
-pub paths_of_rows : (tree : TreeState) (paths : List (List ℕ)) (n : ℕ) → length paths ≡ n → ((k : ℕ) → k < n → IsPathOf tree k (get_or paths k []))
+pub paths_of_rows : (tree : TreeState) (paths : List (List ℕ)) (n : ℕ) → length paths ≡ n
+    → ((k : ℕ) → k < n → IsPathOf tree k (get_or paths k []))
     → ArePathsOf tree (range_with_len 0 n) paths
 paths_of_rows tree paths n long each =
-    paths_from tree paths 0 n long (λ k lt. let same : k ≡ 0 + k = omega arith in subst (λ j. IsPathOf tree j (get_or paths k [])) same (each k lt))
+    paths_from tree paths 0 n long (λ k lt. let same : k ≡ 0 + k =
+    omega arith in subst (λ j. IsPathOf tree j (get_or paths k [])) same (each k lt))
 
 -- what holds of each element, and of one more
-pub each_push : {X : Type 0} (holds : ℕ → X → Type 0) (xs : List X) (x d : X) → ((k : ℕ) → k < length xs → holds k (get_or xs k d)) → holds (length xs) x
+pub each_push : {X : Type 0} (holds : ℕ → X → Type 0) (xs : List X) (x d : X)
+    → ((k : ℕ) → k < length xs → holds k (get_or xs k d)) → holds (length xs) x
     → (k : ℕ) → k < length xs + 1 → holds k (get_or (xs ++ x ∷ []) k d)
 each_push holds [] x d each last zero lt = last
 each_push holds [] x d each last (suc k) lt = absurd (omega (arith, lt))
 each_push holds (y ∷ ys) x d each last zero lt = each 0 (omega arith)
-each_push holds (y ∷ ys) x d each last (suc k) lt = each_push (λ j. holds (suc j)) ys x d (λ j l. each (suc j) (omega (arith, l))) last k (omega (arith, lt))
+each_push holds (y ∷ ys) x d each last (suc k) lt =
+    each_push (λ j. holds (suc j)) ys x d (λ j l. each (suc j) (omega (arith, l))) last k
+    (omega (arith, lt))
 
 -- what is found is there
-pub copied_some : {X : Type 0} (r : Option (Bor X)) (o : Option X) → option_copied r ≡ o → is_some o ≡ true → is_some r ≡ true
+pub copied_some : {X : Type 0} (r : Option (Bor X)) (o : Option X) → option_copied r ≡ o
+    → is_some o ≡ true → is_some r ≡ true
 copied_some (Some x) o same there = refl
-copied_some None o same there = let none : is_some o ≡ false = ap is_some (sym same) in absurd (let clash : false ≡ true = sym none ∙ there in cc)
+copied_some None o same there = let none : is_some o ≡ false = ap is_some (sym same) in
+    absurd (let clash : false ≡ true = sym none ∙ there in cc)
 
-module _ (t : TreeState) (ok : IsTree t) (s : Shape) (paths : List (List ℕ)) (g : ℕ) (f : GroupFields) (within : g < length t.groups)
+module _ (t : TreeState) (ok : IsTree t) (s : Shape) (paths : List (List ℕ)) (g : ℕ)
+    (f : GroupFields) (within : g < length t.groups)
     (at : group_at t.groups (get_or (keys_of t.groups) g 0) ≡ Some f) where
   -- the path of a row, where the paths of all rows before it stand
-  pub step_path : (parent : Option ℕ) → parent_of (rows_of t.groups s) g ≡ parent → IfSome parent (λ p. p < g)
-      → ((k : ℕ) → k < g → path_at t.groups (get_or (keys_of t.groups) k 0) ≡ Some (get_or paths k []))
+  pub step_path : (parent : Option ℕ) → parent_of (rows_of t.groups s) g ≡ parent
+      → IfSome parent (λ p. p < g)
+      → ((k : ℕ) → k < g → path_at t.groups (get_or (keys_of t.groups) k 0)
+      ≡ Some (get_or paths k []))
       → path_at t.groups (get_or (keys_of t.groups) g 0) ≡ Some (path_below paths parent f.name)
   step_path None up before each = root_path t ok s g within up
   step_path (Some p) up before each = by (eqb p 0) refl
     where
-      by : (b : Bool) → eqb p 0 ≡ b → path_at t.groups (get_or (keys_of t.groups) g 0) ≡ Some (cond b f.name (get_or paths p [] ++ 47 ∷ f.name))
+      by : (b : Bool) → eqb p 0 ≡ b → path_at t.groups (get_or (keys_of t.groups) g 0)
+          ≡ Some (cond b f.name (get_or paths p [] ++ 47 ∷ f.name))
       by true top = first_path t ok s g p f within at up (eqb-true p 0 top)
-      by false low = below_path t ok s g p f (get_or paths p []) within at up (λ top. let clash : true ≡ false = sym (eq-eqb p 0 top) ∙ low in absurd (cc))
+      by false low = below_path t ok s g p f (get_or paths p []) within at up
+          (λ top. let clash : true ≡ false = sym (eq-eqb p 0 top) ∙ low in absurd (cc))
           (each p before)

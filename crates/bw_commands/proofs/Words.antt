@@ -1,10 +1,12 @@
 -- A text may be cut where a blank stands, and behind blanks.
-use Rattle.std.proofs.Common.{◌≡◌, ◌<◌, not, ℕ, zero, suc, List, length, true, false, refl, subst, arith, get_or, Option, Some, None, inl, inr, Bool}
+use Rattle.std.proofs.Common.{◌≡◌, ◌<◌, not, ℕ, zero, suc, List, length, true, false, refl, subst}
+use Rattle.std.proofs.Common.{arith, get_or, Option, Some, None, inl, inr, Bool}
 use Rattle.std.specs.Prelude.{position, unwrap_or}
 use Rattle.std.specs.Str.{IsUtf8, IsCharBoundary}
 use Rattle.std.proofs.lemmas.Bool.Decides.{eqb_tells}
 use Rattle.std.proofs.lemmas.List.Quantifiers.{position-Some}
-use Rattle.std.proofs.lemmas.Str.{IsCharBoundary-start, IsCharBoundary-end, IsCharBoundary-before_ascii, IsCharBoundary-after_ascii}
+use Rattle.std.proofs.lemmas.Str.{IsCharBoundary-start, IsCharBoundary-end}
+use Rattle.std.proofs.lemmas.Str.{IsCharBoundary-before_ascii, IsCharBoundary-after_ascii}
 use Rattle.bw_commands.specs.Word.{is_blank, word_len_of, blank_len_of}
 
 blank-lt : (b : ℕ) → is_blank b ≡ true → b < 128
@@ -19,7 +21,8 @@ blank-lt b e = elim (eqb_tells b 32) [
     no : false ≡ true → ⊥
     no e = cc
 
-at_blank : (bs : List ℕ) (o : Option ℕ) → position is_blank bs ≡ o → IsCharBoundary bs (unwrap_or o (length bs))
+at_blank : (bs : List ℕ) (o : Option ℕ) → position is_blank bs ≡ o
+    → IsCharBoundary bs (unwrap_or o (length bs))
 at_blank bs None e = IsCharBoundary-end bs
 at_blank bs (Some i) e =
     let p = position-Some is_blank bs i 0 e in
@@ -35,13 +38,16 @@ blank_from b = go (is_blank b)
     go true e = refl
     go false e = cc
 
-behind : (bs : List ℕ) (i : ℕ) → IsUtf8 bs → i < length bs → ((k : ℕ) → k < i → not (is_blank (get_or bs k 0)) ≡ false) → IsCharBoundary bs i
+behind : (bs : List ℕ) (i : ℕ) → IsUtf8 bs → i < length bs
+    → ((k : ℕ) → k < i → not (is_blank (get_or bs k 0)) ≡ false) → IsCharBoundary bs i
 behind bs zero u lt before = IsCharBoundary-start bs u
 behind bs (suc j) u lt before =
     let at = blank-lt (get_or bs j 0) (blank_from (get_or bs j 0) (before j (omega arith))) in
-    subst (IsCharBoundary bs) (omega arith) (IsCharBoundary-after_ascii bs j u (omega (arith, lt)) at)
+    subst (IsCharBoundary bs) (omega arith)
+    (IsCharBoundary-after_ascii bs j u (omega (arith, lt)) at)
 
-behind_blanks : (bs : List ℕ) (o : Option ℕ) → IsUtf8 bs → position (λ b. not (is_blank b)) bs ≡ o → IsCharBoundary bs (unwrap_or o (length bs))
+behind_blanks : (bs : List ℕ) (o : Option ℕ) → IsUtf8 bs → position (λ b. not (is_blank b)) bs ≡ o
+    → IsCharBoundary bs (unwrap_or o (length bs))
 behind_blanks bs None u e = IsCharBoundary-end bs
 behind_blanks bs (Some i) u e =
     let p = position-Some (λ b. not (is_blank b)) bs i 0 e in

@@ -14,10 +14,16 @@ use Rattle.bw_hierarchy.specs.State.{HierarchyState}
 abbrev pub value_with : Groups → List ℕ → Certified → Value
 value_with groups amounts certificate = record {
   shape = groups.shape;
-  groups = record { rows = groups.rows; amounts = amounts; flags = certificate.tight; levels = map (option_map price_of) certificate.levels };
+  groups = record {
+    rows = groups.rows;
+    amounts = amounts;
+    flags = certificate.tight;
+    levels = map (option_map price_of) certificate.levels;
+  };
 }
 
--- The text is the one spelling of the plan of all groups with its certificate: exactly the tight groups are flagged, and
+-- The text is the one spelling of the plan of all groups with its certificate: exactly the tight
+-- groups are flagged, and
 -- a level stands at each group that shares something out. It is read again, and accepted.
 pub record IsCertifiedPlan (h : HierarchyState) (text : List ℕ) : Type 0 where
   pub amounts : List ℕ

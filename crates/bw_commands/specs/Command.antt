@@ -1,5 +1,6 @@
 -- The command that a line names.
-use Rattle.std.specs.Prelude.{ℕ, List, [], ◌∷◌, Bool, true, false, ◌==◌, ◌||◌, nat_lt, if◌then◌else◌, codes}
+use Rattle.std.specs.Prelude.{ℕ, List, [], ◌∷◌, Bool, true, false, ◌==◌, ◌||◌, nat_lt}
+use Rattle.std.specs.Prelude.{if◌then◌else◌, codes}
 use Rattle.std.specs.Prelude.{Option, Some, None, Result, Ok, Err}
 use Rattle.std.specs.Str.{bytes_eq}
 use Rattle.bw_commands.specs.Word.{first_word, after_word}
@@ -40,8 +41,10 @@ pub record Form : Type 0 where
 abbrev pub form : ℕ → ℕ → Command → Form
 form least most meaning = record { meaning = meaning; least = least; most = most }
 
--- The table: the first word, the least and the greatest number of words behind it, and the meaning. The words behind
--- it are a path and a second word; the text is all that stands behind those. Three words behind it may be more.
+-- The table: the first word, the least and the greatest number of words behind it, and the meaning.
+-- The words behind
+-- it are a path and a second word; the text is all that stands behind those. Three words behind it
+-- may be more.
 unfoldable pub forms : List ℕ → List ℕ → List ℕ → List (List ℕ × Form)
 forms path word text =
     (codes "mkdir", form 1 1 (Mkdir path))
@@ -59,7 +62,8 @@ forms path word text =
 -- the form of a first word, if the table has it
 abbrev pub form_named : List ℕ → List (List ℕ × Form) → Option Form
 form_named verb [] = None
-form_named verb (entry ∷ entries) = (if bytes_eq verb entry.0 then Some entry.1 else form_named verb entries)
+form_named verb (entry ∷ entries) =
+    (if bytes_eq verb entry.0 then Some entry.1 else form_named verb entries)
 
 -- ---- lines
 
@@ -75,10 +79,12 @@ command_of_form count (Some form) =
     (if nat_lt count form.least || nat_lt form.most count then Err BadCommand else Ok form.meaning)
 
 -- the command that these words name; a line with no word and a comment ask for nothing
-unfoldable pub command_of_words : List ℕ → List ℕ → List ℕ → List ℕ → List ℕ → Result Command ScriptFault
+unfoldable pub command_of_words : List ℕ → List ℕ → List ℕ → List ℕ → List ℕ
+    → Result Command ScriptFault
 command_of_words verb first second third text =
     (if is_silent verb then Ok Nothing
-    else command_of_form (words_behind first second third) (form_named verb (forms first second text)))
+    else command_of_form (words_behind first second third)
+    (form_named verb (forms first second text)))
 
 -- the command that a line names, or the refusal of the line
 unfoldable pub command_of_line : List ℕ → Result Command ScriptFault

@@ -5,7 +5,9 @@ use Rattle.bw_streams.specs.Answers.{refusal_line}
 use Rattle.bw_workers.specs.declared.fault.ServeFault.{ServeFault}
 use Rattle.bw_workers.specs.declared.fault.ServeFault.TheVariants as serve
 use Rattle.bw_commands.specs.declared.fault.ScriptFault.{ScriptFault}
-use Rattle.bw_commands.specs.declared.fault.ScriptFault.TheVariants.{BadNumber, Call, NotStarted, OutOfMemory, BadCommand, BadText, LineTooLong}
+use Rattle.bw_commands.specs.declared.fault.ScriptFault.TheVariants.{BadNumber, Call, NotStarted}
+use Rattle.bw_commands.specs.declared.fault.ScriptFault.TheVariants.{OutOfMemory, BadCommand}
+use Rattle.bw_commands.specs.declared.fault.ScriptFault.TheVariants.{BadText, LineTooLong}
 
 abbrev pub script_fault_number : ScriptFault → ℕ
 script_fault_number BadNumber = 11

@@ -2,8 +2,10 @@
 use Rattle.std.specs.Prelude.{Result, Ok, Err}
 use Rattle.bw_commands.specs.Command as spec
 use Rattle.bw_commands.specs.declared.command.Command.{Command}
-use Rattle.bw_commands.specs.declared.command.Command.TheVariants.{Nothing, Mkdir, Rmdir, Demand, Read, Write}
-use Rattle.bw_commands.specs.declared.command.Command.TheVariants.{Total, Plan, Cert, Period, Report}
+use Rattle.bw_commands.specs.declared.command.Command.TheVariants.{Nothing, Mkdir, Rmdir, Demand}
+use Rattle.bw_commands.specs.declared.command.Command.TheVariants.{Read, Write}
+use Rattle.bw_commands.specs.declared.command.Command.TheVariants.{Total, Plan, Cert, Period}
+use Rattle.bw_commands.specs.declared.command.Command.TheVariants.{Report}
 use Rattle.bw_commands.specs.declared.fault.ScriptFault.{ScriptFault}
 
 -- the command that the value tells of

@@ -17,4 +17,5 @@ pub record IsPlanText (h : HierarchyState) (text : List ℕ) : Type 0 where
   pub paths : List (List ℕ)
   pub plan : IsPlan (instance_of h.tree h.shape) amounts
   pub named : ArePathsOf h.tree (range_with_len 0 (length (instance_of h.tree h.shape).rows)) paths
-  pub is : text ≡ group_lines (amount_line amounts) (range_with_len 0 (length (instance_of h.tree h.shape).rows)) paths
+  pub is : text ≡ group_lines (amount_line amounts)
+      (range_with_len 0 (length (instance_of h.tree h.shape).rows)) paths

@@ -16,4 +16,5 @@ counter_line books ids g path = report_line (or_zeros (stat_at books (slice_inde
 pub record IsReport (h : HierarchyState) (text : List ℕ) : Type 0 where
   pub paths : List (List ℕ)
   pub named : ArePathsOf h.tree (range_with_len 0 (length (keys_of h.tree.groups))) paths
-  pub is : text ≡ report_head ++ group_lines (counter_line h.books (keys_of h.tree.groups)) (range_with_len 0 (length (keys_of h.tree.groups))) paths
+  pub is : text ≡ report_head ++ group_lines (counter_line h.books (keys_of h.tree.groups))
+      (range_with_len 0 (length (keys_of h.tree.groups))) paths

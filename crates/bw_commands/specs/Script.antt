@@ -1,5 +1,6 @@
 -- What a line of a script means: the text that it prints, and the state after it.
-use Rattle.std.specs.Prelude.{ℕ, ◌≡◌, ◌⊎◌, List, [], ◌∷◌, ◌++◌, nat_lt, if◌then◌else◌, codes, length, Result, Ok, Err, Option, Some, None}
+use Rattle.std.specs.Prelude.{ℕ, ◌≡◌, ◌⊎◌, List, [], ◌∷◌, ◌++◌, nat_lt, if◌then◌else◌, codes}
+use Rattle.std.specs.Prelude.{length, Result, Ok, Err, Option, Some, None}
 use Rattle.std.specs.Str.{is_utf8}
 use Rattle.bw_text.specs.Number.{number_spelled}
 use Rattle.bw_hierarchy.specs.State.{with_tree, rmdir_of, demand_set_of}
@@ -22,8 +23,10 @@ use Rattle.bw_commands.specs.declared.fault.ScriptFault.TheVariants as fault
 abbrev pub line_bytes : ℕ
 line_bytes = 65536
 
--- What a line does: nothing at all, or it prints a text and leaves a state, or it prints the total, the plan, the plan's
--- certified text or the counters, or it serves a period. What `Says` a text takes no memory for it; what `Prints` one may.
+-- What a line does: nothing at all, or it prints a text and leaves a state, or it prints the total,
+-- the plan, the plan's
+-- certified text or the counters, or it serves a period. What `Says` a text takes no memory for it;
+-- what `Prints` one may.
 pub data Outcome : Type 0 where
   Silent : Outcome
   Says : (text : List ℕ) (after : State) → Outcome
@@ -49,14 +52,17 @@ abbrev pub change_outcome : {A : Type 0} → State → (A → State) → Result 
 change_outcome s after (Ok x) = Says ok_line (after x)
 change_outcome s after (Err f) = refused s (fault.Call f)
 
--- a call on the hierarchy that takes memory: its refusal, or the text that its value prints and the state that it leaves
-abbrev pub call_outcome : {A : Type 0} → State → (A → List ℕ) → (A → State) → Result A Fault → Outcome
+-- a call on the hierarchy that takes memory: its refusal, or the text that its value prints and the
+-- state that it leaves
+abbrev pub call_outcome : {A : Type 0} → State → (A → List ℕ) → (A → State) → Result A Fault
+    → Outcome
 call_outcome s text after (Ok x) = Prints (text x) (after x)
 call_outcome s text after (Err f) = refused s (fault.Call f)
 
 -- `mkdir P`
 unfoldable pub mkdir_outcome : State → List ℕ → Outcome
-mkdir_outcome s path = call_outcome s (λ made. ok_line) (λ made. with_hierarchy s (with_tree s.hierarchy made.1)) (mkdir_of s.hierarchy.tree path)
+mkdir_outcome s path = call_outcome s (λ made. ok_line)
+    (λ made. with_hierarchy s (with_tree s.hierarchy made.1)) (mkdir_of s.hierarchy.tree path)
 
 -- `rmdir P`
 unfoldable pub rmdir_outcome : State → List ℕ → Outcome
@@ -65,7 +71,8 @@ rmdir_outcome s path = change_outcome s (with_hierarchy s) (rmdir_of s.hierarchy
 -- `demand P N`, where N spells this number
 unfoldable pub demand_outcome : State → List ℕ → Option ℕ → Outcome
 demand_outcome s path None = refused s fault.BadNumber
-demand_outcome s path (Some demand) = change_outcome s (with_hierarchy s) (demand_set_of s.hierarchy path demand)
+demand_outcome s path (Some demand) =
+    change_outcome s (with_hierarchy s) (demand_set_of s.hierarchy path demand)
 
 -- `read P FILE`
 unfoldable pub read_outcome : State → List ℕ → List ℕ → Outcome
@@ -74,7 +81,8 @@ read_outcome s path file = call_outcome s (λ text. text) (λ text. s) (read_of 
 -- `write P FILE TEXT`
 unfoldable pub write_outcome : State → List ℕ → List ℕ → List ℕ → Outcome
 write_outcome s path file text =
-    change_outcome s (λ tree. with_hierarchy s (with_tree s.hierarchy tree)) (write_of s.hierarchy.tree path file text)
+    change_outcome s (λ tree. with_hierarchy s (with_tree s.hierarchy tree))
+    (write_of s.hierarchy.tree path file text)
 
 -- ---- lines
 
@@ -126,7 +134,8 @@ Gives s Cert text next = IsCertifiedPlan s.hierarchy text × (next ≡ s)
 Gives s Period text next = IsPeriod s.hierarchy s.uses text next.hierarchy × (next.uses ≡ s.uses)
 Gives s Report text next = IsReport s.hierarchy text × (next ≡ s)
 
--- What may stand in place of an answer: `OutOfMemory` where memory is taken, and where a period is served a thread that
+-- What may stand in place of an answer: `OutOfMemory` where memory is taken, and where a period is
+-- served a thread that
 -- was refused. A refusal, and what `rmdir`, `demand` and `write` answer, has nothing in its place.
 abbrev pub IsAllowedFailure : Outcome → List ℕ → Type 0
 IsAllowedFailure Silent text = ⊥
@@ -135,19 +144,24 @@ IsAllowedFailure (Prints answer after) text = text ≡ error_line fault.OutOfMem
 IsAllowedFailure Total text = text ≡ error_line fault.OutOfMemory
 IsAllowedFailure Plan text = text ≡ error_line fault.OutOfMemory
 IsAllowedFailure Cert text = text ≡ error_line fault.OutOfMemory
-IsAllowedFailure Period text = (text ≡ error_line fault.OutOfMemory) ⊎ (text ≡ error_line fault.NotStarted)
+IsAllowedFailure Period text =
+    (text ≡ error_line fault.OutOfMemory) ⊎ (text ≡ error_line fault.NotStarted)
 IsAllowedFailure Report text = text ≡ error_line fault.OutOfMemory
 
--- From s the answer to a line may be this text, with the state next after it: what the line means, or what may stand
+-- From s the answer to a line may be this text, with the state next after it: what the line means,
+-- or what may stand
 -- in its place, with nothing changed.
 abbrev pub IsOutcome : State → Outcome → List ℕ → State → Type 0
-IsOutcome s outcome text next = Gives s outcome text next ⊎ (IsAllowedFailure outcome text × (next ≡ s))
+IsOutcome s outcome text next =
+    Gives s outcome text next ⊎ (IsAllowedFailure outcome text × (next ≡ s))
 
 abbrev pub IsAnswer : State → List ℕ → List ℕ → State → Type 0
 IsAnswer s line text next = IsOutcome s (outcome_of s line) text next
 
--- What a call that forms the answer may do: at Ok the answer is in the buffer and the change is made; at Err nothing
+-- What a call that forms the answer may do: at Ok the answer is in the buffer and the change is
+-- made; at Err nothing
 -- is changed, and the refusal is the line's, or stands in place of its answer.
-abbrev pub Performs : {U : Type 0} → State → Outcome → Result U ScriptFault → List ℕ → State → Type 0
+abbrev pub Performs : {U : Type 0} → State → Outcome → Result U ScriptFault → List ℕ → State
+    → Type 0
 Performs s outcome (Ok u) text next = Gives s outcome text next
 Performs s outcome (Err f) text next = (next ≡ s) × IsOutcome s outcome (error_line f) s

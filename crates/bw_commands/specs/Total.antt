@@ -1,4 +1,5 @@
--- The answer to `total`: the greatest total, the limits of the limiting groups, and the demands outside them.
+-- The answer to `total`: the greatest total, the limits of the limiting groups, and the demands
+-- outside them.
 use Rattle.std.specs.Prelude.{◌≡◌, ℕ, List, [], ◌∷◌, ◌++◌, codes, unwrap_or}
 use Rattle.std.specs.Fmt.{decimal}
 use Rattle.bw_model.specs.Groups.{Groups, limit_of}
@@ -10,7 +11,8 @@ use Rattle.bw_commands.specs.GroupLines.{ArePathsOf, group_lines}
 
 -- the line of a limiting group: its limit and its path
 abbrev pub limit_line : Groups → ℕ → List ℕ → List ℕ
-limit_line groups g path = codes "limit " ++ decimal (unwrap_or (limit_of groups g) 0) ++ codes " " ++ path ++ 10 ∷ []
+limit_line groups g path =
+    codes "limit " ++ decimal (unwrap_or (limit_of groups g) 0) ++ codes " " ++ path ++ 10 ∷ []
 
 -- the lines of some limiting groups
 abbrev pub limit_lines : Groups → List ℕ → List (List ℕ) → List ℕ

@@ -148,17 +148,15 @@ fn form_named<'a>(verb: &str, path: &'a str, word: &'a str, text: &'a str) -> Op
         "rmdir" => Some(with_words(1, 1, Command::Rmdir { path })),
         "demand" => Some(with_words(2, 2, Command::Demand { path, number: word })),
         "read" => Some(with_words(2, 2, Command::Read { path, file: word })),
-        "write" => Some(
-            with_words(
-                2,
-                3,
-                Command::Write {
-                    path,
-                    file: word,
-                    text,
-                },
-            ),
-        ),
+        "write" => Some(with_words(
+            2,
+            3,
+            Command::Write {
+                path,
+                file: word,
+                text,
+            },
+        )),
         "total" => Some(with_words(0, 0, Command::Total)),
         "plan" => Some(with_words(0, 0, Command::Plan)),
         "cert" => Some(with_words(0, 0, Command::Cert)),

@@ -1,4 +1,4 @@
-//! The line of a refused line of a script, in room that was taken before.
+//! Formats `error N NAME` for a refused line of a script, into preallocated space.
 ghost use Rattle.std.specs.Prelude.{◌≡◌, ◌≤◌, []};
 ghost use Rattle.std.specs.Vec.{vec_capacity};
 ghost use Rattle.bw_commands.specs.Faults.{error_line};
@@ -6,12 +6,12 @@ ghost use Rattle.bw_commands.specs.Faults.{error_line};
 use crate::fault::ScriptFault;
 use bw_streams::put_refusal;
 
-/// The room for any refusal.
+/// Greatest length of a refusal, in bytes.
 pub const REFUSAL_BYTES: usize = 64;
 
 ghost use Rattle.bw_commands.specs.declared.refusal.TheConstants.{REFUSAL_BYTES};
 
-/// Puts the line of a refusal in an empty buffer. It takes no memory.
+/// Appends the line of a refusal to an empty buffer. It allocates nothing.
 #[tactic(auto, unfolding(crate::specs::Faults::error_line))]
 pub fn put_error(answer: &mut Vec<u8>, fault: ScriptFault)
     requires empty { answer.old.items ≡ [] }

@@ -55,7 +55,9 @@ impl<'a, G: Gate> Script<'a, G> {
     // `mkdir P`, whose answer is `ok`.
     #[tactic(auto, unfolding(crate::specs::Script::mkdir_outcome))]
     fn mkdir(&mut self, path: &str) -> Result<(), ScriptFault>
-        ensures { Performs (state_of G.used self.old) (mkdir_outcome (state_of G.used self.old) path.now) result ok_line (state_of G.used self.new) }
+        ensures { Performs (state_of G.used self.old)
+            (mkdir_outcome (state_of G.used self.old) path.now) result ok_line
+            (state_of G.used self.new) }
     {
         let _id = self.hierarchy.mkdir(path)?;
         Ok(())
@@ -64,7 +66,9 @@ impl<'a, G: Gate> Script<'a, G> {
     // `rmdir P`, whose answer is `ok`.
     #[tactic(auto, unfolding(crate::specs::Script::rmdir_outcome))]
     fn rmdir(&mut self, path: &str) -> Result<(), ScriptFault>
-        ensures { Performs (state_of G.used self.old) (rmdir_outcome (state_of G.used self.old) path.now) result ok_line (state_of G.used self.new) }
+        ensures { Performs (state_of G.used self.old)
+            (rmdir_outcome (state_of G.used self.old) path.now) result ok_line
+            (state_of G.used self.new) }
     {
         Ok(self.hierarchy.rmdir(path)?)
     }
@@ -72,7 +76,9 @@ impl<'a, G: Gate> Script<'a, G> {
     // `demand P N`, whose answer is `ok`.
     #[tactic(auto, unfolding(crate::specs::Script::demand_outcome))]
     fn demand(&mut self, path: &str, number: &str) -> Result<(), ScriptFault>
-        ensures { Performs (state_of G.used self.old) (demand_outcome (state_of G.used self.old) path.now (number_spelled number.now)) result ok_line
+        ensures { Performs (state_of G.used self.old)
+            (demand_outcome (state_of G.used self.old) path.now (number_spelled number.now)) result
+            ok_line
             (state_of G.used self.new) }
     {
         let demand = match read_number(number.as_bytes()) {
@@ -88,7 +94,8 @@ impl<'a, G: Gate> Script<'a, G> {
     #[tactic(auto, unfolding(crate::specs::Script::read_outcome))]
     fn read(&self, path: &str, file: &str, answer: &mut Vec<u8>) -> Result<(), ScriptFault>
         requires { answer.old.items ≡ [] }
-        ensures outcome { Performs (state_of G.used self.now) (read_outcome (state_of G.used self.now) path.now file.now) result answer.new.items
+        ensures outcome { Performs (state_of G.used self.now)
+            (read_outcome (state_of G.used self.now) path.now file.now) result answer.new.items
             (state_of G.used self.now) }
         ensures room { vec_capacity answer.old ≤ vec_capacity answer.new }
     {
@@ -100,7 +107,8 @@ impl<'a, G: Gate> Script<'a, G> {
     // `write P FILE TEXT`, whose answer is `ok`.
     #[tactic(auto, unfolding(crate::specs::Script::write_outcome))]
     fn write(&mut self, path: &str, file: &str, text: &str) -> Result<(), ScriptFault>
-        ensures { Performs (state_of G.used self.old) (write_outcome (state_of G.used self.old) path.now file.now text.now) result ok_line
+        ensures { Performs (state_of G.used self.old)
+            (write_outcome (state_of G.used self.old) path.now file.now text.now) result ok_line
             (state_of G.used self.new) }
     {
         Ok(self.hierarchy.write_file(path, file, text.as_bytes())?)
@@ -120,7 +128,8 @@ impl<'a, G: Gate> Script<'a, G> {
     ) -> Result<(), ScriptFault>
         requires empty { answer.old.items ≡ [] }
         requires room { REFUSAL_BYTES ≤ vec_capacity answer.old }
-        ensures outcome { Performs (state_of G.used self.old) (outcome_of_command (state_of G.used self.old) (meaning_of command.entry))
+        ensures outcome { Performs (state_of G.used self.old)
+            (outcome_of_command (state_of G.used self.old) (meaning_of command.entry))
             result answer.new.items (state_of G.used self.new) }
         ensures room { vec_capacity answer.old ≤ vec_capacity answer.new }
     {

@@ -1,6 +1,7 @@
 //! The words of a line. Spaces and tabs stand between them.
 ghost use Rattle.std.specs.Prelude.{◌≡◌, ◌≤◌, ◌<◌, length, not, position, IfSome, IsCharBoundary};
-ghost use Rattle.bw_commands.specs.Word.{is_blank, word_len_of, blank_len_of, first_word, after_word};
+ghost use Rattle.bw_commands.specs.Word.{is_blank, word_len_of, blank_len_of, first_word};
+ghost use Rattle.bw_commands.specs.Word.{after_word};
 
 fn is_blank(byte: u8) -> bool
     ensures { result ≡ is_blank byte }

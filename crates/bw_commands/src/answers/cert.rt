@@ -9,7 +9,11 @@ use bw_plan::plan_gathered;
 use std::alloc::Global;
 use std::thread::Threads;
 
-/// Appends the answer to `cert`: the certified text of the plan. It fails only when out of memory.
+/// Appends the answer to `cert`: the certified text of the plan.
+///
+/// # Errors
+///
+/// `OutOfMemory` if an allocation failed.
 pub fn put_certified<H: Threads + Sync>(
     rt: &H,
     alloc: Global,

@@ -22,9 +22,14 @@ pub enum Line<'a> {
 }
 
 /// Appends the line of each group, in order of creation.
+///
+/// # Errors
+///
+/// `AllocError` if an allocation failed.
 pub fn put_lines(line: Line<'_>, paths: &Paths, answer: &mut Vec<u8>) -> Result<(), AllocError>
     requires { (g : ℕ) → g < length paths.now → HasRow line g }
-    ensures ok { OnOk result (answer.new.items ≡ answer.old.items ++ group_lines (line_of line.entry) (range_with_len 0 (length paths.now)) paths.now) }
+    ensures ok { OnOk result (answer.new.items ≡ answer.old.items
+        ++ group_lines (line_of line.entry) (range_with_len 0 (length paths.now)) paths.now) }
     ensures room { vec_capacity answer.old ≤ vec_capacity answer.new }
 {
     for g in 0..paths.len() {
@@ -36,7 +41,8 @@ pub fn put_lines(line: Line<'_>, paths: &Paths, answer: &mut Vec<u8>) -> Result<
 // Appends the line of one group.
 fn put_line(line: Line<'_>, g: usize, path: &[u8], answer: &mut Vec<u8>) -> Result<(), AllocError>
     requires { HasRow line g }
-    ensures ok { OnOk result (answer.new.items ≡ answer.old.items ++ line_of line.entry g path.now) }
+    ensures ok { OnOk result
+        (answer.new.items ≡ answer.old.items ++ line_of line.entry g path.now) }
     ensures room { vec_capacity answer.old ≤ vec_capacity answer.new }
 {
     match line {
@@ -48,7 +54,8 @@ fn put_line(line: Line<'_>, g: usize, path: &[u8], answer: &mut Vec<u8>) -> Resu
 
 // Appends an amount and a path.
 fn put_amount(amount: u64, path: &[u8], answer: &mut Vec<u8>) -> Result<(), AllocError>
-    ensures ok { OnOk result (answer.new.items ≡ answer.old.items ++ (decimal amount ++ codes " " ++ path.now ++ 10 ∷ [])) }
+    ensures ok { OnOk result (answer.new.items ≡ answer.old.items
+        ++ (decimal amount ++ codes " " ++ path.now ++ 10 ∷ [])) }
     ensures room { vec_capacity answer.old ≤ vec_capacity answer.new }
 {
     put_number(b"", amount, answer)?;

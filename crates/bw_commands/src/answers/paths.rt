@@ -1,5 +1,7 @@
-//! The paths of all groups, in one pass: a group stands after its parent, so its path is made from its parent's.
-ghost use Rattle.std.specs.Prelude.{◌≡◌, ◌<◌, ◌++◌, ◌∷◌, [], Some, length, slice_index, slice_index_or, OnOk, IfOk, IfSome};
+//! The paths of all groups, from one pass. A group comes after its parent, so its path is made from
+//! that of the parent.
+ghost use Rattle.std.specs.Prelude.{◌≡◌, ◌<◌, ◌++◌, ◌∷◌, [], Some, length, slice_index};
+ghost use Rattle.std.specs.Prelude.{slice_index_or, OnOk, IfOk, IfSome};
 ghost use Rattle.std.specs.List.{range_with_len};
 ghost use Rattle.std.specs.Map.{keys_of};
 ghost use Rattle.bw_tree.specs.Groups.{GroupFields, group_at, IsTree};
@@ -32,13 +34,19 @@ impl Model for Paths {
 }
 
 impl Paths {
-    /// The paths of a tree, by its snapshot. It fails only when out of memory.
+    /// Makes the paths of a tree, by its snapshot.
+    ///
+    /// # Errors
+    ///
+    /// `AllocError` if an allocation failed.
     pub fn new(alloc: Global, tree: &Tree, snapshot: &Snapshot) -> Result<Paths, AllocError>
         requires rows { snapshot.now.instance ≡ instance_of tree.now snapshot.now.instance.shape }
         requires ids { snapshot.now.ids.items ≡ keys_of tree.now.groups }
         requires each { length snapshot.now.ids.items ≡ length snapshot.now.instance.rows }
         ensures count { IfOk result (λ paths. length paths ≡ length snapshot.now.ids.items) }
-        ensures named { IfOk result (λ paths. ArePathsOf tree.now (range_with_len 0 (length snapshot.now.ids.items)) paths) }
+        ensures named { IfOk result
+            (λ paths. ArePathsOf tree.now
+            (range_with_len 0 (length snapshot.now.ids.items)) paths) }
     {
         let instance = &snapshot.instance;
         let ids = snapshot.ids.as_slice();
@@ -82,13 +90,16 @@ fn cut(text: &[u8], span: Span) -> &[u8]
 fn name_of<'a>(tree: &'a Tree, ids: &[GroupId], g: usize) -> &'a str
     requires ids { ids.now ≡ keys_of tree.now.groups }
     requires within { g < length ids.now }
-    ensures group { (group : GroupFields) × (group_at tree.now.groups (slice_index ids.now g) ≡ Some group) × (result.now ≡ group.name) }
+    ensures group { (group : GroupFields)
+        × (group_at tree.now.groups (slice_index ids.now g) ≡ Some group)
+        × (result.now ≡ group.name) }
     ensures valid { IsTree tree.now }
 {
     tree.group(ids[g]).unwrap().name.as_str()
 }
 
-// Appends the path of a group whose parent's row, if it has a parent, is one of those with these spans.
+// Appends the path of a group whose parent's row, if it has a parent, is one of those with these
+// spans.
 fn put_path(
     text: &mut Vec<u8>,
     spans: &[Span],
@@ -97,7 +108,8 @@ fn put_path(
 ) -> Result<(), AllocError>
     requires within { AreWithin (length text.old.items) spans.now }
     requires parent { IfSome parent (λ p. p < length spans.now) }
-    ensures { OnOk result (text.new.items ≡ text.old.items ++ path_below (cuts text.old.items spans.now) parent name.now) }
+    ensures { OnOk result (text.new.items ≡ text.old.items
+        ++ path_below (cuts text.old.items spans.now) parent name.now) }
 {
     let Some(parent) = parent else {
         text.extend_from_slice(b".")?;
@@ -114,7 +126,8 @@ fn put_path(
 // Appends a path that stands in the text already, `/` and a name.
 fn put_below(text: &mut Vec<u8>, above: Span, name: &str) -> Result<(), AllocError>
     requires { AreWithin (length text.old.items) (above ∷ []) }
-    ensures { OnOk result (text.new.items ≡ text.old.items ++ (cut text.old.items above ++ 47 ∷ name.now)) }
+    ensures { OnOk result
+        (text.new.items ≡ text.old.items ++ (cut text.old.items above ++ 47 ∷ name.now)) }
 {
     text.extend_from_within(above.start..above.end)?;
     text.push(b'/')?;

@@ -16,8 +16,15 @@ use std::rt::Clock;
 use std::sync::Wait;
 use std::thread::Threads;
 
-/// Serves one period, appends the answer, the slices that its workers drew at the root, and then counts the period for
-/// each group and notes what it left of its limit. An `Err` changes neither.
+/// Serves one period and appends the answer: the slices that the workers drew at the root.
+///
+/// Then it counts the period for each group, and notes what the group left of its limit.
+///
+/// # Errors
+///
+/// The hierarchy is then unchanged:
+/// - `NotStarted` if a thread could not be spawned.
+/// - `OutOfMemory` if an allocation failed.
 #[tactic(auto, unfolding(crate::specs::Faults::error_line))]
 pub fn serve_period<G: Gate, H: Threads + Wait + Clock + Sync>(
     rt: &H,
@@ -26,7 +33,9 @@ pub fn serve_period<G: Gate, H: Threads + Wait + Clock + Sync>(
     gate: &G,
     answer: &mut Vec<u8>,
 ) -> Result<(), ScriptFault>
-    ensures ok { OnOk result ((text : List ℕ) × IsPeriod hierarchy.old (G.used gate.now) text hierarchy.new × (answer.new.items ≡ answer.old.items ++ text)) }
+    ensures ok { OnOk result
+        ((text : List ℕ) × IsPeriod hierarchy.old (G.used gate.now) text hierarchy.new
+        × (answer.new.items ≡ answer.old.items ++ text)) }
     ensures err { OnErr result (hierarchy.new ≡ hierarchy.old) }
     ensures spare { IfErr result (λ fault. IsAllowedFailure Period (error_line fault)) }
     ensures room { vec_capacity answer.old ≤ vec_capacity answer.new }

@@ -9,8 +9,12 @@ use bw_plan::plan_levels;
 use std::alloc::Global;
 use std::thread::Threads;
 
-/// Appends the answer to `plan`: for each group, in order of creation, what it gets in slices of one
-/// period, and its path. It fails only when out of memory.
+/// Appends the answer to `plan`: for each group, in order of creation, what it gets in slices of
+/// one period, and its path.
+///
+/// # Errors
+///
+/// `OutOfMemory` if an allocation failed.
 pub fn put_plan<H: Threads + Sync>(
     rt: &H,
     alloc: Global,

@@ -8,8 +8,12 @@ use bw_hierarchy::{Fault, Hierarchy};
 use bw_stat::report_head;
 use std::alloc::Global;
 
-/// Appends the answer to `report`: the head line and, for each group in order of creation, its counters and its path.
-/// It fails only when out of memory.
+/// Appends the answer to `report`: the head line and, for each group in order of creation, its
+/// counters and its path.
+///
+/// # Errors
+///
+/// `OutOfMemory` if an allocation failed.
 pub fn put_report(alloc: Global, hierarchy: &Hierarchy, answer: &mut Vec<u8>) -> Result<(), Fault>
     ensures { Answers (IsReport hierarchy.now) answer.old answer.new result }
 {

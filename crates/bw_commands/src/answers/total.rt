@@ -1,5 +1,6 @@
 //! The answer to `total`.
-ghost use Rattle.std.specs.Prelude.{◌≡◌, ◌≤◌, ◌<◌, ◌++◌, ◌∷◌, [], ℕ, List, Some, codes, length, unwrap_or, slice_index, string_bytes, OnOk, IfOk, IfErr};
+ghost use Rattle.std.specs.Prelude.{◌≡◌, ◌≤◌, ◌<◌, ◌++◌, ◌∷◌, [], ℕ, List, Some, codes, length};
+ghost use Rattle.std.specs.Prelude.{unwrap_or, slice_index, string_bytes, OnOk, IfOk, IfErr};
 ghost use Rattle.std.specs.Fmt.{decimal};
 ghost use Rattle.std.specs.Map.{keys_of};
 ghost use Rattle.std.specs.Vec.{vec_capacity};
@@ -18,7 +19,11 @@ use bw_tree::{GroupId, Snapshot, Tree, TreeFault};
 use std::alloc::Global;
 
 /// Appends the answer to `total`: the greatest total, a line for each limiting group in order of
-/// creation, and the demands outside them, in slices of one period. It fails only when out of memory.
+/// creation, and the demands outside them, in slices of one period.
+///
+/// # Errors
+///
+/// `OutOfMemory` if an allocation failed.
 pub fn put_total(alloc: Global, hierarchy: &Hierarchy, answer: &mut Vec<u8>) -> Result<(), Fault>
     ensures { Answers (IsTotal hierarchy.now) answer.old answer.new result }
 {
@@ -56,9 +61,11 @@ fn put_limits(
 ) -> Result<(), Fault>
     requires ids { snapshot.now.ids.items ≡ keys_of tree.now.groups }
     requires each { length snapshot.now.ids.items ≡ length snapshot.now.instance.rows }
-    requires within { (k : ℕ) → k < length groups.now → slice_index groups.now k < length snapshot.now.instance.rows }
+    requires within { (k : ℕ) → k < length groups.now
+        → slice_index groups.now k < length snapshot.now.instance.rows }
     ensures ok { OnOk result ((paths : List (List ℕ)) × ArePathsOf tree.now groups.now paths
-        × (answer.new.items ≡ answer.old.items ++ limit_lines snapshot.now.instance groups.now paths)) }
+        × (answer.new.items ≡ answer.old.items
+        ++ limit_lines snapshot.now.instance groups.now paths)) }
     ensures err { IfErr result (λ fault. fault ≡ Fault.Tree TreeFault.OutOfMemory) }
     ensures room { vec_capacity answer.old ≤ vec_capacity answer.new }
 {
@@ -85,7 +92,7 @@ fn put_limit(tree: &Tree, snapshot: &Snapshot, g: u32, answer: &mut Vec<u8>) -> 
     Ok(())
 }
 
-// The path of the group of a row. It fails only when out of memory.
+// The path of the group of a row.
 fn path_of(tree: &Tree, ids: &[GroupId], g: usize) -> Result<String, TreeFault>
     requires ids { ids.now ≡ keys_of tree.now.groups }
     requires within { g < length ids.now }

@@ -10,5 +10,7 @@ pub returns-clause-boundary : goal.returns-clause-boundary
 returns-clause-boundary c =
     let is : c.unwrap_or.result ≡ blank_len_of c.args.text.now =
     c.unwrap_or.ensures ∙ ap (λ o. unwrap_or o (length c.args.text.now))
-    (c.first_other.ensures.value ∙ ap (position (λ b. not (is_blank b))) c.as_bytes.ensures.value) in
-    subst (IsCharBoundary c.args.text.now) (sym is) (IsCharBoundary-blank_len_of c.args.text.now c.utf8.text)
+    (c.first_other.ensures.value
+    ∙ ap (position (λ b. not (is_blank b))) c.as_bytes.ensures.value) in
+    subst (IsCharBoundary c.args.text.now) (sym is)
+    (IsCharBoundary-blank_len_of c.args.text.now c.utf8.text)

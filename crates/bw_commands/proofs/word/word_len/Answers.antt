@@ -9,5 +9,6 @@ use Rattle.bw_commands.proofs.word.word_len.Goals as goal
 pub returns-clause-boundary : goal.returns-clause-boundary
 returns-clause-boundary c =
     let is : c.unwrap_or.result ≡ word_len_of c.args.text.now =
-    c.unwrap_or.ensures ∙ ap (λ o. unwrap_or o (length c.args.text.now)) (c.first_blank.ensures.value ∙ ap (position is_blank) c.as_bytes.ensures.value) in
+    c.unwrap_or.ensures ∙ ap (λ o. unwrap_or o (length c.args.text.now))
+    (c.first_blank.ensures.value ∙ ap (position is_blank) c.as_bytes.ensures.value) in
     subst (IsCharBoundary c.args.text.now) (sym is) (IsCharBoundary-word_len_of c.args.text.now)

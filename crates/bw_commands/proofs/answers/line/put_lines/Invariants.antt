@@ -8,6 +8,7 @@ use Rattle.bw_commands.proofs.answers.line.put_lines.Given as goal
 
 abbrev pub invariant-loop-g : goal.invariant-loop-g
 invariant-loop-g l = record {
-  put : l.answer.items ≡ l.initial.answer.items ++ group_lines (line_of l.line) (range_with_len 0 l.g) (take l.g l.paths);
+  put : l.answer.items ≡ l.initial.answer.items
+      ++ group_lines (line_of l.line) (range_with_len 0 l.g) (take l.g l.paths);
   room : vec_capacity l.initial.answer ≤ vec_capacity l.answer;
 }

@@ -6,6 +6,8 @@ use Rattle.bw_commands.proofs.answers.paths.put_path.Goals as goal
 
 pub put_below-requires : goal.put_below-requires
 put_below-requires c =
-    let lt : c.in-Some.parent < length c.args.spans.now = subst (λ o. IfSome o (λ p. p < length c.args.spans.now)) c.in-Some.is c.requires.parent in
-    let h = within_at (length c.args.text.now.items) c.args.spans.now c.in-Some.parent _ c.requires.within lt in
+    let lt : c.in-Some.parent < length c.args.spans.now =
+    subst (λ o. IfSome o (λ p. p < length c.args.spans.now)) c.in-Some.is c.requires.parent in
+    let h = within_at (length c.args.text.now.items) c.args.spans.now c.in-Some.parent _
+    c.requires.within lt in
     (h.0, h.1, tt)

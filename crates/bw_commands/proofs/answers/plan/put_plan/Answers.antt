@@ -9,5 +9,6 @@ put_lines-requires g c =
     let rows = c.in_ok-snapshot.snapshot.instance.rows in
     let plan = c.in_ok-plan.ensures in
     let amounts : length c.as_slice.result.now ≡ length rows =
-    ap length c.as_slice.ensures.value ∙ ap length plan.amounts_are ∙ length-map-range_with_len (total rows plan.allocation) 0 (length rows) in
+    ap length c.as_slice.ensures.value ∙ ap length plan.amounts_are
+    ∙ length-map-range_with_len (total rows plan.allocation) 0 (length rows) in
     λ k lt. omega (arith, lt, amounts, c.in_ok-paths.ensures.count, c.in_ok-snapshot.ensures.count)

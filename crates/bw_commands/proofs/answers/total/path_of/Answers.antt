@@ -14,8 +14,12 @@ pub returns-clause-err : goal.returns-clause-err
 returns-clause-err c =
     let t = c.args.tree.now in
     let id = get_or c.args.ids.now c.args.g 0 in
-    let lt : c.args.g < length (keys_of t.groups) = omega (arith, c.requires.within, ap length c.requires.ids) in
-    let there : has_group t.groups id ≡ true = ap (λ ids. has_group t.groups (get_or ids c.args.g 0)) c.requires.ids ∙ row_has_group t.groups c.args.g lt in
+    let lt : c.args.g < length (keys_of t.groups) =
+    omega (arith, c.requires.within, ap length c.requires.ids) in
+    let there : has_group t.groups id ≡ true =
+    ap (λ ids. has_group t.groups (get_or ids c.args.g 0)) c.requires.ids
+    ∙ row_has_group t.groups c.args.g lt in
     let none : path_refusal t id ≡ None = ap (λ b. cond (not b) (Some NotFound) None) there in
-    IfErr-weaker c.path_of.result (IsRefused (path_refusal t id)) (λ (fault : TreeFault). fault ≡ OutOfMemory)
+    IfErr-weaker c.path_of.result (IsRefused (path_refusal t id))
+    (λ (fault : TreeFault). fault ≡ OutOfMemory)
     (λ fault. only_memory (path_refusal t id) fault none) c.path_of.ensures.refused

@@ -8,6 +8,7 @@ use Rattle.bw_commands.proofs.answers.total.put_limits.Given as goal
 abbrev pub invariant-loop-g : goal.invariant-loop-g
 invariant-loop-g l = record {
   taken : (paths : List (List ℕ)) × ArePathsOf l.tree (take l.g-index l.groups) paths
-      × (l.answer.items ≡ l.initial.answer.items ++ limit_lines l.snapshot.instance (take l.g-index l.groups) paths);
+      × (l.answer.items ≡ l.initial.answer.items
+      ++ limit_lines l.snapshot.instance (take l.g-index l.groups) paths);
   room : vec_capacity l.initial.answer ≤ vec_capacity l.answer;
 }

@@ -7,5 +7,8 @@ use Rattle.bw_commands.proofs.answers.total.put_total.Goals as goal
 pub put_limits-requires-clause-within : goal.put_limits-requires-clause-within
 put_limits-requires-clause-within c =
     let most = c.in_ok-gathered.gathered.most.items in
-    let same : c.as_slice.result.now ≡ limiting_groups c.in_ok-snapshot.snapshot.instance most = c.as_slice.ensures.value ∙ c.in_ok-limits.ensures.groups in
-    subst (λ xs. (k : ℕ) → k < length xs → get_or xs k 0 < length c.in_ok-snapshot.snapshot.instance.rows) (sym same) (limiting_groups-lt c.in_ok-snapshot.snapshot.instance most)
+    let same : c.as_slice.result.now ≡ limiting_groups c.in_ok-snapshot.snapshot.instance most =
+    c.as_slice.ensures.value ∙ c.in_ok-limits.ensures.groups in
+    subst (λ xs. (k : ℕ) → k < length xs
+    → get_or xs k 0 < length c.in_ok-snapshot.snapshot.instance.rows) (sym same)
+    (limiting_groups-lt c.in_ok-snapshot.snapshot.instance most)

@@ -10,4 +10,5 @@ returns c =
     let tree = c.rows-rows.ensures.valid.tree in
     let some : 0 < length most = omega (arith, tree.has_root, c.requires.mosts.one_each) in
     c.index.ensures ∙ get_or_within most 0 c.index.result.now some
-    ∙ sym (limited_total-is groups tree most (AreMaxTotals-capped groups tree most c.requires.mosts))
+    ∙ sym (limited_total-is groups tree most
+    (AreMaxTotals-capped groups tree most c.requires.mosts))

@@ -15,7 +15,10 @@ returns-in_err-_id g c =
     let s : State = state_of g.G.Gate.used c.args.self.now in
     let p = err_from_is_err_and c.from_residual.result c.from_residual.ensures.1 in
     rw (p.1, p.2) (
-      ap (λ h. record { hierarchy = h; uses = g.G.Gate.used c.args.self.now.gate.now }) c.in_err-_id.ensures.err,
-      call_outcome-IsRefusal s (λ made. ok_line) (λ made. with_hierarchy s (with_tree s.hierarchy made.1))
-          (mkdir_of s.hierarchy.tree c.args.path.now) c.in_err-_id.field-0.0 c.in_err-_id.ensures.refused c.in_err-_id.ensures.memory,
+      ap (λ h. record { hierarchy = h; uses = g.G.Gate.used c.args.self.now.gate.now })
+          c.in_err-_id.ensures.err,
+      call_outcome-IsRefusal s (λ made. ok_line)
+          (λ made. with_hierarchy s (with_tree s.hierarchy made.1))
+          (mkdir_of s.hierarchy.tree c.args.path.now) c.in_err-_id.field-0.0
+          c.in_err-_id.ensures.refused c.in_err-_id.ensures.memory,
     )

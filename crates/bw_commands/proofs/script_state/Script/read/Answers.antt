@@ -16,5 +16,6 @@ returns-in_err-text-clause-outcome g c =
     rw (p.1, p.2) (
       refl,
       call_outcome-IsRefusal s (λ text. text) (λ text. s)
-          (read_of s.hierarchy c.args.path.now c.args.file.now) c.in_err-text.field-0.0 c.in_err-text.ensures.refused c.in_err-text.ensures.memory,
+          (read_of s.hierarchy c.args.path.now c.args.file.now) c.in_err-text.field-0.0
+          c.in_err-text.ensures.refused c.in_err-text.ensures.memory,
     )

@@ -9,7 +9,13 @@ pub cut-requires : goal.cut-requires
 cut-requires c =
     let spans = c.self.inside.spans.items in
     let text = c.self.inside.text.items in
-    let lt : c.args.g < length spans = omega (arith, c.requires, ap (λ (x : List (List ℕ)). length x) c.self.view_is, length-map spans (cut text)) in
+    let lt : c.args.g < length spans =
+    omega (
+      arith,
+      c.requires,
+      ap (λ (x : List (List ℕ)). length x) c.self.view_is,
+      length-map spans (cut text),
+    ) in
     let h = within_at (length text) spans c.args.g c.index.result.now c.self.invariant lt in
     let same : c.index.result.now ≡ get_or spans c.args.g c.index.result.now = c.index.ensures in
     let bytes : length c.as_slice.result.now ≡ length text = ap length c.as_slice.ensures.value in

@@ -9,6 +9,7 @@ abbrev pub invariant-loop-g : goal.invariant-loop-g
 invariant-loop-g l = record {
   count : length l.spans.items ≡ l.g;
   within : AreWithin (length l.text.items) l.spans.items;
-  named : (k : ℕ) → k < l.g → path_at l.tree.groups (get_or l.ids k 0) ≡ Some (get_or (cuts l.text.items l.spans.items) k []);
+  named : (k : ℕ) → k < l.g → path_at l.tree.groups (get_or l.ids k 0)
+      ≡ Some (get_or (cuts l.text.items l.spans.items) k []);
   found : (k : ℕ) → k < l.g → IsPathOf l.tree k (get_or (cuts l.text.items l.spans.items) k []);
 }
