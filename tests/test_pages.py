@@ -67,9 +67,10 @@ def test_pages_that_are_named():
 
 @pytest.mark.parametrize("page", PAGES)
 def test_paths(page):
-    """Each path from the top of the repository that a page names is there."""
+    """Each path from the top of the repository that a page names is there, but what is made."""
     folders = "bench|crates|docs|examples|python|scripts|share|tests|tools"
-    named = re.findall(rf"`((?:{folders})/[\w./-]+)`", text_of(page))
+    named = [path for path in re.findall(rf"`((?:{folders})/[\w./-]+)`", text_of(page))
+             if "/out/" not in path]
     same([path for path in named if not (ROOT / path).exists()], [], "paths to nothing")
 
 
