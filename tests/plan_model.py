@@ -247,8 +247,8 @@ def read_certified(text):
     read = [group_in(lines.words(7)) for _ in range(groups)]
     if lines.rest:
         raise Refused(43)
-    instance = instance_of([row for row, _, _, _ in read], capacity)
-    return instance, [each[1] for each in read], [each[2] for each in read], [each[3] for each in read]
+    rows, amounts, flags, levels = [list(column) for column in zip(*read)] or [[]] * 4
+    return instance_of(rows, capacity), amounts, flags, levels
 
 
 def faults_of(instance, amounts, flags, levels):
@@ -284,7 +284,7 @@ def faults_of(instance, amounts, flags, levels):
 
 
 def line_for(text):
-    """The line that a check of this text prints, and the instance and the amounts if it has them."""
+    """The line that a check of this text prints, and the instance and amounts if it has them."""
     try:
         instance, amounts, flags, levels = read_certified(text)
     except Refused as refused:

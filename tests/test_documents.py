@@ -1,7 +1,7 @@
 """The documents for users, held to the program.
 
-Each block of a page that is run prints what stands below it. The table of numbers has the names that
-the code has, and each number is met as the table says.
+Each block of a page that is run prints what stands below it. The table of numbers has the names
+that the code has, and each number is met as the table says.
 
 `--write` puts the program's answers into the pages, to be read and checked by hand.
 """
@@ -95,9 +95,11 @@ def test_numbers_have_the_names_of_the_code():
 
 
 TWO = "bw 1 1 100000 5000 3\n- 100 max 0 20 1 13/100@0\n0 100 max 20 7 0 -\n0 200 max 20 13 0 -\n"
-POD = "bw 1 1 100000 5000 5\n- 100 max 0 20 1 19/100@1\n0 100 10 0 10 1 15/300@1\n1 100 max 20 2 0 -\n1 300 max 20 8 0 -\n0 100 max 20 10 0 -\n"
+POD = "bw 1 1 100000 5000 5\n- 100 max 0 20 1 19/100@1\n0 100 10 0 10 1 15/300@1\n"
+POD += "1 100 max 20 2 0 -\n1 300 max 20 8 0 -\n0 100 max 20 10 0 -\n"
 CHAIN = "".join(f"mkdir {'/'.join('a' * depth)}\n" for depth in range(1, 66))
-DEEP = "bw 1 1 100000 5000 66\n- 100 max 0 0 0 -\n" + "".join(f"{row} 100 max 0 0 0 -\n" for row in range(65))
+DEEP = "bw 1 1 100000 5000 66\n- 100 max 0 0 0 -\n"
+DEEP += "".join(f"{row} 100 max 0 0 0 -\n" for row in range(65))
 FULL = "".join(f"mkdir g{number}\n" for number in range(16384))
 
 # How each number is met: by a script that ends with it, a text, or options. `A` makes a group.
