@@ -133,7 +133,10 @@ def main():
         ("1,000,000 lines", ["run"], b"", LINES, 1000000 // lines),
         ("100,000 periods of one processor", ["run"], TREE, b"period\n", 100000),
     ]:
-        wrong = part(name, words, first, block, times)
+        try:
+            wrong = part(name, words, first, block, times)
+        except (OSError, ValueError, subprocess.SubprocessError) as error:
+            wrong = str(error)
         if wrong:
             failed += 1
             print(f"FAILED: {name}: {wrong}")

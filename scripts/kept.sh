@@ -25,10 +25,8 @@ in_words() { # SECONDS
 # Prints how long a command took at its last measurement: on this machine, otherwise the one that
 # scripts/times has.
 last_time() { # WHAT
-  local line
   if [ -n "$here" ] && [ -f "$here/time of $1" ]; then
-    read -r line <"$here/time of $1"
-    echo "$line on this machine"
+    cat "$here/time of $1"
   else
     sed -n "s/^$1: //p" scripts/times
   fi
@@ -37,5 +35,5 @@ last_time() { # WHAT
 # Keeps for `last_time` how long a command took.
 note_time() { # WHAT SECONDS
   [ -n "$here" ] || return 0
-  echo "$(in_words "$2") on $(date +%F)" 2>/dev/null >"$here/time of $1" || true
+  echo "$(in_words "$2") on this machine ($(date +%F))" 2>/dev/null >"$here/time of $1" || true
 }

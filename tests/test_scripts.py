@@ -58,7 +58,7 @@ def test_tells_the_time_of_this_machine(copy):
     copy.is_checked("the first run")
     copy.write(sources("bw_plan")[0], "edited\n")
     err = copy.call(["./arbiter", "a"])[2]
-    assert re.search(r"^arbiter: that took \d s on [\d-]{10} on this machine; later", err, re.M), err
+    assert re.search(r"^arbiter: that took \d+ s on this machine \([\d-]{10}\); later", err, re.M), err
 
 
 def test_checked_build_of_each_source_and_kit(copy):
