@@ -119,7 +119,9 @@ forget_stamp() {
 write_stamp() { # LINES of sources_now before they were made
   local now beside
   if [ -z "$1" ] || ! now=$(sources_now) || [ "$now" != "$1" ]; then
-    echo "${made[0]} is not taken as current: sources were changed while it was made, or cannot be read" >&2
+    cat >&2 <<END
+${made[0]} is not taken as current: sources were changed while it was made, or cannot be read
+END
     return 1
   fi
   # a parallel ./arbiter sees the old stamp or the new one, and no part of one

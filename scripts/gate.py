@@ -29,18 +29,19 @@ from progress import Progress
 GATE = ["rt", "ci"]
 # Lines of the gate that tell of no failure.
 GOOD = re.compile(
-    r"^rt: (\w+(: its tests are)? proved|\w+ is kept: .*|.*(: trying its must-fail edits .*|: refused, as it must be.*"
+    r"^rt: (\w+(: its tests are)? proved|\w+ is kept: .*"
+    r"|.*(: trying its must-fail edits .*|: refused, as it must be.*"
     r"| ran( \(.*\))?, and wrote what its file stdout has|: its tests passed"
     r"| were tried by an earlier run on this machine.*|: begins with what a check kept .*"
     r"|chose .*))$"
 )
-# The lines of the log that say that a crate, or its tests, were proved or taken from an earlier run.
+# The lines of the log that say that a crate was proved, or taken from an earlier run.
 PROVED = re.compile(r"^rt: (\w+) (?:proved|is kept: .*)$")
 LAST = re.compile(r"^\d+ passed, \d+ failed$")
 
 
 class Span:
-    """From when to when, and for how many processor seconds, the processes of one kind were seen."""
+    """When the processes of one kind were seen, and for how many processor seconds."""
 
     def __init__(self):
         self.first, self.last, self.processor = float("inf"), float("-inf"), {}
@@ -93,52 +94,81 @@ def edits(crate):
 
 
 def longest_chain(stands_on, found):
-    """The tasks of the greatest sum of seconds in which each waits for the one before, as the gate orders them, and that sum."""
+    """The greatest sum of seconds of tasks that wait for one another, and these tasks.
+
+    As in the gate, edits wait for all other tasks of their crate, and those for the proofs below.
+    """
     best = {}
 
     def chain(crate, kind):
         if (crate, kind) not in best:
-            best[crate, kind] = (0.0, [])
-            before = [(crate, it) for it in (PROOF, TESTS, BASE)] if kind == EDITS else [(it, PROOF) for it in stands_on[crate]]
-            total, links = max((chain(*it) for it in before), key=lambda it: it[0], default=(0.0, []))
+            before = [(below, PROOF) for below in stands_on[crate]]
+            if kind == EDITS:
+                before = [(crate, other) for other in (PROOF, TESTS, BASE)]
+            total, links = longest(chain(*task) for task in before)
             span = found.get((crate, kind))
             if span:
-                total, links = total + span.seconds(), [*links, f"{crate} {kind} {span.seconds():.0f}"]
+                links = [*links, f"{crate} {kind} {span.seconds():.0f}"]
+                total += span.seconds()
             best[crate, kind] = (total, links)
         return best[crate, kind]
 
-    return max((chain(crate, kind) for crate in stands_on for kind in KINDS), key=lambda it: it[0], default=(0.0, []))
+    return longest(chain(crate, kind) for crate in stands_on for kind in KINDS)
 
 
-def shown(span):
-    return f"{span.seconds():.0f} | {span.used():.0f}" if span and span.processor else "- | -"
+def longest(chains):
+    return max(chains, key=lambda chain: chain[0], default=(0.0, []))
+
+
+HEAD = ("Crate", "proof, s", "cpu s", "tests, s", "cpu s", "base of the edits, s", "cpu s", "edits",
+        "edits, s", "cpu s", "all, cpu s")
+
+
+def row(columns):
+    return f"| {' | '.join(columns)} |"
+
+
+def two(span):
+    """The columns of a span: its seconds, and processor seconds."""
+    if not span or not span.processor:
+        return ["-", "-"]
+    return [f"{span.seconds():.0f}", f"{span.used():.0f}"]
 
 
 def table(found, whole, used):
-    """The lines of the table and of what stands below it."""
+    """The lines of the table and of what is below it."""
     stands_on = crates()
-    yield "| Crate | proof, s | cpu s | tests, s | cpu s | base of the edits, s | cpu s | edits | edits, s | cpu s | all, cpu s |"
-    yield "|---" * 11 + "|"
+    yield row(HEAD)
+    yield "|---" * len(HEAD) + "|"
     sums = dict.fromkeys(KINDS, 0.0)
     for crate in stands_on:
         spans = {kind: found.get((crate, kind)) for kind in KINDS}
         of_each = {kind: span.used() if span else 0.0 for kind, span in spans.items()}
         sums = {kind: sums[kind] + of_each[kind] for kind in KINDS}
-        columns = [shown(spans[PROOF]), shown(spans[TESTS]), shown(spans[BASE]), str(edits(crate)), shown(spans[EDITS])]
-        yield f"| {crate} | {' | '.join(columns)} | {sum(of_each.values()):.0f} |"
-    columns = [f"| {sums[PROOF]:.0f}", f"| {sums[TESTS]:.0f}", f"| {sums[BASE]:.0f}", f"{sum(map(edits, stands_on))}", f"| {sums[EDITS]:.0f}"]
-    yield f"| all | {' | '.join(columns)} | {sum(sums.values()):.0f} |"
+        before = [column for kind in (PROOF, TESTS, BASE) for column in two(spans[kind])]
+        count, of_all = str(edits(crate)), f"{sum(of_each.values()):.0f}"
+        yield row([crate, *before, count, *two(spans[EDITS]), of_all])
+    before = [column for kind in (PROOF, TESTS, BASE) for column in ("", f"{sums[kind]:.0f}")]
+    count, of_all = str(sum(map(edits, stands_on))), f"{sum(sums.values()):.0f}"
+    yield row(["all", *before, count, "", f"{sums[EDITS]:.0f}", of_all])
     yield ""
+    yield from below_the_table(stands_on, found, whole, used)
+
+
+def below_the_table(stands_on, found, whole, used):
     for kind in (LINK, RUN):
         span = Span()
-        for it in [it for (_, of), it in found.items() if of == kind]:
-            span.join(it)
+        for each in [each for (_, of), each in found.items() if of == kind]:
+            span.join(each)
         if span.processor:
-            yield f"{kind}: {span.used():.0f} processor seconds" + (f", {span.seconds():.0f} seconds from the first to the last" if kind == RUN else "")
-    load = f"{os.getloadavg()[2]:.1f} in the last 15 minutes"
-    yield f"whole: {whole:.0f} seconds, {used:.0f} processor seconds, on {len(os.sched_getaffinity(0))} processors; load {load}"
+            yield (f"{kind}: {span.used():.0f} processor seconds, "
+                   f"{span.seconds():.0f} from first to last")
+    processors, load = len(os.sched_getaffinity(0)), os.getloadavg()[2]
+    yield (f"whole: {whole:.0f} seconds, {used:.0f} processor seconds, on {processors} processors; "
+           f"load {load:.1f} in the last 15 minutes")
     total, links = longest_chain(stands_on, found)
-    yield f"longest chain of tasks, each waiting for the one before: {total:.0f} seconds: {', '.join(links) or 'none was seen'}"
+    yield (f"longest chain of tasks, each waiting for the one before: {total:.0f} seconds: "
+           f"{', '.join(links) or 'none was seen'}")
 
 
 def failures(text):

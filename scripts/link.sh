@@ -1,5 +1,5 @@
 # shellcheck shell=bash disable=SC2154
-# Links what is chosen by `of_program` or `of_library`, over what was proved. For ./build and ./test.
+# Links what `of_program` or `of_library` chose, over what was proved. For ./build and ./test.
 
 link_made() {
   "link_$crate"

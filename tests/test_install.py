@@ -33,7 +33,9 @@ def copy(scratch):
 
 
 def files_below(folder):
-    return {os.path.relpath(f"{at}/{name}", folder): f"{at}/{name}" for at, _, names in os.walk(folder) for name in names}
+    """The files below a folder: {place below it: path}."""
+    paths = [f"{at}/{name}" for at, _, names in os.walk(folder) for name in names]
+    return {os.path.relpath(path, folder): path for path in paths}
 
 
 def bytes_of(path):
@@ -46,14 +48,17 @@ def is_installed(copy, folder):
     same(sorted(found), sorted(INSTALLED), "what is installed")
     same({place: os.readlink(found[place]) for place in LINKS}, LINKS, "where links point to")
     for place, (source, mode) in FILES.items():
-        same(bytes_of(found[place]) == bytes_of(f"{copy.top}/{source}"), True, f"the bytes of {place}")
-        same((stat.S_IMODE(os.stat(found[place]).st_mode), os.path.islink(found[place])), (mode, False), f"the mode of {place}")
+        path = found[place]
+        same(bytes_of(path) == bytes_of(f"{copy.top}/{source}"), True, f"the bytes of {place}")
+        found_mode = stat.S_IMODE(os.stat(path).st_mode), os.path.islink(path)
+        same(found_mode, (mode, False), f"the mode of {place}")
 
 
 def test_installs(copy):
-    """All files come below a folder that was not there, named from where the caller stands; again over an old installation."""
+    """All files come below a new folder, which is named from the caller's; also over old files."""
     os.makedirs(f"{copy.folder}/from here")
-    status, out, err = copy.call([f"{copy.top}/build", "--install", "to a/new place"], cwd=f"{copy.folder}/from here")
+    words, cwd = [f"{copy.top}/build", "--install", "to a/new place"], f"{copy.folder}/from here"
+    status, out, err = copy.call(words, cwd=cwd)
     same(status, 0, f"./build --install: {err}")
     folder = f"{copy.folder}/from here/to a/new place"
     for place in INSTALLED:
@@ -73,22 +78,26 @@ def test_installs(copy):
     same(copy.call(["./build", f"--install={folder}"])[0], 0, "again, and without the kit")
     is_installed(copy, folder)
     same(copy.read("precious"), "precious\n", "what a link pointed to")
-    same(run([f"{folder}/bin/arbiter", "a"], b"", env={}, cwd="/").out, b"native: a\n", "the installed program by itself")
+    ended = run([f"{folder}/bin/arbiter", "a"], b"", env={}, cwd="/")
+    same(ended.out, b"native: a\n", "the installed program by itself")
 
 
 def test_library_is_linked(copy):
-    """The two libraries are linked from the proved archive and what the kit's code needs, the shared one with its soname and the names that it shows; its proof is told before."""
+    """Both libraries are linked from the proved archive and the kit's C, as the linker is told."""
     _, err = copy.installs("there", "a first installation", [PROVED, LIBRARY_PROVED])
-    holds(f"build: proving and linking {LIBRARY}.so: from nothing that took ", err, "standard error")
+    holds(f"build: proving and linking {LIBRARY}.so: from nothing that took ", err, "the time")
     same(copy.read(f"{LIBRARY}.a"), "archive\nrun time\n", "the static library")
-    for part in (" -shared ", f" -Wl,-soname,{SONAME} ", " -Wl,--version-script=share/arbiter.map ", " -Wl,--whole-archive crates/bw_exports/out/libbw_exports.a ", "/c/liblibc_c.a\n"):
+    for part in (" -shared ", f" -Wl,-soname,{SONAME} ",
+                 " -Wl,--version-script=share/arbiter.map ",
+                 " -Wl,--whole-archive crates/bw_exports/out/libbw_exports.a ",
+                 "/c/liblibc_c.a\n"):
         holds(part, copy.read(f"{LIBRARY}.so"), "how the shared library is linked")
     made = ["build.log", "libarbiter.a", "libarbiter.so", "libarbiter.sources", "libbw_exports.a"]
     same(sorted(os.listdir(f"{copy.top}/crates/bw_exports/out")), made, "what is in out/")
 
 
 def test_library_where_needed(copy):
-    """The C library is made for an installation alone, and again where its own sources, or the files themselves, are others."""
+    """The C library is made for an installation alone, if its sources or files changed."""
     copy.build()
     same(copy.there(f"{LIBRARY}.so"), False, "a library without an installation")
     out, _ = copy.installs("there", "a first installation", [LIBRARY_PROVED])
@@ -96,7 +105,9 @@ def test_library_where_needed(copy):
     out, err = copy.installs("there", "a second one")
     holds(f"build: {PROGRAM} is current\nbuild: {LIBRARY}.so is current\n", out, "a second one")
     same(err, "", "standard error of a second one")
-    for crate, wanted in (("bw_exports", [LIBRARY_PROVED]), ("bw_shell", [PROVED]), ("bw_plan", [PROVED, LIBRARY_PROVED]), ("bw_planner_tests", [])):
+    both = [PROVED, LIBRARY_PROVED]
+    for crate, wanted in (("bw_exports", [LIBRARY_PROVED]), ("bw_shell", [PROVED]),
+                          ("bw_plan", both), ("bw_laws", [])):
         copy.write(sources(crate)[0], "edited\n")
         copy.installs("there", f"after an edit of {crate}", wanted)
         copy.installs("there", f"again, after an edit of {crate}")
@@ -108,32 +119,38 @@ def test_library_where_needed(copy):
 
 
 def test_library_of_another_version(copy):
-    """The library is linked again for other names and another version; one of another soname is put beside the old one, which stays."""
+    """The library is linked again for other names and another version, beside an old soname."""
     copy.installs("there", "a first installation", [PROVED, LIBRARY_PROVED])
     copy.write("share/arbiter.map", copy.read("share/arbiter.map") + "# edited\n")
     copy.installs("there", "other names", [LIBRARY_PROVED])
     is_installed(copy, f"{copy.top}/there")
     copy.write("crates/bw_words/src/lib.rt", 'pub const VERSION: &str = "2.3.4";\n')
     copy.installs("there", "another version", [PROVED, LIBRARY_PROVED])
-    holds(" -Wl,-soname,libarbiter.so.2 ", copy.read("there/lib/libarbiter.so"), "the library that is linked with")
+    linked = copy.read("there/lib/libarbiter.so")
+    holds(" -Wl,-soname,libarbiter.so.2 ", linked, "the library that is linked with")
     holds(f" -Wl,-soname,{SONAME} ", copy.read(f"there/lib/{SONAME}"), "the old library")
     new = {"lib/libarbiter.so.2": "libarbiter.so.2.3.4", "lib/libarbiter.so": "libarbiter.so.2"}
-    same({place: os.readlink(f"{copy.top}/there/{place}") for place in {**LINKS, **new}}, {**LINKS, **new}, "where links point to")
+    links = {**LINKS, **new}
+    found = {place: os.readlink(f"{copy.top}/there/{place}") for place in links}
+    same(found, links, "where links point to")
     copy.installs("there", "again")
 
 
 def test_no_wrong_library(copy):
-    """Where the library's proof or its linking fails, or sources are changed meanwhile, nothing is installed; without the kit neither."""
+    """Nothing is installed if the library's proof or link fails, or its sources change."""
     copy.build()
     path = sources("bw_check")[1]
-    for hook, during, part in (("while", "echo it is wrong >&2; exit 1\n", "it is wrong\nbuild: not built"),
-                               ("toolchain/bin/while", "echo no room >&2; exit 1\n", "no room\nbuild: not built"),
-                               ("while", f"echo late >>{copy.top}/{path}\n", f"{LIBRARY}.so is not taken as current: sources were changed while it was made")):
+    late = f"{LIBRARY}.so is not taken as current: sources were changed while it was made"
+    no_proof, no_room = "it is wrong\nbuild: not built", "no room\nbuild: not built"
+    for hook, during, part in (("while", "echo it is wrong >&2; exit 1\n", no_proof),
+                               ("toolchain/bin/while", "echo no room >&2; exit 1\n", no_room),
+                               ("while", f"echo late >>{copy.top}/{path}\n", late)):
         copy.write(f"../kit/{hook}", during)
         status, _, err = copy.call(["./build", "--install", "there"])
         same((status, copy.there("there")), (1, False), part)
         holds(part, err, part)
-        same([place for place in files_below(f"{copy.top}/crates/bw_exports") if "/link" in place], [], f"left in out/: {part}")
+        below = files_below(f"{copy.top}/crates/bw_exports")
+        same([place for place in below if "/link" in place], [], f"left in out/: {part}")
         copy.write(f"../kit/{hook}", "")
     copy.build()
     copy.rt_there(False)
@@ -162,12 +179,14 @@ def test_tells_where_it_cannot(copy):
 
 
 def test_installs_whole_or_not(copy):
-    """Where a copy is cut short, or a folder stands where a file belongs, the old files stay as they were and no other is there."""
+    """If a copy is cut short, or a folder is in the way, the old files stay."""
     folder = f"{copy.folder}/there"
     copy.installs(f"{copy.folder}/elsewhere", "a first installation", [PROVED, LIBRARY_PROVED])
     cut = ["bash", "-c", f"ulimit -f 2; exec ./build --install {folder}"]
-    made = max(os.path.getsize(f"{copy.top}/{name}") for name in (PROGRAM, f"{LIBRARY}.so", f"{LIBRARY}.a"))
-    same(os.path.getsize(f"{copy.top}/share/arbiter.1") > 2048 > made, True, "the man page is cut, and nothing that was made")
+    files = [PROGRAM, f"{LIBRARY}.so", f"{LIBRARY}.a"]
+    made = max(os.path.getsize(f"{copy.top}/{name}") for name in files)
+    page = os.path.getsize(f"{copy.top}/share/arbiter.1")
+    same(page > 2048 > made, True, "the man page is cut, and nothing that was made")
     status, _, err = copy.call(cut)
     same(status, 1, "a copy that is cut short")
     holds(f"build: not installed in {folder}\n", err, "a copy that is cut short")
@@ -179,11 +198,13 @@ def test_installs_whole_or_not(copy):
         with open(path, "w", encoding="utf-8") as file:
             file.write("old\n")
     same(copy.call(cut)[0], 1, "a copy over old files that is cut short")
-    same({place: bytes_of(path) for place, path in files_below(folder).items()}, dict.fromkeys(INSTALLED, b"old\n"), "old files")
+    found = {place: bytes_of(path) for place, path in files_below(folder).items()}
+    same(found, dict.fromkeys(INSTALLED, b"old\n"), "old files")
     last = f"{folder}/share/fish/vendor_completions.d/arbiter.fish"
     os.remove(last)
     os.makedirs(last)
     status, _, err = copy.call(["./build", "--install", folder])
     same(status, 1, "a folder in the way")
     holds(f"build: {last} is a folder\n", err, "a folder in the way")
-    same({bytes_of(path) for path in files_below(folder).values()}, {b"old\n"}, "old files beside a folder in the way")
+    found = {bytes_of(path) for path in files_below(folder).values()}
+    same(found, {b"old\n"}, "old files beside a folder in the way")
