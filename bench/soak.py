@@ -3,8 +3,8 @@
 
 usage: bench/soak.py [PROGRAM]
 
-1,000 periods of 64 processors, 1,000,000 lines, 100,000 periods of one processor. About a minute with little else running;
-a part that has not ended after ten minutes is killed and has failed.
+1,000 periods of 64 processors, 1,000,000 lines, 100,000 periods of one processor. About a minute
+with little else running. A part that does not end within ten minutes is killed and fails.
 """
 import os
 import subprocess
@@ -94,7 +94,8 @@ def part(name, words, first, block, times):
     opening = transcript(words, [first])
     wanted = transcript(words, [first, block])[len(opening):]
     began, samples = time.monotonic(), []
-    with subprocess.Popen([PROGRAM, *words], stdin=subprocess.PIPE, stdout=subprocess.PIPE, stderr=subprocess.PIPE) as process:
+    pipes = dict.fromkeys(["stdin", "stdout", "stderr"], subprocess.PIPE)
+    with subprocess.Popen([PROGRAM, *words], **pipes) as process:
         ends = threading.Timer(PART_SECONDS, process.kill)
         writer = threading.Thread(target=feed, args=(process, first, block, times), daemon=True)
         try:
@@ -118,7 +119,8 @@ def part(name, words, first, block, times):
             if process.poll() is None:
                 process.kill()
     early, late = samples[len(samples) // 10], samples[-1]
-    print(f"  {name}: {time.monotonic() - began:.1f} seconds, resident after a tenth {early} KiB, at the end {late} KiB, "
+    print(f"  {name}: {time.monotonic() - began:.1f} seconds, "
+          f"resident after a tenth {early} KiB, at the end {late} KiB, "
           f"at most {max(samples)} KiB in {len(samples)} samples", flush=True)
     if (rest, err, status) != (b"", b"", 0):
         return f"status {status}, {rest[:200]!r}, {err[:200]!r}"
