@@ -337,6 +337,13 @@ def test_readme_is_short():
     assert len(text.encode()) <= 8192
 
 
+def test_readme_names_each_folder():
+    names = run(["git", "ls-files", "-z"], cwd=ROOT).out.decode().split("\0")
+    folders = {name.split("/")[0] for name in names if "/" in name}
+    text = text_of("README.md")
+    same([folder for folder in sorted(folders) if f"`{folder}/`" not in text], [], "folders")
+
+
 def readme_commands() -> list:
     """The commands of README with their answers."""
     blocks = re.compile(r"^```command\n(.*?)^```\n\n```answer\n(.*?)^```$", re.M | re.S)
