@@ -339,7 +339,7 @@ def test_readme_is_short():
 
 def test_readme_names_each_folder():
     names = run(["git", "ls-files", "-z"], cwd=ROOT).out.decode().split("\0")
-    folders = {name.split("/")[0] for name in names if "/" in name}
+    folders = {name.split("/")[0] for name in names if "/" in name and name[0] != "."}
     text = text_of("README.md")
     same([folder for folder in sorted(folders) if f"`{folder}/`" not in text], [], "folders")
 
