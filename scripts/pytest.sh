@@ -9,21 +9,25 @@ test_seconds=2400
 test_folders=(tests)
 [ -d python/tests ] && test_folders+=(python/tests)
 
-has_pytest() {
-  "$python" -c 'import pytest' 2>/dev/null
+# Debian's packages that the tests need, and their modules.
+packages=(python3-pytest python3-hypothesis python3-rich python3-yaml mypy pyflakes3)
+modules='pytest, hypothesis, rich, yaml, mypy, pyflakes'
+
+has_packages() {
+  "$python" -c "import $modules" 2>/dev/null
 }
 
-# Installs pytest if it is missing and this may be done, otherwise names the command.
-need_pytest() {
-  local words=(apt-get install -y python3-pytest)
-  has_pytest && return
+# Installs what is missing if this may be done, otherwise names the command.
+need_packages() {
+  local words=(apt-get install -y "${packages[@]}")
+  has_packages && return
   if [ "$(id -u)" = 0 ] && command -v apt-get >/dev/null; then
-    echo "test: installing pytest: ${words[*]}"
+    echo "test: installing what the tests need: ${words[*]}"
     { apt-get update && DEBIAN_FRONTEND=noninteractive "${words[@]}"; } >out/apt.log 2>&1 </dev/null
-    has_pytest && return
+    has_packages && return
     tail -n 20 out/apt.log
   fi
-  echo "test: pytest is missing: sudo ${words[*]}" >&2
+  echo "test: a package is missing: sudo ${words[*]}" >&2
   exit 2
 }
 
