@@ -1,0 +1,163 @@
+"""Demands from what was measured: usage, peak, 95th percentile, pressure, limit, request, busy."""
+from __future__ import annotations
+
+import math
+from collections.abc import Sequence
+from dataclasses import dataclass, field
+from fractions import Fraction
+
+from arbiter_host import names, units
+from arbiter_host.faults import HostFault, UsageFault
+from arbiter_host.model import Group, Host, Model
+
+WANTS = ("usage", "peak", "p95", "psi", "limit", "request", "busy")
+# The greatest part of the time that pressure is taken for: above it the estimate has no meaning.
+MOST_PRESSURE = Fraction(19, 20)
+
+
+@dataclass(frozen=True)
+class Reading:
+    """Counters of one group at one time; None where the file or the key is missing.
+
+    `usage` and `pressure` are microseconds, `pressure` the time in which some task waited.
+    """
+
+    usage: int | None = None
+    periods: int | None = None
+    throttled: int | None = None
+    pressure: int | None = None
+
+
+@dataclass
+class Measured:
+    """What is known of one group's demand: readings, and thousandths of a CPU requested."""
+
+    readings: list[Reading] = field(default_factory=list)
+    request: Fraction | None = None
+    # Number of its tasks where it was read.
+    tasks: int | None = None
+
+
+def rise(before: int | None, after: int | None) -> int | None:
+    """By how much a counter rose; None where a reading is missing or the counter fell."""
+    if before is None or after is None or after < before:
+        return None
+    return after - before
+
+
+def rises(readings: Sequence[Reading], key: str) -> list[int]:
+    """By how much a counter rose from each reading to the next; empty where one is missing."""
+    values = [getattr(reading, key) for reading in readings]
+    found = [rise(one, two) for one, two in zip(values, values[1:])]
+    return [] if None in found else [each for each in found if each is not None]
+
+
+def used(measured: Measured, seconds: Fraction) -> list[Fraction]:
+    """Thousandths of a CPU that a group used from each reading to the next."""
+    return [units.thousandths_of_usage(usec, seconds)
+            for usec in rises(measured.readings, "usage")]
+
+
+def mean(values: Sequence[Fraction]) -> Fraction:
+    """The mean; 0 of none."""
+    return sum(values, Fraction(0)) / len(values) if values else Fraction(0)
+
+
+def percentile(values: Sequence[Fraction], percent: int) -> Fraction:
+    """The least value that so many percent of the values do not exceed; 0 of none."""
+    if not values:
+        return Fraction(0)
+    return sorted(values)[max(math.ceil(len(values) * percent / 100) - 1, 0)]
+
+
+def limit_of(group: Group, host: Host) -> Fraction:
+    """Thousandths of a CPU that the group's own limit allows, at most the host's."""
+    most = Fraction(1000 * host.cpus)
+    return most if group.quota is None else min(Fraction(1000 * group.quota, group.period), most)
+
+
+def pressed(group: Group, measured: Measured, host: Host, seconds: Fraction) -> Fraction:
+    """What the group used, raised by the time in which it waited or was throttled.
+
+    Usage is divided by the part of the time without pressure. A throttled group wants at least
+    its limit, raised by its periods over those that were not throttled.
+    """
+    usage = mean(used(measured, seconds))
+    waited = sum(rises(measured.readings, "pressure"))
+    span = seconds * 10**6 * max(len(measured.readings) - 1, 1)
+    found = usage / (1 - min(Fraction(waited) / span, MOST_PRESSURE))
+    periods = sum(rises(measured.readings, "periods"))
+    throttled = min(sum(rises(measured.readings, "throttled")), periods)
+    if throttled and group.quota is not None:
+        raised = limit_of(group, host) * Fraction(periods, max(periods - throttled, 1))
+        found = max(found, min(raised, Fraction(1000 * host.cpus)))
+    return found
+
+
+def wanted(want: str, group: Group, measured: Measured, host: Host,
+           seconds: Fraction) -> Fraction | None:
+    """The demand by one rule, in thousandths of a CPU; None where nothing was read for it."""
+    if want == "limit":
+        return limit_of(group, host)
+    if want == "busy":
+        return Fraction(1000 * host.cpus) if measured.tasks != 0 else Fraction(0)
+    if want == "request":
+        return measured.request
+    values = used(measured, seconds)
+    if not values:
+        return None
+    if want == "psi":
+        return pressed(group, measured, host, seconds)
+    return {"usage": mean(values), "peak": max(values), "p95": percentile(values, 95)}[want]
+
+
+def note_throttled(group: Group, measured: Measured, model: Model) -> None:
+    """Tells that a group was throttled, so that its usage is not its demand."""
+    throttled, periods = (sum(rises(measured.readings, key)) for key in ("throttled", "periods"))
+    if throttled:
+        model.notes.append(f"{group.path}: throttled in {throttled} of {periods} periods: it"
+                           " wanted more than it used (--want psi)")
+
+
+def set_demands(model: Model, measured: dict[str, Measured], want: str, seconds: Fraction) -> None:
+    """Sets the demand of each group without children."""
+    for path, below in model.children().items():
+        if path == "." or below:
+            continue
+        group, found = model.groups[path], measured.get(path, Measured())
+        demand = wanted(want, group, found, model.host, seconds)
+        if demand is None:
+            model.notes.append(f"{path}: nothing read for --want {want}: no demand")
+            continue
+        if want in ("usage", "peak", "p95"):
+            note_throttled(group, found, model)
+        group.demand = demand
+        if found.tasks:
+            needed = math.ceil(percentile(used(found, seconds), 100) / 1000)
+            group.tasks = max(found.tasks, needed)
+
+
+def matching(model: Model, pattern: str) -> list[Group]:
+    """The groups of a path, a path's end, a title, or a pattern with `*`; a fault where none is."""
+    shape = names.pattern(pattern)
+    found = [group for group in model.groups.values()
+             if pattern in (".", group.path, group.title) or shape.fullmatch(group.path)]
+    if not found:
+        found = [each for each in model.groups.values() if each.path.endswith("/" + pattern)]
+    if not found:
+        raise HostFault(f"no group {names.shown(pattern)}")
+    return found
+
+
+def scale(model: Model, words: Sequence[str]) -> None:
+    """Multiplies demands: each word is GROUP=FACTOR, for the group and all below it."""
+    for word in words:
+        pattern, _, factor = word.rpartition("=")
+        parsed = units.number_and_unit(factor.removesuffix("x"))
+        if not pattern or parsed is None or parsed[1]:
+            raise UsageFault(f"--scale {names.shown(word)}: not GROUP=FACTOR")
+        tops = {group.path for group in matching(model, pattern)}
+        for group in model.groups.values():
+            if pattern == "." or any(group.path == top or group.path.startswith(top + "/")
+                                     for top in tops):
+                group.demand *= parsed[0]

@@ -1,0 +1,268 @@
+"""Says why each group gets what it gets: a tree as wide as the terminal, a flat list, or JSON."""
+from __future__ import annotations
+
+from collections.abc import Callable, Iterator, Sequence
+from dataclasses import dataclass
+from typing import Any
+
+from arbiter_host import text
+from arbiter_host.model import MAX_DEPTH
+from arbiter_host.names import cut, last_name, padded, short, shown, tail, width
+from arbiter_host.plan import Plan, Planned, marks
+
+ONLY: dict[str, Callable[[Planned], bool]] = {
+    "starved": lambda group: group.is_starved,
+    "throttled": lambda group: group.is_throttled,
+    "hurt": lambda group: group.gets < group.want,
+    "asking": lambda group: group.want > 0,
+    "tasks": lambda group: group.is_cut_by_tasks,
+}
+SORTS: dict[str, Callable[[Planned], Any]] = {
+    "lack": lambda group: group.gets - group.want,
+    "gets": lambda group: -group.gets,
+    "wants": lambda group: -group.want,
+    "weight": lambda group: -group.weight,
+    "name": lambda group: group.path.split("/"),
+}
+STYLES = {"STARVED": "bold red", "own limit": "yellow", "limit above": "yellow",
+          "the host is full": "magenta", "all": "green", "tasks": "cyan", "nothing asked": "dim"}
+# From this width on the reasons are whole sentences and a bar is shown.
+WIDE = 110
+LEAST_NAME = 16
+
+
+@dataclass(frozen=True)
+class View:
+    """What is shown: filters, order, depth, unit, width, and whether idle groups are."""
+
+    only: tuple[str, ...] = ()
+    sort: str = ""
+    depth: int = MAX_DEPTH
+    unit: str = "cpu"
+    width: int = text.STANDARD_WIDTH
+    everything: bool = False
+    full_names: bool = False
+
+    @property
+    def is_flat(self) -> bool:
+        """Whether groups are a list of paths and no tree."""
+        return bool(self.only)
+
+
+@dataclass(frozen=True)
+class Line:
+    """One line of the table: its cells, and the style of its reason."""
+
+    cells: tuple[str, str, str]
+    part: int
+    whole: int
+    why: str
+    label: str
+    style: str = ""
+
+
+def why(plan: Plan, group: Planned, is_wide: bool) -> str:
+    """The reason of a group, after what stands out."""
+    reason = plan.reason(group)
+    words = reason.words if is_wide else narrow(plan, group)
+    found = [each for each in marks(group) if each != "THROTTLED" or reason.name != "own limit"]
+    if not is_wide:
+        found = [each.replace("THROTTLED, NOT BY ITS LIMIT", "THROTTLED*") for each in found]
+    return "; ".join([*found, words])
+
+
+def narrow(plan: Plan, group: Planned) -> str:
+    """The reason in few letters."""
+    reason = plan.reason(group)
+    part = f" {reason.weight}/{reason.active_weight}" if reason.active_weight else ""
+    if reason.name == "limit above":
+        return f"limit of {cut(short(shown(last_name(reason.cause or ''))), 14)}{part}"
+    words = {"the host is full": "host full", "all": "all", "tasks": "its tasks"}
+    return words.get(reason.name, reason.name) + part
+
+
+def label(plan: Plan, group: Planned, view: View) -> str:
+    """The name of a group: in a tree its last name, indented; in a list its path."""
+    def shortened(name: str) -> str:
+        return shown(name) if view.full_names else short(shown(name))
+
+    if group.parent is None:
+        return "the host (.)"
+    title = group.group.title if group.group else ""
+    if view.is_flat:
+        return shortened(group.path)
+    name = shortened(last_name(group.path))
+    folded = size(group) - 1 if group.depth >= view.depth else 0
+    more = f" (+{folded} below)" if folded else ""
+    people = f"  {shown(title)}" if title and "/" not in title else ""
+    return "  " * group.depth + name + more + people
+
+
+def line_of(plan: Plan, group: Planned, view: View) -> Line:
+    """The line of a group."""
+    cells = tuple(text.amount(plan, value, view.unit)
+                  for value in (group.gets, group.want, group.limit))
+    name = "STARVED" if group.is_starved else plan.reason(group).name
+    words = why(plan, group, view.width >= WIDE)
+    return Line((cells[0], cells[1], cells[2]), group.gets, group.want, words,
+                label(plan, group, view), STYLES.get(name, ""))
+
+
+def ordered(groups: Sequence[Planned], view: View) -> list[Planned]:
+    """Groups in the order asked for; that of creation without one."""
+    return sorted(groups, key=SORTS[view.sort]) if view.sort else list(groups)
+
+
+def tree_lines(plan: Plan, view: View) -> Iterator[Line]:
+    """The lines of a tree. Groups that ask for nothing are left out, unless all are asked for."""
+    waiting = [plan.root]
+    while waiting:
+        group = waiting.pop()
+        yield line_of(plan, group, view)
+        waiting += reversed(below(group, view))
+
+
+def below(group: Planned, view: View) -> list[Planned]:
+    """The children of a group that are shown."""
+    if group.depth >= view.depth:
+        return []
+    return ordered([each for each in group.children if each.want > 0 or view.everything], view)
+
+
+def size(group: Planned) -> int:
+    """The number of groups from a group on down."""
+    count, waiting = 0, [group]
+    while waiting:
+        each = waiting.pop()
+        count += 1
+        waiting += each.children
+    return count
+
+
+def flat_lines(plan: Plan, view: View) -> Iterator[Line]:
+    """The lines of the groups that a filter lets through."""
+    for group in ordered(plan.groups, view):
+        if group.depth <= view.depth and any(ONLY[name](group) for name in view.only):
+            yield line_of(plan, group, view)
+
+
+def head(plan: Plan, view: View) -> Iterator[str]:
+    """The lines above the table."""
+    root, unit = plan.root, view.unit
+    yield text.host_words(plan)
+    served, all_, asked = (text.amount(plan, each, unit)
+                           for each in (root.gets, plan.capacity, root.want))
+    yield (f"{served} of {all_} {text.UNIT_WORDS[unit]} served, {asked} wanted; the proved check"
+           " accepted the plan")
+    yield f"what limits the total: {limiting(plan, unit)}"
+    lacks = sum(1 for group in plan.groups[1:] if group.gets < group.want and not group.children)
+    starved = sum(1 for group in plan.groups[1:] if group.is_starved and not group.children)
+    yield f"groups without all that they want: {lacks}, of these starved: {starved}"
+
+
+def limiting(plan: Plan, unit: str) -> str:
+    """The groups whose limits hold the total down."""
+    found = [f"{'the host' if group.parent is None else short(shown(group.path))}"
+             f" ({text.amount(plan, group.limit, unit)})" for group in plan.limiting]
+    more = f" and {len(found) - 8} more" if len(found) > 8 else ""
+    return ", ".join(found[:8]) + more if found else "the demands alone"
+
+
+def few_tasks(plan: Plan) -> int:
+    """The number of groups that share by weight and have fewer tasks than there are CPUs."""
+    cpus = plan.model.host.cpus
+    return sum(1 for group in plan.groups[1:] if group.group is not None and group.want > 0
+               and group.group.tasks is not None and group.group.tasks < cpus
+               and group.gets < group.want)
+
+
+def foot(plan: Plan, view: View, lines: Sequence[Line]) -> Iterator[str]:
+    """The lines below the table."""
+    if any("THROTTLED*" in line.why for line in lines):
+        yield "* throttled, not by its limit: it gets less than its limit"
+    idle = sum(1 for group in plan.groups[1:] if group.want == 0)
+    if idle and not view.everything and not view.is_flat:
+        yield f"groups that ask for nothing and are left out (--all shows them): {idle}"
+    count = few_tasks(plan)
+    if count:
+        yield f"groups that lack something and have fewer tasks than the host has CPUs: {count}"
+        yield "  their shares depend on which CPUs the tasks run on; limits do not"
+
+
+def rendered(lines: Sequence[Line], view: View) -> list[tuple[str, Line | None]]:
+    """The table: numbers, the reason, and the name last, within the width."""
+    names_ = ("gets", "wants", "limit")
+    widths = [max(len(name), *(len(line.cells[at]) for line in lines), 5)
+              for at, name in enumerate(names_)]
+    cells = 12 if view.width >= WIDE else 0
+    left = sum(widths) + 4 + (cells + 4 if cells else 0)
+    longest = max([width(line.label) for line in lines] + [5])
+    room = max(view.width - left - 4, 30)
+    whys = max([width(line.why) for line in lines] + [3])
+    whys = min(whys, max(room - max(min(longest, room // 2), LEAST_NAME), 12))
+    found: list[tuple[str, Line | None]] = []
+    heads = "  ".join(name.rjust(widths[at]) for at, name in enumerate(names_))
+    heads += "  " + padded("gets of wants"[:cells + 2], cells + 2) if cells else ""
+    found.append((f"{heads}  {padded('why', whys)}  group", None))
+    for line in lines:
+        numbers = "  ".join(each.rjust(widths[at]) for at, each in enumerate(line.cells))
+        numbers += "  " + text.bar(line.part, line.whole, cells) if cells else ""
+        fit = tail if view.is_flat else cut
+        room = max(view.width - left - whys - 4, LEAST_NAME)
+        name = line.label if view.full_names else fit(line.label, room)
+        found.append((f"{numbers}  {padded(cut(line.why, whys), whys)}  {name}".rstrip(), line))
+    return found
+
+
+def table(plan: Plan, view: View) -> list[tuple[str, str]]:
+    """All lines with their styles."""
+    lines = list(flat_lines(plan, view) if view.is_flat else tree_lines(plan, view))
+    found = [(cut(each, max(view.width, 80)), "") for each in head(plan, view)] + [("", "")]
+    if lines:
+        found += [(each, line.style if line else "bold") for each, line in rendered(lines, view)]
+    else:
+        found.append((f"no group is {' or '.join(view.only)}", ""))
+    return found + [(each, "") for each in foot(plan, view, lines)]
+
+
+def amounts(plan: Plan, slices: int | None) -> dict[str, Any] | None:
+    """Slices in all units."""
+    if slices is None:
+        return None
+    return {"slices": slices, "millicpu": float(plan.thousandths(slices)),
+            "usec": slices * plan.model.host.slice_usec}
+
+
+def group_data(plan: Plan, group: Planned) -> dict[str, Any]:
+    """A group as data."""
+    reason, own = plan.reason(group), group.group
+    above = plan.groups[group.parent].path if group.parent is not None else None
+    return {
+        "group": group.path, "title": own.title if own else "", "row": group.row, "parent": above,
+        "depth": group.depth, "weight": group.weight,
+        "quota_usec": own.quota if own else None, "period_usec": own.period if own else None,
+        "burst_usec": own.burst if own else 0, "tasks": own.tasks if own else None,
+        "asks_millicpu": float(own.demand) if own else None,
+        "gets": amounts(plan, group.gets), "wants": amounts(plan, group.want),
+        "limit": amounts(plan, group.limit), "reason": reason.name, "words": reason.words,
+        "cause": reason.cause, "active_weight": reason.active_weight or None,
+        "starved": group.is_starved, "throttled": group.is_throttled,
+        "throttled_not_by_its_limit": group.is_throttled_elsewhere,
+    }
+
+
+def as_data(plan: Plan, view: View = View()) -> dict[str, Any]:
+    """A plan as data. Filters, order and depth hold as in the table."""
+    host = plan.model.host
+    groups = [group for group in ordered(plan.groups, view) if group.depth <= view.depth
+              and (not view.only or any(ONLY[name](group) for name in view.only))]
+    return {
+        "host": {"cpus": host.cpus, "period_usec": host.period, "slice_usec": host.slice_usec,
+                 "capacity": amounts(plan, plan.capacity)},
+        "check": "accepted", "engine": plan.by, "served": amounts(plan, plan.root.gets),
+        "wanted": amounts(plan, plan.root.want),
+        "limiting": [{"group": group.path, "limit": amounts(plan, group.limit)}
+                     for group in plan.limiting],
+        "refused": plan.model.refused, "notes": plan.model.notes,
+        "groups": [group_data(plan, group) for group in groups],
+    }

@@ -1,0 +1,29 @@
+"""Faults that end a command with one line, and warnings that do not."""
+from __future__ import annotations
+
+
+class HostFault(Exception):
+    """Fault that ends a command with one line on standard error, and its exit status."""
+
+    def __init__(self, message: str, status: int = 1) -> None:
+        super().__init__(message)
+        self.message, self.status = message, status
+
+
+class UsageFault(HostFault):
+    """Fault in the words of the command line: status 2."""
+
+    def __init__(self, message: str) -> None:
+        super().__init__(message, 2)
+
+
+class RefusedLines(HostFault):
+    """Lines that were refused, under `--strict`: status 4."""
+
+    def __init__(self, lines: list[str]) -> None:
+        super().__init__("\n".join(lines), 4)
+
+
+def strerror(error: OSError) -> str:
+    """The system's words for an error."""
+    return error.strerror or type(error).__name__

@@ -1,0 +1,236 @@
+"""Loads a model from what the words of a command name: any source, with the options of hosts."""
+from __future__ import annotations
+
+import argparse
+import os
+import re
+import sys
+from collections.abc import Sequence
+from dataclasses import replace
+from fractions import Fraction
+
+from arbiter_host import demands, names, units
+from arbiter_host.engine import Engine
+from arbiter_host.faults import HostFault, RefusedLines, UsageFault, strerror
+from arbiter_host.model import MAX_DEPTH, Host, Model
+from arbiter_host.sources import (cgroup2, cgroups, containers, hostfile, kubernetes, script,
+                                  systemd)
+
+KINDS = ("script", "toml", "yaml", "json", "cgroup", "kubernetes", "systemd", "docker")
+MAX_FILE = 512 << 20
+MAX_SECONDS = 86400
+
+
+def add_host_options(parser: argparse.ArgumentParser) -> None:
+    """The options that name the host and the engine."""
+    group = parser.add_argument_group("host")
+    group.add_argument("--cpus", "--processors", type=int, metavar="N", dest="cpus",
+                       help="CPUs of the host (default: what the source says, else this machine's"
+                       " for cgroups, systemd and containers, else 1)")
+    group.add_argument("--period", metavar="TIME", help="period, such as 100ms (default 100ms)")
+    group.add_argument("--slice", metavar="TIME", help="slice, such as 1ms (default: what the"
+                       " source says, else 1ms for imports and 5ms for scripts)")
+    group = parser.add_argument_group("engine")
+    group.add_argument("--library", metavar="PATH", help="the C library; `none` for the program")
+    group.add_argument("--program", metavar="PATH", help="the program arbiter")
+
+
+def add_source_options(parser: argparse.ArgumentParser) -> None:
+    """The options that say how a source is read."""
+    group = parser.add_argument_group("source")
+    group.add_argument("--from", dest="kind", choices=KINDS, help="what the source is (default:"
+                       " found from its name and its first bytes)")
+    group.add_argument("--want", choices=demands.WANTS, help="what the demands are taken from"
+                       " (default: usage of cgroups, request of pods, limit of containers, busy of"
+                       " units)")
+    group.add_argument("--scale", action="append", default=[], metavar="GROUP=1.5",
+                       help="multiply the demands of a group and all below it; `.` is the host")
+    group.add_argument("--interval", metavar="TIME", default="1s",
+                       help="time from one reading to the next (default 1s)")
+    group.add_argument("--samples", type=int, default=2, metavar="N",
+                       help="number of readings, 2 to 10000 (default 2)")
+    group.add_argument("--later", action="append", default=[], metavar="DIR|FILE",
+                       help="a copy that was made one interval later: nothing is waited for")
+    group.add_argument("--own", action="store_true",
+                       help="a child (own) for what an inner group's own tasks used")
+    group.add_argument("--depth-read", type=int, default=MAX_DEPTH, metavar="N",
+                       help="leave out groups more than N below the top, 1 to 64 (default 64)")
+    group.add_argument("--node", default="", metavar="NAME", help="the node whose pods are read")
+    group.add_argument("--conversion", choices=tuple(units.WEIGHT_OF_SHARES), default="linear",
+                       help="shares to weights: `linear` before runc 1.3.2 and crun 1.23, `log`"
+                       " from these on (default linear)")
+    group.add_argument("--driver", choices=("systemd", "cgroupfs"), default="systemd",
+                       help="how the runtime names groups (default systemd)")
+    group.add_argument("--strict", action="store_true",
+                       help="refused lines of a script end the command with status 4")
+
+
+def interval_of(text: str) -> Fraction:
+    """The seconds of an interval: above 0, at most a day. A plain number is seconds."""
+    parsed = units.number_and_unit(text)
+    try:
+        seconds = (parsed[0] if parsed and not parsed[1]
+                   else Fraction(units.parse_time(text), 10**6))
+    except HostFault as fault:
+        raise UsageFault(f"--interval: {names.shown(fault.message)}") from fault
+    if not 0 < seconds <= MAX_SECONDS:
+        raise UsageFault(f"--interval: above 0 and at most {MAX_SECONDS} seconds")
+    return seconds
+
+
+def time_option(text: str, option: str) -> int:
+    """The microseconds of an option."""
+    try:
+        return units.parse_time(text)
+    except HostFault as fault:
+        raise UsageFault(f"{option}: {names.shown(fault.message)}") from fault
+
+
+def check_options(options: argparse.Namespace) -> None:
+    """A fault where a number of the options is out of its range."""
+    interval_of(options.interval)
+    if not 2 <= options.samples <= 10000:
+        raise UsageFault("--samples: 2 to 10000")
+    if not 1 <= options.depth_read <= MAX_DEPTH:
+        raise UsageFault(f"--depth-read: 1 to {MAX_DEPTH}")
+
+
+def chosen_host(options: argparse.Namespace, told: Host) -> Host:
+    """The host that a source tells, with the options in its place."""
+    changes: dict[str, int] = {}
+    for key, name in (("period", "period"), ("slice_usec", "slice")):
+        if getattr(options, name) is not None:
+            changes[key] = time_option(getattr(options, name), f"--{name}")
+    if options.cpus is not None:
+        changes["cpus"] = options.cpus
+    return replace(told, **changes).checked()
+
+
+def is_chosen(options: argparse.Namespace) -> bool:
+    """Whether an option names a part of the host."""
+    return any(each is not None for each in (options.cpus, options.period, options.slice))
+
+
+def file_bytes(path: str) -> bytes:
+    """The bytes of a file; `-` is standard input."""
+    shown = names.shown(path)
+    try:
+        if path == "-":
+            data = sys.stdin.buffer.read(MAX_FILE + 1) if sys.stdin else b""
+        else:
+            with open(path, "rb") as file:
+                data = file.read(MAX_FILE + 1)
+    except OSError as error:
+        raise HostFault(f"{shown}: {strerror(error)}") from error
+    except ValueError as error:
+        raise HostFault(f"{shown}: no path") from error
+    if len(data) > MAX_FILE:
+        raise HostFault(f"{shown}: more than {MAX_FILE >> 20} MiB")
+    return data
+
+
+def kind_of_json(data: bytes) -> str:
+    """What JSON holds, by its first keys."""
+    if re.search(rb'"HostConfig"\s*:', data):
+        return "docker"
+    if re.search(rb'"kind"\s*:\s*"(Pod|PodList|Node|NodeList|List)"', data):
+        return "kubernetes"
+    return "json"
+
+
+def kind_of(path: str, data: bytes | None) -> str:
+    """What a source is: by its name, else by its first bytes. No data stands for a folder."""
+    if data is None:
+        return "cgroup"
+    ending = path.rpartition(".")[2].lower()
+    known = {"toml": "toml", "yaml": "yaml", "yml": "yaml", "script": "script"}
+    if ending in known:
+        return known[ending]
+    begin = data.lstrip(b"\xef\xbb\xbf \t\r\n")
+    if begin[:1] in (b"{", b"["):
+        return "toml" if re.match(rb"\[[A-Za-z]", begin) else kind_of_json(data)
+    if re.search(rb"^(ControlGroup|Slice|CPUWeight)=", data, re.M):
+        return "systemd"
+    return "script"
+
+
+def machine(options: argparse.Namespace) -> Host:
+    """This machine with slices of 1 ms, with the options in its place."""
+    return chosen_host(options, Host(os.cpu_count() or 1, units.DEFAULT_PERIOD, 1000))
+
+
+def read_cgroup(options: argparse.Namespace, path: str) -> Model:
+    """A tree of cgroups."""
+    wish = cgroups.Wish(interval_of(options.interval), options.samples, tuple(options.later),
+                        options.depth_read, options.own, options.want or "usage")
+    if wish.want == "request":
+        raise UsageFault("--want request: cgroups have no requests")
+    return cgroup2.read(path, machine(options), wish)
+
+
+def read_script(options: argparse.Namespace, name: str, data: bytes, engine: Engine) -> Model:
+    """A script. Its head line is the host, with the options in its place."""
+    told = script.head_host(script.script_lines(data))
+    host = chosen_host(options, told or Host()) if is_chosen(options) else None
+    return script.read(data, name, host, engine)
+
+
+def read_pods(options: argparse.Namespace, files: Sequence[tuple[str, bytes]]) -> Model:
+    """Pods and a node."""
+    wish = kubernetes.Wish(options.node, options.conversion, options.driver,
+                           options.want or "request")
+    if options.cpus is None:
+        model = kubernetes.read(files, None, wish)
+        host = chosen_host(options, model.host)
+        return model if host == model.host else model.with_host(host)
+    return kubernetes.read(files, machine(options), wish)
+
+
+def read_files(options: argparse.Namespace, kind: str, files: Sequence[tuple[str, bytes]],
+               engine: Engine) -> Model:
+    """Files of one kind."""
+    name, data = files[0]
+    if kind == "kubernetes":
+        return read_pods(options, files)
+    if kind == "docker":
+        wish = containers.Wish(options.conversion, options.driver, options.want or "limit")
+        return containers.read(files, machine(options), wish)
+    if kind == "systemd":
+        later = [(each, file_bytes(each)) for each in options.later]
+        want = options.want or ("usage" if later else "busy")
+        return systemd.read([*files, *later], machine(options), want,
+                            interval_of(options.interval))
+    if len(files) > 1:
+        raise UsageFault(f"{len(files)} files: a {kind} is one")
+    if kind == "script":
+        return read_script(options, name, data, engine)
+    model = hostfile.read(data, name, kind)
+    return model.with_host(chosen_host(options, model.host)) if is_chosen(options) else model
+
+
+def load(options: argparse.Namespace, paths: Sequence[str], engine: Engine) -> Model:
+    """The model of one source, which may be several files."""
+    check_options(options)
+    files = [(path, None if os.path.isdir(path) else file_bytes(path)) for path in paths]
+    kind = options.kind or kind_of(*files[0])
+    found = [(names.shown(path), data) for path, data in files if data is not None]
+    if kind == "cgroup":
+        if len(paths) > 1:
+            raise UsageFault("one folder is one tree")
+        model = read_cgroup(options, paths[0])
+    elif len(found) < len(files):
+        raise HostFault(f"{names.shown(paths[0])}: Is a directory")
+    else:
+        model = read_files(options, kind, found, engine)
+    demands.scale(model, options.scale)
+    if options.strict and model.refused:
+        raise RefusedLines(model.refused)
+    return model
+
+
+def warn(model: Model, source: str) -> None:
+    """Prints the notes and the refused lines of a model on standard error."""
+    for line in model.refused:
+        print(f"arbiterctl: {names.shown(line)}", file=sys.stderr)
+    for note in model.notes:
+        print(f"arbiterctl: warning: {source}: {names.shown(note)}", file=sys.stderr)

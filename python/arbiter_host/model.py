@@ -1,0 +1,194 @@
+"""A host and its groups, in microseconds and thousandths of a CPU."""
+from __future__ import annotations
+
+from dataclasses import dataclass, field, replace
+from fractions import Fraction
+
+from arbiter_host import names, units
+from arbiter_host.faults import HostFault
+
+MAX_PROCESSORS = 64
+# Greatest capacity, in slices of one period, that the planner takes.
+MAX_CAPACITY = 64000
+MAX_GROUPS = 16384
+MAX_DEPTH = 64
+OWN = "(own)"
+
+
+@dataclass(frozen=True)
+class Host:
+    """CPUs, and the period and slice in microseconds, 1000 to 1000000."""
+
+    cpus: int = 1
+    period: int = units.DEFAULT_PERIOD
+    slice_usec: int = 5000
+
+    def checked(self) -> Host:
+        """The host itself; a fault names the range of a number that is out of it."""
+        if not units.MIN_PERIOD <= self.period <= units.MAX_PERIOD:
+            raise HostFault(f"period {self.period}: not {units.MIN_PERIOD} to {units.MAX_PERIOD}"
+                            " microseconds", 2)
+        if not 1000 <= self.slice_usec <= self.period or self.period % self.slice_usec:
+            raise HostFault(f"slice {self.slice_usec}: not 1000 microseconds to the period"
+                            f" {self.period}, which it divides", 2)
+        if not 1 <= self.cpus <= MAX_CAPACITY:
+            raise HostFault(f"CPUs {self.cpus}: not 1 to {MAX_CAPACITY}", 2)
+        self.planned()
+        return self
+
+    @property
+    def capacity(self) -> int:
+        """Slices of one period on all CPUs."""
+        return self.cpus * (self.period // self.slice_usec)
+
+    def planned(self) -> Host:
+        """The host itself up to 64 CPUs; else one of the same capacity that the planner takes.
+
+        A plan depends on the capacity, the rows and nothing else of a host. The other host has
+        at most 64 CPUs, slices of 1000 microseconds and a longer period.
+        """
+        if self.cpus <= MAX_PROCESSORS:
+            return self
+        if self.capacity > MAX_CAPACITY:
+            raise HostFault(f"{self.cpus} CPUs have {self.capacity} slices in a period, and the"
+                            f" planner takes {MAX_CAPACITY}: a longer slice has fewer", 2)
+        for cpus in range(MAX_PROCESSORS, 0, -1):
+            each, rest = divmod(self.capacity, cpus)
+            if rest == 0 and each * 1000 <= units.MAX_PERIOD:
+                return Host(cpus, each * 1000, 1000)
+        raise HostFault(f"{self.capacity} slices of {self.cpus} CPUs are no product of at most 64"
+                        " CPUs and at most 1000 slices: another slice has such a number", 2)
+
+    def head_line(self) -> str:
+        """The first line of a script for this host."""
+        return (f"# arbiter run --processors {self.cpus} --period {self.period}"
+                f" --slice {self.slice_usec}")
+
+
+@dataclass
+class Group:
+    """One group below the root. Its quota, period and burst are microseconds.
+
+    `demand` is in thousandths of a CPU and 0 for a group with children. `tasks` bounds it: that
+    many CPUs at most are used at once. `saved` is what the group has left of earlier limits, in
+    slices. `title` is a name for people, `place` where the group is set on its host.
+    """
+
+    path: str
+    weight: int = units.DEFAULT_WEIGHT
+    quota: int | None = None
+    period: int = units.DEFAULT_PERIOD
+    burst: int = 0
+    demand: Fraction = Fraction(0)
+    tasks: int | None = None
+    saved: int = 0
+    title: str = ""
+    place: str = ""
+
+    @property
+    def usable(self) -> Fraction:
+        """The demand that its tasks can use, in thousandths of a CPU."""
+        if self.tasks is None:
+            return self.demand
+        return min(self.demand, Fraction(1000 * self.tasks))
+
+    def limit_slices(self, host: Host) -> int | None:
+        """The limit of the next period, in slices: the quota with what was saved up."""
+        if self.quota is None:
+            return None
+        quota = units.limit_slices(self.quota, self.period, host.period, host.slice_usec)
+        burst = units.limit_slices(self.burst, self.period, host.period, host.slice_usec)
+        return min(self.saved + quota, quota + burst)
+
+
+@dataclass(frozen=True)
+class Row:
+    """A group as the planner takes it: `limit` and `demand` are slices of one period."""
+
+    parent: int | None
+    weight: int
+    limit: int | None
+    demand: int
+
+
+@dataclass
+class Model:
+    """A host and its groups by path, each after its parent. The root has no entry."""
+
+    host: Host = field(default_factory=Host)
+    groups: dict[str, Group] = field(default_factory=dict)
+    # What the source could not say or the model cannot hold, in words.
+    notes: list[str] = field(default_factory=list)
+    # Lines of a script that were refused, in words.
+    refused: list[str] = field(default_factory=list)
+    # Whether the source itself named the host.
+    names_host: bool = False
+
+    def add(self, group: Group) -> Group:
+        """Adds a group whose parent is there."""
+        parent = names.parent_path(group.path)
+        if parent != "." and parent not in self.groups:
+            raise HostFault(f"{names.shown(group.path)}: no group {names.shown(parent)} above it")
+        if group.path in self.groups:
+            raise HostFault(f"{names.shown(group.path)}: two groups of this path")
+        if group.path.count("/") >= MAX_DEPTH:
+            raise HostFault(f"{names.shown(group.path)}: more than {MAX_DEPTH} levels")
+        if len(self.groups) + 1 >= MAX_GROUPS:
+            raise HostFault(f"more than {MAX_GROUPS} groups with the root; --depth leaves some out")
+        self.groups[group.path] = group
+        return group
+
+    def children(self) -> dict[str, list[str]]:
+        """The paths of the children of each group and of the root, in order of creation."""
+        found: dict[str, list[str]] = {".": []}
+        for path in self.groups:
+            found[path] = []
+            found[names.parent_path(path)].append(path)
+        return found
+
+    def rows(self) -> list[Row]:
+        """The rows that the planner takes, the root first."""
+        place = {".": 0}
+        rows = [Row(None, units.DEFAULT_WEIGHT, None, 0)]
+        for path, group in self.groups.items():
+            place[path] = len(rows)
+            demand = units.demand_slices(group.usable, self.host.period, self.host.slice_usec)
+            rows.append(Row(place[names.parent_path(path)], group.weight,
+                            group.limit_slices(self.host), demand))
+        return rows
+
+    def with_host(self, host: Host) -> Model:
+        """The same groups on another host. What was saved up is kept in time, rounded down."""
+        before = self.host
+        groups = {}
+        for path, group in self.groups.items():
+            saved = group.saved * before.slice_usec // host.slice_usec
+            groups[path] = replace(group, saved=saved)
+        return replace(self, host=host, groups=groups)
+
+    def copy(self) -> Model:
+        """The same model, whose groups can be changed."""
+        groups = {path: replace(group) for path, group in self.groups.items()}
+        return replace(self, groups=groups, notes=list(self.notes), refused=list(self.refused))
+
+
+def checked_number(value: int, least: int, most: int, what: str) -> int:
+    """A number in its range; a fault names the range."""
+    if not least <= value <= most:
+        raise HostFault(f"{what} {value}: not {least} to {most}")
+    return value
+
+
+def check_settings(group: Group) -> None:
+    """A fault where a setting is out of the kernel's range."""
+    checked_number(group.weight, units.MIN_WEIGHT, units.MAX_WEIGHT, "weight")
+    checked_number(group.period, units.MIN_PERIOD, units.MAX_PERIOD, "period")
+    checked_number(group.burst, 0, units.MAX_QUOTA, "burst")
+    if group.quota is not None:
+        checked_number(group.quota, units.MIN_QUOTA, units.MAX_QUOTA, "quota")
+        if group.burst > group.quota:
+            raise HostFault(f"burst {group.burst}: above the quota {group.quota}")
+    if group.tasks is not None:
+        checked_number(group.tasks, 0, 10**9, "tasks")
+    if group.demand < 0:
+        raise HostFault("a demand is 0 or more")

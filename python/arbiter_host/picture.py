@@ -1,0 +1,220 @@
+"""Draws a plan as SVG: the tree, and to one scale what each group wants, may have and gets.
+
+Groups beyond the number of rows are folded into one row for each parent, the small ones first;
+groups that ask for nothing are left out.
+The scale is repeated every few rows.
+"""
+from __future__ import annotations
+
+from collections.abc import Iterator
+from dataclasses import dataclass, field
+
+from arbiter_host import explain, svg, text
+from arbiter_host.names import cut, last_name, short, shown
+from arbiter_host.plan import Plan, Planned
+
+ROW, INDENT, BARS, EDGE, HEAD = 20, 14, 400, 16, 70
+NAME_CELLS, NOTE_CELLS = 40, 86
+# Rows from one scale to the next.
+SCALE_ROWS = 24
+MOST_ROWS = 1000
+
+
+@dataclass
+class Entry:
+    """One row: a group, or the sum of the groups that a parent does not show."""
+
+    depth: int
+    name: str
+    gets: int
+    want: int
+    limit: int | None
+    note: str
+    title: str
+    is_limiting: bool = False
+    is_marked: bool = False
+    is_folded: bool = False
+    below: list[int] = field(default_factory=list)
+
+
+def chosen(plan: Plan, rows: int) -> set[int]:
+    """The rows of the groups that are shown: the greatest wants, each with those above it."""
+    limiting = {group.row for group in plan.limiting}
+    order = sorted(plan.groups[1:], key=lambda group: (group.row not in limiting, -group.want))
+    found = {0}
+    for group in order:
+        above = [group.row]
+        while plan.groups[above[-1]].parent is not None:
+            above.append(plan.groups[above[-1]].parent or 0)
+        new = [row for row in above if row not in found]
+        if group.want == 0 or len(found) + len(new) > rows:
+            continue
+        found.update(new)
+    return found
+
+
+def entry_of(plan: Plan, group: Planned, unit: str) -> Entry:
+    """The row of a group."""
+    is_limiting = group in plan.limiting
+    gets, want, limit = (text.amount(plan, each, unit)
+                         for each in (group.gets, group.want, group.limit))
+    at_most = "" if group.limit is None or group.parent is None else f", at most {limit}"
+    name = "the host" if group.parent is None else short(shown(last_name(group.path)))
+    title = group.group.title if group.group else ""
+    if title and "/" not in title:
+        name = f"{name}  {title}"
+    why = explain.why(plan, group, True)
+    return Entry(group.depth, name, group.gets, group.want, group.limit,
+                 f"{gets} of {want}{at_most}: {why}", f"{group.path}: {why}", is_limiting,
+                 group.is_starved or group.is_throttled_elsewhere)
+
+
+def folded(plan: Plan, groups: list[Planned], depth: int, unit: str) -> Entry:
+    """The row of groups that are not shown."""
+    gets, want = sum(each.gets for each in groups), sum(each.want for each in groups)
+    count = sum(explain.size(each) for each in groups)
+    starved = sum(1 for each in groups if each.is_starved)
+    note = f"{text.amount(plan, gets, unit)} of {text.amount(plan, want, unit)}"
+    note += f"; starved: {starved}" if starved else ""
+    name = "1 more group" if count == 1 else f"{count} more groups"
+    return Entry(depth, name, gets, want, None, note, name, is_marked=starved > 0, is_folded=True)
+
+
+def fitting(plan: Plan, unit: str, depth: int, rows: int) -> list[Entry]:
+    """The rows of as many groups as leave room for the rows of the folds."""
+    shown_ = rows
+    while True:
+        found = entries(plan, unit, depth, shown_)
+        if len(found) <= rows + 1 or shown_ <= 1:
+            return found
+        shown_ = shown_ * 7 // 8
+
+
+def entries(plan: Plan, unit: str, depth: int, rows: int) -> list[Entry]:
+    """All rows as a tree is read, each with the places of the rows right below it."""
+    shows = chosen(plan, rows)
+    found: list[Entry] = []
+    waiting: list[tuple[Planned | Entry, int | None]] = [(plan.root, None)]
+    while waiting:
+        each, above = waiting.pop()
+        entry = each if isinstance(each, Entry) else entry_of(plan, each, unit)
+        if above is not None:
+            found[above].below.append(len(found))
+        found.append(entry)
+        if isinstance(each, Entry) or each.depth >= depth:
+            continue
+        place = len(found) - 1
+        rest = [child for child in each.children if child.row not in shows and child.want]
+        if len(rest) == 1 and not rest[0].children:
+            shows.add(rest.pop().row)
+        if rest:
+            waiting.append((folded(plan, rest, each.depth + 1, unit), place))
+        waiting += [(child, place) for child in reversed(each.children) if child.row in shows]
+    return found
+
+
+class Drawing:
+    """The places of rows and amounts."""
+
+    def __init__(self, plan: Plan, found: list[Entry], unit: str) -> None:
+        self.plan, self.found, self.unit = plan, found, unit
+        names_ = [svg.wide(cut(each.name, NAME_CELLS)) + INDENT * each.depth for each in found]
+        self.left = EDGE + max(names_) + 20
+        self.most = max(plan.capacity, 1)
+        notes = max(svg.wide(cut(each.note, NOTE_CELLS), 11) for each in found)
+        self.width = self.left + BARS + 24 + notes + EDGE
+        scales = (len(found) - 1) // SCALE_ROWS
+        self.height = HEAD + ROW * (len(found) + scales) + EDGE
+
+    def y(self, place: int) -> float:
+        """The top of a row."""
+        return HEAD + ROW * (place + place // SCALE_ROWS)
+
+    def x(self, slices: float) -> float:
+        """The place of an amount. What is above the capacity is cut."""
+        return self.left + BARS * min(slices, self.most) / self.most
+
+    def scale(self) -> Iterator[str]:
+        """The grid, and the numbers of the scale every few rows."""
+        host = self.plan.model.host
+        for cpus in svg.steps(host.cpus, 8):
+            x = self.x(cpus * (host.period // host.slice_usec))
+            yield svg.line((x, HEAD - 6), (x, self.height - EDGE), svg.GRID)
+            slices = round(cpus * (host.period // host.slice_usec))
+            written = text.amount(self.plan, slices, self.unit)
+            written = written.rstrip("0").rstrip(".") if "." in written else written
+            for place in range(0, len(self.found), SCALE_ROWS):
+                yield svg.words((x, self.y(place) - 8), written, svg.FAINT, 10, "middle")
+        for place in range(0, len(self.found), SCALE_ROWS):
+            yield svg.words((self.left + BARS + 24, self.y(place) - 8),
+                            text.UNIT_WORDS[self.unit], svg.FAINT, 10)
+
+    def branches(self) -> Iterator[str]:
+        """The lines that join groups to those above."""
+        for place, entry in enumerate(self.found):
+            if not entry.below:
+                continue
+            x = EDGE + INDENT * entry.depth + 4
+            last = self.y(entry.below[-1]) + ROW / 2
+            yield svg.line((x, self.y(place) + ROW - 3), (x, last), svg.BRANCH)
+            for below in entry.below:
+                y = self.y(below) + ROW / 2
+                yield svg.line((x, y), (x + INDENT - 6, y), svg.BRANCH)
+
+    def bar(self, entry: Entry, y: float) -> Iterator[str]:
+        """What a group wants and gets, and its limit."""
+        tall = ROW - 8
+        yield svg.box((self.left, y + 4), (self.x(entry.want) - self.left, tall), svg.WANTS)
+        gets = max(self.x(entry.gets) - self.left, 1.5 if entry.gets else 0)
+        yield svg.box((self.left, y + 4), (gets, tall), svg.GETS)
+        if entry.want > self.most:
+            x = self.left + BARS
+            yield svg.shape([(x, y + 4), (x + 7, y + ROW / 2), (x, y + 4 + tall)], svg.WANTS, 1,
+                            svg.WANTS)
+        if entry.limit is not None and entry.limit <= self.most:
+            x = self.x(entry.limit)
+            colour, wide = (svg.MARK, 3) if entry.is_limiting else (svg.LIMIT, 1.5)
+            yield svg.line((x, y + 1), (x, y + ROW - 1), colour, wide)
+
+    def row(self, place: int, entry: Entry) -> Iterator[str]:
+        """One row."""
+        y = self.y(place)
+        ink = svg.MARK if entry.is_limiting else svg.FAINT if entry.is_folded else svg.INK
+        yield svg.words((EDGE + INDENT * entry.depth, y + 14), cut(entry.name, NAME_CELLS), ink, 12,
+                        "start", entry.is_limiting, entry.title)
+        yield from self.bar(entry, y)
+        colour = svg.MARK if entry.is_marked else svg.INK
+        yield svg.words((self.left + BARS + 24, y + 14), cut(entry.note, NOTE_CELLS), colour, 11,
+                        title=entry.note)
+
+
+def legend(y: float) -> Iterator[str]:
+    """What the colours mean."""
+    x = float(EDGE)
+    for name, colour in (("gets", svg.GETS), ("wants", svg.WANTS)):
+        yield svg.box((x, y - 10), (14, 12), colour)
+        yield svg.words((x + 19, y), name, svg.INK, 11)
+        x += 19 + svg.wide(name, 11) + 16
+    for name, colour, wide in (("limit", svg.LIMIT, 1.5), ("limits the total", svg.MARK, 3.0)):
+        yield svg.line((x + 4, y - 11), (x + 4, y + 3), colour, wide)
+        yield svg.words((x + 13, y), name, svg.INK, 11)
+        x += 13 + svg.wide(name, 11) + 16
+
+
+def title_of(plan: Plan, unit: str) -> str:
+    """The plan in one line."""
+    served, most, want = (text.amount(plan, each, unit)
+                          for each in (plan.root.gets, plan.capacity, plan.root.want))
+    return f"{served} of {most} {text.UNIT_WORDS[unit]} served, {want} wanted"
+
+
+def picture(plan: Plan, unit: str = "cpu", depth: int = 64, rows: int = 120) -> str:
+    """A plan as SVG, of at most so many rows below the host's."""
+    drawing = Drawing(plan, fitting(plan, unit, depth, rows), unit)
+    title = title_of(plan, unit)
+    parts = [svg.words((EDGE, 20), title, svg.INK, 13, "start", True), *legend(40),
+             *drawing.scale(), *drawing.branches()]
+    for place, entry in enumerate(drawing.found):
+        parts += drawing.row(place, entry)
+    wide = max(drawing.width, svg.wide(title, 13) + 2 * EDGE)
+    return svg.document(wide, drawing.height, f"{title}: {text.host_words(plan)}", parts)

@@ -1,0 +1,191 @@
+"""An accepted plan, and why each group gets its amount. All numbers are slices of one period."""
+from __future__ import annotations
+
+from dataclasses import dataclass, field
+from fractions import Fraction
+
+from arbiter_host import units
+from arbiter_host.engine import Engine
+from arbiter_host.faults import HostFault
+from arbiter_host.model import Group, Model, Row
+from arbiter_host.names import last_name, short, shown
+
+
+@dataclass
+class Planned:
+    """One group of a plan. Row 0 is the root, whose limit is the capacity."""
+
+    row: int
+    path: str
+    parent: int | None
+    weight: int
+    limit: int | None
+    demand: int
+    gets: int
+    group: Group | None
+    children: list[Planned] = field(default_factory=list)
+    # What it wants, and what its own limit lets through of that.
+    want: int = 0
+    most: int = 0
+    # Sum of the weights of its children that can use a slice, and their number.
+    active_weight: int = 0
+    active: int = 0
+    depth: int = 0
+
+    @property
+    def is_starved(self) -> bool:
+        """Whether it wants something and gets nothing."""
+        return self.want > 0 and self.gets == 0
+
+    @property
+    def is_throttled(self) -> bool:
+        """Whether its own limit is below its want, so that `period` counts it as throttled."""
+        return self.parent is not None and self.limit is not None and self.limit < self.want
+
+    @property
+    def is_throttled_elsewhere(self) -> bool:
+        """Whether it is counted as throttled and gets less than its limit."""
+        return self.is_throttled and self.limit is not None and self.gets < self.limit
+
+    @property
+    def is_cut_by_tasks(self) -> bool:
+        """Whether it asks for more than its tasks can use."""
+        return self.group is not None and self.group.usable < self.group.demand
+
+
+@dataclass(frozen=True)
+class Reason:
+    """Why a group gets what it gets: a short name, words, and the group whose limit is the cause.
+
+    `weight` of `active_weight` is its part among the siblings that can use a slice; both are 0
+    where weights do not decide.
+    """
+
+    name: str
+    words: str
+    cause: str | None = None
+    weight: int = 0
+    active_weight: int = 0
+
+
+@dataclass
+class Plan:
+    """The plan of the next period of a model, accepted by the proved check."""
+
+    model: Model
+    groups: list[Planned]
+    limiting: list[Planned]
+    rest: int
+    by: str
+
+    @property
+    def root(self) -> Planned:
+        """The host itself."""
+        return self.groups[0]
+
+    @property
+    def capacity(self) -> int:
+        """Slices of one period."""
+        return self.model.host.capacity
+
+    def thousandths(self, slices: int) -> Fraction:
+        """Thousandths of a CPU that slices of one period are."""
+        host = self.model.host
+        return units.thousandths_of_slices(slices, host.period, host.slice_usec)
+
+    def by_path(self) -> dict[str, Planned]:
+        """The groups by path."""
+        return {group.path: group for group in self.groups}
+
+    def cause(self, group: Planned) -> Planned:
+        """The group whose limit cuts: itself, one above it, or the root where the host is full."""
+        while group.parent is not None and group.gets < group.most:
+            group = self.groups[group.parent]
+        return group
+
+    def reason(self, group: Planned) -> Reason:
+        """Why a group gets what it gets."""
+        if group.want == 0:
+            return Reason("nothing asked", "nothing asked")
+        if group.gets == group.want:
+            return all_reason(group)
+        cut = self.cause(group)
+        if cut is group and cut.parent is not None:
+            words = "its own limit" if group.limit else "its own limit, less than a slice"
+            return Reason("own limit", words, group.path)
+        if cut is group:
+            return Reason("the host is full", "the host is full", group.path)
+        return self.weight_reason(group, cut)
+
+    def weight_reason(self, group: Planned, cut: Planned) -> Reason:
+        """The reason of a group that gets the part of its weight below a limit."""
+        above = self.groups[group.parent or 0]
+        name = "the host is full" if cut.parent is None else "limit above"
+        words = ("the host is full" if cut.parent is None
+                 else f"limit of {short(shown(last_name(cut.path)))} above")
+        if above.active == 1:
+            return Reason(name, f"{words}: the only one that asks here", cut.path)
+        words = f"{words}: weight {group.weight} of {above.active_weight}"
+        return Reason(name, words, cut.path, group.weight, above.active_weight)
+
+
+def all_reason(group: Planned) -> Reason:
+    """The reason of a group that gets all that it wants."""
+    if group.is_cut_by_tasks and group.group is not None:
+        tasks = group.group.tasks
+        which = "1 task" if tasks == 1 else f"{tasks} tasks"
+        return Reason("tasks", f"all that its {which} can use at once", group.path)
+    return Reason("all", "all that it wants")
+
+
+def marks(group: Planned) -> list[str]:
+    """What stands out of a group, in words."""
+    found = ["STARVED"] if group.is_starved else []
+    if group.is_throttled_elsewhere:
+        found.append("THROTTLED, NOT BY ITS LIMIT")
+    elif group.is_throttled:
+        found.append("THROTTLED")
+    return found
+
+
+def fill(groups: list[Planned], capacity: int) -> None:
+    """Children, wants, active weights and depths of all groups."""
+    for group in groups[1:]:
+        above = groups[group.parent or 0]
+        above.children.append(group)
+        group.depth = above.depth + 1
+    for group in reversed(groups):
+        limit = capacity if group.parent is None else group.limit
+        group.want = sum(each.most for each in group.children) if group.children else group.demand
+        group.most = group.want if limit is None else min(group.want, limit)
+        usable = [each.weight for each in group.children if each.most > 0]
+        group.active, group.active_weight = len(usable), sum(usable)
+    groups[0].limit = capacity
+
+
+def planned_of(rows: list[Row], model: Model, amounts: list[int]) -> list[Planned]:
+    """The groups of a plan, filled."""
+    groups = []
+    entries: list[tuple[str, Group | None]] = [(".", None), *model.groups.items()]
+    for place, ((path, group), row, gets) in enumerate(zip(entries, rows, amounts)):
+        groups.append(Planned(place, path, row.parent, row.weight, row.limit, row.demand, gets,
+                              group))
+    fill(groups, model.host.capacity)
+    return groups
+
+
+def check_sums(groups: list[Planned]) -> None:
+    """A fault where wants and amounts do not fit: the reasons are worked out from both."""
+    for group in groups:
+        if group.gets > group.most:
+            raise HostFault(f"{shown(group.path)}: {group.gets} slices of at most {group.most}")
+
+
+def plan(engine: Engine, model: Model) -> Plan:
+    """The plan of the next period of a model, accepted by the proved check."""
+    rows = model.rows()
+    answer = engine.plan(model.host.checked(), rows)
+    groups = planned_of(rows, model, answer.amounts)
+    check_sums(groups)
+    limiting = [groups[row] for row in answer.limiting]
+    return Plan(model, groups, limiting, answer.rest, engine.words)

@@ -1,0 +1,23 @@
+"""A progress bar on a terminal, and nothing elsewhere."""
+from __future__ import annotations
+
+import sys
+from collections.abc import Callable, Iterator
+from contextlib import contextmanager
+
+
+def nothing() -> None:
+    """No progress is shown."""
+
+
+@contextmanager
+def bar(what: str, total: int) -> Iterator[Callable[[], None]]:
+    """A bar on standard error, where that is a terminal. The value is called for each step."""
+    if sys.stderr is None or not sys.stderr.isatty() or total < 2:
+        yield nothing
+        return
+    from rich.console import Console
+    from rich.progress import Progress
+    with Progress(console=Console(stderr=True), transient=True) as progress:
+        task = progress.add_task(what, total=total)
+        yield lambda: progress.advance(task)

@@ -1,0 +1,178 @@
+"""Samples of demands over time: CSV as Grafana and others write it, lists of pairs, Prometheus."""
+from __future__ import annotations
+
+import csv
+import io
+import json
+import re
+import urllib.error
+import urllib.parse
+import urllib.request
+from collections.abc import Sequence
+from dataclasses import dataclass
+from datetime import datetime, timezone
+from fractions import Fraction
+from typing import Any
+
+from arbiter_host import units
+from arbiter_host.faults import HostFault
+from arbiter_host.model import Host
+from arbiter_host.names import cut, shown
+
+TIMES = ("time", "period", "timestamp", "date", "datetime", "_time", "ts")
+EMPTY = ("", "nan", "null", "none", "undefined", "-")
+# Epochs above this are milliseconds.
+MILLISECONDS = 10**11
+SECONDS = 60
+MAX_ANSWER = 1 << 28
+
+
+@dataclass(frozen=True)
+class Sample:
+    """The demands that one sample sets, in thousandths of a CPU, by the names of its columns."""
+
+    name: str
+    demands: dict[str, Fraction]
+
+
+def demand_of(text: str, unit: str, host: Host, where: str) -> Fraction:
+    """A number of a unit in thousandths of a CPU. A comma may stand for the decimal point."""
+    parsed = units.number_and_unit(text.replace(",", ".", 1))
+    if parsed is None or parsed[1] not in ("", *units.CPU_UNITS):
+        raise HostFault(f"{where}: {shown(cut(text, 40))!r} is no number")
+    value = parsed[0]
+    if parsed[1]:
+        return value * units.CPU_UNITS[parsed[1]]
+    one = {"cpu": Fraction(1000), "m": Fraction(1), "%": Fraction(10),
+           "us": Fraction(1000, host.period),
+           "slices": units.thousandths_of_slices(1, host.period, host.slice_usec)}[unit]
+    if value > 10**15:
+        raise HostFault(f"{where}: {shown(cut(text, 40))!r} is above 10^15")
+    return value * one
+
+
+def time_name(text: str) -> str:
+    """The name of a sample: an epoch as a time, any other text as it is."""
+    if not re.fullmatch(r"[0-9]{9,16}(\.[0-9]+)?", text):
+        return text
+    value = float(text)
+    value = value / 1000 if value > MILLISECONDS else value
+    try:
+        return datetime.fromtimestamp(value, timezone.utc).strftime("%Y-%m-%d %H:%M:%S")
+    except (ValueError, OverflowError, OSError):
+        return text
+
+
+def decoded(data: bytes, name: str) -> str:
+    """The text of a file, without a mark at its beginning."""
+    try:
+        return data.decode("utf-16" if data[:2] in (b"\xff\xfe", b"\xfe\xff") else "utf-8-sig")
+    except UnicodeDecodeError as error:
+        line = data[:error.start].count(b"\n") + 1
+        raise HostFault(f"{name}:{line}: not UTF-8") from error
+
+
+def delimiter_of(head: str) -> str:
+    """What separates the cells: the most frequent of `;`, tab and `,` in the first line."""
+    return max(";\t,", key=lambda each: (head.count(each), each == ","))
+
+
+def rows_of(text: str, name: str) -> list[tuple[int, list[str]]]:
+    """The rows of a CSV with their lines. Empty rows and Grafana's `sep=` line are left out."""
+    lines = text.split("\n", 1)
+    begin = 0
+    if lines[0].strip().lower().startswith("sep="):
+        text, begin = lines[1] if len(lines) > 1 else "", 1
+    reader = csv.reader(io.StringIO(text, newline=""), delimiter=delimiter_of(text.split("\n")[0]))
+    found = []
+    try:
+        for row in reader:
+            if any(cell.strip() for cell in row):
+                found.append((reader.line_num + begin, [cell.strip() for cell in row]))
+    except csv.Error as error:
+        raise HostFault(f"{name}:{reader.line_num + begin}: {error}") from error
+    return found
+
+
+def read_csv(data: bytes, name: str, unit: str, host: Host) -> list[Sample]:
+    """The samples of a CSV: groups in the first row, a number for each in every other."""
+    rows = rows_of(decoded(data, name), name)
+    if not rows:
+        return []
+    head = rows[0][1]
+    found: list[Sample] = []
+    is_timed = head[0].lower() in ("", *TIMES) or head[0].lower().endswith("time")
+    for number, row in rows[1:]:
+        if len(row) != len(head):
+            raise HostFault(f"{name}:{number}: {len(row)} cells and not {len(head)}")
+        pairs = list(zip(head, row))[1 if is_timed else 0:]
+        demands = {column: demand_of(cell, unit, host, f"{name}:{number}")
+                   for column, cell in pairs if cell.lower() not in EMPTY}
+        title = time_name(row[0]) if is_timed else str(len(found) + 1)
+        found.append(Sample(title, demands))
+    return found
+
+
+def read_pairs(data: bytes, name: str, unit: str, host: Host) -> list[Sample]:
+    """The samples of lines `GROUP NUMBER GROUP NUMBER ..`. A line with `#` first is none."""
+    found: list[Sample] = []
+    lines = decoded(data, name).split("\n")
+    for number, line in enumerate(lines[:-1] if lines[-1] == "" else lines, 1):
+        words = line.split()
+        if words and words[0].startswith("#"):
+            continue
+        if len(words) % 2:
+            raise HostFault(f"{name}:{number}: not pairs of a group and a number")
+        demands = {group: demand_of(word, unit, host, f"{name}:{number}")
+                   for group, word in zip(words[::2], words[1::2])}
+        found.append(Sample(str(len(found) + 1), demands))
+    return found
+
+
+def series_of(answer: Any, label: str) -> dict[str, list[tuple[float, str]]]:
+    """The values of each series of a range query, by one of its labels."""
+    found = {}
+    result = answer.get("data", {}).get("result", []) if isinstance(answer, dict) else []
+    for each in result:
+        metric, values = each["metric"], each["values"]
+        name = metric.get(label) or ",".join(map(str, metric.values())) or "value"
+        found[str(name)] = [(float(at), str(value)) for at, value in values]
+    return found
+
+
+def fetched(url: str) -> Any:
+    """The JSON of an address."""
+    try:
+        with urllib.request.urlopen(url, timeout=SECONDS) as answer:
+            return json.loads(answer.read(MAX_ANSWER))
+    except urllib.error.HTTPError as error:
+        told = error.read(400).decode(errors="replace")
+        raise HostFault(f"{shown(url)}: {error.code}: {shown(told)}") from error
+    except urllib.error.URLError as error:
+        raise HostFault(f"{shown(url)}: {error.reason}") from error
+    except (OSError, ValueError, RecursionError) as error:
+        raise HostFault(f"{shown(url)}: {shown(str(error))}") from error
+
+
+def read_prometheus(url: str, words: dict[str, str], label: str, unit: str,
+                    host: Host) -> list[Sample]:
+    """The samples of a range query. Words are `query`, `start`, `end` and `step`."""
+    if not url.startswith(("http://", "https://")):
+        raise HostFault(f"{shown(url)}: not http:// or https://", 2)
+    where = f"{url.rstrip('/')}/api/v1/query_range?{urllib.parse.urlencode(words)}"
+    try:
+        found = series_of(fetched(where), label)
+    except (KeyError, TypeError, ValueError, AttributeError) as error:
+        raise HostFault(f"{shown(url)}: no answer to a range query") from error
+    times = sorted({at for values in found.values() for at, _ in values})
+    by_time: dict[float, dict[str, Fraction]] = {at: {} for at in times}
+    for name, values in found.items():
+        for at, value in values:
+            if value.lower() not in EMPTY:
+                by_time[at][name] = demand_of(value, unit, host, f"{shown(url)}: {shown(name)}")
+    return [Sample(time_name(str(int(at))), by_time[at]) for at in times]
+
+
+def columns(samples: Sequence[Sample]) -> list[str]:
+    """The names of all columns, in their order."""
+    return list({name: None for sample in samples for name in sample.demands})

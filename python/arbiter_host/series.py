@@ -1,0 +1,378 @@
+"""Many periods over the groups of a host: what each group got in each sample.
+
+A sample lasts one period, or as long as is said: then its period is repeated, so that what was
+saved up is used as the kernel would use it. Each plan is accepted by the proved check.
+"""
+from __future__ import annotations
+
+import csv
+import io
+import json
+from collections.abc import Callable, Iterator, Sequence
+from dataclasses import dataclass
+from fractions import Fraction
+
+from arbiter_host import demands, svg, text, units
+from arbiter_host.engine import Engine
+from arbiter_host.faults import HostFault
+from arbiter_host.model import Model
+from arbiter_host.names import cut, padded, short, shown, width
+from arbiter_host.plan import Plan, plan
+from arbiter_host.samples import Sample, columns
+
+FLAGS = (("T", "throttled", "#b4231f"), ("t", "throttled, not by its limit", "#d97706"),
+         ("B", "burst", "#7c3aed"), ("S", "starved", "#111827"))
+MOST_PANELS = 40
+# Most distinct periods that one sample is planned for.
+MOST_DISTINCT = 100000
+EDGE, LEFT, WIDE, TALL, STRIP, GAP, TOP = 16, 64, 760, 84, 5, 44, 64
+
+
+@dataclass
+class Cell:
+    """One group in one sample: means in slices of a period, and counts of periods."""
+
+    gets: Fraction = Fraction(0)
+    wants: Fraction = Fraction(0)
+    limit: Fraction | None = None
+    periods: int = 0
+    throttled: int = 0
+    elsewhere: int = 0
+    bursts: int = 0
+    starved: int = 0
+    # Microseconds wanted above the limit.
+    withheld: int = 0
+
+    @property
+    def flags(self) -> str:
+        """The letters of what happened in any of its periods."""
+        counts = (self.throttled - self.elsewhere, self.elsewhere, self.bursts, self.starved)
+        return "".join(letter for (letter, _, _), count in zip(FLAGS, counts) if count)
+
+
+@dataclass
+class Series:
+    """The samples' names, the groups that are shown, and a cell for each."""
+
+    names: list[str]
+    groups: list[str]
+    cells: list[list[Cell]]
+    plan: Plan
+
+
+def targets(model: Model, names: Sequence[str], mapping: dict[str, str]) -> dict[str, str]:
+    """The path that each column stands for; a fault names a column of no one group."""
+    children, found = model.children(), {}
+    for name in names:
+        groups = demands.matching(model, mapping.get(name, name))
+        paths = [group.path for group in groups if not children[group.path]]
+        if len(paths) != 1:
+            why = "a group with children" if not paths else f"{len(paths)} groups"
+            raise HostFault(f"column {shown(name)} is {why}: --map {shown(name)}=GROUP")
+        found[name] = paths[0]
+    return found
+
+
+def quota_slices(plan_: Plan, path: str) -> int | None:
+    """The quota of a group without what was saved up."""
+    group, host = plan_.model.groups[path], plan_.model.host
+    if group.quota is None:
+        return None
+    return units.limit_slices(group.quota, group.period, host.period, host.slice_usec)
+
+
+def count_period(plan_: Plan, shown_: Sequence[str], cells: list[Cell], times: int) -> None:
+    """Adds one plan to the cells, for so many periods."""
+    by_path = plan_.by_path()
+    for path, cell in zip(shown_, cells):
+        group = by_path[path]
+        cell.periods += times
+        cell.gets += group.gets * times
+        cell.wants += group.want * times
+        if group.limit is not None and (cell.limit is not None or cell.periods == times):
+            cell.limit = (cell.limit or Fraction(0)) + group.limit * times
+        cell.throttled += times * group.is_throttled
+        cell.elsewhere += times * group.is_throttled_elsewhere
+        cell.starved += times * group.is_starved
+        if group.is_throttled and group.limit is not None:
+            cell.withheld += times * (group.want - group.limit) * plan_.model.host.slice_usec
+        quota = quota_slices(plan_, path) if group.group else None
+        cell.bursts += times * (quota is not None and group.gets > quota)
+
+
+def save_up(plan_: Plan) -> None:
+    """Keeps what each group leaves of its limit for the next period."""
+    for group in plan_.groups[1:]:
+        if group.group is not None:
+            group.group.saved = 0 if group.limit is None else group.limit - group.gets
+
+
+def periods_of(engine: Engine, model: Model, count: int) -> Iterator[tuple[Plan, int]]:
+    """The plans of so many periods with the same demands, each with how often it holds.
+
+    What is saved up decides the next period, so that from a state that was there before on the
+    periods repeat.
+    """
+    seen: dict[tuple[int, ...], int] = {}
+    plans: list[Plan] = []
+    while count > 0:
+        state = tuple(group.saved for group in model.groups.values())
+        if state in seen:
+            cycle = plans[seen[state]:]
+            yield from repeated(cycle, count)
+            settle(cycle[(count - 1) % len(cycle)], model)
+            return
+        if len(plans) >= MOST_DISTINCT:
+            raise HostFault(f"a sample with more than {MOST_DISTINCT} distinct periods")
+        seen[state] = len(plans)
+        plans.append(plan(engine, model.copy()))
+        yield plans[-1], 1
+        settle(plans[-1], model)
+        count -= 1
+
+
+def settle(plan_: Plan, model: Model) -> None:
+    """The state after a period, in the model."""
+    save_up(plan_)
+    for path, group in plan_.model.groups.items():
+        model.groups[path].saved = group.saved
+
+
+def repeated(cycle: list[Plan], count: int) -> Iterator[tuple[Plan, int]]:
+    """The plans of a cycle for the periods that are left."""
+    for place, each in enumerate(cycle):
+        times = count // len(cycle) + (place < count % len(cycle))
+        if times:
+            yield each, times
+
+
+def run(engine: Engine, model: Model, samples: Sequence[Sample], chosen: Sequence[str],
+        mapping: dict[str, str], periods: int, tick: Callable[[], None]) -> Series:
+    """The samples one after another."""
+    if not samples:
+        raise HostFault("no sample")
+    path_of = targets(model, columns(samples), mapping)
+    shown_ = [demands.matching(model, each)[0].path for each in chosen] or list(
+        dict.fromkeys(path_of.values())) or list(model.groups)
+    model, table, last = model.copy(), [], None
+    for sample in samples:
+        for name, demand in sample.demands.items():
+            model.groups[path_of[name]].demand = demand
+        cells = [Cell() for _ in shown_]
+        for last, times in periods_of(engine, model, periods):
+            count_period(last, shown_, cells, times)
+        table.append([averaged(cell) for cell in cells])
+        tick()
+    assert last is not None
+    return Series([sample.name for sample in samples], list(shown_), table, last)
+
+
+def averaged(cell: Cell) -> Cell:
+    """A cell whose sums are means."""
+    count = max(cell.periods, 1)
+    cell.gets, cell.wants = cell.gets / count, cell.wants / count
+    cell.limit = None if cell.limit is None else cell.limit / count
+    return cell
+
+
+def written(series: Series, slices: Fraction, unit: str) -> str:
+    """A mean in a unit."""
+    host = series.plan.model.host
+    value = slices * {"slices": Fraction(1), "us": Fraction(host.slice_usec),
+                      "m": Fraction(1000 * host.slice_usec, host.period),
+                      "cpu": Fraction(host.slice_usec, host.period),
+                      "%": Fraction(100 * host.slice_usec, host.period)}[unit]
+    return units.decimal(value, 3 if unit == "cpu" else 1)
+
+
+def table_lines(series: Series, unit: str) -> Iterator[str]:
+    """One line for each sample: what it gets of what it wants, with flags."""
+    heads = ["sample", *(short(shown(path)) for path in series.groups)]
+    rows = [[shown(name), *(f"{written(series, cell.gets, unit)}/"
+                            f"{written(series, cell.wants, unit)}{cell.flags}" for cell in cells)]
+            for name, cells in zip(series.names, series.cells)]
+    widths = [max(map(width, column)) for column in zip(heads, *rows)]
+    for row in [heads, *rows]:
+        yield "  ".join(" " * (widths[at] - width(each)) + each for at, each in enumerate(row))
+
+
+def longest(cells: Sequence[Cell]) -> int:
+    """The longest run of samples in which a group starved."""
+    best = count = 0
+    for cell in cells:
+        count = count + 1 if cell.starved else 0
+        best = max(best, count)
+    return best
+
+
+def summary_rows(series: Series, unit: str) -> list[list[str]]:
+    """The sums of each group."""
+    rows = [["group", "wanted", "got", "of it", "throttled", "not by limit", "withheld_usec",
+             "bursts", "starved", "samples in a row"]]
+    for place, path in enumerate(series.groups):
+        cells = [row[place] for row in series.cells]
+        wanted, got = (sum((getattr(each, key) for each in cells), Fraction(0)) / len(cells)
+                       for key in ("wants", "gets"))
+        part = f"{float(100 * got / wanted):.0f}%" if wanted else "-"
+        counts = [sum(getattr(each, key) for each in cells)
+                  for key in ("throttled", "elsewhere", "withheld", "bursts", "starved")]
+        rows.append([short(shown(path)), written(series, wanted, unit), written(series, got, unit),
+                     part, *map(str, counts), str(longest(cells))])
+    return rows
+
+
+def summary_lines(series: Series, unit: str) -> Iterator[str]:
+    """The sums of each group as a table. `wanted` and `got` are means."""
+    rows = summary_rows(series, unit)
+    widths = [max(map(width, column)) for column in zip(*rows)]
+    for row in rows:
+        yield "  ".join([padded(row[0], widths[0]),
+                         *(each.rjust(widths[at]) for at, each in enumerate(row) if at)])
+
+
+def records(series: Series, unit: str) -> Iterator[dict[str, object]]:
+    """One record for each group and sample."""
+    for name, cells in zip(series.names, series.cells):
+        for path, cell in zip(series.groups, cells):
+            limit = None if cell.limit is None else written(series, cell.limit, unit)
+            yield {"sample": name, "group": path, "gets": written(series, cell.gets, unit),
+                   "wants": written(series, cell.wants, unit), "limit": limit,
+                   "periods": cell.periods, "throttled": cell.throttled,
+                   "throttled_not_by_limit": cell.elsewhere, "bursts": cell.bursts,
+                   "starved": cell.starved, "withheld_usec": cell.withheld}
+
+
+def as_csv(series: Series, unit: str) -> str:
+    """The records as CSV. Names are escaped."""
+    out = io.StringIO()
+    rows = list(records(series, unit))
+    writer = csv.DictWriter(out, list(rows[0]), lineterminator="\n")
+    writer.writeheader()
+    for row in rows:
+        writer.writerow({key: shown(str(value)) if key in ("sample", "group") else value
+                         for key, value in row.items()})
+    return out.getvalue()
+
+
+def as_json(series: Series, unit: str) -> str:
+    """The records as JSON, with ASCII letters alone."""
+    return json.dumps({"unit": unit, "records": list(records(series, unit))}, indent=1) + "\n"
+
+
+def label_text(name: str) -> str:
+    """A label of OpenMetrics."""
+    return shown(name).replace("\\", "\\\\").replace('"', '\\"')
+
+
+def as_metrics(series: Series) -> str:
+    """The last sample as OpenMetrics, for a textfile collector."""
+    host, lines = series.plan.model.host, []
+    one = Fraction(host.slice_usec, host.period)
+    for key, words in (("gets", "CPUs that the plan gives a group."),
+                       ("wants", "CPUs that a group wants.")):
+        lines += [f"# TYPE arbiter_plan_{key}_cpus gauge",
+                  f"# HELP arbiter_plan_{key}_cpus {words}"]
+        for path, cell in zip(series.groups, series.cells[-1]):
+            value = units.decimal(getattr(cell, key) * one, 6)
+            lines.append(f'arbiter_plan_{key}_cpus{{group="{label_text(path)}"}} {value}')
+    return "\n".join([*lines, "# EOF", ""])
+
+
+def stairs(values: Sequence[float], x: Callable[[float], float],
+           y: Callable[[float], float]) -> list[svg.Point]:
+    """The corners of a line that stays at each value for one sample."""
+    found: list[svg.Point] = []
+    for place, value in enumerate(values):
+        found += [(x(place), y(value)), (x(place + 1), y(value))]
+    return found
+
+
+def runs(holds: Sequence[bool]) -> Iterator[tuple[int, int]]:
+    """The runs of samples that have something: from, to."""
+    begun = None
+    for place, held in enumerate([*holds, False]):
+        if held and begun is None:
+            begun = place
+        elif not held and begun is not None:
+            yield begun, place
+            begun = None
+
+
+def panel(series: Series, place: int, top: float) -> Iterator[str]:
+    """One group over time, in CPUs."""
+    host = series.plan.model.host
+    one = host.slice_usec / host.period
+    cells = [row[place] for row in series.cells]
+    wants, gets = [float(each.wants) * one for each in cells], [float(each.gets) * one
+                                                               for each in cells]
+    most = max(*wants, *gets, one)
+    limits = [None if each.limit is None or float(each.limit) * one > 2 * most
+              else float(each.limit) * one for each in cells]
+    most = max([most, *(each for each in limits if each is not None)])
+
+    def x(at: float) -> float:
+        return LEFT + WIDE * at / len(cells)
+
+    def y(value: float) -> float:
+        return top + TALL - TALL * value / most
+
+    yield svg.words((EDGE, top - 8), cut(short(shown(series.groups[place])), 100), svg.INK, 12,
+                    "start", True, series.groups[place])
+    for value in svg.steps(most, 4):
+        yield svg.line((LEFT, y(value)), (LEFT + WIDE, y(value)), svg.GRID)
+        yield svg.words((LEFT - 6, y(value) + 4), f"{value:g}", svg.FAINT, 10, "end")
+    for values, colour in ((wants, svg.WANTS), (gets, svg.GETS)):
+        edge = [(x(0), y(0)), *stairs(values, x, y), (x(len(cells)), y(0))]
+        yield svg.shape(edge, "none", 0, colour)
+    for begin, end in runs([each is not None for each in limits]):
+        part = [each or 0.0 for each in limits[begin:end]]
+        yield svg.shape([(px + begin * WIDE / len(cells), py) for px, py in stairs(part, x, y)],
+                        svg.LIMIT, 1.5, "none", "5 3")
+    yield from strips(cells, top, x)
+
+
+def strips(cells: Sequence[Cell], top: float, x: Callable[[float], float]) -> Iterator[str]:
+    """The strips of flags below a group."""
+    for place, (letter, _, colour) in enumerate(FLAGS):
+        for begin, end in runs([letter in each.flags for each in cells]):
+            corner = (x(begin), top + TALL + 3 + STRIP * place)
+            yield svg.box(corner, (max(x(end) - x(begin), 1), STRIP - 1), colour)
+
+
+def legend(y: float) -> Iterator[str]:
+    """What the colours mean."""
+    x = float(EDGE)
+    entries = [("gets", svg.GETS, 12), ("wants", svg.WANTS, 12)]
+    entries += [(name, colour, STRIP) for _, name, colour in FLAGS]
+    for name, colour, tall in entries:
+        yield svg.box((x, y - tall + (2 if tall == 12 else 0)), (14, tall), colour)
+        yield svg.words((x + 19, y), name, svg.INK, 11)
+        x += 19 + svg.wide(name, 11) + 16
+    yield svg.line((x, y - 4), (x + 18, y - 4), svg.LIMIT, 1.5, "5 3")
+    yield svg.words((x + 23, y), "limit", svg.INK, 11)
+
+
+def time_labels(series: Series, y: float) -> Iterator[str]:
+    """The names of some samples, as many as have room."""
+    count = len(series.names)
+    widest = max(svg.wide(shown(name), 10) for name in series.names) + 16
+    each = max(-(-count // max(int(WIDE // widest), 1)), 1)
+    for place in range(0, count, each):
+        x = LEFT + WIDE * (place + 0.5) / count
+        half = svg.wide(shown(series.names[place]), 10) / 2
+        x = min(max(x, EDGE + half), LEFT + WIDE + EDGE - half)
+        yield svg.words((x, y), series.names[place], svg.FAINT, 10, "middle")
+
+
+def picture(series: Series) -> str:
+    """The groups over time as SVG."""
+    if len(series.groups) > MOST_PANELS:
+        raise HostFault(f"{len(series.groups)} groups are too many for one picture:"
+                        " --groups chooses some")
+    height = TOP + 16 + len(series.groups) * (TALL + GAP) + 12
+    title = f"{len(series.names)} samples, CPUs in each: {text.host_words(series.plan)}"
+    parts = [svg.words((EDGE, 24), title, svg.INK, 13, "start", True), *legend(46)]
+    for place in range(len(series.groups)):
+        parts += panel(series, place, TOP + 22 + place * (TALL + GAP))
+    parts += time_labels(series, height - 10)
+    return svg.document(LEFT + WIDE + 3 * EDGE, height, title, parts)

@@ -1,0 +1,318 @@
+"""Host files in TOML, YAML or JSON: reads one with the line of each fault, and writes one.
+
+    [host]
+    cpus = 16
+
+    [groups."system.slice/web.service"]
+    weight = 200
+    max = "2cpu"
+    demand = "1.5cpu"
+"""
+from __future__ import annotations
+
+import json
+import re
+import tomllib
+from collections.abc import Callable
+from dataclasses import replace
+from fractions import Fraction
+from typing import Any
+
+import yaml
+
+from arbiter_host import names, units
+from arbiter_host.faults import HostFault
+from arbiter_host.model import Group, Host, Model, check_settings
+
+HOST_KEYS = ("cpus", "period", "slice")
+GROUP_KEYS = ("weight", "max", "period", "burst", "demand", "tasks", "title", "place")
+MAX_NESTING = 100
+
+
+class Places:
+    """Where keys stand in a file, by their words."""
+
+    def __init__(self, name: str, text: str) -> None:
+        self.name, self.lines = name, text.split("\n")
+
+    def line(self, path: str, key: str = "") -> int:
+        """The line of a key of a group, the first line of the group, or the first line."""
+        begin = next((place for place, line in enumerate(self.lines) if is_head(line, path)), 0)
+        if key:
+            for place in range(begin, len(self.lines)):
+                if re.search(rf"(^|[\s{{,\"']){re.escape(key)}[\"']?\s*[:=]", self.lines[place]):
+                    return place + 1
+        return begin + 1
+
+    def fault(self, message: str, path: str = "", key: str = "") -> HostFault:
+        """A fault with file and line."""
+        which = f"{names.shown(path)}: " if path else ""
+        return HostFault(f"{self.name}:{self.line(path, key)}: {which}{message}")
+
+
+def is_head(line: str, path: str) -> bool:
+    """Whether a line begins a group or a table of a name."""
+    bare = re.escape(path)
+    quoted = re.escape(json.dumps(path, ensure_ascii=False))
+    return bool(path) and bool(
+        re.match(rf"\s*\[?(groups\.)?(\"{bare}\"|'{bare}'|{bare}|{quoted})\s*[\]:=]", line))
+
+
+def parsed(text: str, name: str, kind: str) -> Any:
+    """The data of a file."""
+    try:
+        if kind == "toml":
+            return tomllib.loads(text)
+        if kind == "json":
+            return json.loads(text)
+        return yaml.safe_load(text)
+    except tomllib.TOMLDecodeError as error:
+        found = re.search(r"\(at line (\d+)", str(error))
+        line = found.group(1) if found else str(text.count("\n") + 1)
+        raise HostFault(f"{name}:{line}: {re.sub(r' .at .*', '', str(error))}") from error
+    except json.JSONDecodeError as error:
+        raise HostFault(f"{name}:{error.lineno}: {error.msg}") from error
+    except yaml.YAMLError as error:
+        mark = getattr(error, "problem_mark", None)
+        line = mark.line + 1 if mark else 1
+        problem = getattr(error, "problem", None) or "no YAML"
+        raise HostFault(f"{name}:{line}: {names.shown(str(problem))}") from error
+    except (RecursionError, ValueError, TypeError, OverflowError) as error:
+        raise HostFault(f"{name}:1: cannot be read as {kind}: {names.shown(str(error))}") from error
+
+
+def whole(value: Any) -> int:
+    """A whole number."""
+    if isinstance(value, bool) or not isinstance(value, int):
+        raise HostFault(f"{text_of(value)} is no whole number")
+    return value
+
+
+def text_of(value: Any) -> str:
+    """A short text of a value."""
+    return names.cut(names.shown(repr(value)), 60)
+
+
+def cpu(value: Any) -> Fraction:
+    """A CPU amount: text with a unit, or a number of CPUs."""
+    if isinstance(value, (int, float)) and not isinstance(value, bool):
+        return units.parse_cpu(repr(value))
+    if not isinstance(value, str):
+        raise HostFault(f"{text_of(value)} is no amount of CPU: write 250m, 1.5cpu or 40%")
+    return units.parse_cpu(value)
+
+
+def time(value: Any) -> int:
+    """A time: text with a unit, or a number of microseconds."""
+    return units.parse_time(value) if isinstance(value, str) else whole(value)
+
+
+def text(value: Any) -> str:
+    """A text."""
+    if not isinstance(value, str):
+        raise HostFault(f"{text_of(value)} is no text")
+    return value
+
+
+def set_max(group: Group, value: Any) -> None:
+    """Sets a limit: a CPU amount of its period, `max`, or the two words of `cpu.max`."""
+    if value is None or value == "max":
+        group.quota = None
+        return
+    words = value if isinstance(value, str) else ""
+    pair = re.fullmatch(r"\s*([0-9]{1,18}|max)\s+([0-9]{1,9})\s*", words)
+    if pair:
+        group.quota = None if pair.group(1) == "max" else int(pair.group(1))
+        group.period = int(pair.group(2))
+        return
+    exact = cpu(value) * group.period / 1000
+    if exact.denominator != 1:
+        raise HostFault(f"{text_of(value)} is no whole number of microseconds in a period of"
+                        f" {group.period}")
+    group.quota = int(exact)
+
+
+def set_key(group: Group, key: str, value: Any) -> None:
+    """Sets one key of a group."""
+    if key == "max":
+        set_max(group, value)
+    else:
+        take: Callable[[Any], Any] = {"weight": whole, "tasks": whole, "demand": cpu, "title": text,
+                                      "place": text}.get(key, time)
+        setattr(group, key, take(value))
+
+
+def read_group(places: Places, path: str, entry: Any) -> Group:
+    """One group of a file."""
+    if not isinstance(entry, dict):
+        raise places.fault("a group is a table of keys", path)
+    group = Group(path)
+    for key in [*(each for each in entry if each == "period"), *entry]:
+        if key not in GROUP_KEYS:
+            raise places.fault(f"no key {text_of(key)}: {', '.join(GROUP_KEYS)}", path, str(key))
+        try:
+            set_key(group, key, entry[key])
+        except HostFault as fault:
+            raise places.fault(f"{key}: {fault.message}", path, key) from fault
+    try:
+        check_settings(group)
+    except HostFault as fault:
+        key = {"quota": "max"}.get(fault.message.split(" ")[0], fault.message.split(" ")[0])
+        raise places.fault(fault.message, path, key) from fault
+    return group
+
+
+def check_path(places: Places, path: Any) -> str:
+    """A path that a script can hold."""
+    if not isinstance(path, str):
+        raise places.fault(f"{text_of(path)} is no path", str(path))
+    for name in path.split("/"):
+        if name in ("", ".", "..") or re.search(r"[ \t\n\0]", name):
+            raise places.fault("a path is names joined by /, without blanks", path)
+        if len(name.encode("utf-8", "replace")) > names.MAX_NAME or not is_utf8(name):
+            raise places.fault("a name is 1 to 255 bytes of UTF-8", path)
+    return path
+
+
+def is_utf8(name: str) -> bool:
+    """Whether a name can be written as UTF-8."""
+    return not any(0xD800 <= ord(each) < 0xE000 for each in name)
+
+
+def add(places: Places, model: Model, group: Group) -> None:
+    """Adds a group, and each group above it that the file does not name."""
+    above = names.parent_path(group.path)
+    if above != "." and above not in model.groups:
+        add(places, model, Group(above))
+    try:
+        model.add(group)
+    except HostFault as fault:
+        raise places.fault(fault.message, group.path) from fault
+
+
+def flattened(places: Places, groups: Any) -> dict[str, Any]:
+    """The groups by path: a table, or a list of tables with `path`."""
+    if groups is None:
+        return {}
+    if isinstance(groups, list):
+        found = {}
+        for entry in groups:
+            if not isinstance(entry, dict) or not isinstance(entry.get("path"), str):
+                raise places.fault("each group of a list has a path")
+            found[entry["path"]] = {key: each for key, each in entry.items() if key != "path"}
+        return found
+    if not isinstance(groups, dict):
+        raise places.fault("groups is a table of paths", "groups")
+    return groups
+
+
+def read_host(places: Places, entry: Any) -> Host:
+    """The table `host`."""
+    if not isinstance(entry, dict):
+        raise places.fault("host is a table", "host")
+    host = Host()
+    for key, value in entry.items():
+        if key not in HOST_KEYS:
+            raise places.fault(f"no key {text_of(key)}: {', '.join(HOST_KEYS)}", "host", str(key))
+        try:
+            number = whole(value) if key == "cpus" else time(value)
+        except HostFault as fault:
+            raise places.fault(f"{key}: {fault.message}", "host", key) from fault
+        host = replace(host, **{"slice_usec" if key == "slice" else key: number})
+    try:
+        return host.checked()
+    except HostFault as fault:
+        raise places.fault(fault.message, "host") from fault
+
+
+def check_demands(places: Places, model: Model) -> None:
+    """A fault where a group has a demand and children."""
+    for path, below in model.children().items():
+        if path != "." and below and model.groups[path].demand:
+            raise places.fault("a group with children has no demand: give the children theirs",
+                               path, "demand")
+
+
+def read(data: bytes, name: str, kind: str, host: Host | None = None) -> Model:
+    """The model of a host file. `host` stands in place of its own."""
+    try:
+        text_ = data.decode("utf-8-sig")
+    except UnicodeDecodeError as error:
+        line = data[:error.start].count(b"\n") + 1
+        raise HostFault(f"{name}:{line}: not UTF-8") from error
+    places, entry = Places(name, text_), parsed(text_, name, kind)
+    if not isinstance(entry, dict):
+        raise HostFault(f"{name}:1: a host file is a table with host and groups")
+    for key in entry:
+        if key not in ("host", "groups"):
+            line = places.line(str(key))
+            raise HostFault(f"{name}:{line}: no table {text_of(key)}: host, groups")
+    model = Model(host or read_host(places, entry.get("host", {})), names_host="host" in entry)
+    model.host.checked()
+    for path, each in flattened(places, entry.get("groups")).items():
+        group = read_group(places, check_path(places, path), each if each is not None else {})
+        if path in model.groups:
+            raise places.fault("a group stands before the groups below it", path)
+        add(places, model, group)
+    check_demands(places, model)
+    return model
+
+
+def group_data(group: Group) -> dict[str, Any]:
+    """The keys of a group that are not the default."""
+    found: dict[str, Any] = {}
+    if group.weight != units.DEFAULT_WEIGHT:
+        found["weight"] = group.weight
+    if group.quota is not None or group.period != units.DEFAULT_PERIOD:
+        found["max"] = f"{'max' if group.quota is None else group.quota} {group.period}"
+    if group.burst:
+        found["burst"] = f"{group.burst}us"
+    if group.demand:
+        found["demand"] = units.cpu_text(group.demand)
+    if group.tasks is not None:
+        found["tasks"] = group.tasks
+    for key in ("title", "place"):
+        if getattr(group, key):
+            found[key] = getattr(group, key)
+    return found
+
+
+def data(model: Model) -> dict[str, Any]:
+    """A model as the data of a host file."""
+    host = model.host
+    return {
+        "host": {"cpus": host.cpus, "period": f"{host.period}us", "slice": f"{host.slice_usec}us"},
+        "groups": {path: group_data(group) for path, group in model.groups.items()},
+    }
+
+
+def toml_value(value: Any) -> str:
+    """A whole number or a text in TOML."""
+    if isinstance(value, int):
+        return str(value)
+    return json.dumps(value, ensure_ascii=False).replace("\x7f", "\\u007f")
+
+
+def write_toml(model: Model) -> str:
+    """A host file in TOML, with the notes as comments."""
+    found = data(model)
+    lines = [*(f"# ! {names.shown(note)}" for note in model.notes), "[host]"]
+    lines += [f"{key} = {toml_value(value)}" for key, value in found["host"].items()]
+    for path, entry in found["groups"].items():
+        lines += ["", f"[groups.{toml_value(path)}]"]
+        lines += [f"{key} = {toml_value(value)}" for key, value in entry.items()]
+    return "".join(f"{line}\n" for line in lines)
+
+
+def write_yaml(model: Model) -> str:
+    """A host file in YAML, with the notes as comments."""
+    head = "".join(f"# ! {names.shown(note)}\n" for note in model.notes)
+    found = data(model)
+    is_plain = not any(map(names.is_raw, json.dumps(found, ensure_ascii=False)))
+    body: str = yaml.safe_dump(found, sort_keys=False, allow_unicode=is_plain, width=100)
+    return head + body
+
+
+def write_json(model: Model) -> str:
+    """A host file in JSON."""
+    return json.dumps(data(model), indent=2, ensure_ascii=False) + "\n"

@@ -1,0 +1,140 @@
+"""Units, as `systemctl show '*.slice' '*.service' '*.scope'` prints them.
+
+Groups stand where `ControlGroup` says. Without a second reading usage is not known.
+"""
+from __future__ import annotations
+
+import re
+from collections.abc import Iterator, Sequence
+from fractions import Fraction
+
+from arbiter_host import demands, names, units
+from arbiter_host.demands import Measured, Reading
+from arbiter_host.faults import HostFault
+from arbiter_host.model import MAX_DEPTH, Group, Host, Model
+from arbiter_host.names import shown
+
+NOT_SET = ("", "[not set]", "infinity", "18446744073709551615")
+SECOND = 10**6
+
+
+def blocks(data: bytes) -> Iterator[dict[str, str]]:
+    """The properties of each unit. Units are separated by an empty line."""
+    found: dict[str, str] = {}
+    for line in data.decode(errors="replace").split("\n"):
+        key, equals, value = line.rstrip("\r").partition("=")
+        if equals and re.fullmatch(r"[A-Za-z]{1,60}", key):
+            found[key] = value
+        elif not line.strip() and found:
+            yield found
+            found = {}
+    if found:
+        yield found
+
+
+def whole(value: str) -> int | None:
+    """A whole number of a property; None where it is not set."""
+    if value in NOT_SET or not (value.isascii() and value.isdigit() and len(value) <= 30):
+        return None
+    return int(value)
+
+
+def time_of(value: str) -> int | None:
+    """Microseconds of a property; None where it is not set."""
+    return None if value in NOT_SET else units.parse_time(value)
+
+
+def adjusted_period(per_second: int, period: int) -> int:
+    """The period that systemd writes: at least 1 ms of quota fits in it, and it is at most 1 s."""
+    least = -(-units.MIN_QUOTA * SECOND // max(per_second, 1))
+    return max(min(max(least, period), units.MAX_PERIOD), units.MIN_PERIOD)
+
+
+def set_limit(group: Group, unit: dict[str, str]) -> None:
+    """Sets quota and period as systemd writes them."""
+    per_second = time_of(unit.get("CPUQuotaPerSecUSec", ""))
+    if per_second is None:
+        return
+    period = time_of(unit.get("CPUQuotaPeriodUSec", "")) or units.DEFAULT_PERIOD
+    group.period = adjusted_period(per_second, period)
+    quota = per_second * group.period // SECOND
+    group.quota = min(max(quota, units.MIN_QUOTA), units.MAX_QUOTA)
+
+
+def set_weight(group: Group, unit: dict[str, str], notes: list[str]) -> None:
+    """Sets the weight. `idle` is the least."""
+    word = unit.get("CPUWeight", "")
+    if word == "idle":
+        notes.append(f"{group.path}: idle: weight 1 is taken")
+        group.weight = 1
+        return
+    weight = whole(word)
+    if weight is not None:
+        group.weight = min(max(weight, units.MIN_WEIGHT), units.MAX_WEIGHT)
+        if weight != group.weight:
+            notes.append(f"{group.path}: CPUWeight {weight}: {group.weight} is taken")
+    elif word not in NOT_SET:
+        notes.append(f"{group.path}: CPUWeight {shown(word)!r}: 100 is taken")
+
+
+def path_of(unit: dict[str, str]) -> str:
+    """The path of a unit's group; empty where it has none, `.` for the root."""
+    place = unit.get("ControlGroup", "")
+    if unit.get("Id") == "-.slice":
+        return "."
+    parts = [names.path_name(each, set()) for each in place.split("/") if each]
+    return "/".join(parts)
+
+
+def reading_of(unit: dict[str, str]) -> Reading:
+    """The counters of a unit."""
+    usage = whole(unit.get("CPUUsageNSec", ""))
+    return Reading(None if usage is None else usage // 1000)
+
+
+def make(model: Model, path: str) -> Group:
+    """A group, with each one above it that no unit has named."""
+    above = names.parent_path(path)
+    if above != "." and above not in model.groups:
+        make(model, above)
+    return model.groups[path] if path in model.groups else model.add(Group(path))
+
+
+def add(model: Model, unit: dict[str, str], path: str) -> None:
+    """Adds a unit's group."""
+    group = make(model, path)
+    group.place = unit.get("ControlGroup", "").strip("/")
+    title, name = unit.get("Description", ""), unit.get("Id", "")
+    group.title = title if title != name else ""
+    set_weight(group, unit, model.notes)
+    try:
+        set_limit(group, unit)
+    except HostFault as fault:
+        model.notes.append(f"{path}: {shown(fault.message)}: no limit is taken")
+
+
+def ordered(found: dict[str, dict[str, str]]) -> list[str]:
+    """The paths, each after those above it, siblings by name."""
+    return sorted(found, key=lambda path: path.split("/"))
+
+
+def read(files: Sequence[tuple[str, bytes]], host: Host, want: str = "busy",
+         seconds: Fraction = Fraction(1)) -> Model:
+    """The model of one file, or of several that were printed some seconds apart."""
+    readings = [{path_of(unit): unit for unit in blocks(data)} for _, data in files]
+    found = {path: unit for path, unit in readings[0].items()
+             if path not in ("", ".") and path.count("/") < MAX_DEPTH}
+    if not any("Id" in unit for unit in readings[0].values()):
+        raise HostFault(f"{files[0][0]}: no units as `systemctl show '*.slice' '*.service'"
+                        " '*.scope'` prints them")
+    model = Model(host.checked())
+    measured = {}
+    for path in ordered(found):
+        add(model, found[path], path)
+        counters = [reading_of(each.get(path, {})) for each in readings]
+        measured[path] = Measured(counters, tasks=whole(found[path].get("TasksCurrent", "")))
+    left = sum(1 for unit in readings[0].values() if path_of(unit) == "")
+    if left:
+        model.notes.append("units without a group are left out")
+    demands.set_demands(model, measured, want, seconds)
+    return model

@@ -1,0 +1,77 @@
+"""Pieces of pictures as SVG text, each number with at most one decimal."""
+from __future__ import annotations
+
+from collections.abc import Sequence
+from xml.sax.saxutils import escape, quoteattr
+
+from arbiter_host.names import shown, width
+
+TYPEFACE = "DejaVu Sans Mono, Menlo, Consolas, monospace"
+# Width of a letter of the typeface at 12 pixels, about.
+LETTER = 7.3
+INK, FAINT, GRID, BRANCH = "#1f2933", "#616e7c", "#d9dee4", "#9aa5b1"
+GETS, WANTS, LIMIT, MARK = "#2b6cb0", "#bcd4ec", "#8a5a00", "#b4231f"
+Point = tuple[float, float]
+
+
+def number(value: float) -> str:
+    """A number as it is written."""
+    return f"{value:.1f}".rstrip("0").rstrip(".")
+
+
+def line(begin: Point, end: Point, colour: str, wide: float = 1, dash: str = "") -> str:
+    """A straight line."""
+    more = f' stroke-dasharray="{dash}"' if dash else ""
+    (x1, y1), (x2, y2) = begin, end
+    return (f'<line x1="{number(x1)}" y1="{number(y1)}" x2="{number(x2)}" y2="{number(y2)}"'
+            f' stroke="{colour}" stroke-width="{number(wide)}"{more}/>')
+
+
+def box(corner: Point, size: Point, colour: str) -> str:
+    """A filled rectangle."""
+    return (f'<rect x="{number(corner[0])}" y="{number(corner[1])}"'
+            f' width="{number(max(size[0], 0))}" height="{number(size[1])}" fill="{colour}"/>')
+
+
+def shape(points: Sequence[Point], colour: str, wide: float = 1.5, fill: str = "none",
+          dash: str = "") -> str:
+    """Straight lines from point to point."""
+    more = f' stroke-dasharray="{dash}"' if dash else ""
+    text = " ".join(f"{'L' if place else 'M'}{number(x)} {number(y)}"
+                    for place, (x, y) in enumerate(points))
+    return f'<path d="{text}" fill="{fill}" stroke="{colour}" stroke-width="{number(wide)}"{more}/>'
+
+
+def words(place: Point, text: str, colour: str = INK, size: float = 12, anchor: str = "start",
+          bold: bool = False, title: str = "") -> str:
+    """A text, with a tooltip where a title is given."""
+    weight = ' font-weight="bold"' if bold else ""
+    whole = f"<title>{escape(shown(title))}</title>" if title else ""
+    return (f'<text x="{number(place[0])}" y="{number(place[1])}" fill="{colour}"'
+            f' font-size="{number(size)}" text-anchor="{anchor}"{weight} xml:space="preserve">'
+            f"{escape(shown(text))}{whole}</text>")
+
+
+def wide(text: str, size: float = 12) -> float:
+    """Pixels that a text takes, about. Wide letters count twice."""
+    return width(text) * LETTER * size / 12
+
+
+def steps(most: float, about: int) -> list[float]:
+    """Round numbers from 0 to the greatest that is not above `most`, at most `about` and one."""
+    step = 0.001
+    while most / step > about:
+        step = next(step * more for more in (2, 5, 10)
+                    if most / (step * more) <= about or more == 10)
+    return [round(place * step, 6) for place in range(int(most / step + 1e-9) + 1)]
+
+
+def document(width_: float, height: float, title: str, parts: Sequence[str]) -> str:
+    """A whole picture."""
+    size = f'{number(width_)} {number(height)}'
+    head = (f'<svg xmlns="http://www.w3.org/2000/svg" width="{number(width_)}"'
+            f' height="{number(height)}" viewBox="0 0 {size}" font-family="{TYPEFACE}" role="img"'
+            f" aria-label={quoteattr(shown(title))}>")
+    ground = box((0, 0), (width_, height), "#ffffff")
+    return "\n".join([head, f"<title>{escape(shown(title))}</title>", ground, *parts,
+                      "</svg>"]) + "\n"

@@ -1,0 +1,139 @@
+"""Conversions between what people write, what the kernel holds, and the planner's slices.
+
+CPU amounts are thousandths of a CPU, as fractions, so that slices convert back exactly. Times are
+whole microseconds. Each conversion to slices is in this module alone.
+"""
+from __future__ import annotations
+
+import math
+import re
+from fractions import Fraction
+
+from arbiter_host.faults import HostFault
+
+MAX_DEMAND = 1000000
+MAX_QUOTA = 10**15
+MIN_QUOTA = 1000
+MIN_PERIOD, MAX_PERIOD = 1000, 1000000
+DEFAULT_PERIOD = 100000
+MIN_SHARES, MAX_SHARES = 2, 262144
+MIN_WEIGHT, MAX_WEIGHT, DEFAULT_WEIGHT = 1, 10000, 100
+# A CPU amount above this many CPUs is refused.
+MAX_CPUS = 10**9
+
+NUMBER = re.compile(r"([0-9]{1,30}(?:\.[0-9]{0,30})?|\.[0-9]{1,30})(?:[eE]([+-]?[0-9]{1,3}))?")
+CPU_UNITS = {
+    "": Fraction(1000), "cpu": Fraction(1000), "cpus": Fraction(1000), "m": Fraction(1),
+    "%": Fraction(10), "u": Fraction(1, 1000), "n": Fraction(1, 10**6), "k": Fraction(10**6),
+    "M": Fraction(10**9),
+}
+TIME_UNITS = {
+    "": Fraction(1), "us": Fraction(1), "usec": Fraction(1), "ns": Fraction(1, 1000),
+    "ms": Fraction(1000), "s": Fraction(10**6), "sec": Fraction(10**6), "min": Fraction(60 * 10**6),
+    "m": Fraction(60 * 10**6), "h": Fraction(3600 * 10**6), "d": Fraction(86400 * 10**6),
+    "w": Fraction(7 * 86400 * 10**6), "month": Fraction(2629800 * 10**6),
+    "y": Fraction(31557600 * 10**6),
+}
+
+
+def number_and_unit(text: str) -> tuple[Fraction, str] | None:
+    """A decimal number and the word behind it; None where the text is not of that form."""
+    found = NUMBER.match(text.strip())
+    if not found:
+        return None
+    exponent = int(found.group(2) or 0)
+    if abs(exponent) > 30:
+        return None
+    value = Fraction("0" + found.group(1) + "0" if "." in found.group(1) else found.group(1))
+    return value * Fraction(10) ** exponent, text.strip()[found.end():].strip()
+
+
+def parse_cpu(text: str) -> Fraction:
+    """Thousandths of a CPU, 0 to 10^12, from `250m`, `1.5`, `1.5cpu`, `40%` or `100n`."""
+    found = number_and_unit(text)
+    if found is None or found[1] not in CPU_UNITS:
+        raise HostFault(f"{text!r} is no amount of CPU: write 250m, 1.5cpu or 40%")
+    value = found[0] * CPU_UNITS[found[1]]
+    if value > MAX_CPUS * 1000:
+        raise HostFault(f"{text!r} is above {MAX_CPUS} CPUs")
+    return value
+
+
+def parse_time(text: str) -> int:
+    """Microseconds from `100ms`, `1s`, `5min`, `1min 30s` or a plain number of microseconds."""
+    total, rest = Fraction(0), text.strip()
+    while rest:
+        found = re.match(r"([0-9.]{1,40}(?:[eE][0-9]{1,2})?)\s*([a-z]*)\s*", rest)
+        parsed = number_and_unit(found.group(1)) if found else None
+        if not found or parsed is None or found.group(2) not in TIME_UNITS:
+            raise HostFault(f"{text!r} is no time: write 100ms, 1s or 5min")
+        total += parsed[0] * TIME_UNITS[found.group(2)]
+        rest = rest[found.end():]
+    if not text.strip() or total > MAX_QUOTA:
+        raise HostFault(f"{text!r} is no time: write 100ms, 1s or 5min")
+    return int(total)
+
+
+def limit_slices(usec: int, own_period: int, period: int, slice_usec: int) -> int:
+    """Slices of one period of the host that a quota or burst allows, rounded down."""
+    return usec * period // (own_period * slice_usec)
+
+
+def demand_slices(thousandths: Fraction, period: int, slice_usec: int) -> int:
+    """Slices of one period that a demand takes, rounded up, at most 1000000."""
+    return min(math.ceil(thousandths * period / (1000 * slice_usec)), MAX_DEMAND)
+
+
+def thousandths_of_slices(slices: int, period: int, slice_usec: int) -> Fraction:
+    """Thousandths of a CPU that slices of one period are, exactly."""
+    return Fraction(slices * slice_usec * 1000, period)
+
+
+def thousandths_of_usage(usec: int, seconds: Fraction) -> Fraction:
+    """Thousandths of a CPU that microseconds used in some seconds are."""
+    return Fraction(usec) / (seconds * 1000)
+
+
+def shares_of_thousandths(thousandths: int) -> int:
+    """kubelet's `cpu.shares` of a request, 2 to 262144."""
+    return min(max(thousandths * 1024 // 1000, MIN_SHARES), MAX_SHARES)
+
+
+def quota_of_thousandths(thousandths: int, period: int = DEFAULT_PERIOD) -> int | None:
+    """kubelet's quota of a limit, microseconds of a period, at least 1000; None for no limit."""
+    return None if thousandths == 0 else max(thousandths * period // 1000, MIN_QUOTA)
+
+
+def weight_of_shares_linear(shares: int) -> int:
+    """`cpu.weight` of `cpu.shares` as runc before 1.3.2 and crun before 1.23 write it."""
+    bounded = min(max(shares, MIN_SHARES), MAX_SHARES)
+    return 1 + (bounded - MIN_SHARES) * 9999 // 262142
+
+
+def weight_of_shares_log(shares: int) -> int:
+    """`cpu.weight` of `cpu.shares` as runc from 1.3.2 on and crun from 1.23 on write it."""
+    if shares <= MIN_SHARES:
+        return MIN_WEIGHT
+    if shares >= MAX_SHARES:
+        return MAX_WEIGHT
+    logarithm = math.log2(shares)
+    exponent = (logarithm * logarithm + 125 * logarithm) / 612.0 - 7.0 / 34.0
+    return math.ceil(10 ** exponent)
+
+
+WEIGHT_OF_SHARES = {"linear": weight_of_shares_linear, "log": weight_of_shares_log}
+
+
+def decimal(value: Fraction, places: int = 3) -> str:
+    """A fraction with at most so many decimals, without zeros behind."""
+    text = f"{float(value):.{places}f}" if places else str(round(value))
+    return text.rstrip("0").rstrip(".") if "." in text else text
+
+
+def cpu_text(thousandths: Fraction) -> str:
+    """An amount that `parse_cpu` reads back exactly, if it has a finite decimal; else a fraction
+    rounded up to a billionth of a CPU."""
+    if thousandths.denominator == 1:
+        value = int(thousandths)
+        return f"{value // 1000}cpu" if value % 1000 == 0 and value else f"{value}m"
+    return f"{math.ceil(thousandths * 10**6)}n"

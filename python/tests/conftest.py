@@ -1,0 +1,69 @@
+"""Fixtures of the package's tests: engines, the command, and an empty folder.
+
+    /usr/bin/python3 -m pytest python/tests --program PATH --library PATH
+"""
+import os
+import subprocess
+import sys
+from pathlib import Path
+
+import pytest
+
+HERE = Path(__file__).resolve().parent
+PACKAGE = HERE.parent
+sys.path[:0] = [str(PACKAGE), str(PACKAGE.parent / "tests")]
+pytest_plugins = ["shared_fixtures"]
+SECONDS = 60
+
+
+@pytest.fixture(scope="session")
+def library_engine(library):
+    """The engine over the C library under test."""
+    from arbiter_host.engine import LibraryEngine
+    return LibraryEngine(str(library))
+
+
+@pytest.fixture(scope="session")
+def program_engine(program):
+    """The engine over the program under test."""
+    from arbiter_host.engine import ProgramEngine
+    return ProgramEngine(program.path)
+
+
+@pytest.fixture(params=["library", "program"])
+def engine(request):
+    """Each of the two engines."""
+    return request.getfixturevalue(f"{request.param}_engine")
+
+
+class Command:
+    """Runs arbiterctl over one program and one library."""
+
+    def __init__(self, program, library):
+        self.environment = {**os.environ, "ARBITER": str(program), "ARBITER_LIBRARY": str(library),
+                            "LC_ALL": "C", "COLUMNS": "120", "TMPDIR": "/tmp"}
+
+    def ended(self, *words, given=b"", **options):
+        """A run that has ended."""
+        return subprocess.run([sys.executable, str(PACKAGE / "arbiterctl"), *map(str, words)],
+                              input=given, capture_output=True, timeout=SECONDS,
+                              env=self.environment, check=False, **options)
+
+    def run(self, *words, given=b"", status=0):
+        """Standard output and error of a run that ends with a status."""
+        ended = self.ended(*words, given=given)
+        assert ended.returncode == status, (words, ended.returncode, ended.stderr.decode()[:600])
+        assert b"Traceback" not in ended.stderr, ended.stderr.decode()
+        return ended.stdout.decode(), ended.stderr.decode()
+
+
+@pytest.fixture
+def ctl(program, library):
+    """The command over the library under test."""
+    return Command(program.path, library)
+
+
+@pytest.fixture
+def folder(tmp_path):
+    """An empty folder."""
+    return tmp_path

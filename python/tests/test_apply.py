@@ -1,0 +1,238 @@
+"""Apply and undo: what is printed, what is written, in which order, and what is refused."""
+import json
+import os
+from fractions import Fraction
+
+import pytest
+import trees
+from arbiter_host import apply, beneath
+from arbiter_host.apply import Change, Settings
+from arbiter_host.faults import HostFault
+from arbiter_host.model import Host
+from arbiter_host.sources import cgroup2, cgroups
+from hypothesis import HealthCheck, given, settings
+from hypothesis import strategies as st
+
+OLD = Settings(100, 100000, 100000, 20000)
+
+
+def host(folder, found=(("web.service", OLD), ("box", OLD), ("box/in", OLD))):
+    """A tree with settings."""
+    trees.root2(folder)
+    for path, each in found:
+        trees.group2(folder / path, each.weight, each.maximum, each.burst)
+
+
+def holds(folder, path):
+    """What the files of a group hold."""
+    return apply.current(beneath.Root(str(folder)), path)
+
+
+def imported(ctl, folder, name="before"):
+    """A script of the tree."""
+    path = folder.parent / f"{name}.script"
+    ctl.run("import", "cgroup", folder, "--want", "busy", "--cpus", "4", "-o", path)
+    return path
+
+
+@pytest.fixture
+def tree(folder):
+    """A tree of three groups."""
+    host(folder / "t")
+    return folder / "t"
+
+
+def test_prints_and_changes_nothing(ctl, tree):
+    """Each step with what stands there, and no file is written."""
+    before = imported(ctl, tree)
+    words = ["apply", before, "--root", tree, "--set", "web.service.weight=200",
+             "--set", "web.service.max=2cpu", "--set", "box.burst=50ms"]
+    out, _ = ctl.run(*words)
+    assert out.split("\n")[:-1] == [
+        f"echo 50000 > {tree}/box/cpu.max.burst  # was 20000",
+        "systemctl set-property --runtime -- web.service CPUWeight=200  # was 100",
+        "systemctl set-property --runtime -- web.service CPUQuota=200% CPUQuotaPeriodSec=100000us"
+        "  # was 100000 100000"]
+    assert holds(tree, "web.service") == OLD and holds(tree, "box") == OLD
+    out, _ = ctl.run(*words, "--by", "files")
+    assert f"echo '200000 100000' > {tree}/web.service/cpu.max  # was 100000 100000" in out
+
+
+def test_does_reads_back_and_undoes(ctl, tree):
+    before = imported(ctl, tree)
+    undo = tree.parent / "undo.json"
+    words = ["apply", before, "--root", tree, "--by", "files", "--set", "box/in.weight=7",
+             "--set", "box/in.max=50%", "--set", "web.service.max=max", "--yes", "--undo", undo]
+    _, err = ctl.run(*words)
+    assert "done and read back" in err
+    assert holds(tree, "box/in") == Settings(7, 50000, 100000, 20000)
+    assert holds(tree, "web.service") == Settings(100, None, 100000, 20000)
+    assert len(json.loads(undo.read_text())["groups"]) == 2
+    after = imported(ctl, tree, "after").read_text()
+    assert "write box/in cpu.weight 7\n" in after
+    ctl.run("undo", undo)
+    assert holds(tree, "box/in").weight == 7
+    ctl.run("undo", undo, "--yes")
+    assert imported(ctl, tree, "undone").read_text() == before.read_text()
+
+
+def test_refuses_another_host(ctl, tree):
+    """Nothing is written where the host is not what BEFORE says, not even the undo file."""
+    before = imported(ctl, tree)
+    trees.group2(tree / "box", 50, OLD.maximum, OLD.burst)
+    undo = tree.parent / "undo.json"
+    words = ["apply", before, "--root", tree, "--by", "files", "--set", "box.weight=7",
+             "--set", "web.service.weight=9", "--yes", "--undo", undo]
+    _, err = ctl.run(*words, status=1)
+    assert "box: holds weight 50" in err and "nothing is changed" in err
+    assert holds(tree, "web.service") == OLD and not undo.exists()
+
+
+def test_undo_file_must_be_new(ctl, tree):
+    before = imported(ctl, tree)
+    (tree.parent / "u").write_text("mine")
+    words = ["apply", before, "--root", tree, "--by", "files", "--set", "box.weight=7", "--yes",
+             "--undo", tree.parent / "u"]
+    assert "File exists; nothing is changed" in ctl.run(*words, status=1)[1]
+    assert (tree.parent / "u").read_text() == "mine" and holds(tree, "box") == OLD
+
+
+def test_by_systemctl(ctl, tree):
+    """Units are set by systemctl, whose fault ends the command; the undo file is there."""
+    before, bin_ = imported(ctl, tree), tree.parent / "bin"
+    bin_.mkdir()
+    (bin_ / "systemctl").write_text(f'#!/bin/sh\necho "$@" >> {bin_}/log\necho 200 > '
+                                    f"{tree}/web.service/cpu.weight\n")
+    (bin_ / "systemctl").chmod(0o755)
+    ctl.environment["PATH"] = f"{bin_}:{os.environ['PATH']}"
+    words = ["apply", before, "--root", tree, "--set", "web.service.weight=200", "--yes"]
+    ctl.run(*words, "--undo", tree.parent / "u1")
+    assert (bin_ / "log").read_text() == "set-property --runtime -- web.service CPUWeight=200\n"
+    trees.group2(tree / "web.service", OLD.weight, OLD.maximum, OLD.burst)
+    (bin_ / "systemctl").write_text("#!/bin/sh\necho Access denied >&2\nexit 1\n")
+    _, err = ctl.run(*words, "--undo", tree.parent / "u2", status=1)
+    assert "systemctl: Access denied" in err and "to undo: arbiterctl undo" in err
+    assert (tree.parent / "u2").exists()
+
+
+@pytest.mark.parametrize("path", ["../out", "a/../../out", "/etc", "", ".", "a//b", "a/."])
+def test_no_path_leads_out(folder, path):
+    host(folder / "t", [("a", OLD)])
+    trees.group2(folder / "out", 5)
+    with pytest.raises(HostFault):
+        beneath.Root(str(folder / "t")).write(path, "cpu.weight", "7")
+    assert (folder / "out/cpu.weight").read_text() == "5\n"
+
+
+def test_no_link_is_followed(folder):
+    """Neither a folder that is a link, nor a file, nor a second name of a file outside."""
+    host(folder / "t", [("a", OLD), ("b", OLD)])
+    trees.group2(folder / "out", 5)
+    (folder / "t/link").symlink_to(folder / "out")
+    (folder / "t/a/cpu.weight").unlink()
+    (folder / "t/a/cpu.weight").symlink_to(folder / "out/cpu.weight")
+    (folder / "t/b/cpu.weight").unlink()
+    os.link(folder / "out/cpu.weight", folder / "t/b/cpu.weight")
+    for path in ("link", "a", "b"):
+        with pytest.raises(HostFault):
+            beneath.Root(str(folder / "t")).write(path, "cpu.weight", "7")
+    assert (folder / "out/cpu.weight").read_text() == "5\n"
+
+
+def test_no_file_is_made(folder):
+    host(folder / "t", [("a", OLD)])
+    (folder / "t/a/cpu.weight").unlink()
+    os.mkfifo(folder / "t/a/pipe")
+    for file in ("cpu.weight", "pipe"):
+        with pytest.raises(HostFault):
+            beneath.Root(str(folder / "t")).write("a", file, "7")
+    assert not (folder / "t/a/cpu.weight").exists()
+
+
+SETTINGS = st.builds(lambda weight, quota, period, part: Settings(
+    weight, quota, period, 0 if quota is None else quota * part // 4),
+    st.integers(1, 10000), st.one_of(st.none(), st.integers(1000, 10**6)),
+    st.integers(1000, 10**6), st.integers(0, 4))
+
+
+class Stop(BaseException):
+    """An interruption."""
+
+
+class Kernel(beneath.Root):
+    """A tree that refuses a burst above the quota, and stops at a write."""
+
+    def __init__(self, path, stop=None, late=False):
+        super().__init__(path)
+        self.left, self.late = stop, late
+
+    def write(self, folder, file, text):
+        if self.left == 0 and not self.late:
+            raise Stop
+        super().write(folder, file, text)
+        now = apply.current(self, folder)
+        assert now.quota is None or now.burst <= now.quota, "the kernel answers EINVAL"
+        if self.left == 0:
+            raise Stop
+        self.left = None if self.left is None else self.left - 1
+
+
+@settings(max_examples=60, deadline=None, suppress_health_check=list(HealthCheck))
+@given(pairs=st.lists(st.tuples(SETTINGS, SETTINGS), min_size=1, max_size=3),
+       stop=st.integers(0, 9), late=st.booleans())
+def test_interrupted_anywhere_and_undone(tmp_path_factory, pairs, stop, late):
+    """The kernel takes each step, and after an interruption the old settings come back."""
+    folder = tmp_path_factory.mktemp("host")
+    host(folder / "t", [(f"g{place}", old) for place, (old, _) in enumerate(pairs)])
+    found = [Change(f"g{place}", old, new) for place, (old, new) in enumerate(pairs)]
+    try:
+        apply.make(Kernel(str(folder / "t"), stop, late), found, False, str(folder / "undo"))
+        assert [holds(folder / "t", change.folder) for change in found] == [
+            change.after for change in found]
+    except Stop:
+        pass
+    _, back, _ = apply.read_undo((folder / "undo").read_bytes(), "undo")
+    apply.undo(Kernel(str(folder / "t")), back, False)
+    assert [holds(folder / "t", change.folder) for change in found] == [
+        change.before for change in found]
+
+
+@settings(max_examples=100, deadline=None, suppress_health_check=list(HealthCheck))
+@given(data=st.one_of(st.binary(max_size=100), st.builds(
+    lambda value: json.dumps({"arbiter_undo": 1, "root": "/nowhere", "groups": value}).encode(),
+    st.lists(st.dictionaries(st.sampled_from(["folder", "weight", "quota", "period", "burst"]),
+                             st.one_of(st.none(), st.integers(), st.text(max_size=5)))))))
+def test_broken_undo_files(data):
+    try:
+        apply.read_undo(data, "F")
+    except HostFault as fault:
+        assert fault.message
+
+
+def test_idle_group(folder):
+    host(folder / "t", [("a", OLD)])
+    (folder / "t/a/cpu.weight").write_text("0\n")
+    found = [Change("a", Settings(1, 100000, 100000, 20000), OLD)]
+    with pytest.raises(HostFault, match="idle"):
+        apply.make(beneath.Root(str(folder / "t")), found, False, str(folder / "undo"))
+
+
+def test_quota_that_systemd_cannot_hold():
+    """A percentage of more than two decimals is written to the file."""
+    change = Change("a.slice", OLD, Settings(100, 33333, 100000, 20000))
+    step, = apply.steps_of(change, OLD, True)
+    assert (step.unit, step.new) == ("", "33333 100000")
+    step, = apply.steps_of(Change("a.slice", OLD, Settings(100, 33330, 100000, 20000)), OLD, True)
+    assert step.new == "CPUQuota=33.33% CPUQuotaPeriodSec=100000us"
+
+
+def test_places_of_an_import(folder):
+    """A tree that is read directly knows its folders, also of names that a script writes as %XX."""
+    trees.root2(folder / "t")
+    trees.group2(folder / "t/a b", OLD.weight, OLD.maximum, OLD.burst)
+    wish = cgroups.Wish(Fraction(1, 1000))
+    before = cgroup2.read(str(folder / "t"), Host(2, 100000, 1000), wish)
+    after = before.copy()
+    after.groups["a%20b"].weight = 5
+    found, left = apply.changes(before, after, beneath.Root(str(folder / "t")))
+    assert ([each.folder for each in found], left) == (["a b"], [])

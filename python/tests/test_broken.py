@@ -1,0 +1,164 @@
+"""Broken files: each reader takes them or tells a fault, and no traceback is ever seen."""
+from fractions import Fraction
+from pathlib import Path
+
+import trees
+from arbiter_host import names, samples
+from arbiter_host.faults import HostFault
+from arbiter_host.model import Host, Model
+from arbiter_host.plan import plan
+from arbiter_host.sources import (cgroup2, cgroups, containers, hostfile, kubernetes, script,
+                                  systemd)
+from hypothesis import HealthCheck, example, given, settings
+from hypothesis import strategies as st
+
+FIXTURES = Path(__file__).parent / "fixtures"
+HOST = Host(4, 100000, 1000)
+KUBERNETES = (FIXTURES / "pods.json").read_bytes() + b"\n"
+DOCKER = (FIXTURES / "docker.json").read_bytes()
+UNITS = (FIXTURES / "units.show").read_bytes()
+TOML = (b'[host]\ncpus = 16\nperiod = "100ms"\n[groups."a/b"]\nweight = 200\nmax = "2cpu"\n'
+        b'demand = "1.5cpu"\nburst = 5\ntasks = 3\ntitle = "x"\n')
+YAML = b"host:\n  cpus: 2\ngroups:\n  a: {weight: 5, max: 250m}\n  a/b: {demand: 1}\n"
+SCRIPT = b"# arbiter run --processors 4\nmkdir a\nwrite a cpu.max 5000 9000\ndemand a 4\nperiod\n"
+CSV = b"Time,web\n2026-01-05 10:00:00,0.5\n10:05,1.5\n"
+MANY = settings(max_examples=150, deadline=None, suppress_health_check=list(HealthCheck))
+
+
+@st.composite
+def broken(draw, data):
+    """A file with pieces changed, left out, doubled or put in."""
+    found = bytearray(data)
+    for _ in range(draw(st.integers(0, 6))):
+        at = draw(st.integers(0, len(found)))
+        to = min(at + draw(st.integers(0, 12)), len(found))
+        found[at:to] = draw(st.one_of(
+            st.binary(max_size=6), st.just(bytes(found[at:to]) * 2),
+            st.sampled_from([b"", b"null", b"{}", b"[]", b"-1", b"1e999", b"99999999999999999999",
+                             b"\x00", b"\xff", b"\n", b"\"", b"NaN", b"true", b"/", b"..", b"\x1b",
+                             "\u202e".encode(), b"0x10", b"1.5", b"' '", b"Infinity"])))
+    return bytes(found)
+
+
+def holds(take):
+    """A model that is planned and written again, or a fault of one line."""
+    try:
+        model = take()
+        if isinstance(model, Model):
+            assert script.read(script.write(model).encode("utf-8", "replace"), "F").refused == []
+            hostfile.write_toml(model)
+            hostfile.write_yaml(model)
+            return model
+    except HostFault as fault:
+        assert fault.message and "\n" not in fault.message.strip()
+        assert names.shown(fault.message).isprintable()
+    return None
+
+
+def planned(engine, model):
+    """The plan of a model that was read, or a fault."""
+    if model is not None:
+        try:
+            plan(engine, model)
+        except HostFault as fault:
+            assert fault.message
+
+
+@MANY
+@given(data=st.one_of(broken(SCRIPT), st.binary(max_size=200)))
+def test_script(library_engine, data):
+    planned(library_engine, holds(lambda: script.read(data, "F", None, library_engine)))
+
+
+@MANY
+@given(data=st.one_of(broken(TOML), st.binary(max_size=200)))
+def test_toml(library_engine, data):
+    planned(library_engine, holds(lambda: hostfile.read(data, "F", "toml")))
+
+
+@MANY
+@given(data=st.one_of(broken(YAML), st.binary(max_size=200)))
+@example(data=b"groups: !!python/object:os.system {}\n")
+@example(data=b"groups: {? [a] : {}}\n")
+@example(data=b"a: &a [*a]\ngroups: *a\n")
+@example(data=b"[" * 5000)
+def test_yaml(library_engine, data):
+    planned(library_engine, holds(lambda: hostfile.read(data, "F", "yaml")))
+
+
+@MANY
+@given(data=st.one_of(broken(hostfile.write_json(
+    hostfile.read(TOML, "F", "toml")).encode()), st.binary(max_size=200)))
+@example(data=b"[" * 100000)
+@example(data=b'{"groups": {"\\ud800": {}}}')
+def test_json(library_engine, data):
+    planned(library_engine, holds(lambda: hostfile.read(data, "F", "json")))
+
+
+JSON_VALUES = st.recursive(
+    st.one_of(st.none(), st.booleans(), st.integers(), st.floats(), st.text(max_size=8)),
+    lambda inner: st.one_of(st.lists(inner, max_size=4), st.dictionaries(
+        st.sampled_from(["items", "kind", "metadata", "spec", "status", "containers", "resources",
+                         "limits", "requests", "cpu", "name", "namespace", "HostConfig", "NanoCpus",
+                         "CgroupParent", "CpuShares", "State", "Running", "Name", "Id"]),
+        inner, max_size=6)), max_leaves=25)
+
+
+@MANY
+@given(data=st.one_of(broken(KUBERNETES), st.binary(max_size=200)))
+@example(data=b"[" * 100000)
+def test_kubernetes(library_engine, data):
+    planned(library_engine, holds(lambda: kubernetes.read([("F", data)], HOST)))
+
+
+@MANY
+@given(data=st.one_of(broken(DOCKER), st.binary(max_size=200)))
+def test_containers(library_engine, data):
+    planned(library_engine, holds(lambda: containers.read([("F", data)], HOST)))
+
+
+@MANY
+@given(value=JSON_VALUES)
+def test_json_of_any_form(library_engine, value):
+    import json
+    data = json.dumps(value).encode()
+    for take in (lambda: kubernetes.read([("F", data)], HOST),
+                 lambda: containers.read([("F", data)], HOST),
+                 lambda: hostfile.read(data, "F", "json")):
+        planned(library_engine, holds(take))
+
+
+@MANY
+@given(data=st.one_of(broken(UNITS), st.binary(max_size=200)))
+def test_units(library_engine, data):
+    planned(library_engine, holds(lambda: systemd.read([("F", data)], HOST)))
+
+
+@MANY
+@given(data=st.one_of(broken(CSV), st.binary(max_size=200)))
+def test_samples(data):
+    for read in (samples.read_csv, samples.read_pairs):
+        holds(lambda: read(data, "F", "cpu", HOST))
+
+
+FILES = ["cpu.weight", "cpu.max", "cpu.max.burst", "cpu.stat", "cpu.pressure", "cgroup.threads",
+         "cgroup.subtree_control", "cgroup.controllers", "cpu.shares", "cpu.cfs_quota_us",
+         "cpu.cfs_period_us", "cpuacct.usage", "tasks"]
+
+
+@settings(max_examples=80, deadline=None, suppress_health_check=list(HealthCheck))
+@given(texts=st.dictionaries(st.sampled_from(FILES), st.one_of(
+    st.binary(max_size=40), broken(b"50000 100000\n"), broken(b"usage_usec 500\nnr_periods 3\n")),
+    max_size=8), one=st.booleans())
+def test_cgroups(tmp_path_factory, library_engine, texts, one):
+    folder = tmp_path_factory.mktemp("tree")
+    if one:
+        trees.group1(folder)
+        trees.group1(folder / "a")
+    else:
+        trees.root2(folder)
+        trees.group2(folder / "a")
+    for name, data in texts.items():
+        (folder / "a" / name).write_bytes(data)
+    wish = cgroups.Wish(Fraction(1), later=(str(folder),), want="psi")
+    planned(library_engine, holds(lambda: cgroup2.read(str(folder), HOST, wish)))

@@ -1,0 +1,266 @@
+"""The command: what each answer says, and how it ends when something is wrong."""
+import json
+import os
+import signal
+import subprocess
+import sys
+import time
+from pathlib import Path
+
+import pytest
+import trees
+from conftest import PACKAGE
+
+ROOT = PACKAGE.parent
+FIXTURES = Path(__file__).parent / "fixtures"
+HEAD = "# arbiter run --processors 1 --period 100000 --slice 5000\n"
+REASONS = HEAD + """\
+mkdir held
+mkdir held/one
+mkdir held/two
+mkdir idle
+mkdir small
+mkdir big
+mkdir calm
+mkdir none
+write held cpu.weight 1000
+write held cpu.max 25000
+write held/two cpu.weight 400
+write big cpu.weight 1000
+write big cpu.max 90000
+write small cpu.weight 10
+write none cpu.max 4000
+demand held/one 20
+demand held/two 20
+demand small 20
+demand big 20
+demand calm 1
+demand none 3
+"""
+# held has its 5, of weights 100 and 400: 1 and 4. calm has 1 (1/100) and big 14 (27/1000), all
+# below small's first slice (1/10). Wants at the root: 5 + 0 + 20 + 18 + 1 + 0.
+WANTED = {
+    ".": (20, 44, 20, "the host is full", False, False, False),
+    "held": (5, 40, 5, "own limit", False, True, False),
+    "held/one": (1, 20, None, "limit above", False, False, False),
+    "held/two": (4, 20, None, "limit above", False, False, False),
+    "idle": (0, 0, None, "nothing asked", False, False, False),
+    "small": (0, 20, None, "the host is full", True, False, False),
+    "big": (14, 20, 18, "the host is full", False, True, True),
+    "calm": (1, 1, None, "all", False, False, False),
+    "none": (0, 3, 0, "own limit", True, True, False),
+}
+
+
+def slices(amount):
+    """The slices of an amount in JSON."""
+    return None if amount is None else amount["slices"]
+
+
+@pytest.mark.parametrize("library", ["", "none"])
+def test_explain_reasons(ctl, library):
+    """Reasons, causes and weights as fields, by the library and by the program."""
+    if library:
+        ctl.environment["ARBITER_LIBRARY"] = library
+    whole = json.loads(ctl.run("explain", "--json", "-", given=REASONS.encode())[0])
+    found = {group["group"]: (*(slices(group[key]) for key in ("gets", "wants", "limit")),
+                              group["reason"], group["starved"], group["throttled"],
+                              group["throttled_not_by_its_limit"]) for group in whole["groups"]}
+    assert found == WANTED
+    groups = {group["group"]: group for group in whole["groups"]}
+    assert [groups["held/two"][key] for key in ("cause", "weight", "active_weight")] == [
+        "held", 400, 500]
+    assert [groups["big"][key] for key in ("cause", "weight", "active_weight")] == [".", 1000, 2110]
+    assert groups["big"]["limit"] == {"slices": 18, "millicpu": 900.0, "usec": 90000}
+    assert (groups["held"]["quota_usec"], groups["held"]["period_usec"]) == (25000, 100000)
+    assert [each["group"] for each in whole["limiting"]] == ["."]
+    assert whole["check"] == "accepted"
+
+
+@pytest.mark.parametrize("unit, gets", [("cpu", "0.50"), ("m", "500"), ("%", "50"),
+                                        ("slices", "10"), ("us", "50000")])
+def test_units(ctl, unit, gets):
+    out, _ = ctl.run("explain", "--unit", unit, ROOT / "examples/pod.script")
+    row = next(line for line in out.split("\n") if line.endswith("job"))
+    assert row.split()[0] == gets
+
+
+@pytest.mark.parametrize("columns", [60, 80, 120, 200])
+def test_as_wide_as_the_terminal(ctl, columns):
+    ctl.environment["COLUMNS"] = str(columns)
+    out, _ = ctl.run("explain", ROOT / "examples/node.script")
+    assert max(map(len, out.split("\n")[5:])) <= columns
+    assert "queue" in out
+
+
+def test_long_identifiers_are_short(ctl):
+    name = f"cri-containerd-{'ab' * 32}.scope"
+    given = f"{HEAD}mkdir {name}\ndemand {name} 30\n".encode()
+    out, _ = ctl.run("explain", "-", given=given)
+    assert "abababababab\u2026" in out and name not in out
+    assert name in ctl.run("explain", "--full-names", "-", given=given)[0]
+
+
+def test_only_and_sort(ctl):
+    out, _ = ctl.run("explain", "--only", "starved", "-", given=REASONS.encode())
+    assert [line.split()[-1] for line in out.split("\n")[6:-1]] == ["small", "none"]
+    out, _ = ctl.run("explain", "--only", "asking", "--sort", "lack", "--unit", "slices", "-",
+                     given=REASONS.encode())
+    rows = [line.split() for line in out.split("\n")[6:-1]]
+    lacks = [int(row[1]) - int(row[0]) for row in rows]
+    assert lacks == sorted(lacks, reverse=True) and len(rows) == 8
+
+
+def test_depth(ctl):
+    out, _ = ctl.run("explain", "--depth", "1", "-", given=REASONS.encode())
+    assert "held (+2 below)" in out and "two" not in out
+
+
+def test_head_line_is_the_host(ctl, folder):
+    """What is imported is explained without options as with them."""
+    trees.root2(folder / "t")
+    trees.group2(folder / "t/web", usage=5)
+    made = ctl.run("import", "cgroup", folder / "t", "--cpus", "16", "--want", "busy")[0]
+    (folder / "s").write_text(made)
+    plain, err = ctl.run("explain", folder / "s")
+    assert err == "" and plain.startswith("16 CPUs, period 100 ms, slice 1 ms")
+    assert plain == ctl.run("explain", folder / "s", "--cpus", "16", "--slice", "1ms")[0]
+    _, err = ctl.run("explain", folder / "s", "--cpus", "2")
+    assert "differ from its head line: arbiter run --processors 16" in err
+
+
+def test_import_and_explain_are_the_same_from_each_form(ctl, folder):
+    """A script, TOML, YAML and JSON of one host give one plan."""
+    pods = (FIXTURES / "pods.json", FIXTURES / "node.json")
+    found = set()
+    for form in ("script", "toml", "yaml", "json"):
+        path = folder / f"h.{form}"
+        ctl.run("import", "kubernetes", *pods, "--to", form, "-o", path)
+        whole = json.loads(ctl.run("explain", "--json", path)[0])
+        found.add(json.dumps([(each["group"], each["gets"]) for each in whole["groups"]]))
+    direct = json.loads(ctl.run("explain", "--json", *pods)[0])
+    found.add(json.dumps([(each["group"], each["gets"]) for each in direct["groups"]]))
+    assert len(found) == 1 and len(direct["groups"]) == 18
+
+
+@pytest.mark.parametrize("name, kind", [("units.show", "systemd"), ("docker.json", "docker"),
+                                        ("podman.json", "docker")])
+def test_kinds_are_found(ctl, name, kind):
+    """A source's kind is found from its bytes."""
+    words = ["--json", "--cpus", "4", FIXTURES / name]
+    assert ctl.run("explain", *words) == ctl.run("explain", "--from", kind, *words)
+
+
+def test_scale_and_set(ctl):
+    words = ["import", "script", "-", "--scale", "a=1.5", "--set", "b.cpu.weight=7",
+             "--set", "b.max=50%"]
+    out, _ = ctl.run(*words, given=f"{HEAD}mkdir a\nmkdir b\ndemand a 4\n".encode())
+    assert out == (f"{HEAD}mkdir a\nmkdir b\nwrite b cpu.weight 7\nwrite b cpu.max 50000 100000\n"
+                   "demand a 6\n")
+
+
+def test_compare(ctl, folder):
+    """A group that is only in one, one that changes, one that does not."""
+    (folder / "one").write_text(f"{HEAD}mkdir a\nmkdir b\nmkdir c\ndemand a 3\ndemand b 2\n")
+    (folder / "two").write_text(f"{HEAD}mkdir a\nmkdir b\nmkdir d\ndemand a 5\ndemand b 2\n"
+                                "demand d 1\n")
+    words = ["compare", folder / "one", folder / "two", "--unit", "slices"]
+    rows = [" ".join(line.split()) for line in ctl.run(*words)[0].split("\n")]
+    for row in ("5 8 +3 5 8 all that it wants the host (.)", "3 5 +2 3 5 all that it wants a",
+                "0 - 0 0 - only before: nothing asked c", "1 of 5 groups are the same in both"):
+        assert row in rows
+    changed = json.loads(ctl.run(*words, "--json")[0])["changed"]
+    assert [each["group"] for each in changed] == [".", "a", "c", "d"]
+
+
+def test_compare_with_changes(ctl):
+    out, _ = ctl.run("compare", ROOT / "examples/pod.script", "--set", "pod.max=75%", "--cpus", "2")
+    assert "after   2 CPUs" in out and "pod (0.75)" in out
+
+
+# bad use
+
+def test_strict(ctl, folder):
+    (folder / "s").write_text(f"{HEAD}mkdir a\nwrite a cpu.weight 0\nfrob\n")
+    out, err = ctl.run("explain", "--strict", folder / "s", status=4)
+    assert out == ""
+    assert f"{folder}/s:3: error 12 WeightOutOfRange (1 to 10000): write a cpu.weight 0" in err
+    assert f"{folder}/s:4: error 80 BadCommand: frob" in err
+    _, err = ctl.run("explain", folder / "s")
+    assert "error 12 WeightOutOfRange" in err
+
+
+@pytest.mark.parametrize("words, range_", [
+    (["--cpus", "0"], "1 to 64000"), (["--slice", "300us"], "1000"),
+    (["--period", "2s"], "1000000"),
+    (["--interval", "inf"], "--interval"), (["--interval", "1e300"], "--interval"),
+    (["--interval", "0"], "--interval"), (["--samples", "1"], "2 to 10000"),
+    (["--depth", "65"], "0 to 64"), (["--only", "x"], "starved"), (["--width", "3"], "40 to 10000"),
+    (["--frob"], "unrecognized"), (["--scale", "a"], "GROUP=FACTOR"), (["--unit", "x"], "cpu"),
+])
+def test_words_that_are_refused_show_the_range(ctl, words, range_):
+    _, err = ctl.run("explain", ROOT / "examples/pod.script", *words, status=2)
+    assert range_ in err
+
+
+def test_no_raw_control_character(ctl, folder):
+    """Neither in a table, nor in JSON, a message or a fault."""
+    given = f"{HEAD}mkdir a\x1b[31m\x07\u202e\ndemand a\x1b[31m\x07\u202e 3\nmkdir \x1b\n\x1b[2J\n"
+    for words in (["explain", "-"], ["explain", "--json", "-"], ["explain", "-", "--\x1b"],
+                  ["explain", "/no\x1b/file"], ["compare", "-", "--set", "\x1b.weight=1"]):
+        ended = ctl.ended(*words, given=given.encode())
+        said = (ended.stdout + ended.stderr).decode()
+        assert not any(letter in said for letter in "\x1b\x07\u202e"), words
+        assert said
+    assert "a\\x1b[31m\\x07\\u202e" in ctl.run("explain", "-", given=given.encode())[0]
+
+
+def test_full_and_closed_output(ctl):
+    script = str(ROOT / "examples/pod.script")
+    for redirect, words in ((">/dev/full", "No space left"), (">&-", "Bad file descriptor")):
+        line = f'"$0" "$1" explain "$2" {redirect}'
+        words_ = ["bash", "-c", line, sys.executable, str(PACKAGE / "arbiterctl"), script]
+        ended = subprocess.run(words_, capture_output=True, env=ctl.environment, timeout=60,
+                               check=False)
+        told = [each for each in ended.stderr.decode().split("\n")[:-1] if "warning" not in each]
+        assert (ended.returncode, len(told)) == (1, 1) and words in told[0]
+
+
+def test_interrupt(ctl, folder):
+    """Ctrl-C ends quietly, by the signal."""
+    trees.root2(folder)
+    words = [sys.executable, str(PACKAGE / "arbiterctl"), "import", "cgroup", str(folder),
+             "--interval", "50"]
+    running = subprocess.Popen(words, env=ctl.environment, stdout=subprocess.PIPE,
+                               stderr=subprocess.PIPE)
+    time.sleep(1.5)
+    running.send_signal(signal.SIGINT)
+    out, err = running.communicate(timeout=30)
+    assert (running.returncode, out, err) == (-signal.SIGINT, b"", b"")
+
+
+def test_files_that_cannot_be_read(ctl, folder):
+    for name, words in (("none", "No such file or directory"), ("\0", "")):
+        if name != "\0":
+            assert words in ctl.run("explain", folder / name, status=1)[1]
+    assert "so no cgroup tree" in ctl.run("explain", folder, status=1)[1]
+    (folder / "shut").mkdir()
+    (folder / "shut").chmod(0)
+    if os.getuid() != 0:
+        assert "Permission denied" in ctl.run("explain", folder / "shut", status=1)[1]
+
+
+def test_engine_that_is_not_there(ctl):
+    script = ROOT / "examples/pod.script"
+    assert "/no/lib" in ctl.run("explain", script, "--library", "/no/lib.so", status=1)[1]
+    _, err = ctl.run("explain", script, "--library", "none", "--program", "/no/such", status=1)
+    assert "/no/such: No such file or directory" in err
+
+
+def test_program_of_the_path(ctl, folder, program):
+    """Without a library the program on the PATH is used."""
+    (folder / "arbiter").symlink_to(program.path)
+    del ctl.environment["ARBITER"]
+    ctl.environment.update(ARBITER_LIBRARY="none", PATH=f"{folder}:{os.environ['PATH']}")
+    whole = json.loads(ctl.run("explain", "--json", ROOT / "examples/pod.script")[0])
+    assert whole["engine"] == f"program {folder}/arbiter"

@@ -1,0 +1,312 @@
+"""Pictures, the page, series over time and the live view."""
+import csv
+import http.server
+import io
+import json
+import re
+import shutil
+import subprocess
+import threading
+import xml.etree.ElementTree
+from fractions import Fraction
+
+import pytest
+import trees
+from arbiter_host import picture, report, samples, series
+from arbiter_host.faults import HostFault
+from arbiter_host.model import Group, Host, Model
+from arbiter_host.plan import plan
+from conftest import PACKAGE
+from hypothesis import HealthCheck, given, settings
+from hypothesis import strategies as st
+
+ROOT = PACKAGE.parent
+SVG = "{http://www.w3.org/2000/svg}"
+# Greatest side, in pixels, that common programs draw.
+MOST_PIXELS = 32767
+
+
+def wide_host(count, cpus=16):
+    """A host of so many groups in pods of four, with wants of all sizes."""
+    model = Model(Host(cpus, 100000, 1000))
+    for number in range(count):
+        pod = f"pod{number // 4}"
+        if number % 4 == 0:
+            model.add(Group(pod, 1 + number % 97, 50000 if number % 3 == 0 else None))
+        else:
+            model.add(Group(f"{pod}/{number % 4}{'ab' * 32}", 1 + number % 13,
+                            demand=Fraction(number * 37 % 900)))
+    return model
+
+
+@pytest.mark.parametrize("count", [3, 5, 111, 1950])
+def test_picture_is_legible(library_engine, count):
+    """Within the size that programs draw, and a scale at most 25 rows away from each row."""
+    drawn = picture.picture(plan(library_engine, wide_host(count)))
+    root = xml.etree.ElementTree.fromstring(drawn)
+    assert float(root.get("height")) < 4000 and float(root.get("width")) < 2000
+    units = [float(each.get("y")) for each in root.iter(f"{SVG}text") if each.text == "CPUs"]
+    rows = [float(each.get("y")) for each in root.iter(f"{SVG}text")
+            if each.get("font-size") == "12"]
+    assert all(min(abs(row - unit) for unit in units) <= 25 * picture.ROW for row in rows)
+    if count == 1950:
+        assert "more groups" in drawn
+
+
+@pytest.mark.parametrize("rows", [1, 10, 1000])
+def test_folds_keep_the_sums(library_engine, rows):
+    """The rows right below a group add up to what the group gets."""
+    found = picture.fitting(plan(library_engine, wide_host(400)), "slices", 64, rows)
+    for entry in found:
+        if entry.below:
+            assert sum(found[place].gets for place in entry.below) == entry.gets
+    assert len(found) <= max(rows, 2) + 1
+
+
+def test_picture_of_strange_names(library_engine):
+    """Wide letters count twice, and no control character stays."""
+    model = Model(Host(1, 100000, 5000))
+    model.add(Group("\u6f22" * 60, demand=Fraction(500)))
+    model.add(Group("a\x1b[31m\u202eb<&>\"", demand=Fraction(500)))
+    drawn = picture.picture(plan(library_engine, model))
+    xml.etree.ElementTree.fromstring(drawn)
+    assert not re.search("[\x00-\x08\x0b-\x1f\u202e]", drawn)
+    shown = re.search("\u6f22+\u2026", drawn).group()
+    assert len(shown) * 2 - 1 <= picture.NAME_CELLS
+
+
+@pytest.mark.parametrize("count", [3, 1950])
+def test_page_asks_for_nothing(library_engine, count):
+    """One page without an address, with a row for each group."""
+    found = plan(library_engine, wide_host(count))
+    page = report.page(found)
+    assert not re.search(r"(src|href)=|url\(|@import|https?://", page)
+    assert page.count("data-path=") == count + 1
+    assert page.count("<details") == page.count("</details>")
+
+
+def test_page_escapes_names(library_engine):
+    model = Model(Host(1, 100000, 5000))
+    model.add(Group("<script>alert(1)</script>".replace("/", "|"), demand=Fraction(5)))
+    model.add(Group("\x1b\u202e\"'", demand=Fraction(5), title="<b>"))
+    page = report.page(plan(library_engine, model), title="<i>")
+    assert "<script>alert" not in page and "<b>" not in page and "<i>" not in page
+    assert "\x1b" not in page and "\u202e" not in page
+
+
+def test_page_before_and_after(ctl, folder):
+    ctl.run("report", ROOT / "examples/pod.script", "--set", "pod.max=75%", "-o", folder / "p.html")
+    page = (folder / "p.html").read_text()
+    assert "Before and after" in page and "Groups that differ: 4" in page
+
+
+def test_page_in_a_browser(ctl, folder):
+    """The page opens in headless Chromium; search and fold work there."""
+    chromium = shutil.which("chromium")
+    if chromium is None:
+        pytest.skip("no chromium here")
+    ctl.run("report", ROOT / "examples/node.script", "-o", folder / "p.html")
+    page = (folder / "p.html").read_text()
+    probe = ("<script>find.value='redis';find.dispatchEvent(new Event('input'));"
+             "document.title='seen '+all.filter(each=>!each.hidden).length;</script></body>")
+    (folder / "p.html").write_text(page.replace("</body>", probe))
+    words = [chromium, "--headless", "--no-sandbox", "--disable-gpu", "--dump-dom",
+             f"--user-data-dir={folder}/data", (folder / "p.html").as_uri()]
+    ended = subprocess.run(words, capture_output=True, timeout=120, check=False)
+    # The host, kubepods, burstable, pod-cache and redis.
+    assert "<title>seen 5</title>" in ended.stdout.decode(), ended.stderr.decode()[-500:]
+
+
+# series
+
+DAY = ["--slice", "1ms", "--unit", "slices"]
+
+
+def day(ctl, *words):
+    """The day of examples/ as a series."""
+    files = (ROOT / "examples/day.script", ROOT / "examples/day.csv")
+    return ctl.run("series", *files, *DAY, *words)[0]
+
+
+def test_series_of_a_day(ctl):
+    """One period a sample: web saves up and is throttled, monitor starves."""
+    rows = [line.split() for line in day(ctl).split("\n")]
+    assert ["06:00", "42/42B", "20/20", "0/0", "2/2"] in rows
+    assert ["07:00", "50/55TB", "24/24", "0/0", "2/2"] in rows
+    assert ["15:30", "40/47T", "22/22", "38/80", "0/2S"] in rows
+    assert ["monitor", "2", "1.1", "54%", "0", "0", "0", "0", "16", "15"] in rows
+
+
+def test_series_with_the_length_of_a_sample(ctl):
+    """18000 periods a sample: what was saved up is gone in the first period of 06:30's rise."""
+    rows = json.loads(day(ctl, "--sample", "30m", "--to", "json"))["records"]
+    at = {row["sample"]: row for row in rows if row["group"] == "web"}
+    assert at["06:30"]["periods"] == 18000
+    assert (at["06:30"]["gets"], at["06:30"]["throttled"]) == ("40", 18000)
+    assert at["06:00"]["bursts"] > 0 and at["07:00"]["bursts"] == 0
+
+
+def counted(engine, model, periods):
+    """What each group gets in so many periods, one after another."""
+    total = [0] * (len(model.groups) + 1)
+    for _ in range(periods):
+        found = plan(engine, model.copy())
+        total = [one + group.gets for one, group in zip(total, found.groups)]
+        series.settle(found, model)
+    return total
+
+
+@settings(max_examples=30, deadline=None, suppress_health_check=list(HealthCheck))
+@given(quota=st.integers(1, 30), burst=st.integers(0, 30), before=st.integers(0, 40),
+       after=st.integers(0, 40), periods=st.integers(1, 60))
+def test_repeated_periods_are_periods(library_engine, quota, burst, before, after, periods):
+    """Periods that are counted at once give the sums of periods that are planned one by one."""
+    def made():
+        model = Model(Host(1, 100000, 5000))
+        model.add(Group("a", 300, quota * 5000, 100000, min(burst, quota) * 5000))
+        model.add(Group("b", 100, quota * 2500, 100000, min(burst, quota) * 2500))
+        model.groups["a"].demand, model.groups["b"].demand = Fraction(before * 50), Fraction(400)
+        return model
+
+    one, two = made(), made()
+    for model, run in ((one, counted), (two, None)):
+        sums = []
+        for demand in (before, after, before):
+            model.groups["a"].demand = Fraction(demand * 50)
+            if run:
+                sums.append(run(library_engine, model, periods))
+            else:
+                total = [0, 0, 0]
+                for found, times in series.periods_of(library_engine, model, periods):
+                    total = [each + group.gets * times for each, group in zip(total, found.groups)]
+                sums.append(total)
+        model.notes = sums
+    assert one.notes == two.notes
+
+
+@pytest.mark.parametrize("data", [
+    b"\xef\xbb\xbfTime,web\n2026-01-05 10:00:00,0.5\n", b"Time;web\n1767607200;0,5\n",
+    b"sep=;\n\"Time\";\"web\"\n1767607200000;500m\n",
+    b"timestamp\tweb\n2026-01-05T10:00:00Z\t50%\n",
+    "Time,web\n10:00,0.5\n".encode("utf-16"), b"time,web\r\n10:00,500 m\r\n\r\n",
+])
+def test_csv_as_grafana_writes_it(data):
+    found = samples.read_csv(data, "f", "cpu", Host())
+    assert [sample.demands for sample in found] == [{"web": 500}]
+    if b"1767607200" in data:
+        assert found[0].name == "2026-01-05 10:00:00"
+
+
+@pytest.mark.parametrize("data, words", [
+    (b"Time,web\n1,x\n", "f:2: 'x' is no number"), (b"Time,web\n1\n", "f:2: 1 cells and not 2"),
+    (b"Time,web\n1,\xff\n", "f:2: not UTF-8"), (b"web\n-1\n", "f:2: "),
+])
+def test_csv_that_is_refused(data, words):
+    with pytest.raises(HostFault) as fault:
+        samples.read_csv(data, "f", "cpu", Host())
+    assert words in fault.value.message
+
+
+def test_unknown_column(ctl, folder):
+    (folder / "d.csv").write_text("Time,nothing\n1,0.5\n")
+    words = ["series", ROOT / "examples/pod.script", folder / "d.csv"]
+    assert "no group nothing" in ctl.run(*words, status=1)[1]
+    out, _ = ctl.run(*words, "--map", "nothing=job", "--to", "csv")
+    assert next(csv.DictReader(io.StringIO(out)))["group"] == "job"
+
+
+def test_outputs(ctl):
+    """CSV and JSON hold the same records; SVG is well formed; OpenMetrics ends as it should."""
+    rows = list(csv.DictReader(io.StringIO(day(ctl, "--to", "csv"))))
+    records = json.loads(day(ctl, "--to", "json"))["records"]
+    assert [row["gets"] for row in rows] == [record["gets"] for record in records]
+    assert len(rows) == 4 * 48
+    xml.etree.ElementTree.fromstring(day(ctl, "--to", "svg"))
+    lines = day(ctl, "--to", "openmetrics").split("\n")
+    assert lines[-2:] == ["# EOF", ""]
+    web = [record for record in records if record["group"] == "web"][-1]
+    assert f'arbiter_plan_gets_cpus{{group="web"}} 0.{int(web["gets"]):02}' in lines
+
+
+class Prometheus(http.server.BaseHTTPRequestHandler):
+    """Answers range queries in the format of Prometheus's HTTP API."""
+
+    asked: list[str] = []
+
+    def do_GET(self):
+        self.asked.append(self.path)
+        values = [[1767607200, "0.5"], [1767607500, "NaN"], [1767607800, "1.5"]]
+        result = [{"metric": {"pod": "web", "node": "n1"}, "values": values}]
+        body = json.dumps({"status": "success", "data": {"resultType": "matrix", "result": result}})
+        self.send_response(200 if "query_range" in self.path else 404)
+        self.end_headers()
+        self.wfile.write(body.encode())
+
+    def log_message(self, *_):
+        pass
+
+
+def test_prometheus(ctl):
+    """A range query, by a server that answers as the HTTP API is documented."""
+    server = http.server.ThreadingHTTPServer(("127.0.0.1", 0), Prometheus)
+    threading.Thread(target=server.serve_forever, daemon=True).start()
+    url = f"http://127.0.0.1:{server.server_port}"
+    words = ["series", "-", "--prometheus", url, "--query", "sum by (pod) (x)", "--start", "1",
+             "--end", "2", "--step", "5m", "--to", "csv"]
+    try:
+        out, _ = ctl.run(*words, given=b"mkdir web\nwrite web cpu.max 100000\n")
+    finally:
+        server.shutdown()
+        server.server_close()
+    rows = list(csv.DictReader(io.StringIO(out)))
+    assert [(row["sample"], row["gets"], row["wants"]) for row in rows] == [
+        ("2026-01-05 10:00:00", "0.5", "0.5"), ("2026-01-05 10:05:00", "0.5", "0.5"),
+        ("2026-01-05 10:10:00", "1", "1.5")]
+    assert "query=sum+by+%28pod%29+%28x%29" in Prometheus.asked[0]
+    _, err = ctl.run(*words, given=b"mkdir web\n", status=1)
+    assert "refused" in err
+
+
+def test_top_without_a_terminal(ctl, folder):
+    trees.root2(folder)
+    trees.group2(folder / "web", usage=5)
+    out, _ = ctl.run("top", folder, "--count", "2", "--interval", "10ms", "--cpus", "2", "--all")
+    assert out.count("2 CPUs, period 100 ms") == 2 and out.count("  web") == 2
+
+
+@pytest.mark.parametrize("columns, lines", [(80, 24), (200, 50)])
+def test_top_on_a_terminal(ctl, folder, columns, lines):
+    """The view fits the terminal, and Ctrl-C leaves the terminal as it was."""
+    trees.root2(folder)
+    for number in range(60):
+        trees.group2(folder / f"web{number}", usage=5)
+    command = (f"import os,pty,sys,struct,fcntl,termios,time,signal,select\n"
+               "pid,fd=pty.fork()\n"
+               f"if pid==0: time.sleep(.3); os.execvp(sys.argv[1],sys.argv[1:])\n"
+               f"fcntl.ioctl(fd,termios.TIOCSWINSZ,struct.pack('HHHH',{lines},{columns},0,0))\n"
+               "out=b'';end=time.time()+20\n"
+               "while time.time()<end and out.count(b'CPUs, period')<3:\n"
+               "  if select.select([fd],[],[],.2)[0]:\n"
+               "    try: out+=os.read(fd,65536)\n"
+               "    except OSError: break\n"
+               "os.kill(pid,signal.SIGINT)\n"
+               "while True:\n"
+               "  try: part=os.read(fd,65536)\n"
+               "  except OSError: break\n"
+               "  if not part: break\n"
+               "  out+=part\n"
+               "_,status=os.waitpid(pid,0)\n"
+               "sys.stdout.buffer.write(out);sys.exit(0 if status==2 else 9)\n")
+    ctl.environment.pop("COLUMNS")
+    ctl.environment["TERM"] = "xterm"
+    words = ["python3", "-c", command, "/usr/bin/python3", PACKAGE / "arbiterctl", "top", folder,
+             "--want", "busy", "--cpus", "2", "--interval", "100ms"]
+    ended = subprocess.run(words, capture_output=True, timeout=60, env=ctl.environment, check=False)
+    assert ended.returncode == 0, ended.stdout[-500:]
+    said = ended.stdout.decode()
+    assert said.count("CPUs, period") >= 2 and "Traceback" not in said
+    assert said.rstrip().endswith("\x1b[?25h") or "\x1b[?1049l" in said
+    plain = re.sub(r"\x1b\[[0-9;?]*H", "\n", said)
+    plain = re.sub(r"\x1b\[[0-9;?]*[A-Za-z]", "", plain)
+    assert max(map(len, plain.replace("\r", "").split("\n"))) <= columns
+    assert "lines that have no room here" in plain

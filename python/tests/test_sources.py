@@ -1,0 +1,451 @@
+"""Readers and writers: what each takes from its format, and that what is written is read back."""
+import json
+import os
+import threading
+from fractions import Fraction
+from pathlib import Path
+
+import pytest
+import trees
+from arbiter_host import demands
+from arbiter_host.faults import HostFault
+from arbiter_host.model import Group, Host, Model
+from arbiter_host.plan import plan
+from arbiter_host.sources import (cgroup2, cgroups, containers, hostfile, kubernetes, script,
+                                  systemd)
+from hypothesis import HealthCheck, given, settings
+from hypothesis import strategies as st
+
+FIXTURES = Path(__file__).parent / "fixtures"
+EIGHT = Host(8, 100000, 1000)
+
+
+def fixture(name):
+    """A fixture's name and bytes."""
+    return name, (FIXTURES / name).read_bytes()
+
+
+def of(group):
+    """Weight, quota and period of a group."""
+    return group.weight, group.quota, group.period
+
+
+def pods(**wish):
+    """The model of the pods and the node."""
+    files = [fixture("pods.json"), fixture("node.json")]
+    return kubernetes.read(files, None, kubernetes.Wish(**wish))
+
+
+# scripts
+
+COMMANDS = st.sampled_from(["mkdir", "rmdir", "demand", "write", "read", "period", "total", "x"])
+PATHS = st.sampled_from(["a", "b", "a/b", "a/c", ".", "a/", "/a", "..", "./a", "a//b", "c" * 256])
+FILES = st.sampled_from(["cpu.weight", "cpu.max", "cpu.max.burst", "cpu.stat", "x"])
+WORDS = st.sampled_from(["1", "0", "max", "50000", "50000 100000", "999 1", "max 1000001", "07",
+                         "10000000000000001", "20000", "a b c", "", "\x0b5", "5\r", "30000 50000",
+                         "10001", "1000001", "20"])
+
+
+@st.composite
+def scripts(draw):
+    """Scripts with right and wrong lines of all kinds."""
+    lines = []
+    for _ in range(draw(st.integers(1, 20))):
+        command, path, word = draw(COMMANDS), draw(PATHS), draw(WORDS)
+        rest = {"write": f" {path} {draw(FILES)} {word}", "read": f" {path} {draw(FILES)}",
+                "demand": f" {path} {word}", "mkdir": f" {path}", "rmdir": f" {path}"}
+        lines.append(command + rest.get(command, ""))
+    return "".join(f"{line}\n" for line in lines)
+
+
+def answered(program, text):
+    """The numbers of the refused lines by the program, and the certified rows at the end."""
+    asked = [(number, line) for number, line in enumerate(text.split("\n")[:-1], 1)
+             if not script.is_blank(line.encode())]
+    given_ = "".join(f"{line}\ndemand . 0\n" for _, line in asked) + "cert\n"
+    said = program.run(["run", "--processors", "2"], given_.encode()).out.decode()
+    answers, found = [], []
+    for line in said.split("\n")[:-1]:
+        if found and line == "error 26 RootFixed":
+            answers.append(found)
+            found = []
+        else:
+            found.append(line)
+    refused = [(number, int(each[0].split(" ")[1])) for (number, _), each in zip(asked, answers)
+               if each[0].startswith("error ")]
+    return refused, [line.split(" ")[:5] for line in found[1:]]
+
+
+@settings(max_examples=150, deadline=None, suppress_health_check=list(HealthCheck))
+@given(text=scripts())
+def test_script_is_read_as_the_program_reads_it(program, library_engine, text):
+    """The same refused lines by the same numbers, and the same rows and amounts at the end."""
+    model = script.read(text.encode(), "F", Host(2, 100000, 5000), library_engine)
+    refused = [(int(each.split(":")[1]), int(each.split("error ")[1].split(" ")[0]))
+               for each in model.refused]
+    amounts = library_engine.plan(model.host, model.rows()).amounts
+    rows = [["-" if row.parent is None else str(row.parent), str(row.weight),
+             "max" if row.limit is None else str(row.limit), str(row.demand), str(gets)]
+            for row, gets in zip(model.rows(), amounts)]
+    assert (refused, rows) == answered(program, text)
+
+
+@pytest.mark.parametrize("line, host", [
+    ("# arbiter run --processors 4 --period 50000 --slice 1000", Host(4, 50000, 1000)),
+    ("#     ./arbiter run --processors 4 --slice 1000 < examples/node.script",
+     Host(4, 100000, 1000)),
+    ("# about arbiter run --processors 4", None), ("# arbiter run", None),
+])
+def test_script_head(line, host):
+    assert script.head_host([b"# first", line.encode(), b"mkdir a"]) == host
+
+
+def test_script_head_line_behind_a_command():
+    assert script.head_host([b"mkdir a", b"# arbiter run --processors 4"]) is None
+
+
+def test_script_saves_up(library_engine):
+    """What a period leaves is in the limit of the next one: 6 + 10, at most 10 + 5."""
+    text = b"mkdir a\nwrite a cpu.max 50000\nwrite a cpu.max.burst 25000\ndemand a 4\nperiod\n"
+    model = script.read(text + b"demand a 20\n", "F", Host(), library_engine)
+    assert plan(library_engine, model).groups[1].limit == 15
+
+
+def test_script_warns():
+    assert "no head line" in script.read(b"mkdir a\n", "F").notes[0]
+    head = b"# arbiter run --processors 4 --period 100000 --slice 1000\n"
+    assert script.read(head, "F").notes == []
+    assert "differ from its head line" in script.read(head, "F", Host(2, 100000, 1000)).notes[0]
+    assert script.read(b"mkdir a\n", "F", Host(2, 100000, 1000)).notes == []
+
+
+# models that are written and read
+
+NAMES = st.text(st.characters(blacklist_categories=["Cs"], blacklist_characters="/ \t\n\0"),
+                min_size=1, max_size=12).filter(lambda name: name not in (".", ".."))
+
+
+@st.composite
+def models(draw):
+    """Models with all settings and names of all letters."""
+    model = Model(Host(draw(st.integers(1, 64)), 100000, draw(st.sampled_from([1000, 5000]))))
+    for name in draw(st.lists(NAMES, max_size=5, unique=True)):
+        quota = draw(st.one_of(st.none(), st.integers(1000, 10**15)))
+        group = Group(name, draw(st.integers(1, 10000)), quota, draw(st.integers(1000, 10**6)))
+        group.burst = draw(st.integers(0, min(quota or 10**15, 10**15)))
+        slices = draw(st.integers(0, 100000))
+        group.demand = script.slices_demand(slices, model.host)
+        model.add(group)
+    return model
+
+
+def same_model(one, two):
+    assert one.host == two.host and one.rows() == two.rows()
+    assert {path: (of(each), each.burst) for path, each in one.groups.items()} == {
+        path: (of(each), each.burst) for path, each in two.groups.items()}
+
+
+@settings(max_examples=80, deadline=None)
+@given(model=models())
+def test_script_round_trip(model):
+    read = script.read(script.write(model).encode(), "F")
+    assert read.refused == [] and read.notes == []
+    same_model(model, read)
+
+
+@pytest.mark.parametrize("kind, writer", [
+    ("toml", hostfile.write_toml), ("json", hostfile.write_json), ("yaml", hostfile.write_yaml)])
+@settings(max_examples=60, deadline=None)
+@given(model=models())
+def test_host_file_round_trip(kind, writer, model):
+    same_model(model, hostfile.read(writer(model).encode(), "F", kind))
+
+
+# host files
+
+TOML = b"""[host]
+cpus = 16
+period = "100ms"
+slice = "1ms"
+
+[groups."system.slice/web.service"]
+weight = 200
+max = "2cpu"
+demand = "1.5cpu"
+tasks = 3
+"""
+
+
+def test_host_file():
+    model = hostfile.read(TOML, "h.toml", "toml")
+    assert model.host == Host(16, 100000, 1000)
+    assert list(model.groups) == ["system.slice", "system.slice/web.service"]
+    group = model.groups["system.slice/web.service"]
+    assert (of(group), group.demand, group.tasks) == ((200, 200000, 100000), 1500, 3)
+
+
+@pytest.mark.parametrize("text, words", [
+    ("[host]\ncpus = 0\n", "h:1: host: CPUs 0: not 1 to 64000"),
+    ("[host]\ncpus = 1\n[groups.a]\nweight = 0\n", "h:4: a: weight 0: not 1 to 10000"),
+    ("[groups.a]\n\nmax = '2cup'\n", "h:3: a: max: '2cup' is no amount of CPU"),
+    ("[groups.a]\nmax = '1us'\n", "h:2: a: max:"),
+    ("[groups.a]\nfrob = 1\n", "h:2: a: no key 'frob'"),
+    ("[groups.a]\nburst = '1s'\nmax = '1cpu'\n", "h:2: a: burst 1000000: above the quota"),
+    ("[groups.a]\ndemand = 1\n[groups.'a/b']\n", "h:2: a: a group with children has no demand"),
+    ("[groups]\na = 1\n", "h:2: a: a group is a table"), ("a = 1\n", "h:1: no table 'a'"),
+    ("[host]\ncpus = \n", "h:2: "), ("[groups.'a b']\n", "without blanks"),
+])
+def test_host_file_names_the_line(text, words):
+    with pytest.raises(HostFault) as fault:
+        hostfile.read(text.encode(), "h", "toml")
+    assert words in fault.value.message
+
+
+def test_host_file_in_yaml_names_the_line():
+    with pytest.raises(HostFault, match="h:3: "):
+        hostfile.read(b"host:\n  cpus: 2\n bad\n", "h", "yaml")
+
+
+# cgroups
+
+def copies(folder, **groups):
+    """Two copies of a tree: each group has the usage in 10 seconds and its settings."""
+    for copy, factor in (("a", 0), ("b", 1)):
+        trees.root2(folder / copy)
+        for name, entry in groups.items():
+            counters = {key: entry[key] * factor for key in ("usage", "periods", "throttled",
+                                                             "waited") if key in entry}
+            trees.group2(folder / copy / name.replace("__", "/"), **{**entry, **counters})
+    return str(folder / "a"), cgroups.Wish(Fraction(10), later=(str(folder / "b"),))
+
+
+def test_cgroup2(folder):
+    """Settings as they stand; the demand is what was used: 5 of 10 seconds are 500m."""
+    top, wish = copies(folder, web={"weight": 200, "maximum": "50000 200000", "burst": 7000,
+                                    "usage": 5 * 10**6, "threads": 4},
+                       idle={"weight": 0}, box={}, box__in={"usage": 10**6})
+    model = cgroup2.read(top, EIGHT, wish)
+    assert list(model.groups) == ["box", "box/in", "idle", "web"]
+    web = model.groups["web"]
+    assert (of(web), web.burst, web.demand, web.tasks) == ((200, 50000, 200000), 7000, 500, 4)
+    assert model.groups["idle"].weight == 1 and model.groups["box/in"].demand == 100
+    assert any(note.startswith("idle: idle") for note in model.notes)
+
+
+@pytest.mark.parametrize("want, demand", [
+    # Used 400m of 8 CPUs, waited in half of the time; throttled in 50 of 100 periods of 500m.
+    ("usage", 400), ("peak", 400), ("p95", 400), ("psi", 1000), ("limit", 500), ("busy", 8000),
+])
+def test_wants(folder, want, demand):
+    top, wish = copies(folder, web={"maximum": "50000 100000", "usage": 4 * 10**6, "threads": 9,
+                                    "periods": 100, "throttled": 50, "waited": 5 * 10**6})
+    wish = cgroups.Wish(wish.seconds, later=wish.later, want=want)
+    assert cgroup2.read(top, EIGHT, wish).groups["web"].demand == demand
+
+
+def test_pressure_alone(folder):
+    """400m used with pressure in half of the time is a demand of 800m."""
+    top, wish = copies(folder, web={"usage": 4 * 10**6, "waited": 5 * 10**6})
+    wish = cgroups.Wish(wish.seconds, later=wish.later, want="psi")
+    assert cgroup2.read(top, EIGHT, wish).groups["web"].demand == 800
+
+
+def test_samples():
+    """Peak and 95th percentile of readings one second apart."""
+    usage = [0, *(sum(range(1, count + 1)) * 1000 for count in range(1, 101))]
+    measured = demands.Measured([demands.Reading(each) for each in usage])
+    group = Group("a")
+    found = [demands.wanted(want, group, measured, EIGHT, Fraction(1))
+             for want in ("usage", "peak", "p95")]
+    assert found == [Fraction(101, 2), 100, 95]
+
+
+def test_groups_come_and_go(folder):
+    """A loop that makes and removes groups beside the reader costs no run."""
+    trees.root2(folder)
+    trees.group2(folder / "stay", usage=5)
+    stop = threading.Event()
+
+    def churn():
+        number = 0
+        while not stop.is_set():
+            number += 1
+            place = folder / f"run-{number % 7}.scope"
+            trees.group2(place / "inner")
+            for each in (place / "inner", place):
+                for name in os.listdir(each) if each.is_dir() else []:
+                    if (each / name).is_file():
+                        (each / name).unlink()
+                each.rmdir()
+
+    beside = threading.Thread(target=churn)
+    beside.start()
+    try:
+        for _ in range(25):
+            model = cgroup2.read(str(folder), EIGHT, cgroups.Wish(Fraction(1, 1000)))
+            assert "stay" in model.groups
+    finally:
+        stop.set()
+        beside.join()
+
+
+def test_gone_at_the_second_reading(folder):
+    top, wish = copies(folder, web={"usage": 10**6})
+    for name in os.listdir(folder / "b/web"):
+        (folder / "b/web" / name).unlink()
+    model = cgroup2.read(top, EIGHT, wish)
+    assert model.groups["web"].demand == 0
+    assert "web: gone at a later reading" in model.notes
+
+
+def test_controller_that_is_not_enabled(folder):
+    trees.root2(folder, enabled="memory")
+    trees.put(folder / "a", cpu_stat="usage_usec 5")
+    notes = cgroup2.read(str(folder), EIGHT, cgroups.Wish(Fraction(1, 1000))).notes
+    assert any("the cpu controller is not enabled here" in note for note in notes)
+    assert any("no cpu.weight" in note for note in notes)
+
+
+def test_folders_that_are_no_tree(folder):
+    with pytest.raises(HostFault, match="No such file"):
+        cgroup2.read(str(folder / "no"), EIGHT)
+    with pytest.raises(HostFault, match="so no cgroup tree$"):
+        cgroup2.read(str(folder), EIGHT)
+    trees.root2(folder / "unified")
+    with pytest.raises(HostFault, match="/unified is one"):
+        cgroup2.read(str(folder), EIGHT)
+
+
+def test_names_of_a_tree(folder):
+    trees.root2(folder)
+    for raw in (b"a b", b"x\xff", b"\x1b[31m", "\u00fc".encode()):
+        trees.group2(os.path.join(os.fsencode(folder), raw).decode(errors="surrogateescape"))
+    model = cgroup2.read(str(folder), EIGHT, cgroups.Wish(Fraction(1, 1000)))
+    assert sorted(model.groups) == ["\x1b[31m", "a%20b", "x%FF", "\u00fc"]
+    assert "\x1b" not in script.write(model).split("mkdir")[0]
+
+
+def test_cgroup1(folder):
+    """Shares are weights, so that parts are exact; usage is in nanoseconds."""
+    for copy, factor in (("a", 0), ("b", 1)):
+        trees.group1(folder / copy)
+        trees.group1(folder / copy / "web", 2048, 50000, usage_nsec=5 * 10**9 * factor, tasks=2)
+        trees.group1(folder / copy / "db", 1024)
+    wish = cgroups.Wish(Fraction(10), later=(str(folder / "b"),))
+    model = cgroup2.read(str(folder / "a"), EIGHT, wish)
+    assert {path: of(each) for path, each in model.groups.items()} == {
+        "db": (1024, None, 100000), "web": (2048, 50000, 100000)}
+    assert (model.groups["web"].demand, model.groups["web"].tasks) == (500, 2)
+
+
+def test_cgroup1_great_shares(folder):
+    trees.group1(folder)
+    trees.group1(folder / "a", 262144)
+    trees.group1(folder / "b", 131072)
+    model = cgroup2.read(str(folder), EIGHT, cgroups.Wish(Fraction(1, 1000)))
+    assert [each.weight for each in model.groups.values()] == [10000, 5000]
+    assert any("kept as 5000" in note for note in model.notes)
+
+
+# Kubernetes
+
+def node_files(folder):
+    """A tree of the node's files, as the fixture has them."""
+    trees.root2(folder)
+    for line in fixture("node.cgroups")[1].decode().split("\n")[1:-1]:
+        path, weight, quota = line.split(" ")
+        trees.group2(folder / path, weight, f"{quota} 100000")
+
+
+def test_pods_and_files_agree(folder):
+    """The same weights and limits from the pods' JSON and from the node's files."""
+    node_files(folder)
+    by_files = cgroup2.read(str(folder), Host(4, 100000, 1000), cgroups.Wish(Fraction(1, 1000)))
+    files = {os.path.relpath(each.place, folder): of(each) for each in by_files.groups.values()}
+    by_pods = {each.place: of(each) for each in pods().groups.values() if each.place}
+    assert by_pods == files and len(files) == 13
+
+
+def test_pods():
+    model = pods()
+    assert model.host == Host(4, 100000, 1000)
+    titles = {each.title: each for each in model.groups.values()}
+    assert titles["prod/web-7c9f/nginx"].path == "kubepods/burstable/prod:web-7c9f/nginx"
+    assert titles["prod/web-7c9f/nginx"].demand == 250
+    assert "prod/db-0/setup" not in titles and "prod/proxy-1/envoy" in titles
+    assert of(titles["prod/db-0"]) == (79, 200000, 100000)
+    assert titles["prod/db-0/pause"].weight == 1 and titles["prod/db-0/pause"].demand == 0
+    assert "pods that have ended, left out: 1" in model.notes
+
+
+def test_pods_with_the_newer_conversion():
+    """runc from 1.3.2 on: 1024 shares are 100, 256 are 35, 2 are 1."""
+    titles = {each.title: each.weight for each in pods(conversion="log").groups.values()}
+    assert titles["prod/db-0/postgres"] == 100 and titles["prod/web-7c9f/nginx"] == 35
+    assert titles["batch/report-x"] == 1
+
+
+def test_pods_by_cgroupfs():
+    places = {each.title: each.place for each in pods(driver="cgroupfs").groups.values()}
+    assert places["batch/report-x"] == "kubepods/besteffort/pod00000003-0b1c-4d2e-8f3a-0123456789ab"
+
+
+def test_quality_without_a_status():
+    """kubelet's rule gives the same classes as the status."""
+    found = json.loads(fixture("pods.json")[1])
+    wanted = [kubernetes.pod_of(each, []).quality for each in found["items"]]
+    for each in found["items"]:
+        del each["status"]["qosClass"]
+    assert [kubernetes.pod_of(each, []).quality for each in found["items"]] == wanted
+
+
+def test_pods_of_several_nodes():
+    found = json.loads(fixture("pods.json")[1])
+    found["items"][0]["spec"]["nodeName"] = "n2"
+    data = json.dumps(found).encode()
+    with pytest.raises(HostFault, match="2 nodes .n1, n2.: choose one by --node"):
+        kubernetes.read([("p", data)], EIGHT)
+    model = kubernetes.read([("p", data)], EIGHT, kubernetes.Wish(node="n2"))
+    assert sum("/pause" in each.title for each in model.groups.values()) == 1
+
+
+# systemd, docker, podman
+
+def test_units():
+    model = systemd.read([fixture("units.show")], EIGHT)
+    found = {path: of(each) for path, each in model.groups.items()}
+    assert found == {
+        "system.slice": (100, None, 100000), "system.slice/ssh.service": (200, 50000, 100000),
+        # 5 ms of a second are 1 ms in 200 ms: systemd takes the longer period.
+        "system.slice/updatedb.service": (1, 1000, 200000),
+        "user.slice": (100, None, 100000), "user.slice/user-1000.slice": (100, None, 100000),
+        "user.slice/user-1000.slice/session-3.scope": (100, 75000, 50000)}
+    assert model.groups["system.slice/ssh.service"].usable == 1000
+
+
+def test_units_twice():
+    """What was used between two files, ten seconds apart."""
+    name, data = fixture("units.show")
+    later = data.replace(b"CPUUsageNSec=1000000000", b"CPUUsageNSec=6000000000")
+    model = systemd.read([(name, data), (name, later)], EIGHT, "usage", Fraction(10))
+    assert model.groups["system.slice/ssh.service"].demand == 500
+
+
+def test_docker():
+    model = containers.read([fixture("docker.json")], EIGHT)
+    found = {path: of(each) for path, each in model.groups.items()}
+    assert found == {
+        "system.slice": (100, None, 100000), "system.slice/web": (79, 150000, 100000),
+        "system.slice/db": (100, 20000, 50000), "batch.slice": (100, None, 100000),
+        "batch.slice/batch-night.slice": (100, None, 100000),
+        "batch.slice/batch-night.slice/job": (20, None, 100000)}
+    assert model.groups["system.slice/web"].place == f"system.slice/docker-{'01' * 32}.scope"
+    assert model.groups["system.slice/web"].demand == 1500
+    assert "containers that do not run, left out: 1" in model.notes
+
+
+def test_podman():
+    model = containers.read([fixture("podman.json")], EIGHT)
+    group = model.groups["machine.slice/pod-web"]
+    assert of(group) == (100, 50000, 100000)
+    assert group.place == f"machine.slice/libpod-{'05' * 32}.scope"
