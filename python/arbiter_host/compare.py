@@ -123,6 +123,8 @@ def table(one: Plan, two: Plan, view: View) -> list[tuple[str, str]]:
         end = tail(name, max(view.width - left - whys, LEAST_NAME))
         found.append((f"{numbers}  {padded(cut(why, whys), whys)}  {end}".rstrip(), style))
     found.append((f"{len(all_) - len(chosen)} of {len(all_)} groups are the same in both", ""))
+    if any("THROTTLED*" in each[1] for each in rows):
+        found.append((explain.THROTTLED_NOTE, ""))
     return found
 
 

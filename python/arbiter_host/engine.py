@@ -214,10 +214,10 @@ def limiting_of(said: list[str], paths: Sequence[str], program: str) -> tuple[li
 
 def current_clone_library() -> str | None:
     """The library that this clone has built from its sources as they stand, if there is one."""
-    built, words = CLONE / "crates/bw_exports/out/libarbiter.so", CLONE / "tests/lib.sh"
+    built, words = CLONE / "crates/bw_exports/out/libarbiter.so", CLONE / "scripts/current.sh"
     if not (built.is_file() and words.is_file()):
         return None
-    asked = ". tests/lib.sh && of_library && is_current"
+    asked = ". scripts/current.sh && of_library && is_current"
     try:
         ended = subprocess.run(["bash", "-c", asked], cwd=CLONE, stdin=subprocess.DEVNULL,
                                capture_output=True, timeout=SECONDS, check=False)

@@ -29,6 +29,7 @@ STYLES = {"STARVED": "bold red", "own limit": "yellow", "limit above": "yellow",
 # From this width on the reasons are whole sentences and a bar is shown.
 WIDE = 110
 LEAST_NAME = 16
+THROTTLED_NOTE = "* throttled, not by its limit: it gets less than its limit"
 
 
 @dataclass(frozen=True)
@@ -179,7 +180,7 @@ def few_tasks(plan: Plan) -> int:
 def foot(plan: Plan, view: View, lines: Sequence[Line]) -> Iterator[str]:
     """The lines below the table."""
     if any("THROTTLED*" in line.why for line in lines):
-        yield "* throttled, not by its limit: it gets less than its limit"
+        yield THROTTLED_NOTE
     idle = sum(1 for group in plan.groups[1:] if group.want == 0)
     if idle and not view.everything and not view.is_flat:
         yield f"groups that ask for nothing and are left out (--all shows them): {idle}"

@@ -234,6 +234,17 @@ def tell_gone(walk: Walk) -> None:
             node.measured.readings = known
 
 
+def tell_slices(model: Model) -> None:
+    """Tells where a quota or a burst is no whole number of slices, and is rounded down."""
+    host = model.host
+    for path, group in model.groups.items():
+        for name, usec in (("quota", group.quota), ("burst", group.burst)):
+            exact = Fraction((usec or 0) * host.period, group.period * host.slice_usec)
+            if exact.denominator != 1:
+                model.notes.append(f"{path}: its {name} is {units.decimal(exact)} slices:"
+                                   f" {int(exact)} are kept")
+
+
 def read(version: Version, folder: str, host: Host, wish: Wish) -> Model:
     """The model of a tree."""
     model = Model(host.checked())
@@ -249,6 +260,7 @@ def read(version: Version, folder: str, host: Host, wish: Wish) -> Model:
     found = {node.group.path: node.measured for node in walk.nodes}
     demands.set_demands(model, found, wish.want, seconds)
     tell_own(root, walk, seconds)
+    tell_slices(model)
     return model
 
 

@@ -1,0 +1,95 @@
+"""The package as a whole: types, names, lengths, versions, help."""
+import ast
+import re
+import subprocess
+import sys
+import tomllib
+from pathlib import Path
+
+import arbiter_host
+import pytest
+from conftest import PACKAGE
+
+SOURCES = sorted((PACKAGE / "arbiter_host").rglob("*.py")) + [PACKAGE / "arbiterctl"]
+TESTS = sorted((PACKAGE / "tests").glob("*.py"))
+SUBCOMMANDS = ("explain", "compare", "picture", "report", "series", "top", "apply", "undo",
+               "import", "from-cgroup")
+MOST_LINES, MOST_COLUMNS = 40, 100
+
+
+def ended(*words):
+    """What a checker says."""
+    found = subprocess.run([sys.executable, "-m", *words], capture_output=True, text=True,
+                           cwd=PACKAGE, check=False, timeout=300)
+    return found.returncode, found.stdout + found.stderr
+
+
+def test_mypy(tmp_path):
+    status, said = ended("mypy", "--strict", "--cache-dir", str(tmp_path), "arbiter_host")
+    assert status == 0, said
+
+
+def test_pyflakes():
+    status, said = ended("pyflakes", *map(str, SOURCES + TESTS))
+    assert (status, said) == (0, "")
+
+
+@pytest.mark.parametrize("path", SOURCES + TESTS, ids=lambda path: path.name)
+def test_columns(path):
+    lines = path.read_text(encoding="utf-8").split("\n")
+    assert [line for line in lines if len(line) > MOST_COLUMNS] == []
+
+
+@pytest.mark.parametrize("path", SOURCES, ids=lambda path: path.name)
+def test_functions_are_short_and_have_comments(path):
+    tree = ast.parse(path.read_text(encoding="utf-8"))
+    assert ast.get_docstring(tree)
+    for node in ast.walk(tree):
+        if isinstance(node, (ast.FunctionDef, ast.ClassDef)):
+            lines = (node.end_lineno or 0) - node.lineno + 1
+            if isinstance(node, ast.FunctionDef):
+                assert lines <= MOST_LINES, f"{node.name}: {lines} lines"
+    public = [node for node in tree.body if isinstance(node, (ast.FunctionDef, ast.ClassDef))]
+    assert [node.name for node in public if not ast.get_docstring(node)] == []
+
+
+def test_one_version(program):
+    """The package's version is that of the header, of pyproject and of the program."""
+    header = (PACKAGE.parent / "share/arbiter.h").read_text()
+    project = tomllib.loads((PACKAGE / "pyproject.toml").read_text())["project"]
+    version = re.search(r'ARBITER_VERSION "(.*)"', header).group(1)
+    assert (arbiter_host.__version__, project["version"]) == (version, version)
+
+
+def test_packages_of_debian():
+    """The versions that pyproject names are not above those that are here."""
+    project = tomllib.loads((PACKAGE / "pyproject.toml").read_text())["project"]
+    named = project["dependencies"] + project["optional-dependencies"]["test"]
+    from importlib.metadata import version
+    for each in named:
+        name, least = each.split(">=")
+        here = [int(part) for part in re.findall(r"\d+", version(name))]
+        assert here >= [int(part) for part in re.findall(r"\d+", least)], each
+
+
+@pytest.mark.parametrize("command", SUBCOMMANDS)
+def test_help(ctl, command):
+    """Each subcommand has help that names its statuses, and refuses words that it does not know."""
+    out, _ = ctl.run(command, "--help")
+    assert "exit status" in out and "usage" in out
+    _, err = ctl.run(command, "--frob", status=2)
+    assert "usage" in err
+
+
+def test_all_subcommands_are_tested(ctl):
+    out, _ = ctl.run("--help")
+    assert set(re.findall(r"^    ([a-z-]+)(?: |$)", out, re.M)) == set(SUBCOMMANDS)
+    assert ctl.run("--version")[0] == f"arbiterctl {arbiter_host.__version__}\n"
+
+
+def test_pages_name_all_options(ctl):
+    """Each option of explain that TOOLS.md names is one."""
+    page = (Path(PACKAGE).parent / "docs/TOOLS.md").read_text()
+    known = "".join(ctl.run(command, "--help")[0] for command in SUBCOMMANDS)
+    for option in set(re.findall(r"`(--[a-z-]+)", page)) - {"--runtime", "--help"}:
+        assert option in known, option
