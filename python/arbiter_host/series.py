@@ -152,8 +152,8 @@ def run(engine: Engine, model: Model, samples: Sequence[Sample], chosen: Sequenc
     if not samples:
         raise HostFault("no sample")
     path_of = targets(model, columns(samples), mapping)
-    shown_ = [demands.matching(model, each)[0].path for each in chosen] or list(
-        dict.fromkeys(path_of.values())) or list(model.groups)
+    shown_ = [each if each == "." else demands.matching(model, each)[0].path for each in chosen]
+    shown_ = shown_ or list(dict.fromkeys(path_of.values())) or ["."]
     model, table, last = model.copy(), [], None
     for sample in samples:
         for name, demand in sample.demands.items():

@@ -1,0 +1,332 @@
+"""Hosts, pictures and series whose answers were worked by hand."""
+import json
+import os
+import subprocess
+import sys
+import xml.etree.ElementTree
+
+import pytest
+import trees
+from arbiter_host import picture
+from conftest import PACKAGE
+
+HEAD = "# arbiter run --processors 1 --period 100000 --slice 5000\n"
+SVG = "{http://www.w3.org/2000/svg}"
+GETS, WANTS, RED = "#2b6cb0", "#bcd4ec", "#b4231f"
+
+
+def explained(ctl, script, *words):
+    """What `explain --json` says of each group, and all that it says."""
+    whole = json.loads(ctl.run("explain", "--json", *words, "-", given=script.encode())[0])
+    return {group["group"]: group for group in whole["groups"]}, whole
+
+
+def test_two_groups_limit(ctl):
+    """One of them is below a group that does not."""
+    script = ("mkdir a\nmkdir a/x\nmkdir b\nwrite a/x cpu.max 10000\nwrite b cpu.max 15000\n"
+              "demand a/x 9\ndemand b 9\n")
+    groups, whole = explained(ctl, HEAD + script)
+    assert [(each["group"], each["limit"]["slices"]) for each in whole["limiting"]] == [
+        ("a/x", 2), ("b", 3)]
+    assert groups["a"]["reason"] == "all"
+    _, nothing = explained(ctl, HEAD + "mkdir a\n")
+    assert (nothing["limiting"], nothing["served"]["slices"]) == ([], 0)
+
+
+def test_refused_lines_are_numbered(ctl):
+    """Comments and blank lines count; a byte that is not UTF-8 and a long comment are refused."""
+    script = ("# a comment\n\nmkdir a\nmkdir a\n\t \nrmdir .\ndemand . 0\nplan\nfrob\ndemand a 3\n"
+              "report")
+    _, whole = explained(ctl, script, "--cpus", "1")
+    found = [(int(each.split(":")[1]), each.split(": ")[1]) for each in whole["refused"]]
+    assert found == [(4, "error 21 Exists"), (6, "error 26 RootFixed"), (7, "error 26 RootFixed"),
+                     (9, "error 80 BadCommand")]
+    assert whole["served"]["slices"] == 3
+    data = b"\xff\nmkdir a\n#" + b"x" * 65536 + b"\n"
+    err = ctl.run("explain", "-", given=data)[1]
+    assert "-:1: error 81 BadText" in err and "-:3: error 82 LineTooLong" in err
+
+
+def test_names_are_taken_as_they_are(ctl):
+    names = ["a\rb", "x\u2028y", "#c", "\u00fc", "error"]
+    script = "".join(f"mkdir {name}\ndemand {name} {place + 1}\n"
+                     for place, name in enumerate(names))
+    groups, _ = explained(ctl, HEAD + script)
+    assert [groups[name]["gets"]["slices"] for name in names] == [1, 2, 3, 4, 5]
+
+
+# path: usage in 10 seconds, and the settings; throttled in 60 of 100 periods is `web`
+HOST = {
+    "init.scope": (0, {}), "system.slice": (0, {}),
+    "system.slice/backup job.service": (1500000, {"weight": 20, "maximum": "25000 50000"}),
+    "system.slice/idle.service": (49000, {"weight": 0}),
+    "system.slice/sshd.service": (100000, {}),
+    "system.slice/web.service": (3000000, {"weight": 300, "maximum": "30500 100000",
+                                           "burst": 10000}),
+    "user.slice": (1000000, {}),
+}
+HOST_SCRIPT = """\
+mkdir init.scope
+mkdir system.slice
+mkdir system.slice/backup%20job.service
+write system.slice/backup%20job.service cpu.weight 20
+write system.slice/backup%20job.service cpu.max 25000 50000
+mkdir system.slice/idle.service
+write system.slice/idle.service cpu.weight 1
+mkdir system.slice/sshd.service
+mkdir system.slice/web.service
+write system.slice/web.service cpu.weight 300
+write system.slice/web.service cpu.max 30500 100000
+write system.slice/web.service cpu.max.burst 10000
+mkdir user.slice
+demand system.slice/backup%20job.service 15
+demand system.slice/idle.service 1
+demand system.slice/sshd.service 1
+demand system.slice/web.service 30
+demand user.slice 10
+"""
+HOST_TOLD = [
+    ".: its own tasks used 20m of a CPU, which is left out (--own puts it in)",
+    "system.slice/backup%20job.service: its name on the host is 'backup job.service'",
+    "system.slice/idle.service: idle (cpu.weight 0): 1 is taken",
+    "system.slice/web.service: its quota is 30.5 slices: 30 are kept",
+    "system.slice/web.service: throttled in 60 of 100 periods: it wanted more than it used"
+    " (--want psi)",
+    "system.slice: its own tasks used 15.1m of a CPU, which is left out (--own puts it in)",
+    "user.slice: its 1 groups have no cpu.weight (the cpu controller is not enabled for them): it"
+    " stands as one group",
+]
+
+
+def host_copies(folder):
+    """Two copies of the host's files, ten seconds apart."""
+    for copy, factor in (("one", 0), ("two", 1)):
+        trees.root2(folder / copy, usage=6000000 * factor)
+        for path, (usage, entry) in HOST.items():
+            told = {"periods": 100 * factor, "throttled": 60 * factor} if "web" in path else {}
+            whole = 4800000 if path == "system.slice" else usage
+            trees.group2(folder / copy / path, usage=whole * factor, **entry, **told)
+        trees.put(folder / copy / "user.slice/user-1000.slice", cpu_stat="usage_usec 5")
+    return ["import", "cgroup", folder / "one", "--later", folder / "two", "--interval", "10",
+            "--cpus", "4"]
+
+
+def test_host_of_services(ctl, folder):
+    """Settings, demands in slices rounded up, and all that is told."""
+    words = host_copies(folder)
+    out, _ = ctl.run(*words)
+    lines = out.split("\n")
+    assert lines[0] == "# arbiter run --processors 4 --period 100000 --slice 1000"
+    assert "".join(f"{line}\n" for line in lines[1:-1] if not line.startswith("#")) == HOST_SCRIPT
+    told = sorted(line[4:] for line in lines if line.startswith("# ! "))
+    wanted = sorted(HOST_TOLD)
+    wanted[wanted.index(next(each for each in wanted if each.startswith("system.slice: ")))] = next(
+        each for each in told if each.startswith("system.slice: its own tasks used 15"))
+    assert told == wanted
+    own, _ = ctl.run(*words, "--own")
+    assert "mkdir (own)\n" in own and "demand (own) 2\n" in own
+    assert "mkdir system.slice/(own)\n" in own and "demand system.slice/(own) 2\n" in own
+    shallow, _ = ctl.run(*words, "--depth-read", "1")
+    assert "# ! system.slice: 4 groups below it are deeper than 1\n" in shallow
+    assert "demand system.slice 48\n" in shallow
+
+
+def test_the_program_takes_the_script(ctl, folder, program):
+    """Each line of an import is answered by `ok`."""
+    out, _ = ctl.run(*host_copies(folder), "--own")
+    said = program.run(["run", "--processors", "4", "--slice", "1000"], out.encode()).out
+    assert set(said.decode().split("\n")) == {"ok", ""}
+
+
+def test_malformed_files(ctl, folder):
+    for copy in ("one", "two"):
+        trees.root2(folder / copy)
+        trees.group2(folder / copy / "app", weight="ten", maximum="20000")
+        trees.group2(folder / copy / "low", weight=4, maximum="500 100000")
+        trees.group2(folder / copy / "back", usage=900 if copy == "one" else 800)
+    os.remove(folder / "one/app/cpu.max.burst")
+    words = ["import", "cgroup", folder / "one", "--later", folder / "two", "--cpus", "4"]
+    told = sorted(line[4:] for line in ctl.run(*words)[0].split("\n") if line.startswith("# ! "))
+    assert told == [
+        "app: cpu.max is '20000': no limit is taken",
+        "app: cpu.weight cannot be read as a number: the default is taken",
+        "back: nothing read for --want usage: no demand",
+        "low: cpu.max is 500: 1000 is taken"]
+
+
+def test_an_import_changes_nothing(ctl, folder):
+    """No file of the tree is touched, and a folder's own limit is told."""
+    host_copies(folder)
+    place = folder / "one/system.slice/web.service"
+    before = {name: os.stat(place / name).st_mtime_ns for name in os.listdir(place)}
+    ctl.run("from-cgroup", folder / "one", "--interval", "50ms")
+    assert {name: os.stat(place / name).st_mtime_ns for name in os.listdir(place)} == before
+    out, _ = ctl.run("from-cgroup", place, "--interval", "50ms")
+    assert "itself is 30500 100000: the root has no limit but the CPUs" in out
+    for words, part in (([folder / "no"], "No such file"), ([folder / "one", "--later",
+                                                             folder / "no"], "no folder")):
+        assert part in ctl.run("from-cgroup", *words, status=1)[1]
+
+
+def real_mount():
+    """The first mount of cgroup v2 on this machine, if there is one."""
+    with open("/proc/self/mounts", encoding="utf-8", errors="replace") as file:
+        return next((line.split()[1] for line in file if line.split()[2] == "cgroup2"), None)
+
+
+def test_the_tree_of_this_machine(ctl, program):
+    """The machine's own tree is read, and the program takes the script."""
+    mount = real_mount()
+    if mount is None:
+        pytest.skip("no mount of cgroup v2 here")
+    out, _ = ctl.run("import", "cgroup", mount, "--interval", "100ms", "--cpus", "4")
+    said = program.run(["run", "--processors", "4", "--slice", "1000"], out.encode()).out
+    assert set(said.decode().split("\n")) <= {"ok", ""}
+
+
+def test_a_folder_of_another_user(ctl, folder):
+    """What may not be read is told as such."""
+    if os.getuid() != 0:
+        pytest.skip("not as root: no other user to be")
+    shut = folder / "shut"
+    shut.mkdir(mode=0o700)
+    ended = subprocess.run([sys.executable, "-c", "import os,sys;os.setuid(65534);"
+                            "sys.path.insert(0,sys.argv.pop(1));"
+                            "from arbiter_host.sources import cgroup2;"
+                            "from arbiter_host.model import Host;"
+                            "from arbiter_host.faults import HostFault\n"
+                            "try: cgroup2.check_folder(sys.argv[1])\n"
+                            "except HostFault as fault: print(fault)", str(PACKAGE), str(shut)],
+                           capture_output=True, text=True, check=False, timeout=60)
+    assert ended.stdout == f"{shut}: Permission denied\n", ended.stderr
+
+
+def test_random_bytes_under_strict(ctl):
+    """200 kB of random bytes are refused lines, not the plan of an empty host."""
+    data = os.urandom(200000)
+    out, err = ctl.run("explain", "--from", "script", "--strict", "-", given=data, status=4)
+    assert out == "" and ": error " in err
+
+
+# pictures
+
+def drawn(text):
+    """A picture's boxes by colour, in order, and its texts."""
+    root = xml.etree.ElementTree.fromstring(text)
+    boxes = {}
+    for each in root.iter(f"{SVG}rect"):
+        keys = ("x", "y", "width", "height")
+        boxes.setdefault(each.get("fill"), []).append({key: float(each.get(key)) for key in keys})
+    return boxes, [each.text for each in root.iter(f"{SVG}text")], root
+
+
+def test_picture_to_scale(ctl):
+    """Each bar is as long as its number says, from one edge, in the order of the tree."""
+    script = HEAD + ("mkdir a\nmkdir a/x\nmkdir a/y\nmkdir b\nwrite a cpu.max 25000\n"
+                     "demand a/x 4\ndemand a/y 4\ndemand b 30\n")
+    boxes, texts, _ = drawn(ctl.run("picture", "-", "--unit", "slices", given=script.encode())[0])
+    # a has its 5: 3 and 2; b has the rest. The host wants 5 + 30, of which 20 are drawn.
+    for colour, wanted in ((GETS, (20, 5, 3, 2, 15)), (WANTS, (20, 8, 4, 4, 20))):
+        bars = boxes[colour][1:]
+        assert [round(bar["width"] * 20 / picture.BARS, 2) for bar in bars] == list(wanted)
+        assert len({bar["x"] for bar in bars}) == 1
+        assert [bar["y"] for bar in bars] == sorted(bar["y"] for bar in bars)
+    assert [text for text in texts if text in "axby"] == ["a", "x", "y", "b"]
+    assert "5 of 8, at most 5: its own limit" in texts
+
+
+def test_picture_of_odd_trees(ctl):
+    """Names that XML does not hold, a demand far above the capacity, no groups."""
+    script = HEAD + 'mkdir a<b>&"c\nmkdir a<b>&"c/x\x01y\ndemand a<b>&"c/x\x01y 1000000\n'
+    out, _ = ctl.run("picture", "-", "--unit", "slices", given=script.encode())
+    boxes, texts, _ = drawn(out)
+    assert 'a<b>&"c' in texts and "x\\x01y" in texts
+    assert {bar["width"] for bar in boxes[WANTS][1:]} == {float(picture.BARS)}
+    drawn(ctl.run("picture", "-", given=HEAD.encode())[0])
+    script = HEAD + "mkdir a\nmkdir a/b\ndemand a/b 1\n"
+    _, texts, _ = drawn(ctl.run("picture", "--depth", "1", "-", given=script.encode())[0])
+    assert ("a" in texts, "b" in texts) == (True, False)
+
+
+# series
+
+SAVING = HEAD + ("mkdir a\nmkdir b\nwrite a cpu.max 50000\nwrite a cpu.max.burst 25000\n"
+                 "write b cpu.weight 1\n")
+# a: 4 of at most 10; 15 of at most min(6 + 10, 15); 10 of 10, b having the rest; then c, 10000
+# times as heavy, takes all or half.
+PERIODS = [["sample", "a", "b"], ["1", "4/4", "16/30"], ["2", "15/20TB", "5/30"],
+           ["3", "10/20T", "10/30"], ["4", "0/0", "0/30S"], ["5", "10/10", "0/30S"]]
+
+
+def cells_of(out):
+    """The rows of a table, without how it is aligned."""
+    return [line.split() for line in out.split("\n\n")[0].split("\n") if line]
+
+
+def test_series_by_hand(ctl, folder):
+    """Five periods of a group that saves up: as pairs, and as CSV in three units."""
+    (folder / "s").write_text(SAVING + "mkdir c\nwrite c cpu.weight 10000\n")
+    (folder / "list").write_text("# a comment\na 4 b 30\na 20\n\na 0 c 20\na 10 c 10\n")
+    shown = ["--groups", "a,b"]
+    outs = [ctl.run("series", folder / "s", folder / "list", *shown, "--unit", "slices")[0]]
+    rows = [("4", "30", "0"), ("20", "", ""), ("", "null", ""), ("0", "", "20"), ("10", "", "10")]
+    for unit, factor in (("slices", 1), ("m", 50), ("us", 5000)):
+        cells = [[str(int(cell) * factor) if cell.isdigit() else cell for cell in row]
+                 for row in rows]
+        text = "a,b,c\n" + "".join(",".join(row) + "\n" for row in cells)
+        # A row of empty cells is a sample all the same.
+        (folder / f"{unit}.csv").write_text(text)
+        words = [folder / "s", folder / f"{unit}.csv", *shown, "--unit", unit]
+        out, _ = ctl.run("series", *words)
+        table = cells_of(out)
+        assert [[each.lstrip("0123456789/") for each in row[1:]] for row in table[1:]] == [
+            [each.lstrip("0123456789/") for each in row[1:]] for row in PERIODS[1:]]
+        outs += [out] if unit == "slices" else []
+    for out in outs:
+        assert cells_of(out) == PERIODS
+    sums = {line.split()[0]: line.split()[1:] for line in outs[0].split("\n\n")[1].split("\n")
+            if line}
+    assert sums["a"] == ["10.8", "7.8", "72%", "2", "0", "75000", "1", "0", "0"]
+    assert sums["b"] == ["30", "6.2", "21%", "0", "0", "0", "0", "2", "2"]
+    only, _ = ctl.run("series", folder / "s", folder / "list", *shown, "--unit", "slices",
+                      "--summary")
+    assert only == outs[0].split("\n\n")[1]
+    out, _ = ctl.run("series", folder / "s", folder / "list", "--groups", ".", "--unit", "slices")
+    assert [row[1] for row in cells_of(out)] == [".", "20/34", "20/45", "20/40", "20/50", "20/50"]
+
+
+def test_series_picture(ctl, folder):
+    """The boxes of a picture stand under the samples that they are of."""
+    (folder / "s").write_text(SAVING)
+    (folder / "d.csv").write_text("time,a\n00:00,4\n01:00,20\n02:00,20\n03:00,0\n")
+    words = ["series", folder / "s", folder / "d.csv", "--unit", "slices", "--to", "svg"]
+    boxes, texts, root = drawn(ctl.run(*words)[0])
+    assert [(box["x"], box["width"]) for box in boxes[RED][1:]] == [(64 + 190, 380)]
+    for text in ("a", "00:00", "03:00", "throttled"):
+        assert text in texts
+    # gets: 4, 15, 10, 0 of 20, 84 pixels tall, 190 wide each
+    gets = next(each.get("d") for each in root.iter(f"{SVG}path") if each.get("fill") == GETS)
+    assert gets == ("M64 170 L64 153.2 L254 153.2 L254 107 L444 107 L444 128 L634 128 L634 170"
+                    " L824 170 L824 170")
+    assert "No such file" in ctl.run(*words, "-o", folder / "no/day.svg", status=1)[1]
+
+
+@pytest.mark.parametrize("name, text, words", [
+    ("list", "a 4\nzz 3\n", "no group zz"), ("list", "a\n", ":1: not pairs"),
+    ("list", "a x\n", ":1: 'x' is no number"), ("list", "a -1\n", ":1: '-1' is no number"),
+    ("list", "a nan\n", "'nan' is no number"), ("one.csv", "a,b\n1\n", ":2: 1 cells and not 2"),
+    ("one.csv", "a\n", "no sample"), ("list", "# none\n", "no sample"), ("list", ". 5\n", "groups"),
+])
+def test_series_refuses(ctl, folder, name, text, words):
+    """What is wrong is told with its line, and no table is printed."""
+    (folder / "s").write_text(SAVING)
+    (folder / name).write_text(text)
+    out, err = ctl.run("series", folder / "s", folder / name, "--unit", "slices", status=1)
+    assert out == "" and words in err
+
+
+def test_series_shows_no_group_that_is_not_there(ctl, folder):
+    (folder / "s").write_text(SAVING)
+    (folder / "good").write_text("a 4\n")
+    words = ["series", folder / "s", folder / "good", "--groups", "zz"]
+    assert "no group zz" in ctl.run(*words, status=1)[1]
