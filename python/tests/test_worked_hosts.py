@@ -1,14 +1,21 @@
 """Hosts, pictures and series whose answers were worked by hand."""
 import json
 import os
+import shutil
 import subprocess
 import sys
 import xml.etree.ElementTree
+from fractions import Fraction
 
 import pytest
 import trees
 from arbiter_host import picture
+from arbiter_host.model import Group, Host, Model
+from arbiter_host.plan import plan
+from arbiter_host.sources import script
 from conftest import PACKAGE
+from hypothesis import HealthCheck, given, settings
+from hypothesis import strategies as st
 
 HEAD = "# arbiter run --processors 1 --period 100000 --slice 5000\n"
 SVG = "{http://www.w3.org/2000/svg}"
@@ -330,3 +337,48 @@ def test_series_shows_no_group_that_is_not_there(ctl, folder):
     (folder / "good").write_text("a 4\n")
     words = ["series", folder / "s", folder / "good", "--groups", "zz"]
     assert "no group zz" in ctl.run(*words, status=1)[1]
+
+
+# the engine
+
+def test_library_that_the_system_finds(ctl, folder, library):
+    """A package outside a clone takes the library of the loader's path."""
+    shutil.copytree(PACKAGE / "arbiter_host", folder / "p/arbiter_host")
+    shutil.copy(library, folder / "libarbiter.so.1")
+    for name in ("ARBITER_LIBRARY", "ARBITER"):
+        ctl.environment.pop(name)
+    ctl.environment.update(LD_LIBRARY_PATH=str(folder), PYTHONPATH=str(folder / "p"))
+    words = [sys.executable, "-m", "arbiter_host", "explain", "--json", "-"]
+    ended = subprocess.run(words, input=HEAD.encode(), capture_output=True, check=False,
+                           env=ctl.environment, timeout=60, cwd=folder)
+    assert json.loads(ended.stdout)["engine"] == "library libarbiter.so.1", ended.stderr
+
+
+@st.composite
+def models(draw):
+    """Small models of groups with limits and demands."""
+    model = Model(Host(2, 100000, 5000))
+    paths = ["."]
+    for number in range(draw(st.integers(1, 8))):
+        above = draw(st.sampled_from(paths))
+        path = f"n{number}" if above == "." else f"{above}/n{number}"
+        quota = draw(st.one_of(st.none(), st.integers(1000, 200000)))
+        model.add(Group(path, draw(st.integers(1, 10000)), quota))
+        paths.append(path)
+    for path, below in model.children().items():
+        if path != "." and not below:
+            model.groups[path].demand = Fraction(50 * draw(st.integers(0, 40)))
+    return model
+
+
+@settings(max_examples=40, deadline=None, suppress_health_check=list(HealthCheck))
+@given(model=models())
+def test_counted_as_the_program_counts(program, library_engine, model):
+    """What a group gets, and whether it is throttled, are what `period` counts."""
+    found = plan(library_engine, model)
+    text = script.write(model) + "period\nreport\n"
+    words = ["run", "--processors", "2", "--period", "100000", "--slice", "5000"]
+    said = program.run(words, text.encode()).out.decode().split(" group\n")[1].split("\n")[:-1]
+    counted = {line.split()[4]: (int(line.split()[0]), int(line.split()[2])) for line in said}
+    assert counted == {group.path: (group.gets * 5000, int(group.is_throttled))
+                       for group in found.groups}
