@@ -82,6 +82,10 @@ def test_toml(library_engine, data):
 @example(data=b"groups: {? [a] : {}}\n")
 @example(data=b"a: &a [*a]\ngroups: *a\n")
 @example(data=b"[" * 5000)
+@example(data=b"a: &a [x, x]\n" + b"".join(
+    b"%c: &%c [*%c, *%c, *%c, *%c]\n" % (n, n, n - 1, n - 1, n - 1, n - 1)
+    for n in range(ord("b"), ord("z"))) + b"groups: {g: {weight: *y}}\n")
+@example(data=b"x: &b [1]\n" + b"y: &c [*b, *b]\ngroups: {g: {weight: *c, demand: *c}}\n")
 def test_yaml(library_engine, data):
     planned(library_engine, holds(lambda: hostfile.read(data, "F", "yaml")))
 

@@ -280,10 +280,12 @@ def test_top_on_a_terminal(ctl, folder, columns, lines):
     trees.root2(folder)
     for number in range(60):
         trees.group2(folder / f"web{number}", usage=5)
-    command = (f"import os,pty,sys,struct,fcntl,termios,time,signal,select\n"
+    command = ("import os,pty,sys,struct,fcntl,termios,time,signal,select\n"
+               "ready,say=os.pipe()\n"
                "pid,fd=pty.fork()\n"
-               f"if pid==0: time.sleep(.3); os.execvp(sys.argv[1],sys.argv[1:])\n"
+               "if pid==0: os.read(ready,1); os.execvp(sys.argv[1],sys.argv[1:])\n"
                f"fcntl.ioctl(fd,termios.TIOCSWINSZ,struct.pack('HHHH',{lines},{columns},0,0))\n"
+               "os.write(say,b'x')\n"
                "out=b'';end=time.time()+20\n"
                "while time.time()<end and out.count(b'CPUs, period')<3:\n"
                "  if select.select([fd],[],[],.2)[0]:\n"

@@ -12,7 +12,7 @@ from dataclasses import dataclass, field
 from fractions import Fraction
 from typing import Protocol
 
-from arbiter_host import demands, names, units
+from arbiter_host import demands, names, progress, units
 from arbiter_host.demands import Measured, Reading
 from arbiter_host.faults import HostFault, strerror
 from arbiter_host.model import MAX_DEPTH, OWN, Group, Host, Model
@@ -193,10 +193,12 @@ def sample(top: str, root: Node, walk: Walk) -> Fraction:
             node.measured.readings += map(walk.version.reading, later_folders(top, node, wish))
         return wish.seconds
     begun, turns = time.monotonic(), max(wish.samples - 1, 1)
-    for turn in range(1, turns + 1):
-        time.sleep(max(begun + float(wish.seconds * turn) - time.monotonic(), 0))
-        for node in nodes:
-            node.measured.readings.append(walk.version.reading(node.folder))
+    with progress.bar("readings", turns) as tick:
+        for turn in range(1, turns + 1):
+            time.sleep(max(begun + float(wish.seconds * turn) - time.monotonic(), 0))
+            for node in nodes:
+                node.measured.readings.append(walk.version.reading(node.folder))
+            tick()
     passed = Fraction(time.monotonic() - begun).limit_denominator(10**6) / turns
     return max(passed, wish.seconds)
 

@@ -89,7 +89,11 @@ def whole(value: Any) -> int:
 
 
 def text_of(value: Any) -> str:
-    """A short text of a value."""
+    """A short text of a value. Lists and tables are named alone: they may hold themselves."""
+    if isinstance(value, (list, tuple, set)):
+        return "a list"
+    if isinstance(value, dict):
+        return "a table"
     return names.cut(names.shown(repr(value)), 60)
 
 
