@@ -88,6 +88,39 @@ def test_checked_build_that_fails(copy):
     same(os.listdir(f"{copy.cache}/arbiter/checked"), [], "what is kept")
 
 
+@pytest.mark.parametrize("number", [signal.SIGINT, signal.SIGTERM], ids=["INT", "TERM"])
+def test_interrupted_compilation(copy, number):
+    """A signal to ./arbiter alone ends the kit too, and nothing is kept."""
+    copy.write("../kit/while", f"echo begun >{copy.top}/begun\nexec sleep 60\n")
+    with subprocess.Popen(["./arbiter", "a"], cwd=copy.top, stdin=subprocess.DEVNULL,
+                          stdout=subprocess.PIPE, stderr=subprocess.PIPE,
+                          env=copy.environment(), start_new_session=True) as process:
+        wait_for(copy, "begun")
+        process.send_signal(number)
+        out, _ = process.communicate(timeout=30)
+    same((process.returncode, out), (2, b""), "the interrupted call")
+    same(group_is_gone(process.pid), True, "processes that are left end soon")
+    same(os.listdir(f"{copy.cache}/arbiter/checked"), [], "what is kept")
+
+
+def wait_for(copy, name):
+    """Waits until a file is there, at most half a minute."""
+    until = time.monotonic() + 30
+    while not copy.there(name) and time.monotonic() < until:
+        time.sleep(0.05)
+
+
+def group_is_gone(group):
+    """Whether all processes of a group end within some seconds."""
+    for _ in range(100):
+        try:
+            os.killpg(group, 0)
+        except ProcessLookupError:
+            return True
+        time.sleep(0.1)
+    return False
+
+
 def test_nothing_can_be_kept(copy):
     """Without a folder to keep it in, the checked build is compiled for one run."""
     copy.cache = f"{copy.folder}/file/below"
@@ -256,10 +289,14 @@ def test_builds_where_needed(copy):
     holds(f"build: {PROGRAM}, in ", copy.build(), "the first build")
     same(copy.call(["./build"]), (0, f"build: {PROGRAM} is current\n", ""), "the second build")
     same([line for line in copy.log() if line.startswith("rt ")], [], "calls of the second build")
+    time_of_build = "../cache/arbiter/time of build"
+    holds("on this machine", copy.read(time_of_build), "the time from nothing")
+    copy.write(time_of_build, "an hour\n")
     copy.write(sources("bw_cert")[1], "edited\n")
     copy.is_checked("an edit")
     holds(f"build: {PROGRAM}, in ", copy.build(), "the build after an edit")
     copy.is_native("after the build")
+    same(copy.read(time_of_build), "an hour\n", "the time from nothing")
 
 
 def test_build_proves_side_by_side(copy):
@@ -299,17 +336,6 @@ def test_build_on_a_terminal(copy):
     assert re.fullmatch(rb"build: 0 of \d+ crates, \d+ s", shown[-1]), shown
 
 
-def group_is_gone(group):
-    """Whether all processes of a group end within some seconds."""
-    for _ in range(100):
-        try:
-            os.killpg(group, 0)
-        except ProcessLookupError:
-            return True
-        time.sleep(0.1)
-    return False
-
-
 def test_interrupted_build_goes_on(copy):
     """A build that a signal ends leaves no stamp, ends the kit, and goes on the next time."""
     waiting = f"echo begun >>{copy.top}/begun\n[ -e {copy.top}/go ] || exec sleep 60\n"
@@ -318,9 +344,7 @@ def test_interrupted_build_goes_on(copy):
         with subprocess.Popen(["./build"], cwd=copy.top, stdin=subprocess.DEVNULL,
                               stdout=subprocess.PIPE, stderr=subprocess.PIPE,
                               env=copy.environment(), start_new_session=True) as process:
-            until = time.monotonic() + 30
-            while not copy.there("begun") and time.monotonic() < until:
-                time.sleep(0.05)
+            wait_for(copy, "begun")
             os.remove(f"{copy.top}/begun")
             os.killpg(process.pid, number)
             process.communicate(timeout=30)
