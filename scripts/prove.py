@@ -9,6 +9,7 @@ status is that of `rt all check`.
 import io
 import os
 import re
+import resource
 import signal
 import subprocess
 import sys
@@ -98,7 +99,11 @@ def main():
     for number in (signal.SIGTERM, signal.SIGHUP):
         signal.signal(number, lambda number, _: run.rt.send_signal(number))
     status = run.end()
-    if status:
+    if not status:
+        used = resource.getrusage(resource.RUSAGE_CHILDREN)
+        seconds = f"{used.ru_utime + used.ru_stime:.0f} s of the processors"
+        run.progress.line(f"{len(run.all)} crates proved, {run.progress.took()}, {seconds}")
+    else:
         run.progress.line(f"not proved; all that the kit said is in {run.log}")
         print(run.failures(), end="", file=sys.stderr)
     return status if status >= 0 else 128 - status

@@ -307,6 +307,8 @@ def test_build_proves_side_by_side(copy):
     lines = re.findall(r"^build: (\d+) of (\d+) crates \((\w+)\), \d+ s$", err, re.M)
     same([line[:2] for line in lines], [(f"{at}", f"{number}") for at in range(1, number + 1)], err)
     same({line[2] for line in lines}, copy.ours, "crates")
+    whole = rf"^build: {number} crates proved, \d+ s, \d+ s of the processors$"
+    assert re.search(whole, err, re.M), err
     called = [line for line in copy.log() if line.startswith("rt all")]
     assert re.fullmatch(r"rt all check --jobs [1-9]\d*", *called), called
     holds("that took 29 min 48 s on a machine with 4 processors", err, "the time is told before")
@@ -461,6 +463,27 @@ def test_test_counts_all(copy):
     same(copy.proved(), [LIBRARY_PROVED], "what ./test proves after the gate")
     copy.is_native("after ./test")
     copy.installs(f"{copy.folder}/there", "after ./test")
+
+
+def test_test_installs_what_it_needs(copy):
+    """Missing packages are installed by apt-get where root may, otherwise the command is named."""
+    with_gate(copy, "5 passed, 0 failed")
+    text = copy.read("../kit/python")
+    missing = f"case $1 in -c) [ -e {copy.kit}/installed ]; exit ;; esac\n"
+    copy.write("../kit/python", text.replace("#!/bin/sh\n", f"#!/bin/sh\n{missing}", 1))
+    apt = f"echo apt-get $1 >>{copy.kit}/log\n[ $1 != install ] || : >{copy.kit}/installed\n"
+    for user, wanted in (("1000", []), ("0", ["apt-get update", "apt-get install"])):
+        for name, lines in (("id", f"echo {user}\n"), ("apt-get", apt)):
+            if os.path.lexists(f"{copy.bin}/{name}"):
+                os.remove(f"{copy.bin}/{name}")
+            copy.write(f"../bin/{name}", f"#!/bin/sh\n{lines}")
+            os.chmod(f"{copy.bin}/{name}", 0o755)
+        copy.log()
+        status, _, err = copy.call(["./test"])
+        called = [line for line in copy.log() if line.startswith("apt-get")]
+        same((status, called), (0 if wanted else 2, wanted), f"user {user}: {err}")
+        named = ": sudo apt-get install -y python3-pytest" in err
+        same(named, not wanted, f"user {user}: whether the command is named")
 
 
 def test_test_sees_changed_sources(copy):
