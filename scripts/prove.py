@@ -92,12 +92,20 @@ class Run:
 
 
 def main():
-    run = Run(*sys.argv[1:])
-    # rt ends all that it started; what was proved stays
-    # (an interrupt from the terminal reaches it by itself)
+    runs = []
+
+    def pass_on(number, _):
+        """rt ends all that it started. What was proved stays."""
+        if not runs:
+            sys.exit(128 + number)
+        runs[0].rt.send_signal(number)
+
+    # Before rt begins: it would inherit an ignored interrupt. That of a terminal reaches it.
     signal.signal(signal.SIGINT, lambda *_: None)
     for number in (signal.SIGTERM, signal.SIGHUP):
-        signal.signal(number, lambda number, _: run.rt.send_signal(number))
+        signal.signal(number, pass_on)
+    run = Run(*sys.argv[1:])
+    runs.append(run)
     status = run.end()
     if not status:
         used = resource.getrusage(resource.RUSAGE_CHILDREN)

@@ -338,19 +338,21 @@ def test_build_on_a_terminal(copy):
     assert re.fullmatch(rb"build: 0 of \d+ crates, \d+ s", shown[-1]), shown
 
 
-def test_interrupted_build_goes_on(copy):
+@pytest.mark.parametrize("send", [os.kill, os.killpg], ids=["to the build", "to all"])
+def test_interrupted_build_goes_on(copy, send):
     """A build that a signal ends leaves no stamp, ends the kit, and goes on the next time."""
     waiting = f"echo begun >>{copy.top}/begun\n[ -e {copy.top}/go ] || exec sleep 60\n"
     copy.write("../kit/while", waiting)
-    for number in (signal.SIGINT, signal.SIGTERM):
+    for number in (signal.SIGHUP, signal.SIGTERM, signal.SIGINT)[: 3 if send == os.killpg else 2]:
         with subprocess.Popen(["./build"], cwd=copy.top, stdin=subprocess.DEVNULL,
                               stdout=subprocess.PIPE, stderr=subprocess.PIPE,
                               env=copy.environment(), start_new_session=True) as process:
             wait_for(copy, "begun")
             os.remove(f"{copy.top}/begun")
-            os.killpg(process.pid, number)
-            process.communicate(timeout=30)
-        same((process.returncode != 0, copy.there(STAMP)), (True, False), f"signal {number}")
+            send(process.pid, number)
+            err = process.communicate(timeout=30)[1]
+        same((process.returncode, copy.there(STAMP)), (1, False), f"signal {number}")
+        holds(b"build: not built; what was proved is kept", err, f"signal {number}")
         same(group_is_gone(process.pid), True, "processes that are left end soon")
     copy.write("go", "")
     holds(f"build: {PROGRAM}, in ", copy.build(), "the build that goes on")
