@@ -6,6 +6,7 @@ import concurrent.futures
 import os
 import pty
 import re
+import select
 import shutil
 import signal
 import subprocess
@@ -15,7 +16,7 @@ import pytest
 
 from stand_in import (LIBRARY, LIBRARY_PROVED, NATIVE, OUT, PROGRAM, PROVED, STAMP, Copy, holds,
                       sources, version)
-from support import ROOT, run, same
+from support import ROOT, SECONDS, run, same
 
 RUNNING = ("arbiter: running the checked build, which proves nothing; "
            "./build makes the native program\n")
@@ -48,10 +49,13 @@ def test_first_and_second_run(copy):
               f"later runs begin at once.\n{RUNNING}")
     same(err, wanted, "standard error of the first run")
     same(len([line for line in copy.log() if line.startswith("rt try")]), 1, "compilations")
-    began = time.monotonic()
-    answer = copy.call(["./arbiter", "a"], b"in\n")
-    same(time.monotonic() - began < 2, True, "the second run begins at once")
-    same(answer, (5, "checked: a\nin\n", RUNNING), "the second run")
+    times = []
+    for _ in range(5):
+        began = time.monotonic()
+        answer = copy.call(["./arbiter", "a"], b"in\n")
+        times.append(time.monotonic() - began)
+        same(answer, (5, "checked: a\nin\n", RUNNING), "the second run")
+    same(min(times) < 2, True, f"a further run begins at once: {times}")
     same("rt try" in " ".join(copy.log()), False, "the second run compiles")
     same(os.listdir(f"{copy.cache}/arbiter/checked") != [], True, "what is kept")
 
@@ -315,27 +319,33 @@ def test_build_proves_side_by_side(copy):
 
 
 def test_build_on_a_terminal(copy):
-    """On a terminal one line is written anew, and nothing of it stays."""
-    copy.write("../kit/while", "sleep 1.5\n")
+    """On a terminal one line is written anew while the kit works, and nothing of it stays."""
+    copy.write("../kit/while", f"until [ -e {copy.top}/go ]; do sleep 0.1; done\n")
     ours, theirs = pty.openpty()
     with subprocess.Popen(["./build"], cwd=copy.top, stdin=theirs, stdout=subprocess.PIPE,
                           stderr=theirs, env={**copy.environment(), "TERM": "xterm"}) as process:
         os.close(theirs)
-        out = process.stdout.read()
         text = b""
-        while True:
-            try:
-                piece = os.read(ours, 4096)
-            except OSError:
-                break
+        for piece in iter(lambda: read_some(ours), b""):
             text += piece
-            if not piece:
-                break
+            if text.count(b"\r\x1b[Kbuild: 0 of ") >= 2:
+                copy.write("go", "")
+        out = process.stdout.read()
     os.close(ours)
     same((process.returncode, out.startswith(b"build: crates/arbiter")), (0, True), f"{text}")
     shown = [part for part in text.split(b"\r\x1b[K") if part.startswith(b"build: 0 of ")]
     assert len(shown) > 1 and b"\n" not in b"".join(shown), text
     assert re.fullmatch(rb"build: 0 of \d+ crates, \d+ s", shown[-1]), shown
+
+
+def read_some(terminal):
+    """What a terminal shows next. It is empty once no process writes to it, or after a minute."""
+    if not select.select([terminal], [], [], SECONDS)[0]:
+        return b""
+    try:
+        return os.read(terminal, 4096)
+    except OSError:
+        return b""
 
 
 @pytest.mark.parametrize("send", [os.kill, os.killpg], ids=["to the build", "to all"])
