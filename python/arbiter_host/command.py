@@ -308,6 +308,7 @@ def run_top(options: argparse.Namespace) -> None:
         return plan(by, load.load(options, [options.source], by))
 
     if sys.stdout is not None and sys.stdout.isatty():
+        progress.is_allowed = False
         top.live(read, lambda: view_of(options), options.count)
     else:
         top.plain(read, view_of(options), options.count, emit)

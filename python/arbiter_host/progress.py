@@ -6,6 +6,10 @@ from collections.abc import Callable, Iterator
 from contextlib import contextmanager
 
 
+# Whether bars may be shown: not while a live view has the terminal.
+is_allowed = True
+
+
 def nothing() -> None:
     """No progress is shown."""
 
@@ -13,7 +17,7 @@ def nothing() -> None:
 @contextmanager
 def bar(what: str, total: int) -> Iterator[Callable[[], None]]:
     """A bar on standard error, where that is a terminal. The value is called for each step."""
-    if sys.stderr is None or not sys.stderr.isatty() or total < 2:
+    if not is_allowed or sys.stderr is None or not sys.stderr.isatty() or total < 2:
         yield nothing
         return
     from rich.console import Console

@@ -119,6 +119,13 @@ def test_script_warns():
     assert script.read(b"mkdir a\n", "F", Host(2, 100000, 1000)).notes == []
 
 
+def test_script_with_carriage_returns():
+    """They are parts of words, as for the program, and that is told."""
+    model = script.read(b"mkdir a\r\ndemand a 5\r\n", "F", Host())
+    assert list(model.groups) == ["a\r"] and len(model.refused) == 1
+    assert any("carriage returns" in note for note in model.notes)
+
+
 # models that are written and read
 
 NAMES = st.text(st.characters(blacklist_categories=["Cs"], blacklist_characters="/ \t\n\0"),

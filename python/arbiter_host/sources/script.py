@@ -246,6 +246,9 @@ def read(data: bytes, name: str, host: Host | None = None, engine: Engine | None
                            " and slices of 5 ms are assumed (--cpus, --slice)")
     elif told is not None and host is not None and host != told:
         model.notes.append(f"the options differ from its head line: {told.head_line()[2:]}")
+    if lines and all(line.endswith(b"\r") for line in lines):
+        model.notes.append("its lines end with carriage returns, which are parts of words here:"
+                           " write newlines alone")
     reader = Reader(model, engine)
     for number, line in enumerate(lines, 1):
         try:
