@@ -5,12 +5,11 @@
 import os
 import subprocess
 import sys
-from pathlib import Path
 
 import pytest
 
-HERE = Path(__file__).resolve().parent
-PACKAGE = HERE.parent
+from places import PACKAGE
+
 sys.path[:0] = [str(PACKAGE), str(PACKAGE.parent / "tests")]
 pytest_plugins = ["shared_fixtures"]
 SECONDS = 60

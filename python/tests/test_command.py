@@ -9,7 +9,7 @@ from pathlib import Path
 
 import pytest
 import trees
-from conftest import PACKAGE
+from places import PACKAGE
 
 ROOT = PACKAGE.parent
 FIXTURES = Path(__file__).parent / "fixtures"

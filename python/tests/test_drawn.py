@@ -16,7 +16,7 @@ from arbiter_host import picture, report, samples, series
 from arbiter_host.faults import HostFault
 from arbiter_host.model import Group, Host, Model
 from arbiter_host.plan import plan
-from conftest import PACKAGE
+from places import PACKAGE
 from hypothesis import HealthCheck, given, settings
 from hypothesis import strategies as st
 

@@ -8,7 +8,7 @@ from pathlib import Path
 
 import arbiter_host
 import pytest
-from conftest import PACKAGE
+from places import PACKAGE
 
 SOURCES = sorted((PACKAGE / "arbiter_host").rglob("*.py")) + [PACKAGE / "arbiterctl"]
 TESTS = sorted((PACKAGE / "tests").glob("*.py"))

@@ -13,7 +13,7 @@ from arbiter_host import picture
 from arbiter_host.model import Group, Host, Model
 from arbiter_host.plan import plan
 from arbiter_host.sources import script
-from conftest import PACKAGE
+from places import PACKAGE
 from hypothesis import HealthCheck, given, settings
 from hypothesis import strategies as st
 
