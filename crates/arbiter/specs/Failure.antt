@@ -1,7 +1,7 @@
--- What contracts see of a failure.
+-- The part of a failure that contracts see.
 use Rattle.bw_streams.specs.declared.fault.RunFault.{RunFault}
 use Rattle.arbiter.specs.declared.failure.Failure.{Failure}
 
--- what failed, without the reason
+-- the fault of a failure, without the system's reason
 abbrev pub what_failed : Failure → RunFault
 what_failed f = f.fault
