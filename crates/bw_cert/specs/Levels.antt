@@ -1,4 +1,4 @@
--- What the levels and the flags of a plan's own certificate are.
+-- The levels and the flags of a plan's own certificate.
 use Rattle.std.specs.Prelude.{◌≡◌, ℕ, ◌<◌, List, false, Option, Some, None, length, map}
 use Rattle.std.specs.Prelude.{slice_index}
 use Rattle.bw_model.specs.declared.mark.Mark.{Mark}

@@ -27,12 +27,12 @@ abbrev pub ◌>>=◌ : {A B : Type 0} → Result A CertFault → (A → Result B
 (Ok x) >>= f = f x
 (Err e) >>= f = Err e
 
--- what a function returned, seen by view
+-- a function's result with its value seen by view
 abbrev pub seen : {X Y : Type 0} → (X → Y) → Result X CertFault → Result Y CertFault
 seen view (Ok x) = Ok (view x)
 seen view (Err e) = Err e
 
--- What a function returned, seen by view, is what reading gives, unless memory ran out.
+-- A function's result, seen by view, is the result of reading, unless memory ran out.
 abbrev pub Fails : {Y : Type 0} → CertFault → Result Y CertFault → Type 0
 Fails faults.OutOfMemory read = Unit {0}
 Fails fault read = read ≡ Err fault
@@ -123,7 +123,7 @@ head_of (name ∷ version ∷ processors ∷ period ∷ slice ∷ groups ∷ [])
   if nat_lt MAX_GROUPS count then Err (faults.Instance TooMany) else Ok (h, count)
 head_of _ = Err faults.BadLine
 
--- what a group's line says
+-- the contents of a group's line
 pub record Group : Type 0 where
   pub row : Row
   pub amount : ℕ
@@ -160,7 +160,7 @@ with_group g c =
 abbrev pub no_groups : Columns
 no_groups = record { rows = []; amounts = []; flags = []; levels = [] }
 
--- so many groups, and the parts after their lines
+-- the first n groups, and the parts after their lines
 unfoldable pub groups_at : ℕ → List (List ℕ) → Result (Columns × List (List ℕ)) CertFault
 groups_at zero parts = Ok (no_groups, parts)
 groups_at (suc n) parts = do

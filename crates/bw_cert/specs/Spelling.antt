@@ -1,4 +1,4 @@
--- What a text certifies, and the one spelling of it.
+-- The value that a text certifies, and its one spelling.
 use Rattle.std.specs.Prelude.{◌≡◌, ℕ, ◌<◌, ◌≤◌, ◌^◌, Bool, true, false, ◌==◌, List, [], ◌∷◌, ◌++◌}
 use Rattle.std.specs.Prelude.{length, map, Option, Some, None, IfSome, codes}
 use Rattle.std.specs.List.{slice_split, join_with_byte, flat_map, All}
@@ -11,7 +11,7 @@ use Rattle.bw_model.specs.Plan.{IsPlan}
 use Rattle.bw_model.specs.declared.certificate.Certificate.{Certificate}
 use Rattle.std.specs.Option.{option_map}
 
--- what the lines of the groups say, by column
+-- the contents of the groups' lines, by column
 pub record Columns : Type 0 where
   pub rows : List Row
   pub amounts : List ℕ
@@ -87,7 +87,7 @@ groups_text g = flat_map line (groups_words g.rows g.amounts g.flags g.levels)
 abbrev pub spelling : Value → List ℕ
 spelling v = line (head_words v.shape (length v.groups.rows)) ++ groups_text v.groups
 
--- what is certified of an instance
+-- the value that certifies amounts for an instance
 abbrev pub certified_value : Groups → List ℕ → Certificate → Value
 certified_value i amounts c = record {
   shape = i.shape;

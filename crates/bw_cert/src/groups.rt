@@ -77,7 +77,7 @@ fn group(line: &[u8]) -> Result<GroupLine, CertFault>
     })
 }
 
-/// So many groups, and the text after their lines.
+/// Reads `count` groups. Returns them with the text after their lines.
 pub(crate) fn groups(alloc: Global, count: u64, text: &[u8]) -> Result<(Columns, &[u8]), CertFault>
     ensures { ReadsAs (λ p. (columns_view p.0, text_lines p.1.now)) result
         (groups_at count (text_lines text.now)) }
