@@ -6,7 +6,7 @@ use Rattle.bw_model.specs.declared.row.Row.{Row}
 use Rattle.bw_model.specs.Groups.{Groups, parent_of, is_child, is_leaf, demand_of, limit_of}
 use Rattle.bw_model.specs.Certificate.{Certified, is_flagged, sibling_place}
 
--- what those of the first n groups that are children of g add up to
+-- the sum of f over those of the first n groups that are children of g
 abbrev pub sum_of_first : List Row → (ℕ → ℕ) → ℕ → ℕ → ℕ
 sum_of_first rows f n g = sum_by (λ c. cond (is_child rows g c) (f c) 0) (range_with_len 0 n)
 

@@ -1,4 +1,4 @@
--- What the check reads of each group besides its row.
+-- The tables that the check reads beside the rows.
 use Rattle.std.specs.Prelude.{ℕ, List, length, slice_index}
 use Rattle.bw_model.specs.Groups.{Groups}
 use Rattle.bw_model.specs.Certificate.{Certified, AreBounds}

@@ -1,4 +1,4 @@
--- What each fault rules out, and what the check answers.
+-- The condition that each fault breaks, and the verdict of the check.
 use Rattle.std.specs.Prelude.{◌≡◌, ℕ, ◌<◌, ◌≤◌, Bool, List, false, Option, Some, length, map}
 use Rattle.std.specs.Prelude.{slice_index, IsTrue}
 use Rattle.std.specs.Option.{IsSome, option_map}
