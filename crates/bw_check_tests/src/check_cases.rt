@@ -37,7 +37,7 @@ const WRONG: Verdict = Verdict::Refused {
     group: 0,
 };
 
-/// What the check says of so many of the amounts, flags and levels. All of them are accepted.
+/// The verdict on these amounts, flags and levels of two groups.
 fn verdict_once(
     alloc: Global,
     shape: HostShape,
@@ -53,7 +53,8 @@ fn verdict_once(
     Ok(check(alloc, &instance, amounts, &certificate)?)
 }
 
-/// The same on one processor of 20 slices. Where memory is refused it is asked again.
+/// Asserts the verdict on the first `counts` amounts, flags and levels, on one processor of 20
+/// slices. All three of each are accepted. A check that is refused memory is run once more.
 fn assert_verdict(
     rt: &impl Abort,
     alloc: Global,

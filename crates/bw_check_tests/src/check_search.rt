@@ -41,7 +41,7 @@ fn cut(number: &mut u64, base: u64) -> u64 {
     digit
 }
 
-// How many rows there are to choose from, after so many rows.
+// The number of rows that may stand behind `before` rows.
 fn choices_after(size: Size, before: u32) -> u64 {
     let demands = size.capacity.saturating_add(1);
     let limits = size.capacity.saturating_add(2);
@@ -49,7 +49,7 @@ fn choices_after(size: Size, before: u32) -> u64 {
     settings.saturating_mul(u64::from(before))
 }
 
-// How many instances there are, those with a demand of a group with children counted in.
+// The number of instances, those with a demand of a group with children counted in.
 fn instances(size: Size) -> u64 {
     let mut count = 1u64;
     for before in 1..size.rows {
@@ -316,7 +316,7 @@ fn is_exact(
     Ok(true)
 }
 
-// The same of the instance that a number stands for, if it is one.
+// Whether the plan alone is accepted for the instance of this number, if it is one.
 fn is_exact_at(
     alloc: Global,
     size: Size,
