@@ -1,4 +1,4 @@
--- How a call went that is to put an answer behind what an answer has already.
+-- The result of a call that appends to an answer.
 use Rattle.std.specs.Prelude.{◌≡◌, ◌≤◌, ◌++◌, ℕ, List, Vec, Result, OnOk, IfErr}
 use Rattle.std.specs.Vec.{vec_capacity}
 use Rattle.std.specs.declared.alloc.Global.{Global}

@@ -10,7 +10,7 @@ use Rattle.bw_cert.specs.Spelling.{Value, IsValue, spelling}
 use Rattle.bw_tree.specs.Snapshot.{instance_of}
 use Rattle.bw_hierarchy.specs.State.{HierarchyState}
 
--- what a text tells of an instance with amounts and their certificate
+-- the value that a text spells, of an instance, its amounts and their certificate
 abbrev pub value_with : Groups → List ℕ → Certified → Value
 value_with groups amounts certificate = record {
   shape = groups.shape;

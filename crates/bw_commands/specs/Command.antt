@@ -7,7 +7,7 @@ use Rattle.bw_commands.specs.Word.{first_word, after_word}
 use Rattle.bw_commands.specs.declared.fault.ScriptFault.{ScriptFault}
 use Rattle.bw_commands.specs.declared.fault.ScriptFault.TheVariants.{BadCommand}
 
--- What a line may ask for. Nothing is asked by a line with no word, or by a comment.
+-- The request of a line. A line without a word, or with a comment, asks for nothing.
 pub data Command : Type 0 where
   Nothing : Command
   Mkdir : (path : List ℕ) → Command
@@ -32,7 +32,7 @@ is_silent (b ∷ bs) = b == 35
 
 -- ---- the table of commands
 
--- What a first word means, and the least and the greatest number of words behind it.
+-- The meaning of a first word, and the least and the greatest number of words behind it.
 pub record Form : Type 0 where
   pub meaning : Command
   pub least : ℕ

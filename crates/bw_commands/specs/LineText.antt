@@ -1,4 +1,4 @@
--- What the line of a group tells, by the program's value.
+-- The text of a group's line, by the program's value.
 use Rattle.std.specs.Prelude.{ℕ, List, ◌<◌, length}
 use Rattle.bw_commands.specs.Planned.{amount_line}
 use Rattle.bw_commands.specs.Reported.{counter_line}

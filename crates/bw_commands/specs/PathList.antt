@@ -4,11 +4,11 @@ use Rattle.std.specs.Prelude.{Some, None, codes, slice_index_or}
 use Rattle.std.specs.List.{slice_range}
 use Rattle.bw_commands.specs.declared.span.Span.{Span}
 
--- what stands in the text from where a span begins up to where it ends
+-- the bytes of the text from a span's start up to its end
 abbrev pub cut : List ℕ → Span → List ℕ
 cut text span = slice_range text span.start span.end
 
--- what stands at each span
+-- the bytes of the text at each span
 abbrev pub cuts : List ℕ → List Span → List (List ℕ)
 cuts text spans = map (cut text) spans
 

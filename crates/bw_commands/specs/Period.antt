@@ -8,9 +8,8 @@ use Rattle.bw_tree.specs.Snapshot.{instance_of, base_of}
 use Rattle.bw_hierarchy.specs.State.{HierarchyState, booked_period}
 use Rattle.bw_streams.specs.Answers.{number_line}
 
--- The text is the answer to `period`: the plan was drawn at the leaves that use their slices,
--- whatever the schedule, and
--- what the groups wanted, drew and left over is booked.
+-- The text is the answer to `period`. In every schedule the plan was drawn at the leaves that use
+-- their slices. The wants, the drawn slices and the slices left over are booked.
 pub record IsPeriod (h : HierarchyState) (uses : ℕ → Bool) (text : List ℕ) (after : HierarchyState)
     : Type 0 where
   pub amounts : List ℕ

@@ -1,4 +1,4 @@
--- What a line of a script means: the text that it prints, and the state after it.
+-- The meaning of a line of a script: the text that it prints, and the state after it.
 use Rattle.std.specs.Prelude.{ℕ, ◌≡◌, ◌⊎◌, List, [], ◌∷◌, ◌++◌, nat_lt, if◌then◌else◌, codes}
 use Rattle.std.specs.Prelude.{length, Result, Ok, Err, Option, Some, None}
 use Rattle.std.specs.Str.{is_utf8}
@@ -23,10 +23,9 @@ use Rattle.bw_commands.specs.declared.fault.ScriptFault.TheVariants as fault
 abbrev pub line_bytes : ℕ
 line_bytes = 65536
 
--- What a line does: nothing at all, or it prints a text and leaves a state, or it prints the total,
--- the plan, the plan's
--- certified text or the counters, or it serves a period. What `Says` a text takes no memory for it;
--- what `Prints` one may.
+-- The outcome of a line: nothing at all; a text and the state after it; the total, the plan, the
+-- plan's certified text or the counters; or a period that is served. `Says` takes no memory for its
+-- text, `Prints` may.
 pub data Outcome : Type 0 where
   Silent : Outcome
   Says : (text : List ℕ) (after : State) → Outcome
@@ -43,7 +42,7 @@ refused s f = Says (error_line f) s
 
 -- ---- the commands
 
--- what a change prints
+-- the answer to a change
 abbrev pub ok_line : List ℕ
 ok_line = codes "ok" ++ 10 ∷ []
 
@@ -86,7 +85,7 @@ write_outcome s path file text =
 
 -- ---- lines
 
--- what a command does
+-- the outcome of a command
 abbrev pub outcome_of_command : State → Command → Outcome
 outcome_of_command s command.Nothing = Silent
 outcome_of_command s (command.Mkdir path) = mkdir_outcome s path
@@ -100,16 +99,16 @@ outcome_of_command s command.Cert = Cert
 outcome_of_command s command.Period = Period
 outcome_of_command s command.Report = Report
 
--- what is kept of a line: nothing where it is too long
+-- the part of a line that is kept: all of it, or nothing where it is too long
 abbrev pub kept_of : List ℕ → Option (List ℕ)
 kept_of line = (if nat_lt line_bytes (length line) then None else Some line)
 
--- what is asked by what is kept of a line: a command, or the refusal of the line
+-- the request of a kept line: a command, or the refusal of the line
 unfoldable pub request_of_kept : Option (List ℕ) → Result Command ScriptFault
 request_of_kept None = Err fault.LineTooLong
 request_of_kept (Some line) = (if is_utf8 line then command_of_line line else Err fault.BadText)
 
--- what a request does: what its command does, or the refusal
+-- the outcome of a request: its command's outcome, or the refusal
 abbrev pub outcome_of_request : State → Result Command ScriptFault → Outcome
 outcome_of_request s (Ok command) = outcome_of_command s command
 outcome_of_request s (Err f) = refused s f
@@ -134,9 +133,9 @@ Gives s Cert text next = IsCertifiedPlan s.hierarchy text × (next ≡ s)
 Gives s Period text next = IsPeriod s.hierarchy s.uses text next.hierarchy × (next.uses ≡ s.uses)
 Gives s Report text next = IsReport s.hierarchy text × (next ≡ s)
 
--- What may stand in place of an answer: `OutOfMemory` where memory is taken, and where a period is
--- served a thread that
--- was refused. A refusal, and what `rmdir`, `demand` and `write` answer, has nothing in its place.
+-- The failures that may stand in place of an answer: `OutOfMemory` where memory is taken, and
+-- `NotStarted` where a period is served. Nothing may stand in place of a refusal, or of the answers
+-- to `rmdir`, `demand` and `write`.
 abbrev pub IsAllowedFailure : Outcome → List ℕ → Type 0
 IsAllowedFailure Silent text = ⊥
 IsAllowedFailure (Says answer after) text = ⊥
@@ -148,9 +147,8 @@ IsAllowedFailure Period text =
     (text ≡ error_line fault.OutOfMemory) ⊎ (text ≡ error_line fault.NotStarted)
 IsAllowedFailure Report text = text ≡ error_line fault.OutOfMemory
 
--- From s the answer to a line may be this text, with the state next after it: what the line means,
--- or what may stand
--- in its place, with nothing changed.
+-- From s the answer to a line may be this text, with the state next after it. It is the meaning of
+-- the line, or a failure that may stand in its place, with nothing changed.
 abbrev pub IsOutcome : State → Outcome → List ℕ → State → Type 0
 IsOutcome s outcome text next =
     Gives s outcome text next ⊎ (IsAllowedFailure outcome text × (next ≡ s))
@@ -158,9 +156,8 @@ IsOutcome s outcome text next =
 abbrev pub IsAnswer : State → List ℕ → List ℕ → State → Type 0
 IsAnswer s line text next = IsOutcome s (outcome_of s line) text next
 
--- What a call that forms the answer may do: at Ok the answer is in the buffer and the change is
--- made; at Err nothing
--- is changed, and the refusal is the line's, or stands in place of its answer.
+-- The result of a call that forms the answer. At Ok the answer is in the buffer and the change is
+-- made. At Err nothing is changed, and the refusal is the line's or may stand in its place.
 abbrev pub Performs : {U : Type 0} → State → Outcome → Result U ScriptFault → List ℕ → State
     → Type 0
 Performs s outcome (Ok u) text next = Gives s outcome text next

@@ -1,4 +1,4 @@
--- What a script works on: a host and its tree of groups, and which leaves use their slices.
+-- The state of a script: a host, its tree of groups, and the leaves that use their slices.
 use Rattle.std.specs.Prelude.{ℕ, Bool}
 use Rattle.bw_model.specs.Host.{Shape}
 use Rattle.bw_hierarchy.specs.State.{HierarchyState, new_hierarchy}
@@ -7,7 +7,7 @@ pub record State : Type 0 where
   pub hierarchy : HierarchyState
   pub uses : ℕ → Bool  -- by row number: whether the leaf uses the slices that its workers draw
 
--- the same leaves use their slices, with another hierarchy
+-- the state with another hierarchy
 abbrev pub with_hierarchy : State → HierarchyState → State
 with_hierarchy s h = record { hierarchy = h; uses = s.uses }
 

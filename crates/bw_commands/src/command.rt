@@ -8,7 +8,7 @@ ghost use Rattle.bw_commands.specs.Parsed.{meaning_of, request_of};
 use crate::fault::ScriptFault;
 use crate::word::split_word;
 
-/// What a line of a script asks for.
+/// The request of a line of a script.
 #[derive(Clone, Copy)]
 pub enum Command<'a> {
     /// No word, or a comment, whose first word begins with `#`.
@@ -50,7 +50,7 @@ pub enum Command<'a> {
     Report,
 }
 
-// What a first word means, and the least and the greatest number of words behind it.
+// The meaning of a first word, and the least and the greatest number of words behind it.
 #[derive(Clone, Copy)]
 struct Form<'a> {
     meaning: Command<'a>,

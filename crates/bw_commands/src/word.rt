@@ -23,7 +23,7 @@ fn first_other(text: &[u8]) -> Option<usize>
     text.iter().position(|b| !is_blank(*b))
 }
 
-// How many bytes stand before the first blank.
+// The number of bytes before the first blank.
 fn word_len(text: &str) -> usize
     ensures value { result ≡ word_len_of text.now }
     ensures boundary { IsCharBoundary text.now result }
@@ -31,7 +31,7 @@ fn word_len(text: &str) -> usize
     first_blank(text.as_bytes()).unwrap_or(text.len())
 }
 
-// How many blanks the text begins with.
+// The number of blanks before the first word.
 fn blank_len(text: &str) -> usize
     ensures value { result ≡ blank_len_of text.now }
     ensures boundary { IsCharBoundary text.now result }

@@ -12,12 +12,12 @@ use bw_streams::{put_last_word, put_number};
 use bw_tree::GroupId;
 use std::alloc::AllocError;
 
-/// What an answer tells of each group, by its row.
+/// The numbers that an answer prints for each group, by its row.
 #[derive(Clone, Copy)]
 pub enum Line<'a> {
-    /// What it gets, in slices of one period.
+    /// The slices that it gets in one period.
     Amount(&'a [u64]),
-    /// What is booked for its id.
+    /// The counters booked for its id.
     Counters(&'a Books, &'a [GroupId]),
 }
 

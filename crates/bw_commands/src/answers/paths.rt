@@ -62,7 +62,7 @@ impl Paths {
         Ok(Paths { text, spans })
     }
 
-    /// How many groups there are.
+    /// The number of groups.
     pub fn len(&self) -> usize
         ensures { result ≡ length self.now }
     {
@@ -78,7 +78,7 @@ impl Paths {
     }
 }
 
-// What stands at a span.
+// The bytes at a span.
 fn cut(text: &[u8], span: Span) -> &[u8]
     requires { AreWithin (length text.now) (span ∷ []) }
     ensures { result.now ≡ cut text.now span }
