@@ -1,4 +1,4 @@
--- What is gathered of an instance: one most, want and flag for each row.
+-- The demands gathered of an instance: one most, want and flag for each row.
 use Rattle.std.specs.Prelude.{◌≡◌, ℕ, ◌<◌, List, Bool, false, length, slice_index, slice_index_or}
 use Rattle.bw_model.specs.Groups.{Groups}
 use Rattle.bw_model.specs.Demand.{AreMaxTotals, want_of, is_tight}
@@ -10,7 +10,7 @@ pub record Demands : Type 0 where
   pub most : List ℕ
   pub tight : List Bool
 
--- what the program has gathered, as lists
+-- the program's gathered demands, as lists
 abbrev pub demands_of : Gathered → Demands
 demands_of gathered =
     record { want = gathered.want.items; most = gathered.most.items; tight = gathered.tight.items }

@@ -1,4 +1,4 @@
--- What stands before the first row is gathered, and what gathering one row changes: its most, its
+-- The demands before the first row is gathered, and the change that one row makes: its most, its
 -- flag, and the want of its parent.
 use Rattle.std.specs.Prelude.{◌≡◌, ℕ, ◌+◌, ◌^◌, ◌<◌, List, Option, Some, None, Bool, false, nat_lt}
 use Rattle.std.specs.Prelude.{min, map, length, replicate, slice_index, slice_set, IfSome}
@@ -16,7 +16,7 @@ ungathered rows =
       tight = replicate (length rows) false;
     }
 
--- what its limit leaves of a row's want
+-- a row's want, cut to its limit, in slices per period
 abbrev pub given_to : Groups → List ℕ → ℕ → ℕ
 given_to groups want g =
     option_map_or (min (slice_index want g)) (limit_of groups g) (slice_index want g)
