@@ -1,4 +1,4 @@
--- What a caller asks, in columns of numbers, and the number that answers it.
+-- A caller's request, in columns of numbers, and the number that answers it.
 use Rattle.std.specs.Prelude.{◌≡◌, ◌⊎◌, ℕ, Bool, true, ◌==◌, ◌&&◌, List, [], ◌∷◌, Option, Some}
 use Rattle.std.specs.Prelude.{None, length, map, slice_index, if◌then◌else◌}
 use Rattle.std.specs.List.{range_with_len}
@@ -19,7 +19,7 @@ pub record Table : Type 0 where
   pub limits : List ℕ
   pub demands : List ℕ
 
--- what the program holds of columns, as lists
+-- the program's columns, as lists
 abbrev pub table_of : Columns → Table
 table_of columns =
     record {
@@ -29,7 +29,7 @@ table_of columns =
       demands = columns.demands.now;
     }
 
--- what the program holds of a host, as its value
+-- the program's host, as its value
 abbrev pub shape_of : Host → Shape
 shape_of host =
     record { processors = host.processors; period_us = host.period_us; slice_us = host.slice_us }
@@ -99,12 +99,12 @@ groups_asked host columns = groups_in (shape_of host) (table_of columns)
 abbrev pub refusal_of : Host → Columns → ℕ
 refusal_of host columns = asked_number (shape_of host) (table_of columns)
 
--- what a call may answer that refuses so: that number, or 71 when out of memory
+-- the answer of a refused call: the number of the refusal, or 71 when out of memory
 abbrev pub Answers : ℕ → ℕ → Type 0
 Answers refused number = (number ≡ refused) ⊎ (number ≡ 71)
 
--- the same where a list for the answer has so many entries: 50 also where they are not as many as
--- the rows
+-- the refusal of a request whose list for the answer has `count` entries: 50 also where `count`
+-- differs from the number of rows
 unfoldable pub asked_number_with : ℕ → Shape → Table → ℕ
 asked_number_with count shape table =
     if count == length table.parents then asked_number shape table else 50

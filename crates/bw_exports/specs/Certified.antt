@@ -50,7 +50,7 @@ pub record IsCertifiedPlan (groups : Groups) (amounts : List ℕ) (claimed : Cla
   pub flags : of.AreTightFlags groups certificate
   pub levels : of.AreLevels groups amounts certificate
 
--- what the program has found, as columns
+-- the program's certificate, as columns
 abbrev pub claimed_in : Found → Claimed
 claimed_in found =
     record {

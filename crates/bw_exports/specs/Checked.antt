@@ -1,4 +1,4 @@
--- What a caller claims of amounts, and what the check of it answers.
+-- A caller's claim about amounts, and the answer of its check.
 use Rattle.std.specs.Prelude.{◌≡◌, ◌↔◌, ◌⊎◌, ℕ, ◌<◌, Bool, ◌==◌, ◌&&◌, not, List, Option, None}
 use Rattle.std.specs.Prelude.{length, map, slice_index, slice_index_or, if◌then◌else◌, IsSome}
 use Rattle.std.specs.Prelude.{IfSome}
@@ -27,7 +27,7 @@ abbrev pub claimed_columns : List ℕ → List ℕ → List ℕ → List ℕ →
 claimed_columns flags nums dens places =
     record { flags = flags; nums = nums; dens = dens; places = places }
 
--- what the program holds of a claim, as lists
+-- the program's claim, as lists
 abbrev pub claimed_of : Claim → Claimed
 claimed_of claim =
     record {
@@ -103,7 +103,7 @@ pub record IsRefused (refused before after number : ℕ) : Type 0 where
   pub answers : Answers refused number
   pub row_is : after ≡ before
 
--- what a check answers with its row
+-- the answer of a check, with its row
 abbrev pub IsOutcome : ℕ → Groups → List ℕ → Claimed → ℕ → ℕ → ℕ → Type 0
 IsOutcome refused groups amounts claimed before after number =
     IsRefused refused before after number

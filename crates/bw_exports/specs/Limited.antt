@@ -1,4 +1,4 @@
--- What limits the groups of a host, as it is told.
+-- The groups that limit a host's total, in the columns of an answer.
 use Rattle.std.specs.Prelude.{◌≡◌, ℕ, ◌+◌, List, ◌++◌, length, drop, sum_by, unwrap_or}
 use Rattle.bw_model.specs.Groups.{Groups, limit_of}
 use Rattle.bw_model.specs.Allocation.{IsGreatestTotal}

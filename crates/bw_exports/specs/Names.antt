@@ -26,21 +26,20 @@ unfoldable pub with_name : List ℕ → List ℕ → List ℕ
 with_name name before = if nat_lt (length name) (length before)
     then name ++ (0 ∷ drop (suc (length name)) before) else before
 
--- what is answered of a fault's number: how long its name is, and the name where there is room for
--- it
+-- the answer to a fault's number: the length of its name, and the name where there is room for it
 pub record IsNamed (number : ℕ) (before after : List ℕ) (count : ℕ) : Type 0 where
   pub fault : Fault
   pub number_is : number_of_fault fault ≡ number
   pub count_is : count ≡ length (name_of_fault fault)
   pub after_is : after ≡ with_name (name_of_fault fault) before
 
--- what is answered of any other: 0, and all is as it was
+-- the answer to any other number: 0, and all is as it was
 pub record IsUnnamed (number : ℕ) (before after : List ℕ) (count : ℕ) : Type 0 where
   pub none : IsNoFault number
   pub count_is : count ≡ 0
   pub after_is : after ≡ before
 
--- what is answered of a number
+-- the answer to a number
 abbrev pub IsNameTold : ℕ → List ℕ → List ℕ → ℕ → Type 0
 IsNameTold number before after count =
     IsNamed number before after count ⊎ IsUnnamed number before after count

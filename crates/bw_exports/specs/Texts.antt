@@ -1,4 +1,4 @@
--- What the check of a certified text answers.
+-- The answer of the check of a certified text.
 use Rattle.std.specs.Prelude.{◌≡◌, ◌⊎◌, ℕ, Result, Ok, Err}
 use Rattle.bw_cert.specs.Faults.{cert_fault_number}
 use Rattle.bw_cert.specs.Reading.{Fails}
@@ -29,7 +29,7 @@ pub record IsFaultTold (read : Result Value CertFault) (before after number : �
   pub number_is : number ≡ cert_fault_number fault
   pub row_is : after ≡ before
 
--- what the check of a text answers with its row
+-- the answer of the check of a text, with its row
 abbrev pub IsTextOutcome : Result Value CertFault → ℕ → ℕ → ℕ → Type 0
 IsTextOutcome read before after number =
     IsVerdictTold read before after number ⊎ IsFaultTold read before after number
