@@ -1,4 +1,4 @@
--- What is read of the words of a text, and the first refusal.
+-- The value read from the words of a text, or the first refusal.
 use Rattle.std.specs.Prelude.{ℕ, ◌^◌, ◌-◌, min, ◌||◌, nat_lt, List, [], ◌∷◌, Option, Some, None}
 use Rattle.std.specs.Prelude.{Result, Ok, Err, codes, if◌then◌else◌}
 use Rattle.std.specs.Str.{bytes_eq}
@@ -83,19 +83,19 @@ two_words first second = do
   period ← period_in n
   Ok (record { quota = quota; period = Some period })
 
--- what the words of `cpu.max` set
+-- the setting that the words of `cpu.max` spell
 abbrev pub max_of : List (List ℕ) → Result MaxWrite FileFault
 max_of [] = Err Empty
 max_of (first ∷ []) = one_word first
 max_of (first ∷ second ∷ []) = two_words first second
 max_of (first ∷ second ∷ third ∷ others) = Err TooManyWords
 
--- what 64 bits show of a number: the greatest one in place of any greater
+-- a number in 64 bits: the greatest of them in place of any greater one
 abbrev pub capped : Result ℕ FileFault → Result ℕ FileFault
 capped (Ok n) = Ok (min n (2 ^ 64 - 1))
 capped (Err e) = Err e
 
--- the same of a number that may not be asked for
+-- a number in 64 bits, where one is asked for
 abbrev pub capped_asked : Result (Option ℕ) FileFault → Result (Option ℕ) FileFault
 capped_asked (Ok None) = Ok None
 capped_asked (Ok (Some n)) = Ok (Some (min n (2 ^ 64 - 1)))
