@@ -1,4 +1,4 @@
--- What a builder does: one single call after another.
+-- The calls of a builder, one after another.
 use Rattle.std.specs.Prelude.{ℕ, ◌==◌, List, [], ◌∷◌, ◌++◌, codes, Option, Some, None, Result, Ok}
 use Rattle.std.specs.Prelude.{ℤ}
 use Rattle.std.specs.List.{slice_split}
@@ -12,7 +12,7 @@ prefixes_from before [] = []
 prefixes_from before (name ∷ names) =
     (before ++ name) ∷ prefixes_from ((before ++ name) ++ codes "/") names
 
--- the same of a path
+-- the prefixes of a path up to each `/`, and the whole path, shortest first
 abbrev pub prefixes : List ℕ → List (List ℕ)
 prefixes path = prefixes_from [] (slice_split (λ b. b == 47) path)
 

@@ -1,4 +1,4 @@
--- What each call does to a tree, or its first refusal.
+-- The change that each call makes to a tree, or its first refusal.
 use Rattle.std.specs.Prelude.{ℕ, nat_lt, Bool, false, zero, suc, ◌==◌, if◌then◌else◌, List, Option}
 use Rattle.std.specs.Prelude.{Some, None, Result, Ok, Err, ℤ, pos, negsuc}
 use Rattle.std.specs.Path.{rsplit_once}
@@ -55,7 +55,7 @@ abbrev pub setting_of : ℕ → Option GroupFields → Result GroupFields Fault
 setting_of id None = Err (Tree NotFound)
 setting_of id (Some g) = if id == 0 then Err (Tree RootFixed) else Ok g
 
--- the same by its id
+-- a group whose settings may be read and changed, by its id
 abbrev pub setting : TreeState → ℕ → Result GroupFields Fault
 setting t id = setting_of id (group_at t.groups id)
 

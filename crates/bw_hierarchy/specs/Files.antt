@@ -58,8 +58,8 @@ burst_write t id text =
     and_then (from_file (burst_of (words text)))
     (λ n. fitting n (quota_at (group_at t.groups id)) (with_setting (set_burst n) t id))
 
--- what no file of a group sets: its place, its demand, and what it left over in the last booked
--- period
+-- the part of a group that no file sets: its place, its demand, and the slices that it left over in
+-- the last booked period
 pub record Unwritten : Type 0 where
   pub parent : Option ℕ
   pub name : List ℕ
@@ -74,18 +74,18 @@ unwritten g = record { parent = g.parent; name = g.name; demand = g.demand; carr
 abbrev pub unwritten_parts : TreeState → List (ℕ × Unwritten)
 unwritten_parts t = map (λ (e : ℕ × GroupFields). (e.0, unwritten e.1)) t.groups
 
--- what a text that is written into a file of a group changes; the counters are read alone
+-- the tree after a text is written into a file of a group; the counters are read-only
 abbrev pub file_write : TreeState → ℕ → List ℕ → GroupFile → Result TreeState Fault
 file_write t id text Weight = weight_write t id text
 file_write t id text Max = max_write t id text
 file_write t id text MaxBurst = burst_write t id text
 file_write t id text Stat = Err ReadOnly
 
--- the same by the name of the file
+-- the tree after a write, by the group's id and the name of the file
 abbrev pub write_at : TreeState → ℕ → List ℕ → List ℕ → Result TreeState Fault
 write_at t id name text = if not (has_group t.groups id) then Err (Tree NotFound)
     else and_then (file_of id (file_named name)) (file_write t id text)
 
--- the same by the path of the group
+-- the tree after a write, by the path of the group and the name of the file
 abbrev pub write_of : TreeState → List ℕ → List ℕ → List ℕ → Result TreeState Fault
 write_of t path name text = and_then (found_at t path) (λ id. write_at t id name text)

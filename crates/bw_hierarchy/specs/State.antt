@@ -19,11 +19,11 @@ pub record HierarchyState : Type 0 where
   pub tree : TreeState
   pub books : List (ℕ × Stat)
 
--- the same host and counters with another tree
+-- the state with another tree
 abbrev pub with_tree : HierarchyState → TreeState → HierarchyState
 with_tree h t = record { shape = h.shape; tree = t; books = h.books }
 
--- the same host and tree with other counters
+-- the state with other counters
 abbrev pub with_books : HierarchyState → List (ℕ × Stat) → HierarchyState
 with_books h books = record { shape = h.shape; tree = h.tree; books = books }
 

@@ -1,4 +1,4 @@
--- What a write leaves, and what is read after it.
+-- The tree after a write, and the text that is read after it.
 use Rattle.std.specs.Prelude.{◌≡◌, ◌≢◌, ℕ, List, Ok, Some, unwrap_or}
 use Rattle.bw_text.specs.Words.{words}
 use Rattle.bw_tree.specs.Groups.{TreeState, GroupFields, group_at, find_path}
