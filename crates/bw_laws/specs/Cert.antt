@@ -20,6 +20,6 @@ pub record IsAcceptedText (text : List ℕ) : Type 0 where
   pub accepted : IsVerdictOf value Accepted
   pub only : (verdict : Verdict) → IsVerdictOf value verdict → verdict ≡ Accepted
 
--- what `cert` answers is accepted, in every state of a script
+-- the answer to `cert` is accepted, in every state of a script
 abbrev pub CertIsAccepted : Type 0
 CertIsAccepted = (h : HierarchyState) (text : List ℕ) → IsCertifiedPlan h text → IsAcceptedText text
