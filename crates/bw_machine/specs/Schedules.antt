@@ -1,4 +1,5 @@
--- What holds of a core after every schedule.
+-- The state of a core after every schedule: at most one seat is in the lock, and entry k of the
+-- history is made under ticket k (ticket order).
 use Rattle.std.specs.Prelude.{◌≡◌, ℕ, ◌+◌, ◌==◌, ◌≤◌, List, [], ◌∷◌, ◌++◌, length, map, take, Bool}
 use Rattle.std.specs.Prelude.{true, false, Option, None, Some, slice_get, if◌then◌else◌}
 use Rattle.std.specs.List.{count_by}

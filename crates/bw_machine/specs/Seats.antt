@@ -18,7 +18,7 @@ pub record CoreState (M C R : Type 0) : Type 0 where
   pub history : List (Entry C R)
 
 module _ {C : Type 0} where
-  -- what Enter finds: the seat's own number is served
+  -- whether the seat's own ticket is served, so that it may enter
   abbrev pub may_enter : ℕ → Option (Phase C) → Bool
   may_enter serving (Some (Waiting number call)) = number == serving
   may_enter serving (Some Idle) = false
