@@ -1,4 +1,4 @@
--- What the laws of the plan's definitions say: best splits, the order of marks, and the bounds of a
+-- The laws of the plan's definitions: best splits, the order of marks, and the bounds of a
 -- certificate.
 use Rattle.std.specs.Prelude.{◌≡◌, ℕ, ◌<◌, ◌≤◌, ◌↔◌, true, List, length, slice_index}
 use Rattle.std.specs.Ordering.{is_lt, is_le}
