@@ -1,4 +1,4 @@
--- That an instance has one plan.
+-- The law that an instance has one plan.
 use Rattle.std.specs.Prelude.{◌≡◌, List, ℕ}
 use Rattle.bw_model.specs.Groups.{Groups, IsInstance}
 use Rattle.bw_model.specs.Plan.{IsPlan}
