@@ -34,7 +34,7 @@ static SLICES: [(u64, u64, u64); 9] = [
     (1_000_000_000_000_000, 1_000, 20_000_000_000_000),
 ];
 
-/// The same in a host's period of 5 ms.
+/// A quota, its period, and its slices of 5000 microseconds in a host's period of 5 ms.
 static SLICES_OF_A_SHORT_PERIOD: [(u64, u64, u64); 1] = [(50_000, 100_000, 0)];
 
 fn assert_slices(rt: &impl Abort, shape: HostShape, cases: &[(u64, u64, u64)]) {

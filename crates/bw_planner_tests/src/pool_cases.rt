@@ -93,7 +93,7 @@ fn assert_steps(rt: &impl Abort, pool: &mut SlicePool, calls: &[Wanted], drawn: 
     assert!(rt; pool.all_drawn() == drawn);
 }
 
-/// The same by the core.
+/// Asserts the history of a core by events, and what is drawn of each group in the end.
 fn assert_events(
     rt: &impl Abort,
     core: &mut Core,
@@ -129,7 +129,7 @@ fn assert_replies(
     assert_events(rt, &mut core, calls, drawn)
 }
 
-/// The same, once more where memory was refused.
+/// Asserts both from a new pool, once more where memory was refused.
 fn assert_case(
     rt: &impl Abort,
     alloc: Global,
@@ -151,7 +151,7 @@ static LEAF_WITH_THREE: Setting = Setting {
     amounts: &[3, 3],
 };
 
-/// The same on two.
+/// A leaf with 3 slices under the root, on two processors.
 static SHARED_LEAF: Setting = Setting {
     processors: 2,
     period_us: 100_000,
@@ -434,7 +434,7 @@ fn assert_schedule(rt: &impl Abort, alloc: Global) -> Result<(), AllocError> {
     Ok(())
 }
 
-/// The same by one call.
+/// Two seats that ask 2 of a leaf with 3, in one call of `play`.
 fn assert_play(rt: &impl Abort, alloc: Global) -> Result<(), AllocError> {
     let pool = opened(rt, alloc, &SHARED_LEAF)?;
     let played = Core::play(alloc, pool, 2, &EVENTS)?;
