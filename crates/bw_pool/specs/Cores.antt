@@ -9,7 +9,7 @@ use Rattle.bw_pool.specs.Pool.{PoolState}
 use Rattle.bw_machine.specs.Schedules.{has_called, is_on_its_way}
 use Rattle.bw_pool.specs.declared.interleaving.Core.TheInside.{Inside}
 
--- what the fields stand for
+-- the state of the core that the program's fields stand for
 abbrev pub core_of : Inside → CoreState PoolState PoolCall PoolReply
 core_of a = record {
   next = a.next;

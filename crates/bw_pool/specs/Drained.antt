@@ -38,7 +38,7 @@ abbrev pub without_looks : List PoolEntry → List PoolEntry
 without_looks [] = []
 without_looks (e ∷ es) = if is_look e.call then without_looks es else e ∷ without_looks es
 
--- what a worker knows from its own calls
+-- the knowledge that a worker has from its own calls
 pub record Worker : Type 0 where
   pub kept : ℕ  -- the slices that it got and didn't give back
   pub owes : Option ℕ  -- the leaf whose slice it has to give back next
@@ -119,7 +119,7 @@ pub record AreDrained (uses : ℕ → Bool) (processors per_processor : ℕ) (ro
       → Drains uses rows per_processor fresh (without_looks (own p history))
   pub others : (p : ℕ) → processors ≤ p → without_looks (own p history) ≡ []
 
--- what is drawn in the end: the amount at a leaf that is used, nothing at another leaf, and at an
+-- the slices drawn in the end: the amount at a leaf that is used, none at another leaf, and at an
 -- inner group its children's sum
 pub record IsDrawnOut (uses : ℕ → Bool) (rows : List Row) (amounts drawn : List ℕ) : Type 0 where
   pub one_each : length drawn ≡ length rows
@@ -146,7 +146,7 @@ abbrev pub opening : Groups → List ℕ → PoolState
 opening groups amounts =
     new_pool groups.shape.processors (slices_per_processor groups.shape) groups.rows amounts
 
--- the same of a plan
+-- drained workers of a pool that opened with a plan draw the plan at the leaves that are used
 abbrev pub DrainedWorkersDrawThePlan : Type 0
 DrainedWorkersDrawThePlan =
     (uses : ℕ → Bool) (groups : Groups) (amounts : List ℕ) (history : List PoolEntry)

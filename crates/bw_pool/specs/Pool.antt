@@ -43,19 +43,19 @@ new_pool processors per_processor rows amounts = record {
   held = replicate (processors * length rows) 0;
 }
 
--- what a group has left
+-- the slices of the period that a group has left: its ceiling less the drawn ones
 abbrev pub left_at : PoolState → ℕ → ℕ
 left_at s g = slice_index s.ceiling g - slice_index s.drawn g
 
--- what a processor has left
+-- the slices of the period that a processor has left
 abbrev pub processor_left : PoolState → ℕ → ℕ
 processor_left s p = s.per_processor - slice_index s.by_processor p
 
--- where a seat's holding of a leaf stands
+-- the place of a seat's holding of a leaf
 abbrev pub held_place : PoolState → ℕ → ℕ → ℕ
 held_place s seat leaf = seat * length s.rows + leaf
 
--- what a seat holds of a leaf: 0 where there is no such seat or row
+-- the slices that a seat holds of a leaf: 0 if there is no such seat or row
 abbrev pub held_by : PoolState → ℕ → ℕ → ℕ
 held_by s seat leaf = if nat_lt seat s.processors && nat_lt leaf (length s.rows)
     then slice_index s.held (held_place s seat leaf) else 0
@@ -85,7 +85,7 @@ abbrev pub first_with : (ℕ → ℕ) → ℕ → List ℕ → Short
 first_with f got [] = Processor
 first_with f got (g ∷ gs) = if f g == got then Group g else first_with f got gs
 
--- what kept a draw below what was asked
+-- the group or the processor that kept a draw below the slices asked, if one did
 abbrev pub short_of : PoolState → ℕ → ℕ → ℕ → Option Short
 short_of s leaf ask got = if got == ask then None
     else Some (first_with (left_at s) got (path_up s.rows leaf))
@@ -167,19 +167,19 @@ after s seat call = unless_refused (refusal s seat call) (state_after s seat cal
 abbrev pub answer : PoolState → ℕ → PoolCall → PoolReply
 answer s seat call = or_refused (refusal s seat call) (reply_to s seat call)
 
--- what a seat holds of all leaves
+-- the slices that a seat holds of all leaves
 abbrev pub held_of_seat : PoolState → ℕ → ℕ
 held_of_seat s seat =
     sum_by (λ leaf. slice_index s.held (held_place s seat leaf)) (range_with_len 0 (length s.rows))
 
--- what all seats hold of a leaf
+-- the slices that all seats hold of a leaf
 abbrev pub held_of_leaf : PoolState → ℕ → ℕ
 held_of_leaf s leaf =
     sum_by (λ seat. slice_index s.held (held_place s seat leaf)) (range_with_len 0 s.processors)
 
--- what holds of every pool: its tree, one place for each row, processor and holding, the bounds of
--- what is drawn, and that the
--- holdings add up to it, by processor, by leaf and by group
+-- the invariant of every pool: its rows are a tree; there is one place for each row, processor and
+-- holding; the drawn slices are within their bounds; and the holdings add up to them, by processor,
+-- by leaf and by group
 pub record IsSound (s : PoolState) : Type 0 where
   pub tree : AreTreeRows s.rows
   pub few_rows : length s.rows ≤ MAX_GROUPS
@@ -213,9 +213,8 @@ abbrev pub StaysSound : Type 0
 StaysSound = (s : PoolState) (h : List (Entry PoolCall PoolReply)) → IsSound s
     → IsSound (replay after s h)
 
--- what a seat holds of a leaf is drawn at its processor, at the leaf and at each group above, so
--- that giving it back takes no more
--- than there is
+-- the slices that a seat holds of a leaf are drawn at its processor, at the leaf and at each group
+-- above, so that giving them back takes no more than there is
 abbrev pub CutsNothing : Type 0
 CutsNothing = (s : PoolState) (seat leaf n : ℕ) → IsSound s
     → refusal s seat (GiveBack leaf n) ≡ None → n ≤ held_by s seat leaf
