@@ -1,4 +1,4 @@
--- What answers whole lines, as contracts see it.
+-- The responder, which answers whole lines, as contracts see it.
 use Rattle.std.specs.Prelude.{ℕ, Bool}
 use Rattle.bw_shell.specs.declared.responder.Responder.{Responder}
 use Rattle.bw_commands.specs.ScriptState.{state_of}

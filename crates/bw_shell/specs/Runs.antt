@@ -1,4 +1,4 @@
--- How a run went that is to read a script to its end and to write the answer to each line.
+-- The result of a run that reads a script to its end and writes the answer to each line.
 use Rattle.std.specs.Prelude.{ℕ, ◌≡◌, ◌≤◌, ◌⊎◌, ◌||◌, List, Option, Result, true, OnOk, IsErrOf}
 use Rattle.std.specs.Io.KnownBytes.{IsAtEnd}
 use Rattle.bw_commands.specs.State.{State}

@@ -12,12 +12,12 @@ pub record Scan : Type 0 where
 abbrev pub begin : State → Scan
 begin s = record { state = s; kept = Some [] }
 
--- what is kept of a line after one more byte
+-- the kept part of a line after one more byte
 abbrev pub kept_with : Option (List ℕ) → ℕ → Option (List ℕ)
 kept_with None b = None
 kept_with (Some line) b = (if nat_lt (length line) line_bytes then Some (line ++ b ∷ []) else None)
 
--- what is kept of a line after more bytes
+-- the kept part of a line after more bytes
 abbrev pub kept_after : Option (List ℕ) → List ℕ → Option (List ℕ)
 kept_after kept [] = kept
 kept_after kept (b ∷ bs) = kept_after (kept_with kept b) bs
