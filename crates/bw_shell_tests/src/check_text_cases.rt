@@ -49,7 +49,7 @@ fn assert_read(
     Ok(())
 }
 
-// The same at each byte of the text, and with no fault.
+// A check over a reader that fails at each byte of the text in turn, and over one without a fault.
 fn assert_reads(
     rt: &impl Abort,
     alloc: Global,

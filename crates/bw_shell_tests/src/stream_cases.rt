@@ -165,7 +165,8 @@ fn assert_written<R: AllocGlobal + Threads + Wait + Clock + Abort + Sync>(
     Ok(())
 }
 
-// How many bytes the writer takes a call, whether it stalls or fails, and how many calls write all answers.
+// The bytes that the writer takes a call, whether it stalls or fails, and the number of calls that
+// write all answers.
 static WRITERS: [(usize, bool, usize); 5] = [
     (1, false, 605),
     (2, true, 308),
