@@ -1,4 +1,4 @@
--- What may be split, and what needs no search.
+-- The conditions of a split, and the splits that need no search.
 use Rattle.std.specs.Prelude.{◌≡◌, ◌⊎◌, ℕ, ◌<◌, ◌≤◌, List, length, sum, slice_index}
 use Rattle.bw_model.specs.declared.limits.TheConstants.{MIN_WEIGHT, MAX_WEIGHT, MAX_CAPACITY}
 use Rattle.bw_split.specs.declared.limits.TheConstants.{MAX_CHILDREN}

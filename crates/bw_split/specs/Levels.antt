@@ -1,4 +1,4 @@
--- What the children take at a level.
+-- The slices that the children take at a level.
 use Rattle.std.specs.Prelude.{◌≡◌, ℕ, ◌+◌, ◌*◌, ◌/◌, ◌<◌, ◌≤◌, List, length, sum_by, slice_index}
 use Rattle.std.specs.Prelude.{min}
 use Rattle.std.specs.List.{range_with_len}
@@ -10,7 +10,7 @@ use Rattle.bw_split.specs.declared.limits.TheConstants.{STEPS}
 unfoldable pub taken : ℕ → ℕ → ℕ → ℕ
 taken level weight most = min ((level * weight + STEPS) / (2 * STEPS)) most
 
--- what all children take at a level
+-- the slices that all children take at a level
 unfoldable pub taken_by_all : ℕ → List ℕ → List ℕ → ℕ
 taken_by_all level weights most =
     sum_by (λ k. taken level (slice_index weights k) (slice_index most k))
