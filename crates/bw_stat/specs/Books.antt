@@ -1,4 +1,4 @@
--- What one call does to the counters of the groups.
+-- The change that one call makes to the counters of the groups.
 use Rattle.std.specs.Prelude.{ℕ, ◌+◌, ◌*◌, ◌-◌, ◌^◌, min, Bool, nat_lt, nat_eq, List, [], ◌∷◌}
 use Rattle.std.specs.Prelude.{Option, Some, None, if◌then◌else◌}
 use Rattle.std.specs.Map.{lookup, remove_entry}
@@ -6,7 +6,7 @@ use Rattle.indexmap.specs.IndexMap.{insert_entry}
 use Rattle.bw_model.specs.declared.row.Row.{Row}
 use Rattle.bw_model.specs.declared.stat.Stat.{Stat}
 
--- what one period adds for one group
+-- the numbers that one period adds to the counters of one group, times in microseconds
 pub record Share : Type 0 where
   pub usage_usec : ℕ
   pub is_throttled : Bool
@@ -37,8 +37,8 @@ share_of slice_us row quota want drawn = record {
   burst_usec = burst row.parent quota drawn * slice_us;
 }
 
--- what a period adds for each group: its rows, with the ids, the quotas, the wants and the drawn
--- slices of the same groups
+-- the numbers that a period adds for each group, from one list each of rows, ids, quotas, wants and
+-- drawn slices
 abbrev pub shares_of : ℕ → List Row → List ℕ → List (Option ℕ) → List ℕ → List ℕ → List (ℕ × Share)
 shares_of slice_us [] ids base wants drawn = []
 shares_of slice_us (row ∷ rows) [] base wants drawn = []

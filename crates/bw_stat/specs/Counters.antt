@@ -14,7 +14,7 @@ abbrev pub after_call : List (ℕ × Stat) → Call → List (ℕ × Stat)
 after_call books (Book shares) = booked books shares
 after_call books (Forget id) = forgotten books id
 
--- what a list of calls leaves
+-- the counters after a list of calls
 abbrev pub after_calls : List (ℕ × Stat) → List Call → List (ℕ × Stat)
 after_calls books [] = books
 after_calls books (c ∷ cs) = after_calls (after_call books c) cs
@@ -55,7 +55,7 @@ sums_of shares = record {
   burst_usec = cut (sum_by (λ (s : Share). s.burst_usec) shares);
 }
 
--- what is kept for a group with these shares: nothing where it has none
+-- the counters of a group with these shares of periods; it has none before its first share
 abbrev pub counters_of : List Share → Option Stat
 counters_of [] = None
 counters_of (share ∷ shares) = Some (sums_of (share ∷ shares))
