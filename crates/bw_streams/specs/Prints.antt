@@ -1,4 +1,4 @@
--- How a call went that is to form a line and write it.
+-- The result of a call that forms a line and writes it.
 use Rattle.std.specs.Prelude.{◌≡◌, ◌||◌, Result, true, OnOk, IsErrOf}
 use Rattle.bw_streams.specs.Watched.{has_failed, has_stalled, is_flushed, HasNoFault}
 use Rattle.bw_streams.specs.declared.fault.RunFault.{RunFault}

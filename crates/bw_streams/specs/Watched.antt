@@ -1,4 +1,4 @@
--- What contracts see of a watched reader or writer.
+-- The parts of a watched reader or writer that contracts see.
 use Rattle.std.specs.Prelude.{ℕ, Bool, true, false, ◌&&◌, ◌==◌, ◌≡◌, List, length, Option, is_some}
 use Rattle.std.specs.Prelude.{Result, Ok, Err, nat_lt}
 use Rattle.std.specs.declared.io.Error.{Error}
@@ -20,7 +20,7 @@ has_failed w = is_some (first_error w)
 abbrev pub has_stalled : {T : Type 0} → Watched T → Bool
 has_stalled w = w.stalled
 
--- how many reads there were
+-- the number of reads so far
 abbrev pub read_calls : {T : Type 0} → Watched T → ℕ
 read_calls w = w.reads
 

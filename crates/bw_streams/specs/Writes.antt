@@ -1,4 +1,4 @@
--- How a call went that is to write a text to a watched writer.
+-- The result of a call that writes a text to a watched writer.
 use Rattle.std.specs.Prelude.{ℕ, ◌≡◌, List, Option, Result, true, ◌||◌, OnOk, OnErr, IfErr}
 use Rattle.std.specs.Io.KnownBytes.{Appends}
 use Rattle.bw_streams.specs.Fronts.{AppendsFront}
