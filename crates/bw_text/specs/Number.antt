@@ -29,7 +29,7 @@ digits_read word =
     else Err TooGreat)
     else Err BadForm
 
--- the same at 64 bits: why a word is no number, or the number
+-- the number below 2^64 that a word spells, or why there is none
 abbrev pub number_read : List ℕ → Result ℕ NumberFault
 number_read word =
     if is_number word
