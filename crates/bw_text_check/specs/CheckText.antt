@@ -1,4 +1,4 @@
--- What the check of a certified text answers: the line that it prints, and whether the text is
+-- The answer of the check of a certified text: the line that it prints, and whether the text is
 -- accepted.
 use Rattle.std.specs.Prelude.{ℕ, ◌≡◌, ◌≤◌, List, [], ◌∷◌, ◌++◌, Bool, true, false, Option, Result}
 use Rattle.std.specs.Prelude.{Ok, Err, codes, length}
@@ -50,7 +50,7 @@ IsFindingOf (Ok value) (Faulty fault) = ⊥
 IsFindingOf (Err fault) (Checked verdict) = ⊥
 IsFindingOf (Err fault) (Faulty found) = found ≡ fault
 
--- what is found in a text
+-- the finding in a text
 abbrev pub IsFinding : List ℕ → Finding → Type 0
 IsFinding text finding = IsFindingOf (certified_of (text_lines text)) finding
 

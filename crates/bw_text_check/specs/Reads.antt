@@ -1,4 +1,4 @@
--- How a call went that is to read a text to its end.
+-- The result of a call that reads a text to its end.
 use Rattle.std.specs.Prelude.{ℕ, ◌≡◌, ◌≤◌, ◌<◌, ◌⊎◌, List, length, Option, Result, true, OnOk}
 use Rattle.std.specs.Prelude.{IsErrOf}
 use Rattle.std.specs.Io.KnownBytes.{Consumes, IsAtEnd}
