@@ -86,7 +86,7 @@ fn assert_closed(
     history
 }
 
-// The same with two seats.
+// Closes the lock with two seats, and asserts the total and the number of calls.
 fn assert_pair_closed(
     rt: &impl Abort,
     alloc: Global,
@@ -119,7 +119,7 @@ fn add<R: Wait + Clock>(
     seat
 }
 
-// The same by two threads, a seat in each.
+// Adds 1 as often as said in two threads, with a seat in each.
 fn add_in_both<R: Threads + Wait + Clock + Sync>(
     rt: &R,
     lock: &TicketLock<Counter>,

@@ -134,7 +134,7 @@ fn fifty_periods<G: Gate, R: AllocGlobal + Threads + Wait + Clock + Abort + Sync
     ran(rt, script.as_str(), gate, said.as_str())
 }
 
-// The same, where a worker's first draw waits for one of another.
+// Fifty periods of that script in which a worker's first draw waits for one of another.
 fn held_periods<R: AllocGlobal + Threads + Wait + Clock + Abort + Sync>(
     rt: &R,
     held: u32,

@@ -15,7 +15,7 @@ use std::test::Fail;
 use std::thread;
 use std::thread::{Threads, map_vec};
 
-// How often the seat that lowers looks whether a draw has been answered.
+// The greatest number of looks for an answered draw, of the seat that lowers.
 const TURNS: u32 = 100_000_000;
 
 // The rows of pod and of the leaf that draws.
@@ -67,7 +67,7 @@ fn look<R: Wait + Clock>(rt: &R, lock: &TicketLock<SlicePool>, seat: &mut Seat<S
     }
 }
 
-// What each seat does.
+// Plays the part of a seat, by its number.
 fn play<R: Wait + Clock>(
     rt: &R,
     lock: &TicketLock<SlicePool>,

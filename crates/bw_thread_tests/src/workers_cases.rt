@@ -18,7 +18,7 @@ use std::sync::Wait;
 use std::test::Fail;
 use std::thread::{Threads, join};
 
-// How often a gate looks whether another worker has come to some point.
+// The greatest number of looks that a gate takes for another worker's coming to some point.
 const TURNS: u32 = 100_000_000;
 
 // The parent, weight, limit and demand of a group.
@@ -134,7 +134,7 @@ pub(crate) struct Holds {
     nth: u64,
     answered: AtomicCell<bool>,
     went_on: AtomicCell<bool>,
-    // how often one waited and the other came
+    // the number of times that one waited and the other came
     pub(crate) met: AtomicCell<u32>,
 }
 
@@ -380,7 +380,7 @@ fn assert_last<R: Wait + Clock + Abort>(
     seat
 }
 
-// What is drawn in the end, after so many calls.
+// Closes the lock, and asserts the slices drawn of each group and the number of calls.
 fn assert_closed<A: Abort>(
     rt: &A,
     lock: TicketLock<SlicePool>,
