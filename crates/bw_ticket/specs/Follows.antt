@@ -33,7 +33,7 @@ abbrev pub IsLike : WaitState → Type 0
 IsLike s = (length s.words ≡ MAX_SEATS) × (s.next < 2 ^ 32) × (s.serving < 2 ^ 32)
 
 module _ {M C R : Type 0} where
-  -- where a seat is in the protocol
+  -- the phase of a seat in the protocol
   abbrev pub in_protocol : Phase M C R → WaitPhase
   in_protocol Idle = PIdle
   in_protocol (Waiting t) = PWaiting t

@@ -18,7 +18,7 @@ use Rattle.bw_ticket.specs.Rule.{Ruled}
 use Rattle.bw_ticket.specs.Follows.{in_protocol}
 
 module _ {M C R : Type 0} where
-  -- where the seats of one list of views are in the protocol, and those of all lists
+  -- the phases in the protocol of the seats of one list of views, and of all lists
   abbrev pub phases_of : List (SeatView M C R) → List WaitPhase
   phases_of [] = []
   phases_of (p ∷ ps) = in_protocol p.phase ∷ phases_of ps
@@ -41,14 +41,14 @@ state_with words phases =
 abbrev pub IsThere : WaitPhase → WaitPhase → Type 0
 IsThere p q = (p ≡ q) ⊎ ((t : ℕ) × (p ≡ PLooked t) × (q ≡ PAsleep t))
 
--- the same of each of a list
+-- each seat of a list is where its view says, or sleeps where its view says that it may
 abbrev pub AreThere : List WaitPhase → List WaitPhase → Type 0
 AreThere [] [] = Unit {0}
 AreThere [] (q ∷ qs) = ⊥
 AreThere (p ∷ ps) [] = ⊥
 AreThere (p ∷ ps) (q ∷ qs) = IsThere p q × AreThere ps qs
 
--- where a seat sleeps, its mark stands, or some seat wakes it next
+-- if a seat sleeps, its mark stands, or some seat wakes it next
 abbrev pub SleepersAreSeen : WaitState → Type 0
 SleepersAreSeen s = (x : ℕ) → 1 ≤ count (sleeps x) s.phases
     → (mark_at s x ≡ x + 1) ⊎ (1 ≤ count (wakes x) s.phases)
