@@ -1,4 +1,4 @@
--- What a group draws over many periods.
+-- The slices that a group draws over many periods.
 use Rattle.std.specs.Prelude.{◌≡◌, ◌≢◌, ℕ, suc, ◌+◌, nat_eq, if◌then◌else◌, List, [], ◌∷◌, length}
 use Rattle.std.specs.Prelude.{Option, Some, None}
 use Rattle.std.specs.List.{AllByRecursion}
@@ -34,7 +34,7 @@ after_call shape t (SetLimit id quota) = with_setting (set_quota quota) t id
 after_call shape t (SetPeriod id period) = with_setting (set_period period) t id
 after_call shape t (SetBurst id burst) = with_setting (set_burst burst) t id
 
--- what a period may book: one number of slices for each group, none above its limit
+-- a period may book these slices: one number for each group, none above its limit
 pub record CanBook (shape : Shape) (t : TreeState) (drawn : List ℕ) : Type 0 where
   pub count : length drawn ≡ length t.groups
   pub within : IsDrawnWithin (rows_of t.groups shape) drawn
@@ -63,18 +63,18 @@ KeepsBandwidth shape id quota burst t (call ∷ calls) =
     HasBandwidth shape t id quota burst × KeepsGroup shape id t call
     × KeepsBandwidth shape id quota burst (after_call shape t call) calls
 
--- what the group with this id drew, of what each group drew
+-- the slices that the group with this id drew, of those that each group drew
 abbrev pub drawn_at : List (ℕ × GroupFields) → List ℕ → ℕ → ℕ
 drawn_at [] drawn id = 0
 drawn_at (e ∷ es) [] id = 0
 drawn_at (e ∷ es) (d ∷ ds) id = if nat_eq id e.0 then d else drawn_at es ds id
 
--- what a call lets the group with this id draw: a booked period alone does
+-- the slices that the group with this id draws by a call: 0 but for a booked period
 abbrev pub drawn_by : ℕ → TreeState → Call → ℕ
 drawn_by id t (Book drawn) = drawn_at t.groups drawn id
 drawn_by id t call = 0
 
--- what the group with this id draws in all booked periods
+-- the slices that the group with this id draws in all booked periods
 abbrev pub drawn_in : Shape → ℕ → TreeState → List Call → ℕ
 drawn_in shape id t [] = 0
 drawn_in shape id t (call ∷ calls) =
@@ -86,12 +86,12 @@ periods_in [] = 0
 periods_in (Book drawn ∷ calls) = suc (periods_in calls)
 periods_in (call ∷ calls) = periods_in calls
 
--- what a group left over in the last booked period
+-- the slices that a group left over in the last booked period
 abbrev pub carry_of : Option GroupFields → ℕ
 carry_of None = 0
 carry_of (Some g) = g.carry
 
--- the same by its id
+-- the slices that the group with this id left over in the last booked period
 abbrev pub carry_at : TreeState → ℕ → ℕ
 carry_at t id = carry_of (group_at t.groups id)
 

@@ -1,4 +1,4 @@
--- What booked periods leave and draw, as the laws say it.
+-- The slices that booked periods leave and draw, as the laws say it.
 use Rattle.std.specs.Prelude.{◌≡◌, ◌+◌, ◌*◌, ◌≤◌, ℕ, List, map}
 use Rattle.bw_model.specs.Host.{Shape}
 use Rattle.bw_model.specs.declared.row.Row.{Row}
@@ -29,7 +29,7 @@ IsCarryBounded =
     → HasBandwidth shape t id quota burst → CanBook shape t drawn
     → carry_at (after_call shape t (Book drawn)) id ≤ quota + burst
 
--- what is left over is the limit less what was drawn, and nothing else of the group changes
+-- a group leaves over its limit less the slices it drew, and nothing else of the group changes
 abbrev pub IsLeftOver : Type 0
 IsLeftOver =
     (shape : Shape) (id : ℕ) (t : TreeState) (drawn : List ℕ) → CanBook shape t drawn

@@ -9,7 +9,7 @@ abbrev pub with_name : (ℕ → List (List ℕ)) → List ℕ → Option ℕ →
 with_name names name None = []
 with_name names name (Some parent) = names parent ++ name ∷ []
 
--- the same, where there is a group
+-- the names on the way down to a group; none if there is no group
 abbrev pub names_at : (ℕ → List (List ℕ)) → Option GroupFields → List (List ℕ)
 names_at names None = []
 names_at names (Some g) = with_name names g.name g.parent

@@ -18,12 +18,12 @@ row_above groups (Some id) = position (nat_eq id) (keys_of groups)
 abbrev pub quota_slices : Shape → GroupFields → Option ℕ
 quota_slices shape g = slices_of shape g.period g.quota
 
--- what may be used in a period: the quota with what was left over, and at most the quota with the
+-- the limit of a period in slices: the quota and the slices left over, at most the quota and the
 -- burst
 abbrev pub with_burst : ℕ → ℕ → ℕ → ℕ
 with_burst carry burst quota = min (carry + quota) (quota + burst)
 
--- the same of a group that may have no quota
+-- the limit of a period in slices, if the group has a quota
 abbrev pub bursting : ℕ → ℕ → Option ℕ → Option ℕ
 bursting carry burst None = None
 bursting carry burst (Some quota) = Some (with_burst carry burst quota)
@@ -54,12 +54,12 @@ base_of groups shape = map (quota_slices shape) (values_of groups)
 abbrev pub instance_of : TreeState → Shape → Groups
 instance_of t shape = record { shape = shape; rows = rows_of t.groups shape }
 
--- what is left of a limit
+-- the slices left of a limit
 abbrev pub left_of : Option ℕ → ℕ → ℕ
 left_of None drawn = 0
 left_of (Some limit) drawn = limit - drawn
 
--- what each row left of its limit
+-- the slices that each row left of its limit
 abbrev pub left_over : List Row → List ℕ → List ℕ
 left_over [] drawn = []
 left_over (row ∷ rows) [] = []
