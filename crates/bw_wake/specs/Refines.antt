@@ -20,7 +20,7 @@ use Rattle.bw_wake.specs.declared.seats.Event.TheVariants.{Take, Look, Apply, Le
 use Rattle.bw_wake.specs.Protocol.{WaitState, start, happens, is_possible}
 
 module _ {C : Type 0} where
-  -- where a seat is in the interleaving core, in which each call is the same
+  -- the phase of a seat in the interleaving core, in which all calls are equal
   abbrev pub phase_in_core : C → Phase → CorePhase C
   phase_in_core call Idle = CoreIdle
   phase_in_core call (Waiting t) = CoreWaiting t call
