@@ -21,7 +21,7 @@ use Rattle.bw_pool.specs.Drained.{PoolEntry, Drains, fresh, opening, IsDrawnOut}
 abbrev pub of_children : List Row → List ℕ → ℕ → List ℕ
 of_children rows numbers g = map (slice_index numbers) (children_of rows g)
 
--- what is drawn of each group after these calls on a new pool of the amounts
+-- the slices drawn of each group after these calls on a new pool of the amounts
 abbrev pub drawn_after : Groups → List ℕ → List PoolEntry → List ℕ
 drawn_after groups amounts history = (replay after (opening groups amounts) history).drawn
 

@@ -1,4 +1,4 @@
--- What a worker does with its seat: the calls that it makes, one after another, and the seat that
+-- The work of a worker with its seat: the calls that it makes, one after another, and the seat that
 -- it hands back.
 use Rattle.std.specs.Prelude.{◌≡◌, ℕ, ◌+◌, ◌≤◌, ◌==◌, nat_lt, List, [], ◌∷◌, ◌++◌, length, map}
 use Rattle.std.specs.Prelude.{Bool, true, false, ◌&&◌, None, if◌then◌else◌, ◌⊎◌}
@@ -16,7 +16,7 @@ use Rattle.bw_pool.specs.Drained.{PoolEntry, Drains, fresh, got_one}
 abbrev pub PoolSeat : Type 0
 PoolSeat = Holder PoolCall PoolReply
 
--- how often x stands in the list
+-- the number of times that x stands in the list
 abbrev pub times : ℕ → List ℕ → ℕ
 times x [] = 0
 times x (y ∷ ys) = (if y == x then 1 else 0) + times x ys
@@ -66,7 +66,7 @@ pub record DropsLeaf (uses : ℕ → Bool) (leaf : ℕ) (old new : PoolSeat) : T
       × (calls_of new ≡ calls_of old
       ++ entry old.number (Draw leaf 1) reply ∷ entry old.number (GiveBack leaf 1) back ∷ []))
 
--- what a worker hands back: its idle seat of the lock, whose calls are those of a drained worker
+-- the seat that a worker hands back: its idle seat of the lock, with the calls of a drained worker
 pub record IsDrainedSeat (uses : ℕ → Bool) (rows : List Row) (per_processor : ℕ) (lock_id : TableId)
     (seat_number : ℕ) (seat : PoolSeat) : Type 0 where
   pub lock : seat.lock_id ≡ lock_id
