@@ -1,2 +1,2 @@
--- What the table says.
+-- The contents of the table.
 pub mod Names

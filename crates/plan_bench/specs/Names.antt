@@ -1,4 +1,4 @@
--- What the table calls a shape.
+-- The names of the shapes in the table.
 use Rattle.std.specs.Prelude.{ℕ, List, codes}
 use Rattle.plan_bench.specs.declared.shapes.Shape.{Shape}
 use Rattle.plan_bench.specs.declared.shapes.Shape.TheVariants.{Flat, Pairs, Triples, Bushes, Chains}
