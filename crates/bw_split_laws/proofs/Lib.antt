@@ -1,0 +1,6 @@
+-- The files of lemmas.
+mod Lists
+mod Pairs
+mod Raised
+mod Removed
+mod Shares
