@@ -1,4 +1,5 @@
 -- The files of lemmas.
+pub mod CallerLemmas
 mod Lists
 mod Pairs
 mod Raised

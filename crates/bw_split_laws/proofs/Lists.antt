@@ -56,6 +56,12 @@ one_more (x ∷ xs) (y ∷ ys) e le s = elim (cases_lt x y) [
       )
 ]
 
+-- a number outside a list is 0
+pub outside : (xs : List ℕ) (k : ℕ) → length xs ≤ k → get_or xs k 0 ≡ 0
+outside [] k h = refl
+outside (x ∷ xs) zero h = absurd (omega (arith, h))
+outside (x ∷ xs) (suc k) h = outside xs k (omega (arith, h))
+
 -- the sum of a list as the sum over its places
 pub sum-places : (xs : List ℕ) → sum xs ≡ sum_below (length xs) (λ k. get_or xs k 0)
 sum-places [] = refl

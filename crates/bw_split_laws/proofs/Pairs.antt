@@ -85,22 +85,16 @@ no_swap w m xs v n ys one two j k j_in k_in same wj wk vj vk gains loses vw room
     (last_mark (get_or ys j 0) (get_or v j 0) j)
     (last_mark (get_or xs k 0) (get_or w k 0) k) wk vj wk across back)
 
-pub more_from_nobody : MoreTakesFromNobody
-more_from_nobody amount weights most parts more weighted best next =
-    one_more parts more same kept (next.split.whole ∙ ap (λ a. a + 1) (sym best.split.whole))
-  where
-    same : length parts ≡ length more
-    same = best.split.lengths ∙ sym next.split.lengths
-
-    positive : (k : ℕ) → k < length parts → 0 < get_or weights k 0
-    positive k below =
-        weighted.positive k (omega (arith, below, weighted.one_each, best.split.lengths))
-
-    kept : (k : ℕ) → k < length parts → get_or parts k 0 ≤ get_or more k 0
-    kept k below = elim (cases_lt (get_or more k 0) (get_or parts k 0)) [
+-- With no less to split no child has less.
+pub never_less : (amount greater : ℕ) (weights most parts more : List ℕ)
+    → AreWeighted weights most → amount ≤ greater
+    → IsBestSplit amount weights most parts → IsBestSplit greater weights most more
+    → (k : ℕ) → k < length parts → get_or parts k 0 ≤ get_or more k 0
+never_less amount greater weights most parts more weighted amounts best next k below =
+    elim (cases_lt (get_or more k 0) (get_or parts k 0)) [
       | inr fine ↦ fine
       | inl loses ↦ elim (find_greater parts more same
-          (omega (arith, best.split.whole, next.split.whole))) [
+          (omega (arith, best.split.whole, next.split.whole, amounts))) [
             | inr equal ↦ absurd
                 (let e : get_or parts k 0 ≡ get_or more k 0 = ap (λ xs. get_or xs k 0) equal in
                 omega (arith, e, loses))
@@ -111,7 +105,7 @@ more_from_nobody amount weights most parts more weighted best next =
                 best.split.within k below in
                 no_swap weights most parts weights most more
                 (best_pairs amount weights most parts weighted best)
-                (best_pairs (amount + 1) weights most more weighted next)
+                (best_pairs greater weights most more weighted next)
                 found.0 k found.1 below (sym same)
                 (positive found.0 found.1) (positive k below)
                 (positive found.0 found.1) (positive k below) found.2 loses
@@ -119,3 +113,16 @@ more_from_nobody amount weights most parts more weighted best next =
                 (omega (arith, loses, under)))
           ]
     ]
+  where
+    same : length parts ≡ length more
+    same = best.split.lengths ∙ sym next.split.lengths
+
+    positive : (k : ℕ) → k < length parts → 0 < get_or weights k 0
+    positive k below =
+        weighted.positive k (omega (arith, below, weighted.one_each, best.split.lengths))
+
+pub more_from_nobody : MoreTakesFromNobody
+more_from_nobody amount weights most parts more weighted best next =
+    one_more parts more (best.split.lengths ∙ sym next.split.lengths)
+    (never_less amount (amount + 1) weights most parts more weighted (omega arith) best next)
+    (next.split.whole ∙ ap (λ a. a + 1) (sym best.split.whole))

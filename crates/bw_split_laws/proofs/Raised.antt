@@ -1,17 +1,11 @@
 -- A child whose weight or maximum is raised loses nothing, and no other child gains.
-use Rattle.std.proofs.Common.{◌≡◌, ◌≢◌, ℕ, zero, suc, ◌<◌, ◌≤◌, List, [], ◌∷◌, length}
-use Rattle.std.proofs.Common.{get_or, refl, ap, sym, ◌∙◌, arith, inl, inr}
+use Rattle.std.proofs.Common.{◌≡◌, ◌≢◌, ℕ, ◌<◌, ◌≤◌, List, length}
+use Rattle.std.proofs.Common.{get_or, ap, sym, ◌∙◌, arith, inl, inr}
 use Rattle.std.proofs.lemmas.Bool.{cases_lt, cases_eq}
 use Rattle.bw_model.specs.Split.{IsBestSplit}
 use Rattle.bw_split_laws.specs.Change.{AreWeighted, IsRaised, RaisedChildAloneGains}
-use Rattle.bw_split_laws.proofs.Lists.{find_greater}
+use Rattle.bw_split_laws.proofs.Lists.{find_greater, outside}
 use Rattle.bw_split_laws.proofs.Pairs.{best_pairs, no_swap}
-
--- a number outside a list is 0
-outside : (xs : List ℕ) (k : ℕ) → length xs ≤ k → get_or xs k 0 ≡ 0
-outside [] k h = refl
-outside (x ∷ xs) zero h = absurd (omega (arith, h))
-outside (x ∷ xs) (suc k) h = outside xs k (omega (arith, h))
 
 module _ (amount : ℕ) (weights most more_weights more_most parts others : List ℕ) (child : ℕ)
     (weighted : AreWeighted weights most) (more_weighted : AreWeighted more_weights more_most)

@@ -1,0 +1,5 @@
+-- The files of lemmas.
+mod HostLaws
+mod InsideLaw
+mod Trees
+mod WeightLaw

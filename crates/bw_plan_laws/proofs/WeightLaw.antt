@@ -1,0 +1,186 @@
+-- A group of a greater weight alone gains.
+use Rattle.std.proofs.Common.{◌≡◌, ◌≢◌, ℕ, ◌<◌, ◌≤◌, List, true, false, Some, length, get_or}
+use Rattle.std.proofs.Common.{refl, ap, sym, ◌∙◌, arith, inl, inr, eqb}
+use Rattle.std.specs.Prelude.{map, slice_index}
+use Rattle.std.proofs.lemmas.Bool.{cases_eq, cases_lt, or_right}
+use Rattle.std.proofs.lemmas.List.{length-map}
+use Rattle.bw_model.specs.Groups.{Groups, IsInstance, parent_of, children_of, is_leaf, weight_of}
+use Rattle.bw_model.specs.Groups.{limit_of, is_under}
+use Rattle.bw_model.specs.Certificate.{sibling_place}
+use Rattle.bw_model.specs.Demand.{want_of}
+use Rattle.bw_model.specs.Plan.{IsPlan, child_weights}
+use Rattle.bw_model.specs.Split.{IsBestSplit}
+use Rattle.bw_model.proofs.CallerLemmas.{strong, from_the_last, capped, mosts, mosts-capped}
+use Rattle.bw_model.proofs.CallerLemmas.{parent_lt, parent_not_leaf, listed_child, child_at}
+use Rattle.bw_model.proofs.CallerLemmas.{get_or-map, is_under-step, is_under-self}
+use Rattle.bw_plan.specs.Shared.{IsPlanning}
+use Rattle.bw_plan.proofs.CallerLemmas.{plan-IsPlanning}
+use Rattle.bw_split_laws.specs.Change.{AreWeighted, IsRaised}
+use Rattle.bw_split_laws.proofs.CallerLemmas.{outside, raised_alone_gains}
+use Rattle.bw_plan_laws.specs.Tree.{IsNotBelow}
+use Rattle.bw_plan_laws.specs.Weight.{IsHeavier, RaisedWeightAloneGains}
+use Rattle.bw_plan_laws.proofs.Trees.{want_same, step_same, split_over, weighted, at_place}
+use Rattle.bw_plan_laws.proofs.Trees.{children_same, parent_not_below, child_not_below}
+
+module _ (a b : Groups) (group parent : ℕ) (xs ys : List ℕ) (va : IsInstance a) (vb : IsInstance b)
+    (heavier : IsHeavier a b group) (group_in : group < length a.rows)
+    (up : parent_of a.rows group ≡ Some parent) (is_plan : IsPlan a xs) (is_other : IsPlan b ys) where
+  ma : List ℕ
+  ma = mosts a va.tree
+
+  mb : List ℕ
+  mb = mosts b vb.tree
+
+  most_same : (h : ℕ) → h < length a.rows → get_or mb h 0 ≡ get_or ma h 0
+  unfolding ma mb
+  most_same = from_the_last (length a.rows)
+      (λ h. get_or (mosts b vb.tree) h 0 ≡ get_or (mosts a va.tree) h 0)
+      (λ h below later.
+      mosts-capped b vb.tree h (omega (arith, below, heavier.tree.as_many))
+      ∙ ap (λ l. capped l (want_of b (mosts b vb.tree) h)) (heavier.limits h)
+      ∙ ap (capped (limit_of a h))
+      (want_same a b va vb heavier.tree (mosts a va.tree) (mosts b vb.tree) h (heavier.demands h)
+      (λ c c_in e. later c (parent_lt a.rows va.tree c h e) c_in))
+      ∙ sym (mosts-capped a va.tree h below))
+
+  pa : IsPlanning a ma (λ _. true) xs
+  unfolding ma
+  pa = plan-IsPlanning a va ma (mosts-capped a va.tree) xs is_plan
+
+  pb : IsPlanning b mb (λ _. true) ys
+  unfolding mb
+  pb = plan-IsPlanning b vb mb (mosts-capped b vb.tree) ys is_other
+
+  -- The heavier group is below its parent.
+  not_the_group : (h : ℕ) → IsNotBelow a.rows parent h → h ≢ group
+  not_the_group h out same =
+      let under : is_under a.rows parent group ≡ true =
+      is_under-step a.rows va.tree parent group parent up
+      ∙ or_right (eqb group parent) (is_under a.rows parent parent)
+      (is_under-self a.rows va.tree parent) in
+      let here : is_under a.rows parent h ≡ true = ap (is_under a.rows parent) same ∙ under in
+      let clash : h ≡ parent = out here in
+      let less : parent < group = parent_lt a.rows va.tree group parent up in
+      omega (arith, same, clash, less)
+
+  elsewhere : (h : ℕ) → h < length a.rows → IsNotBelow a.rows parent h
+      → get_or ys h 0 ≡ get_or xs h 0
+  elsewhere = strong
+      (λ h. h < length a.rows → IsNotBelow a.rows parent h → get_or ys h 0 ≡ get_or xs h 0)
+      (λ h before below out. elim (cases_eq h 0) [
+        | inl root ↦ rw root (pb.top ∙ most_same 0 va.tree.has_root ∙ sym pa.top)
+        | inr deeper ↦
+            let known : (p : ℕ) × (parent_of a.rows h ≡ Some p) × (p < h) =
+            va.tree.parent_before h (omega (arith, deeper)) below in
+            let apart : is_under a.rows parent known.0 ≡ true → ⊥ =
+            parent_not_below a.rows va.tree parent h known.0 known.1 out in
+            let p_in : known.0 < length a.rows = omega (arith, known.2, below) in
+            step_same a b va vb heavier.tree ma mb xs ys pa pb h known.0 below p_in known.1
+            (before known.0 known.2 p_in (λ under. absurd (apart under)))
+            (λ s s_in e. heavier.weights s
+            (not_the_group s (child_not_below a.rows va.tree parent known.0 s e apart)))
+            (λ s s_in e. most_same s s_in)
+      ])
+
+  parent_in : parent < length a.rows
+  parent_in = omega (arith, parent_lt a.rows va.tree group parent up, group_in)
+
+  cs : List ℕ
+  cs = children_of a.rows parent
+
+  place : (k : ℕ) × (k < length (children_of a.rows parent))
+      × (get_or (children_of a.rows parent) k 0 ≡ group)
+  place = listed_child a.rows parent group group_in up
+
+  inner : is_leaf a.rows parent ≡ false
+  inner = parent_not_leaf a.rows parent group group_in up
+
+  same_parent : get_or ys parent 0 ≡ get_or xs parent 0
+  same_parent = elsewhere parent parent_in (λ under. refl)
+
+  weight_at : (values : Groups) (k : ℕ) → k < length (children_of a.rows parent)
+      → get_or (map (weight_of values.rows) (children_of a.rows parent)) k 0
+      ≡ weight_of values.rows (get_or (children_of a.rows parent) k 0)
+  weight_at values k below = get_or-map (weight_of values.rows) (children_of a.rows parent) k below
+
+  -- The child at another place is another group.
+  apart_at : (k : ℕ) → k < length (children_of a.rows parent) → k ≢ place.0
+      → get_or (children_of a.rows parent) k 0 ≢ group
+  unfolding place
+  apart_at k below other same =
+      other (sym (child_at a.rows parent k below).place ∙ ap (sibling_place a.rows parent) (same ∙ sym place.2)
+      ∙ (child_at a.rows parent place.0 place.1).place)
+
+  raised : IsRaised (child_weights a.rows parent) (map (slice_index ma) (children_of a.rows parent))
+      (map (weight_of b.rows) (children_of a.rows parent))
+      (map (slice_index ma) (children_of a.rows parent)) place.0
+  raised = record {
+    as_many = refl;
+    weight = rw (weight_at a place.0 place.1, weight_at b place.0 place.1, place.2) heavier.raised;
+    maximum = omega arith;
+    others = λ k other. (
+      elim (cases_lt k (length (children_of a.rows parent))) [
+        | inl within ↦ rw (weight_at a k within, weight_at b k within)
+            (heavier.weights (get_or (children_of a.rows parent) k 0) (apart_at k within other))
+        | inr past ↦
+            outside (map (weight_of b.rows) (children_of a.rows parent)) k
+            (omega (arith, past, length-map (children_of a.rows parent) (weight_of b.rows)))
+            ∙ sym (outside (map (weight_of a.rows) (children_of a.rows parent)) k
+            (omega (arith, past, length-map (children_of a.rows parent) (weight_of a.rows))))
+      ],
+      refl,
+    );
+  }
+
+  more_weighted : AreWeighted (map (weight_of b.rows) (children_of a.rows parent))
+      (map (slice_index ma) (children_of a.rows parent))
+  more_weighted = rw (children_same a.rows b.rows heavier.tree parent) at (weighted b vb ma parent)
+
+  before_split : IsBestSplit (get_or xs parent 0) (child_weights a.rows parent)
+      (map (slice_index ma) (children_of a.rows parent))
+      (map (slice_index xs) (children_of a.rows parent))
+  before_split = pa.splits parent parent_in refl inner
+
+  after_split : IsBestSplit (get_or xs parent 0) (map (weight_of b.rows) (children_of a.rows parent))
+      (map (slice_index ma) (children_of a.rows parent))
+      (map (slice_index ys) (children_of a.rows parent))
+  after_split = rw same_parent at
+      (split_over a b va vb heavier.tree ma mb xs ys pa pb parent parent_in inner
+      (λ s s_in e. most_same s s_in))
+
+  gained : (slice_index (map (slice_index xs) (children_of a.rows parent)) place.0
+      ≤ slice_index (map (slice_index ys) (children_of a.rows parent)) place.0)
+      × ((k : ℕ) → k ≢ place.0
+      → slice_index (map (slice_index ys) (children_of a.rows parent)) k
+      ≤ slice_index (map (slice_index xs) (children_of a.rows parent)) k)
+  gained = raised_alone_gains (get_or xs parent 0) (child_weights a.rows parent)
+      (map (slice_index ma) (children_of a.rows parent))
+      (map (weight_of b.rows) (children_of a.rows parent))
+      (map (slice_index ma) (children_of a.rows parent))
+      (map (slice_index xs) (children_of a.rows parent))
+      (map (slice_index ys) (children_of a.rows parent)) place.0
+      (weighted a va ma parent) more_weighted raised before_split after_split
+
+  sibling : (s : ℕ) → s < length a.rows → parent_of a.rows s ≡ Some parent → s ≢ group
+      → get_or ys s 0 ≤ get_or xs s 0
+  unfolding place
+  sibling s s_in e other =
+      let spot : (k : ℕ) × (k < length (children_of a.rows parent))
+      × (get_or (children_of a.rows parent) k 0 ≡ s) = listed_child a.rows parent s s_in e in
+      let apart : spot.0 ≢ place.0 =
+      (λ same. other (sym spot.2 ∙ ap (λ k. get_or (children_of a.rows parent) k 0) same
+      ∙ place.2)) in
+      rw (at_place a.rows ys parent spot.0 s spot.1 spot.2, at_place a.rows xs parent spot.0 s spot.1 spot.2)
+      at (gained.1 spot.0 apart)
+
+pub heavier_alone_gains : RaisedWeightAloneGains
+heavier_alone_gains a b group parent xs ys va vb heavier group_in up is_plan is_other = record {
+  gains =
+      let p = place a b group parent xs ys va vb heavier group_in up is_plan is_other in
+      rw (at_place a.rows xs parent p.0 group p.1 p.2, at_place a.rows ys parent p.0 group p.1 p.2)
+      at (gained a b group parent xs ys va vb heavier group_in up is_plan is_other).0;
+  siblings = λ s s_in e other.
+      sibling a b group parent xs ys va vb heavier group_in up is_plan is_other s s_in e other;
+  elsewhere = λ h below out.
+      elsewhere a b group parent xs ys va vb heavier group_in up is_plan is_other h below out;
+}

@@ -1,0 +1,14 @@
+//! Laws of the whole tree that an operator relies on: what a change of a host or of one group does
+//! to the other groups.
+//!
+//! Each law is the contract of a function that does nothing. The plans are those of bw_model, of
+//! any two instances.
+#![tactic(auto)]
+
+mod host;
+mod inside;
+mod weight;
+
+pub use host::{capacity_takes_nothing, raised_limits_serve_no_less};
+pub use inside::inside_stays_inside;
+pub use weight::raised_weight_alone_gains;
