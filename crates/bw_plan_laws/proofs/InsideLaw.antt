@@ -14,7 +14,8 @@ use Rattle.bw_plan_laws.specs.Inside.{IsChangedInside, InsideStaysInside}
 use Rattle.bw_plan_laws.proofs.Trees.{want_same, step_same, parent_not_below, child_not_below}
 
 module _ (a b : Groups) (group : ℕ) (ma mb xs ys : List ℕ) (va : IsInstance a) (vb : IsInstance b)
-    (changed : IsChangedInside a b group ma mb) (is_plan : IsPlan a xs) (is_other : IsPlan b ys) where
+    (changed : IsChangedInside a b group ma mb) (is_plan : IsPlan a xs)
+    (is_other : IsPlan b ys) where
   -- Another group that is not below the group is not above its own children's rows either.
   not_under : (h : ℕ) → IsNotBelow a.rows group h → (h ≡ group → ⊥)
       → is_under a.rows group h ≡ true → ⊥

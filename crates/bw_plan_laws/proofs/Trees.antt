@@ -156,7 +156,8 @@ module _ (a b : Groups) (va : IsInstance a) (vb : IsInstance b)
         let place : (k : ℕ) × (k < length (children_of a.rows p))
         × (get_or (children_of a.rows p) k 0 ≡ c) = listed_child a.rows p c c_in e in
         let over : IsBestSplit (get_or xs p 0) (child_weights a.rows p)
-        (map (slice_index ma) (children_of a.rows p)) (map (slice_index ys) (children_of a.rows p)) =
+        (map (slice_index ma) (children_of a.rows p))
+        (map (slice_index ys) (children_of a.rows p)) =
         rw (same, at_children a.rows (weight_of b.rows) (weight_of a.rows) p weights) at
         (split_over p p_in inner most) in
         let parts : map (slice_index ys) (children_of a.rows p)

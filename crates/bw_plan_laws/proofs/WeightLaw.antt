@@ -24,7 +24,8 @@ use Rattle.bw_plan_laws.proofs.Trees.{children_same, parent_not_below, child_not
 
 module _ (a b : Groups) (group parent : ℕ) (xs ys : List ℕ) (va : IsInstance a) (vb : IsInstance b)
     (heavier : IsHeavier a b group) (group_in : group < length a.rows)
-    (up : parent_of a.rows group ≡ Some parent) (is_plan : IsPlan a xs) (is_other : IsPlan b ys) where
+    (up : parent_of a.rows group ≡ Some parent) (is_plan : IsPlan a xs)
+    (is_other : IsPlan b ys) where
   ma : List ℕ
   ma = mosts a va.tree
 
@@ -108,7 +109,8 @@ module _ (a b : Groups) (group parent : ℕ) (xs ys : List ℕ) (va : IsInstance
       → get_or (children_of a.rows parent) k 0 ≢ group
   unfolding place
   apart_at k below other same =
-      other (sym (child_at a.rows parent k below).place ∙ ap (sibling_place a.rows parent) (same ∙ sym place.2)
+      other (sym (child_at a.rows parent k below).place
+      ∙ ap (sibling_place a.rows parent) (same ∙ sym place.2)
       ∙ (child_at a.rows parent place.0 place.1).place)
 
   raised : IsRaised (child_weights a.rows parent) (map (slice_index ma) (children_of a.rows parent))
@@ -141,7 +143,8 @@ module _ (a b : Groups) (group parent : ℕ) (xs ys : List ℕ) (va : IsInstance
       (map (slice_index xs) (children_of a.rows parent))
   before_split = pa.splits parent parent_in refl inner
 
-  after_split : IsBestSplit (get_or xs parent 0) (map (weight_of b.rows) (children_of a.rows parent))
+  after_split : IsBestSplit (get_or xs parent 0)
+      (map (weight_of b.rows) (children_of a.rows parent))
       (map (slice_index ma) (children_of a.rows parent))
       (map (slice_index ys) (children_of a.rows parent))
   after_split = rw same_parent at
@@ -170,7 +173,10 @@ module _ (a b : Groups) (group parent : ℕ) (xs ys : List ℕ) (va : IsInstance
       let apart : spot.0 ≢ place.0 =
       (λ same. other (sym spot.2 ∙ ap (λ k. get_or (children_of a.rows parent) k 0) same
       ∙ place.2)) in
-      rw (at_place a.rows ys parent spot.0 s spot.1 spot.2, at_place a.rows xs parent spot.0 s spot.1 spot.2)
+      rw (
+        at_place a.rows ys parent spot.0 s spot.1 spot.2,
+        at_place a.rows xs parent spot.0 s spot.1 spot.2,
+      )
       at (gained.1 spot.0 apart)
 
 pub heavier_alone_gains : RaisedWeightAloneGains
