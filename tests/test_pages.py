@@ -100,7 +100,7 @@ def test_functions_of_the_walk():
 
 
 def function_clauses(text: str, name: str) -> list:
-    """The labels of the clauses of each function of this name: "" for one without a label."""
+    """The clauses of each function of this name: kind and label, "" for one without a label."""
     lines, found = text.splitlines(), []
     for at, line in enumerate(lines):
         head = re.match(rf'( *)(?:pub(?:\(\w+\))? )?(?:[\w"]+ )*fn {name}\b', line)
@@ -112,17 +112,18 @@ def function_clauses(text: str, name: str) -> list:
         for later in [] if line.endswith("{") else lines[at + 1:]:
             if ends.match(later):
                 break
-            labels += re.findall(r"^ *ensures(?: (\w+))? \{", later)
+            labels += re.findall(r"^ *(ensures|requires)(?: (\w+))? \{", later)
         found.append(labels)
     return found
 
 
 def is_in_code(text: str, name: str, clause: str) -> bool:
-    """Whether a function of this name has a clause of this label; one clause if none is given."""
+    """Whether a function of this name has a clause of this label; one `ensures` without one."""
     contracts = function_clauses(text, name)
     if clause:
-        return any(clause in labels for labels in contracts)
-    return any(labels == [""] for labels in contracts)
+        return any(clause in (label for _, label in labels) for labels in contracts)
+    return any([label for kind, label in labels if kind == "ensures"] == [""]
+               for labels in contracts)
 
 
 def is_in_specs(text: str, name: str, field: str) -> bool:

@@ -3,7 +3,7 @@ ghost use Rattle.std.specs.Prelude.{◌≡◌};
 ghost use Rattle.bw_ticket.specs.Follows.{StepsAreEvents};
 ghost use Rattle.bw_ticket.specs.UnderWay.{NoWakeIsLostInLock};
 
-use crate::limits::{MAX_CALLS, MAX_SEATS};
+use crate::limits::{MAX_CALLS, MAX_SEATS, MOST_AWAKE};
 use bw_machine::Machine;
 
 /// Each step of a waiting or leaving seat is the event of the waiting protocol of `bw_wake` that
@@ -27,9 +27,10 @@ pub fn no_wake_is_lost<M: Machine>()
     ensures { NoWakeIsLostInLock M.after M.answer }
 {}
 
-/// The limits of a lock: 64 seats, and 65536 calls of each. The definitions read both from the
-/// code.
+/// The limits of a lock: 64 seats, 65536 calls of each, and 42043 looks, spins and yields of a
+/// waiting seat between two sleeps. The definitions read the first two from the code.
 pub fn lock_numbers()
     ensures seats { MAX_SEATS ≡ 64 }
     ensures calls { MAX_CALLS ≡ 65536 }
+    ensures awake { MOST_AWAKE ≡ 42043 }
 {}

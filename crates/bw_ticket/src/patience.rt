@@ -3,8 +3,11 @@
 //! A yield to other waiting seats ends within microseconds. A yield to other work may last for its
 //! time slice, some milliseconds, and all later tickets wait meanwhile. A clock tells the two
 //! apart.
+ghost use Rattle.std.specs.Prelude.{◌+◌, ◌<◌, ◌≤◌};
+
+use crate::limits::MOST_AWAKE;
+use crate::sleeping::{Awake, give_way};
 use std::rt::Clock;
-use std::thread::yield_now;
 use std::time::Instant;
 
 // Least length of a long yield, in microseconds.
@@ -32,12 +35,15 @@ impl Patience {
 
     // Yields once, and returns whether the yield was short. After a long yield the seat's next
     // waits have no yield: 64 of them, and twice as many after each further long yield.
-    pub(crate) fn yields<R: Clock>(&mut self, rt: &R) -> bool {
+    pub(crate) fn yields<R: Clock>(&mut self, rt: &R, awake: &mut Awake) -> bool
+        requires { awake.old < MOST_AWAKE }
+        ensures { awake.new ≤ awake.old + 1 }
+    {
         if self.without_yield > 0 {
             self.without_yield -= 1;
             return false;
         }
-        if is_short_yield(rt) {
+        if is_short_yield(rt, awake) {
             return true;
         }
         self.last = self.last.saturating_mul(2).max(WAITS_WITHOUT_YIELD);
@@ -47,11 +53,14 @@ impl Patience {
 }
 
 // Yields once, and returns whether the yield was short. If the clock cannot be read, it was long.
-fn is_short_yield<R: Clock>(rt: &R) -> bool {
+fn is_short_yield<R: Clock>(rt: &R, awake: &mut Awake) -> bool
+    requires { awake.old < MOST_AWAKE }
+    ensures { awake.new ≤ awake.old + 1 }
+{
     let Ok(before) = Instant::now(rt) else {
         return false;
     };
-    yield_now();
+    give_way(awake);
     match before.elapsed(rt) {
         Ok(time) => time.as_micros() < LONG_YIELD_MICROSECONDS,
         Err(_) => false,

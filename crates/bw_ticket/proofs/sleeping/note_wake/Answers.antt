@@ -1,7 +1,7 @@
 -- The rule allows the step woken.
 use Rattle.std.proofs.Common.{arith}
 use Rattle.bw_ticket.proofs.Allowed.{may_woken}
-use Rattle.bw_ticket.proofs.steps.wake_sleeper.Goals as goal
+use Rattle.bw_ticket.proofs.sleeping.note_wake.Goals as goal
 
 pub load-requires : goal.load-requires
 load-requires g c = let w = c.requires.wakes in let q = w.1 in (

@@ -1,0 +1,6 @@
+-- Each turn counts a look and a spin.
+use Rattle.std.proofs.Common.{◌+◌, ◌*◌, ◌≤◌}
+use Rattle.bw_ticket.proofs.steps.spin_while_near.Given as goal
+
+abbrev pub invariant-loop-look : goal.invariant-loop-look
+invariant-loop-look g l = l.awake ≤ l.fn.awake + 2 * l._look

@@ -1,0 +1,161 @@
+//! The calls of the system by which a seat waits and wakes another, the step woken, and the count
+//! of what a seat does between two sleeps.
+//!
+//! No other file of the crate names `.park(`, `.wake_one(`, `spin_loop` or `yield_now`. A sleep and
+//! a wake are no steps of the table, so their arguments are asked by contract.
+ghost use Rattle.std.specs.Prelude.{◌≡◌, ℕ, ◌+◌, ◌<◌, ◌≤◌, [], ◌∷◌, map, length, vec_capacity};
+ghost use Rattle.bw_ticket.specs.declared.board.Phase.TheVariants.{Looked, Waiting, Wakes};
+ghost use Rattle.bw_ticket.specs.Plays.{entered, goes, woke};
+ghost use Rattle.bw_ticket.specs.Rule.{Each, wake_word};
+ghost use Rattle.bw_ticket.specs.Seats.{IsBoard, IsSeat};
+
+use crate::board::{SERVING, SlotValue, View};
+use crate::count::Count;
+use crate::limits::MOST_AWAKE;
+use crate::lock::{Board, Token};
+use crate::patience::Patience;
+use crate::steps::wait_turn;
+use atomic_table::Play;
+use bw_machine::Machine;
+use std::hint::spin_loop;
+use std::marker::Model;
+use std::rt::Clock;
+use std::sync::Wait;
+use std::thread::yield_now;
+
+/// Ghost state: the number of looks, spins and yields of a waiting seat since it last slept. It has
+/// no data at run time.
+#[derive(Drop)]
+pub(crate) struct Awake {
+    count: Count,
+}
+
+impl Model for Awake {
+    ghost use Rattle.std.specs.Prelude.{ℕ};
+
+    ghost Value = { ℕ };
+
+    ghost view = { λ awake. awake.count.steps };
+}
+
+impl Awake {
+    // A count of nothing. Only `enter` begins one, and `park_on` begins it anew.
+    fn none() -> Awake
+        ensures { result ≡ 0 }
+    {
+        Awake {
+            count: Count::none(),
+        }
+    }
+
+    /// Counts one more, of which there may be [`MOST_AWAKE`].
+    pub(crate) fn add(&mut self)
+        requires { self.old < MOST_AWAKE }
+        ensures { self.new ≡ self.old + 1 }
+    {
+        self.count = self.count.one_more();
+    }
+}
+
+/// Spins once, and counts it.
+pub(crate) fn spin(awake: &mut Awake)
+    requires { awake.old < MOST_AWAKE }
+    ensures { awake.new ≡ awake.old + 1 }
+{
+    awake.add();
+    spin_loop();
+}
+
+/// Yields the processor once, and counts it.
+pub(crate) fn give_way(awake: &mut Awake)
+    requires { awake.old < MOST_AWAKE }
+    ensures { awake.new ≡ awake.old + 1 }
+{
+    awake.add();
+    yield_now();
+}
+
+/// Waits until the seat's own ticket is served, and then has the slot. Between two sleeps it does
+/// not look, spin and yield more than [`MOST_AWAKE`] times: the count begins here.
+pub(crate) fn enter<M: Machine, R: Wait + Clock>(
+    rt: &R,
+    board: &Board<M>,
+    seat: &mut Token<M>,
+    patience: &mut Patience,
+    ticket: u64,
+)
+    requires table { (seat.old.table_id ≡ board.now.shared.table_id) ×
+        IsBoard board.now.shared.table_id }
+    requires waits { IsSeat seat.old (Waiting ticket) [] }
+    ensures table { seat.new.table_id ≡ seat.old.table_id }
+    ensures later { Each (λ p. p.reached ≤ ticket) seat.old.me.0 }
+    ensures inside { (y : _) × (seat.new.me ≡ (map (entered ticket y) seat.old.me.0, (0, y) ∷ [])) ×
+        (length y.history.items ≡ ticket) × (ticket < vec_capacity y.history) }
+{
+    wait_turn(rt, board, seat, patience, ticket, &mut Awake::none());
+}
+
+// The step woken: a load of `serving` after a wake. A view changes only at a step on a word.
+struct Woken;
+
+impl<M, C, R> Play<SlotValue<M, C, R>, View<M, C, R>> for Woken {
+    ghost use Rattle.bw_ticket.specs.Plays.{wake_made};
+
+    ghost then = { λ _. wake_made };
+}
+
+/// A wake that was made on this wake word. Only [`ring`] makes one, and [`note_wake`] takes it.
+#[derive(Drop)]
+pub(crate) struct Rung {
+    word: usize,
+}
+
+/// Sleeps on a word while its lower half is the expected one, until a wake or for no reason.
+///
+/// The seat must have looked in vain since it stored its mark. The word must be the wake word of
+/// its ticket, and the expected value its mark. Afterwards the count begins anew. Premise: the
+/// system compares the word and goes to sleep in one atomic step.
+pub(crate) fn park_on<M: Machine, R: Wait>(
+    rt: &R,
+    board: &Board<M>,
+    seat: &Token<M>,
+    word: usize,
+    expected: u32,
+    awake: &mut Awake,
+)
+    requires table { IsBoard board.now.shared.table_id }
+    requires range { word < 66 }
+    requires asked { (t : ℕ) × IsSeat seat.now (Looked t) [] ×
+        (word ≡ wake_word t) × (expected ≡ t + 1) }
+    ensures awake { awake.new ≡ 0 }
+{
+    board.shared.park(rt, word, expected);
+    *awake = Awake::none();
+}
+
+/// Wakes the seat that sleeps on a word, if one does.
+///
+/// The word must be the wake word of the ticket whose mark the caller's seat has taken. Premise:
+/// the system wakes a seat that sleeps on the word.
+pub(crate) fn ring<M: Machine>(board: &Board<M>, seat: &Token<M>, word: usize) -> Rung
+    requires table { IsBoard board.now.shared.table_id }
+    requires range { word < 66 }
+    requires asked { (t : ℕ) × (n : ℕ) × IsSeat seat.now (Wakes t n) [] × (word ≡ wake_word t) }
+    ensures { result.word ≡ word }
+{
+    board.shared.wake_one(word);
+    Rung { word }
+}
+
+/// The step woken, one load. It takes the wake that was made on the wake word of the ticket.
+pub(crate) fn note_wake<M: Machine>(board: &Board<M>, seat: &mut Token<M>, ticket: u64, rung: Rung)
+    requires table { (seat.old.table_id ≡ board.now.shared.table_id) ×
+        IsBoard board.now.shared.table_id }
+    requires wakes { (n : ℕ) × IsSeat seat.old (Wakes ticket n) [] }
+    requires rung { rung.word ≡ wake_word ticket }
+    ensures table { seat.new.table_id ≡ seat.old.table_id }
+    ensures woke { seat.new.me ≡ (map (goes woke) seat.old.me.0, []) }
+{
+    let _ = rung.word;
+    board.shared.load::<Woken>(seat, SERVING);
+}
