@@ -8,6 +8,8 @@ mod MarkSound
 mod NotStuck
 mod OneSeatSound
 mod OneTurn
+mod PeekFirst
+mod Raising
 mod RunSound
 mod Invariant
 mod WakeSound

@@ -1,6 +1,7 @@
 //! Laws of the waiting protocol: each is the contract of a function that does nothing.
 ghost use Rattle.bw_wake.specs.Progress.{NoWakeIsLost, ServedTicketGoesOn, NoneIsStuck};
 ghost use Rattle.bw_wake.specs.Progress.{AwakeSeatsCanStep};
+ghost use Rattle.bw_wake.specs.Raises.{SevenEventsRaiseServing};
 ghost use Rattle.bw_wake.specs.Refines.{RefinesTheCore};
 
 use bw_machine::Machine;
@@ -25,6 +26,15 @@ pub fn served_ticket_goes_on()
 /// The law assumes a wake word for each seat.
 pub fn none_is_stuck()
     ensures { NoneIsStuck }
+{}
+
+/// Seven events are enough to raise the ticket that is served, in each state where it is drawn.
+///
+/// Each of these events is possible, and its seat is neither idle nor asleep. So no ticket is
+/// drawn, and no seat wakes without a wake. The law assumes a wake word for each seat. It says
+/// that such events exist, and not that a thread makes them.
+pub fn seven_events_raise_serving()
+    ensures { SevenEventsRaiseServing }
 {}
 
 /// In every state, a seat that is neither idle nor asleep can make an event.
