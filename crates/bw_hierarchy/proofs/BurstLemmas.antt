@@ -1,13 +1,12 @@
 -- Each call keeps the burst of each group at most its quota.
 use Rattle.std.proofs.Common.{◌≡◌, ℕ, Bool, true, false, cond, not, eqb, List, [], ◌∷◌, ◌++◌}
 use Rattle.std.proofs.Common.{Option, Some, None, refl, ap, sym, subst, ◌∙◌}
-use Rattle.std.specs.Prelude.{Result, Ok, Err, IfOk, ⊤, ℤ}
+use Rattle.std.specs.Prelude.{Result, Ok, Err, IfOk, ℤ}
 use Rattle.std.specs.List.{AllByRecursion}
 use Rattle.std.specs.Map.{values_of, set_value, remove_entry}
 use Rattle.std.specs.Path.{rsplit_once}
 use Rattle.std.proofs.lemmas.Bool.{ltb-false}
 use Rattle.bw_text.specs.Words.{words}
-use Rattle.bw_model.specs.Host.{Shape}
 use Rattle.bw_model.specs.declared.row.Row.{Row}
 use Rattle.bw_model.specs.declared.quota.Quota.{Quota}
 use Rattle.bw_model.specs.declared.quota.Quota.TheVariants.{Max as NoLimit, Micros}
@@ -15,7 +14,7 @@ use Rattle.bw_tree.specs.Groups.{GroupFields, TreeState, group_at, has_group, fi
 use Rattle.bw_tree.specs.Snapshot.{carried, left_over}
 use Rattle.bw_tree.specs.Tree.{changed, mkdir_refusal, rmdir_refusal, demand_refusal, with_group}
 use Rattle.bw_tree.specs.Tree.{new_group, with_setting, set_weight, set_max, set_burst, set_demand}
-use Rattle.bw_tree.specs.Tree.{set_carry, without_group}
+use Rattle.bw_tree.specs.Tree.{without_group}
 use Rattle.bw_tree.specs.declared.fault.TreeFault.{TreeFault}
 use Rattle.bw_tree.specs.declared.fault.TreeFault.TheVariants.{NotFound}
 use Rattle.bw_files.specs.Reading.{weight_in, weight_of, max_of, burst_of}
