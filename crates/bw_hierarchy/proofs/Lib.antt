@@ -1,4 +1,6 @@
 -- The files of lemmas.
+pub mod CallerLemmas
+mod BurstLemmas
 mod FileNames
 mod LastSlash
 mod SettingLemmas

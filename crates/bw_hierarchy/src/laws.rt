@@ -1,4 +1,5 @@
-//! Laws about the files: contracts of functions with an empty body.
+//! Laws about the files and the calls: contracts of functions with an empty body.
+ghost use Rattle.bw_hierarchy.specs.Bursts.{CallsKeepBurstsWithin};
 ghost use Rattle.bw_hierarchy.specs.Written.{IsWeightRead, IsMaxRead, IsBurstRead, KeepsOtherFiles};
 ghost use Rattle.bw_hierarchy.specs.Written.{KeepsOtherGroups, KeepsCounters, KeepsRest};
 
@@ -14,4 +15,12 @@ pub fn write_changes_one_value()
     ensures other_groups { KeepsOtherGroups }
     ensures counters { KeepsCounters }
     ensures rest { KeepsRest }
+{}
+
+/// Law: after any calls on a new hierarchy, a group's burst is at most its quota, in microseconds.
+///
+/// The calls are those of the hierarchy, its handles and its builder. A quota `max` bounds no
+/// burst.
+pub fn bursts_are_within_quotas()
+    ensures { CallsKeepBurstsWithin }
 {}

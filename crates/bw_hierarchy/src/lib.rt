@@ -16,4 +16,4 @@ pub use cgroup::{Cgroup, CpuController, KeptCgroup};
 pub use fault::Fault;
 pub use group_file::{GroupFile, file_named};
 pub use hierarchy::Hierarchy;
-pub use laws::write_changes_one_value;
+pub use laws::{bursts_are_within_quotas, write_changes_one_value};

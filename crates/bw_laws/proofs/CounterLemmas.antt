@@ -1,5 +1,5 @@
 -- Counters stand under ids that were given.
-use Rattle.std.proofs.Common.{◌≡◌, ◌≢◌, ◌⊎◌, inl, inr, ℕ, ◌+◌, ◌<◌, ◌≤◌, Bool, true, false, cond}
+use Rattle.std.proofs.Common.{◌≡◌, ◌≢◌, ◌⊎◌, inl, inr, ℕ, ◌+◌, ◌<◌, ◌≤◌, true, false, cond}
 use Rattle.std.proofs.Common.{List, [], ◌∷◌, Option, None, Some, refl, sym, ap, subst, ◌∙◌}
 use Rattle.std.proofs.Common.{arith, eqb}
 use Rattle.std.proofs.lemmas.Bool.Decides.{eqb_tells}
@@ -13,7 +13,7 @@ use Rattle.bw_model.specs.declared.stat.Stat.{Stat}
 use Rattle.bw_stat.specs.Books.{Share, added, or_zeros, stat_at, with_share, booked, shares_of}
 use Rattle.bw_stat.specs.Books.{forgotten}
 use Rattle.bw_stat.proofs.CallerLemmas.{stat_insert}
-use Rattle.bw_tree.specs.Groups.{TreeState, GroupFields, IsTree, AllBefore}
+use Rattle.bw_tree.specs.Groups.{TreeState, GroupFields, AllBefore}
 use Rattle.bw_tree.specs.Tree.{mkdir_refusal, rmdir_refusal, with_group, without_group}
 use Rattle.bw_tree.specs.declared.fault.TreeFault.{TreeFault}
 use Rattle.bw_hierarchy.specs.declared.fault.Fault.{Fault}

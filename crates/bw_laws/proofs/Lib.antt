@@ -1,4 +1,5 @@
 -- The files of lemmas.
+mod BurstLemmas
 mod CertLemmas
 mod CounterLemmas
 mod IdLemmas

@@ -1,4 +1,5 @@
 -- The files of definitions.
+pub mod Bursts
 pub mod Cert
 pub mod Counters
 pub mod Ids

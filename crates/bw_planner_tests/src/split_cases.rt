@@ -1,5 +1,5 @@
 //! Splits of one list of siblings, by a level and by marks, against all lists and a plain program.
-use bw_split::{can_split, level_of, split, split_by_marks, split_counted};
+use bw_split::{Work, can_split, level_of, split, split_by_marks, split_counted};
 use std::alloc::{AllocError, Global};
 use std::process::Abort;
 use std::test::Fail;
@@ -66,8 +66,8 @@ fn assert_many(rt: &impl Abort, alloc: Global) -> Result<(), AllocError> {
     assert!(rt; can_split(64000, &WEIGHTS, &MOST));
     assert_fours(rt, &split(alloc, 64000, &WEIGHTS, &MOST)?);
     assert_fours(rt, &split_by_marks(alloc, 64000, &WEIGHTS, &MOST)?);
-    let (parts, _work) = split_counted(alloc, 64000, &WEIGHTS, &MOST);
-    assert_fours(rt, &parts?);
+    let mut work = Work::new();
+    assert_fours(rt, &split_counted(alloc, 64000, &WEIGHTS, &MOST, &mut work)?);
     Ok(())
 }
 

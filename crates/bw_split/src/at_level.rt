@@ -3,7 +3,7 @@ ghost use Rattle.std.specs.Prelude.{◌≡◌, ◌+◌, ◌≤◌, length, IfOk}
 ghost use Rattle.bw_split.specs.Conditions.{AreWeights};
 ghost use Rattle.bw_split.specs.Levels.{taken, taken_by_all, AreTaken};
 
-use crate::counted::Work;
+use crate::counted::Tally;
 use crate::limits::{GREATEST_LEVEL, MAX_CHILDREN, MOST_TAKEN, STEPS};
 use bw_model::limits::MAX_WEIGHT;
 use std::alloc::{AllocError, Global};
@@ -23,7 +23,7 @@ pub(crate) fn takes(level: u64, weight: u64, most: u64) -> u64
 }
 
 /// The slices that all children take at a level. Only this function adds a round.
-pub(crate) fn test_level(level: u64, weights: &[u64], most: &[u64], work: &mut Work) -> u64
+pub(crate) fn test_level(level: u64, weights: &[u64], most: &[u64], work: &mut Tally) -> u64
     requires level_in_range { level ≤ GREATEST_LEVEL }
     requires one_each { length most.now ≡ length weights.now }
     requires few { length weights.now ≤ MAX_CHILDREN }

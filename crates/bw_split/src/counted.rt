@@ -1,6 +1,7 @@
 //! The split of an amount, and the count of its rounds and picks, which contracts alone see.
 //!
-//! Only this module can begin a count: `Work::new` is private to it.
+//! Only this module can begin the count of a search: `Tally::new` and the tally of a [`Work`] are
+//! private to it.
 ghost use Rattle.std.specs.Prelude.{◌≡◌, ◌+◌, ◌<◌, ◌≤◌, length, sum, IfOk};
 ghost use Rattle.bw_model.specs.Split.{IsBestSplit};
 ghost use Rattle.bw_split.specs.Conditions.{CanSplit, NeedsNoSearch};
@@ -11,30 +12,30 @@ use crate::limits::MAX_ROUNDS;
 use std::alloc::{AllocError, Global};
 use std::marker::Model;
 
-/// Ghost state: a count of rounds and picks, without data at run time.
+/// Ghost state: rounds and picks of a search, without data at run time.
 ///
 /// A round is one test of a level on all children. A pick is one slice given after the search.
 #[derive(Drop)]
-pub struct Work {
+pub(crate) struct Tally {
     rounds: Count,
     picks: Count,
 }
 
-impl Model for Work {
+impl Model for Tally {
     ghost use Rattle.bw_split.specs.Counts.{Done};
 
     ghost Value = { Done };
 
-    ghost view = { λ work. record { rounds = work.rounds.steps; picks = work.picks.steps } };
+    ghost view = { λ tally. record { rounds = tally.rounds.steps; picks = tally.picks.steps } };
 }
 
-impl Work {
-    // A count of nothing. Only this module can begin one, so a search adds to the one it is given.
-    fn new() -> Work
+impl Tally {
+    // A tally of nothing. Only this module can begin one, so a search adds to the one it is given.
+    fn new() -> Tally
         ensures rounds { result.rounds ≡ 0 }
         ensures picks { result.picks ≡ 0 }
     {
-        Work {
+        Tally {
             rounds: Count::none(),
             picks: Count::none(),
         }
@@ -57,7 +58,35 @@ impl Work {
     }
 }
 
-/// [`split`], with the count of its rounds and picks.
+/// Ghost state: rounds and picks of the splits that were given it, without data at run time.
+///
+/// Only [`split_counted`] adds to it, what its search has counted.
+#[derive(Drop)]
+pub struct Work {
+    tally: Tally,
+}
+
+impl Model for Work {
+    ghost use Rattle.bw_split.specs.Counts.{Done};
+
+    ghost Value = { Done };
+
+    ghost view = { λ work. work.tally };
+}
+
+impl Work {
+    /// Makes a count of no rounds and no picks. Allocates nothing.
+    pub fn new() -> Work
+        ensures rounds { result.rounds ≡ 0 }
+        ensures picks { result.picks ≡ 0 }
+    {
+        Work {
+            tally: Tally::new(),
+        }
+    }
+}
+
+/// [`split`], with its rounds and picks added to a count.
 ///
 /// A round is counted for each level that was tested on all children, at most [`MAX_ROUNDS`]. A
 /// pick is counted for each slice that was given after the search, at most one a child. There is no
@@ -70,17 +99,19 @@ pub fn split_counted(
     amount: u64,
     weights: &[u64],
     most: &[u64],
-) -> (Result<Vec<u64>, AllocError>, Work)
+    work: &mut Work,
+) -> Result<Vec<u64>, AllocError>
     requires { CanSplit amount weights.now most.now }
-    ensures best { IfOk result.0 (λ parts. IsBestSplit amount weights.now most.now parts.items) }
-    ensures rounds { result.1.rounds ≤ MAX_ROUNDS }
-    ensures picks { result.1.picks ≤ length weights.now }
-    ensures no_search { NeedsNoSearch amount weights.now most.now → result.1.rounds ≡ 0 }
-    ensures searched { (NeedsNoSearch amount weights.now most.now → ⊥) → 0 < result.1.rounds }
+    ensures best { IfOk result (λ parts. IsBestSplit amount weights.now most.now parts.items) }
+    ensures rounds { work.new.rounds ≤ work.old.rounds + MAX_ROUNDS }
+    ensures picks { work.new.picks ≤ work.old.picks + length weights.now }
+    ensures counted { (work.old.rounds ≤ work.new.rounds) × (work.old.picks ≤ work.new.picks) }
+    ensures no_search { NeedsNoSearch amount weights.now most.now
+        → work.new.rounds ≡ work.old.rounds }
+    ensures searched { (NeedsNoSearch amount weights.now most.now → ⊥)
+        → work.old.rounds < work.new.rounds }
 {
-    let mut work = Work::new();
-    let parts = split_with(alloc, amount, weights, most, &mut work);
-    (parts, work)
+    split_with(alloc, amount, weights, most, &mut work.tally)
 }
 
 /// The best split of an amount of slices among siblings, one part for each.
@@ -102,7 +133,7 @@ pub fn split(
     requires { CanSplit amount weights.now most.now }
     ensures best { IfOk result (λ parts. IsBestSplit amount weights.now most.now parts.items) }
 {
-    split_counted(alloc, amount, weights, most).0
+    split_counted(alloc, amount, weights, most, &mut Work::new())
 }
 
 /// [`split`] of an amount that is known to be below the sum of the maxima, without adding them up.
@@ -119,5 +150,5 @@ pub fn split_scarce(
     requires scarce { amount < sum most.now }
     ensures best { IfOk result (λ parts. IsBestSplit amount weights.now most.now parts.items) }
 {
-    split_by_level(alloc, amount, weights, most, &mut Work::new())
+    split_by_level(alloc, amount, weights, most, &mut Tally::new())
 }

@@ -6,7 +6,7 @@ ghost use Rattle.bw_split.specs.Levels.{taken_by_all, TakesMore, NoneTakesMore};
 
 use crate::at_level::{parts_at, takes, test_level};
 use crate::conditions::fits_in;
-use crate::counted::Work;
+use crate::counted::Tally;
 use crate::guess::{counted_on, even_guess, guess_after, weakened_where};
 use crate::limits::{
     FILLINGS, GREATEST_LEVEL, GREATEST_RATIO, MAX_ROUNDS, MOST_TAKEN, RATIO_UNITS, STEPS, WIDEST,
@@ -15,7 +15,7 @@ use bw_model::limits::MAX_CAPACITY;
 use std::alloc::{AllocError, Global};
 
 // One slice more than a part. Only this function adds a pick.
-fn with_one_more(part: u64, work: &mut Work) -> u64
+fn with_one_more(part: u64, work: &mut Tally) -> u64
     requires { part ≤ MOST_TAKEN }
     ensures part { result ≡ part + 1 }
     ensures rounds { work.new.rounds ≡ work.old.rounds }
@@ -145,22 +145,18 @@ fn trial(level: u64, above: u64, reach: u64, guess: u64) -> u64
 // within the rounds left. If an end stays twice, its distance counts less in the next guess, so
 // that it moves too: the false position in its Pegasus form. If a test finds a total that an end
 // had already, the next guess goes to a mark.
-fn find_level(amount: u64, weights: &[u64], most: &[u64], work: &mut Work) -> Found
-    requires { CanSplit amount weights.now most.now }
+fn search_level(amount: u64, weights: &[u64], most: &[u64], work: &mut Tally) -> Found
+    requires can { CanSplit amount weights.now most.now }
+    requires some { 0 < amount }
     ensures in_range { result.level < GREATEST_LEVEL }
     ensures rest { result.rest + taken_by_all result.level weights.now most.now ≡ amount }
     ensures enough { amount ≤ taken_by_all (result.level + 1) weights.now most.now }
     ensures rounds { work.new.rounds ≤ work.old.rounds + MAX_ROUNDS }
     ensures picks { work.new.picks ≡ work.old.picks }
-    ensures counted { work.old.rounds ≤ work.new.rounds }
-    ensures no_search { amount ≡ 0 → work.new.rounds ≡ work.old.rounds }
-    ensures searched { 0 < amount → work.old.rounds < work.new.rounds }
+    ensures searched { work.old.rounds < work.new.rounds }
 {
     let mut level = 0;
     let mut rest = amount;
-    if rest == 0 {
-        return Found { level, rest };
-    }
     let upper = upper_level(amount, weights, most);
     let mut above = upper.level;
     let mut over = upper.over;
@@ -200,6 +196,24 @@ fn find_level(amount: u64, weights: &[u64], most: &[u64], work: &mut Work) -> Fo
     Found { level, rest }
 }
 
+// The level of an amount, with the slices above it. An amount of 0 needs no search.
+fn find_level(amount: u64, weights: &[u64], most: &[u64], work: &mut Tally) -> Found
+    requires { CanSplit amount weights.now most.now }
+    ensures in_range { result.level < GREATEST_LEVEL }
+    ensures rest { result.rest + taken_by_all result.level weights.now most.now ≡ amount }
+    ensures enough { amount ≤ taken_by_all (result.level + 1) weights.now most.now }
+    ensures rounds { work.new.rounds ≤ work.old.rounds + MAX_ROUNDS }
+    ensures picks { work.new.picks ≡ work.old.picks }
+    ensures counted { work.old.rounds ≤ work.new.rounds }
+    ensures no_search { amount ≡ 0 → work.new.rounds ≡ work.old.rounds }
+    ensures searched { 0 < amount → work.old.rounds < work.new.rounds }
+{
+    if amount == 0 {
+        return Found { level: 0, rest: 0 };
+    }
+    search_level(amount, weights, most, work)
+}
+
 // The first child, from a place on, that takes more at a level than its part: of several with a
 // tie the earliest sibling.
 fn first_taker(
@@ -230,7 +244,7 @@ pub(crate) fn split_by_level(
     amount: u64,
     weights: &[u64],
     most: &[u64],
-    work: &mut Work,
+    work: &mut Tally,
 ) -> Result<Vec<u64>, AllocError>
     requires can { CanSplit amount weights.now most.now }
     requires scarce { amount < sum most.now }
@@ -269,7 +283,7 @@ pub(crate) fn split_with(
     amount: u64,
     weights: &[u64],
     most: &[u64],
-    work: &mut Work,
+    work: &mut Tally,
 ) -> Result<Vec<u64>, AllocError>
     requires { CanSplit amount weights.now most.now }
     ensures best { IfOk result (λ parts. IsBestSplit amount weights.now most.now parts.items) }

@@ -10,7 +10,7 @@ use Rattle.std.specs.Str.{bytes_eq}
 use Rattle.std.specs.Cmp.Lexicographic.{bytes_decides}
 use Rattle.std.specs.HashMap.{get}
 use Rattle.bw_tree.specs.declared.child_index.ChildIndex.{ChildIndex}
-use Rattle.bw_tree.specs.Keys.{key, text_at, counted, one_more, one_less}
+use Rattle.bw_tree.specs.Keys.{key, text_at, NoneEmpty, counted, one_more, one_less}
 use Rattle.bw_tree.specs.Children.{child_among, child_at, AnswersAs, IsAdded, IsTaken, AreNamed}
 use Rattle.bw_tree.specs.Children.{IsIndexOf}
 use Rattle.bw_tree.specs.Groups.{GroupFields, TreeState, group_at, has_children, is_parent}
@@ -109,6 +109,7 @@ index_same gs old new is same =
     record {
       children = λ p n. alike gs old new same p n ∙ is.children p n;
       counts = λ p. same.counts p ∙ is.counts p;
+      none_empty = same.none_empty is.none_empty;
     }
 
 -- and of other groups, where these have the same children
@@ -121,6 +122,7 @@ index_alike gs hs index same children counts is = record {
   children = λ p n. at_same gs hs index p n (λ q. same q p n) ∙ is.children p n
       ∙ sym (children p n);
   counts = λ p. is.counts p ∙ ap counted (sym (counts p));
+  none_empty = is.none_empty;
 }
 
 -- one group more
@@ -172,6 +174,7 @@ module _ (gs : List (ℕ × GroupFields)) (k parent : ℕ) (g : GroupFields) (ol
         ∙ counted_more (eqb parent p) (children_count gs p)
         ∙ ap (λ o. counted (cond (is_parent o p) (suc (children_count gs p)) (children_count gs p)))
         (sym up) ∙ ap counted (sym (count_push gs k p g));
+    none_empty = added.none_empty is.none_empty;
   }
     where
       onto : (p : ℕ) (n : List ℕ) (b : Bool) → is_child_named g p n ≡ b → (o : Option ℕ)
@@ -278,6 +281,7 @@ module _ (t : TreeState) (id : ℕ) (g : GroupFields) (ok : IsTree t) (inner : i
         (count_removed id g t.groups p at
         ∙ ap (λ o. cond (is_parent o p) (suc (children_count (remove_entry (eqb id) t.groups) p))
         (children_count (remove_entry (eqb id) t.groups) p)) up);
+    none_empty = taken.none_empty is.none_empty;
   }
     where
       named_so : (p : ℕ) (n : List ℕ) → is_child_named g p n ≡ (eqb parent p && bytes_eq g.name n)
@@ -317,19 +321,21 @@ pub record IsPartIndex (groups rest : List (ℕ × GroupFields)) (index : ChildI
       (child_of rest parent name) ≡ child_of groups parent name
   pub counts : (parent : ℕ) → (done : ℕ) × (get eqb index.counts parent ≡ counted done)
       × (done + children_count rest parent ≡ children_count groups parent)
+  pub none_empty : NoneEmpty index.others
   pub left : AreNamed groups rest
 
 pub part_start : (groups : List (ℕ × GroupFields)) (index : ChildIndex)
     → ((k : ℕ) → get eqb index.first k ≡ None)
     → ((p : ℕ) (n : List ℕ) → text_at index.others p n ≡ None)
-    → ((p : ℕ) → get eqb index.counts p ≡ None) → AreNamed groups groups
+    → ((p : ℕ) → get eqb index.counts p ≡ None) → NoneEmpty index.others → AreNamed groups groups
     → IsPartIndex groups groups index
-part_start groups index first others counts left = record {
+part_start groups index first others counts none_empty left = record {
   children =
       λ p n. ap (λ o. either o (child_of groups p n))
       (ap (λ o. child_among groups o (text_at index.others p n) p n) (first (key p n))
       ∙ others p n);
   counts = λ p. (0, counts p, omega arith);
+  none_empty = none_empty;
   left = left;
 }
 
@@ -339,6 +345,7 @@ part_end groups index is = record {
   children = λ p n. sym (last (child_at groups index p n)) ∙ is.children p n;
   counts = λ p. let c = is.counts p in
       let all : c.0 ≡ children_count groups p = omega (arith, c.2) in c.1 ∙ ap counted all;
+  none_empty = is.none_empty;
 }
   where
     last : (o : Option ℕ) → either o None ≡ o
@@ -359,6 +366,7 @@ part_skip groups e es index top is = record {
       let none : children_count (e ∷ es) p ≡ children_count es p =
       ap (λ o. cond (is_parent o p) (suc (children_count es p)) (children_count es p)) top in
       (c.0, c.1, omega (arith, c.2, none));
+  none_empty = is.none_empty;
   left = is.left.1;
 }
 
@@ -382,6 +390,7 @@ part_step groups e es parent old new up is added = record {
             ∙ ap (λ o. c.0 + cond (is_parent o p) (suc (children_count es p)) (children_count es p))
             (sym up) ∙ c.2,
       );
+  none_empty = added.none_empty is.none_empty;
   left = is.left.1;
 }
   where

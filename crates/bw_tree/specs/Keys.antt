@@ -1,11 +1,11 @@
 -- Where the children of all groups are found: by a key that is made of the parent and the name.
-use Rattle.std.specs.Prelude.{ℕ, zero, suc, ◌+◌, ◌-◌, ◌%◌, ◌^◌, nat_eq, ◌==◌, cond, List, Option}
-use Rattle.std.specs.Prelude.{Some, None}
+use Rattle.std.specs.Prelude.{ℕ, zero, suc, ◌+◌, ◌-◌, ◌%◌, ◌^◌, ◌<◌, nat_eq, ◌==◌, cond, List}
+use Rattle.std.specs.Prelude.{Option, Some, None, IfSome}
 use Rattle.std.specs.List.{fold}
 use Rattle.std.specs.Hash as hash
 use Rattle.std.specs.Hash.FoldHasher as folding
 use Rattle.std.specs.HashMap.{HashMap, get}
-use Rattle.std.specs.BTreeMap.{BTreeMap, get_by_text}
+use Rattle.std.specs.BTreeMap.{BTreeMap, get_by_text, btree_map_len}
 use Rattle.std.specs.declared.string.String.{String}
 use Rattle.std.specs.declared.alloc.Global.{Global}
 use Rattle.std.specs.declared.hash.FoldHasher.{FoldHasher}
@@ -25,6 +25,11 @@ text_in (Some children) name = get_by_text children name
 abbrev pub text_at : HashMap ℕ (BTreeMap (String Global) ℕ) (BuildHasherDefault FoldHasher) → ℕ
     → List ℕ → Option ℕ
 text_at others parent name = text_in (get nat_eq others parent) name
+
+-- no parent has an empty map of names
+abbrev pub NoneEmpty : HashMap ℕ (BTreeMap (String Global) ℕ) (BuildHasherDefault FoldHasher)
+    → Type 0
+NoneEmpty others = (p : ℕ) → IfSome (get nat_eq others p) (λ names. 0 < btree_map_len names)
 
 -- the child that a key finds, after one more was given this key: the first stays
 abbrev pub first_of : Option ℕ → ℕ → Option ℕ

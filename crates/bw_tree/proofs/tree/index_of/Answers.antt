@@ -10,7 +10,7 @@ pub loop-id-init : goal.loop-id-init
 loop-id-init c =
     let all = part_start c.args.groups.now.entries c.new-children.result
     c.new-children.ensures.first c.new-children.ensures.others
-    c.new-children.ensures.counts c.requires.named in
+    c.new-children.ensures.counts c.new-children.ensures.none_empty c.requires.named in
     search (rules, all)
 
 pub insert-requires : goal.insert-requires

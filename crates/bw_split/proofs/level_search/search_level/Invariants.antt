@@ -1,7 +1,7 @@
--- What stands at each turn of the loop in `find_level`.
+-- What stands at each turn of the loop in `search_level`.
 use Rattle.std.proofs.Common.{◌≡◌, ◌+◌, ◌-◌, ◌^◌, ◌<◌, ◌≤◌}
 use Rattle.bw_split.specs.Levels.{taken_by_all}
-use Rattle.bw_split.proofs.level_search.find_level.Given as goal
+use Rattle.bw_split.proofs.level_search.search_level.Given as goal
 use Rattle.bw_model.specs.declared.limits.TheConstants.{MAX_CAPACITY}
 use Rattle.bw_split.specs.declared.limits.TheConstants.{GREATEST_LEVEL, MAX_ROUNDS, WIDEST}
 
