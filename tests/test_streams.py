@@ -259,20 +259,33 @@ def test_run_read_fails_late(program, refusing):
         assert error.startswith(READ_FAULT) and error.count(b"\n") == 1, error
 
 
-@pytest.mark.parametrize("lines", [None, b"frob\n" * 600], ids=["script", "more than the buffer"])
-def test_run_write_fails_once(program, refusing, script, lines):
-    """The first write fails and none after it: the run ends, and writes no answer formed later.
+def write_failed_once(program, refusing, words, given, nth):
+    """The nth write fails and none would fail after it: nothing is written after the failed one.
 
-    The buffer of standard output is written once more at its end, so a prefix of the answers may
-    be there.
+    Returns what is on standard output.
     """
-    given = lines or script
-    answers = program.answers([], given)
-    ended, letters = refused_run(program, refusing, ["run"], given, REFUSE_WRITE=1)
+    ended, letters = refused_run(program, refusing, words, given, REFUSE_WRITE=nth)
     same(ended.status, 1)
     assert ended.err.startswith(WRITE_FAULT), ended.err
-    assert answers.startswith(ended.out) and ended.out != answers, ended.out[-200:]
-    assert letters.replace(b"s", b"") in (b"f", b"fg"), letters
+    same(letters.replace(b"s", b""), b"f", "calls")
+    return ended.out
+
+
+@pytest.mark.parametrize("lines", [None, b"frob\n" * 600], ids=["script", "more than the buffer"])
+def test_run_write_fails_once(program, refusing, script, lines):
+    """What the first write wrote, and no answer of a later one."""
+    given = lines or script
+    answers = program.answers([], given)
+    same(write_failed_once(program, refusing, ["run"], given, 1), b"")
+    first = write_failed_once(program, refusing, ["run"], given, 2)
+    assert first and answers.startswith(first) and first != answers, first[-200:]
+
+
+@pytest.mark.parametrize("text", [TWO_GROUPS, LINE_OF_A_REFUSAL, b"no text"],
+                         ids=["accepted", "refused", "error"])
+def test_check_write_fails_once(program, refusing, text):
+    """No answer stands beside status 1."""
+    same(write_failed_once(program, refusing, ["check"], text, 1), b"")
 
 
 @pytest.fixture(scope="module")

@@ -1,5 +1,6 @@
 //! Faults with their reasons, as they are printed.
-ghost use Rattle.std.specs.Prelude.{◌≡◌};
+ghost use Rattle.std.specs.Prelude.{◌≡◌, Ok, MatchResult, IsErrAnd};
+ghost use Rattle.arbiter.specs.Failure.{what_failed};
 
 use bw_streams::{READ_CALLS, RunFault, Watched};
 use std::io::{Error, ErrorKind};
@@ -64,6 +65,21 @@ impl Failure {
     /// The reason, as `it is a directory`.
     pub fn reason(&self) -> Option<&'static str> {
         self.reason
+    }
+}
+
+/// The outcome of a job over a reader and a writer, a fault with its reason.
+pub fn explained<T, R, W>(
+    outcome: Result<T, RunFault>,
+    reader: &Watched<R>,
+    writer: &Watched<W>,
+) -> Result<T, Failure>
+    ensures { MatchResult outcome (λ value. result ≡ Ok value)
+        (λ fault. IsErrAnd result (λ failure. what_failed failure ≡ fault)) }
+{
+    match outcome {
+        Ok(value) => Ok(value),
+        Err(fault) => Err(Failure::of(fault, reader, writer)),
     }
 }
 

@@ -1,5 +1,6 @@
-//! Tests of the shell over readers and writers that fail. The answers to scripts and the lines for certified texts stand in
-//! tests/worked of the repository, which the native program is run on.
+//! Tests of the shell over readers and writers that fail, and of the calls of a watched stream. The
+//! answers to scripts and the lines for certified texts stand in tests/worked of the repository,
+//! which the native program is run on.
 #![tactic(auto)]
 
 #[cfg(test)]
@@ -8,3 +9,5 @@ mod check_text_cases;
 mod stream_cases;
 #[cfg(test)]
 mod streams;
+#[cfg(test)]
+mod watched_cases;

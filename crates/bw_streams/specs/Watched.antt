@@ -1,6 +1,6 @@
 -- The parts of a watched reader or writer that contracts see.
 use Rattle.std.specs.Prelude.{ℕ, Bool, true, false, ◌&&◌, ◌==◌, ◌≡◌, List, length, Option, is_some}
-use Rattle.std.specs.Prelude.{Result, Ok, Err, nat_lt}
+use Rattle.std.specs.Prelude.{Result, Ok, Err, nat_lt, ◌||◌, is_err, IfSome}
 use Rattle.std.specs.declared.io.Error.{Error}
 use Rattle.bw_streams.specs.declared.watched.Watched.{Watched}
 
@@ -44,3 +44,11 @@ takes_none bytes (Err e) = false
 pub record HasNoFault {T : Type 0} (w : Watched T) : Type 0 where
   pub not_failed : has_failed w ≡ false
   pub not_stalled : has_stalled w ≡ false
+
+-- After a fault a call answers an error, the first one if a call has failed, and what is inside
+-- stays as it was.
+pub record StopsAtFault {T A : Type 0} (old new : Watched T) (result : Result A Error)
+    : Type 0 where
+  pub kept : (has_failed old || has_stalled old) ≡ true → inner_of new ≡ inner_of old
+  pub error : IfSome (first_error old) (λ e. result ≡ Err e)
+  pub stalled : has_stalled old ≡ true → is_err result ≡ true

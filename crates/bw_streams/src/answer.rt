@@ -66,6 +66,8 @@ pub fn put_last_word(word: &[u8], answer: &mut Vec<u8>) -> Result<(), AllocError
 /// `AllocError` if an allocation failed; the answer is unchanged.
 pub fn put_number_line(word: &[u8], number: u64, answer: &mut Vec<u8>) -> Result<(), AllocError>
     ensures ok { OnOk result (answer.new.items ≡ answer.old.items ++ number_line word.now number) }
+    ensures full { OnErr result (vec_capacity answer.old
+        < vec_len answer.old + length word.now + 21) }
     ensures err { OnErr result (answer.new.items ≡ answer.old.items) }
     ensures room { vec_capacity answer.old ≤ vec_capacity answer.new }
 {

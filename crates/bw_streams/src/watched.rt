@@ -6,9 +6,11 @@ ghost use Rattle.std.specs.Result.{result_err};
 ghost use Rattle.std.specs.Io.{ReadsAtMost, WritesAtMost};
 ghost use Rattle.std.specs.Io.KnownBytes.{Keeps, ReadConsumes, WriteAppends};
 
-use std::io::{Error, Read, Result, Write};
+use std::io::{Error, ErrorKind, Read, Result, Write};
 
-/// Passes each read, write and flush on to the reader or writer inside, once.
+/// Passes each read, write and flush on to the reader or writer inside, once. After the first fault
+/// no write and no flush is passed on. A fault is a call that failed, or a write of some bytes that
+/// took none.
 ///
 /// It remembers the error of the first failed call, whether a write of some bytes took none, the
 /// number of reads, and whether every successful write was flushed.
@@ -22,8 +24,9 @@ pub struct Watched<T> {
 }
 
 impl<T> Watched<T> {
+    ghost use Rattle.std.specs.Prelude.{◌≡◌, Some, None, IfSome, IfNone};
     ghost use Rattle.bw_streams.specs.Watched.{inner_of, first_error, has_failed, has_stalled};
-    ghost use Rattle.bw_streams.specs.Watched.{read_calls, is_flushed, IsFresh};
+    ghost use Rattle.bw_streams.specs.Watched.{read_calls, is_flushed, IsFresh, HasNoFault};
 
     /// Starts to watch a reader or a writer: no fault and no read so far, and nothing to flush.
     pub fn new(inner: T) -> Watched<T>
@@ -73,6 +76,26 @@ impl<T> Watched<T> {
     {
         self.flushed
     }
+
+    /// Ends the watch.
+    pub fn into_inner(self) -> T
+        ensures { result ≡ inner_of self }
+    {
+        let Watched { inner, .. } = self;
+        inner
+    }
+
+    // The error of every write and flush after the first fault.
+    fn fault(&self) -> Option<Error>
+        ensures none { HasNoFault self.now → result ≡ None }
+        ensures some { IfNone result (HasNoFault self.now) }
+        ensures error { IfSome (first_error self.now) (λ e. result ≡ Some e) }
+    {
+        if self.error.is_none() && self.stalled {
+            return Some(Error::from(ErrorKind::WriteZero));
+        }
+        self.error
+    }
 }
 
 impl<T: Read> Read for Watched<T> {
@@ -111,7 +134,7 @@ impl<T: Write> Write for Watched<T> {
     ghost use Rattle.std.specs.Io.{WritesAtMost};
     ghost use Rattle.std.specs.Io.KnownBytes.{Keeps, WriteAppends};
     ghost use Rattle.bw_streams.specs.Watched.{inner_of, first_error, has_failed, has_stalled};
-    ghost use Rattle.bw_streams.specs.Watched.{read_calls, is_flushed, takes_none};
+    ghost use Rattle.bw_streams.specs.Watched.{read_calls, is_flushed, takes_none, StopsAtFault};
 
     ghost contents = { λ w. T.contents (inner_of w) };
 
@@ -126,8 +149,12 @@ impl<T: Write> Write for Watched<T> {
             ≡ (has_stalled self.old || takes_none buf.now result) }
         ensures reads { read_calls self.new ≡ read_calls self.old }
         ensures flushed { is_flushed self.new ≡ (is_flushed self.old && is_err result) }
+        ensures stops { StopsAtFault self.old self.new result }
     {
-        let result = self.inner.write(buf);
+        let result = match self.fault() {
+            Some(error) => Err(error),
+            None => self.inner.write(buf),
+        };
         self.error = self.error.or(result.err());
         if let Ok(n) = result {
             self.flushed = false;
@@ -146,8 +173,12 @@ impl<T: Write> Write for Watched<T> {
         ensures stalled { has_stalled self.new ≡ has_stalled self.old }
         ensures reads { read_calls self.new ≡ read_calls self.old }
         ensures flushed { is_flushed self.new ≡ (is_flushed self.old || is_ok result) }
+        ensures stops { StopsAtFault self.old self.new result }
     {
-        let result = self.inner.flush();
+        let result = match self.fault() {
+            Some(error) => Err(error),
+            None => self.inner.flush(),
+        };
         self.error = self.error.or(result.err());
         if result.is_ok() {
             self.flushed = true;
