@@ -1,5 +1,6 @@
 -- The headline, phrase by phrase, from the plan and from what the lock gives back.
-use Rattle.std.proofs.Common.{◌≡◌, ℕ, ◌*◌, ◌<◌, ◌≤◌, List, length, get_or, map, take, Bool, true}
+use Rattle.std.proofs.Common.{◌≡◌, ℕ, zero, suc, ◌*◌, ◌<◌, ◌≤◌, List, [], ◌∷◌, length, get_or, map}
+use Rattle.std.proofs.Common.{take, Bool, true}
 use Rattle.std.proofs.Common.{refl, sym, ap, ◌∙◌, subst, arith, zero-add}
 use Rattle.std.specs.List.{All, range_with_len}
 use Rattle.std.proofs.Math.Nat.{div-le_of_le-mul}
@@ -26,7 +27,7 @@ use Rattle.bw_pool.specs.Drained.{PoolEntry, Drains, fresh, opening, IsDrawnOut}
 use Rattle.bw_pool.proofs.CallerLemmas.{plan_is_planned, never_past_the_plan, sound_new}
 use Rattle.bw_ticket.specs.Holder.{fresh_seat}
 use Rattle.bw_workers.specs.Headline.{of_children, Headline}
-use Rattle.bw_workers.specs.Serving.{AreBack}
+use Rattle.bw_workers.specs.Serving.{AreBack, calls_by}
 use Rattle.bw_workers.specs.Working.{PoolSeat, IsDrainedSeat}
 
 -- what each group can be given at most
@@ -82,6 +83,13 @@ stays_within groups amounts valid is_plan draws g =
     (opening_sound groups amounts valid is_plan) g in
     omega (arith, w.0, w.1)
 
+-- the calls at a place are those of the seat there
+own_at : (seats : List PoolSeat) (k : ℕ) (d : PoolSeat) → k < length seats
+    → calls_by seats k ≡ (get_or seats k d).own
+own_at [] k d lt = absurd (omega arith)
+own_at (s ∷ ss) zero d lt = refl
+own_at (s ∷ ss) (suc k) d lt = own_at ss k d (omega arith)
+
 -- what the seats of a closed lock had, each the calls of a drained worker
 module _ (uses : ℕ → Bool) (groups : Groups) (lock_id : TableId) (seats : List PoolSeat)
     (history : List PoolEntry)
@@ -94,39 +102,39 @@ module _ (uses : ℕ → Bool) (groups : Groups) (lock_id : TableId) (seats : Li
   seat_of : ℕ → PoolSeat
   seat_of caller = get_or seats caller some_seat
 
-  pub made_by : ℕ → List (Made PoolCall PoolReply)
-  unfolding seat_of
-  made_by caller = (seat_of caller).own
-
   back_of : (caller : ℕ) → caller < groups.shape.processors → IsDrainedSeat uses groups.rows
       (slices_per_processor groups.shape) lock_id caller (seat_of caller)
   unfolding seat_of
   back_of caller below = back caller some_seat (omega (arith, long, below))
 
   made_is : (caller : ℕ) → caller < groups.shape.processors
-      → made_by caller ≡ own_from 0 caller history
-  unfolding made_by seat_of
-  made_is caller below = owns caller some_seat (omega (arith, long, below))
+      → calls_by seats caller ≡ own_from 0 caller history
+  unfolding seat_of
+  made_is caller below = own_at seats caller some_seat (omega (arith, long, below))
+      ∙ owns caller some_seat (omega (arith, long, below))
       ∙ ap (λ (n : ℕ). own_from 0 n history) (back_of caller below).number
 
   pub in_order : (caller : ℕ) → caller < groups.shape.processors
-      → StandIn history caller (made_by caller)
+      → StandIn history caller (calls_by seats caller)
   in_order caller below =
       subst (StandIn history caller) (sym (made_is caller below)) (own_places caller history)
 
   pub once : (caller : ℕ) → caller < groups.shape.processors
-      → map (entry_of caller) (made_by caller) ≡ own caller history
+      → map (entry_of caller) (calls_by seats caller) ≡ own caller history
   once caller below = ap (map (entry_of caller)) (made_is caller below)
       ∙ own_entries 0 caller history
 
   pub drains : (caller : ℕ) → caller < groups.shape.processors →
       Drains uses groups.rows (slices_per_processor groups.shape) fresh
-      (map (entry_of caller) (made_by caller))
-  unfolding made_by seat_of
+      (map (entry_of caller) (calls_by seats caller))
+  unfolding seat_of
   drains caller below =
       let b = back_of caller below in
-      subst (λ (n : ℕ). Drains uses groups.rows (slices_per_processor groups.shape) fresh
-      (map (entry_of n) (made_by caller))) b.number b.drained
+      subst (λ (l : List (Made PoolCall PoolReply)). Drains uses groups.rows
+      (slices_per_processor groups.shape) fresh (map (entry_of caller) l))
+      (sym (own_at seats caller some_seat (omega (arith, long, below))))
+      (subst (λ (n : ℕ). Drains uses groups.rows (slices_per_processor groups.shape) fresh
+      (map (entry_of n) (seat_of caller).own)) b.number b.drained)
 
 -- The headline of a period.
 pub carried : (uses : ℕ → Bool) (groups : Groups) (amounts : List ℕ) (lock_id : TableId)
@@ -137,7 +145,8 @@ pub carried : (uses : ℕ → Bool) (groups : Groups) (amounts : List ℕ) (lock
     → All (λ e. e.seat < groups.shape.processors) history →
     IsLegal after answer (opening groups amounts) history
     → drawn ≡ (replay after (opening groups amounts) history).drawn →
-    IsDrawnOut uses groups.rows amounts drawn → Headline uses groups amounts history drawn
+    IsDrawnOut uses groups.rows amounts drawn →
+    Headline uses groups amounts (calls_by seats) history drawn
 carried uses groups amounts lock_id seats history drawn valid is_plan long back owns callers legal
     replayed out =
     let most : List ℕ = all_mosts groups valid in
@@ -160,7 +169,6 @@ carried uses groups amounts lock_id seats history drawn valid is_plan long back 
           (of_children groups.rows most g) (of_children groups.rows amounts g)
           (down.splits g below refl inner);
       one_thread = legal;
-      calls = made_by uses groups lock_id seats history long back owns;
       ticket_order = in_order uses groups lock_id seats history long back owns;
       calls_once = once uses groups lock_id seats history long back owns;
       callers = callers;

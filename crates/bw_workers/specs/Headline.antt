@@ -25,10 +25,12 @@ of_children rows numbers g = map (slice_index numbers) (children_of rows g)
 abbrev pub drawn_after : Groups → List ℕ → List PoolEntry → List ℕ
 drawn_after groups amounts history = (replay after (opening groups amounts) history).drawn
 
--- The sentence, of the amounts of a plan and of the history of one period's draws. `uses` tells the
--- leaves that use their slices. `drawn` is what is drawn of each group in the end.
+-- The sentence, of the amounts of a plan, of the calls that each caller made in one period, and of
+-- the history of that period. `uses` tells the leaves that use their slices. `drawn` is what is drawn
+-- of each group in the end.
 pub record Headline (uses : ℕ → Bool) (groups : Groups) (amounts : List ℕ)
-    (history : List PoolEntry) (drawn : List ℕ) : Type 0 where
+    (calls : ℕ → List (Made PoolCall PoolReply)) (history : List PoolEntry) (drawn : List ℕ)
+    : Type 0 where
   -- The plan
   pub allocation : List ℕ
   pub plan : amounts ≡ totals groups.rows allocation
@@ -51,7 +53,6 @@ pub record Headline (uses : ℕ → Bool) (groups : Groups) (amounts : List ℕ)
   -- and in every interleaving of draws the history is one thread's,
   pub one_thread : IsLegal after answer (opening groups amounts) history
   -- in ticket order: each call of a caller is in the history at the ticket that the caller drew,
-  pub calls : ℕ → List (Made PoolCall PoolReply)
   pub ticket_order : (caller : ℕ) → caller < groups.shape.processors
       → StandIn history caller (calls caller)
   -- with each caller's calls once: its entries are its calls, in order, and no entry is without a

@@ -1,7 +1,10 @@
 -- The seats of one lock, before and after its workers ran.
-use Rattle.std.specs.Prelude.{◌≡◌, ℕ, ◌<◌, ◌≤◌, List, [], length, Bool, None, slice_index_or}
+use Rattle.std.specs.Prelude.{◌≡◌, ℕ, ◌<◌, ◌≤◌, List, [], length, map, Bool, None, slice_index_or}
 use Rattle.atomic_table.specs.Seated.{TableId}
+use Rattle.bw_machine.specs.declared.history.Made.{Made}
 use Rattle.bw_model.specs.declared.row.Row.{Row}
+use Rattle.bw_pool.specs.declared.calls.PoolCall.{PoolCall}
+use Rattle.bw_pool.specs.declared.calls.PoolReply.{PoolReply}
 use Rattle.bw_workers.specs.Working.{PoolSeat, IsDrainedSeat}
 
 -- a seat with which no call was made, and that has so many calls left
@@ -21,3 +24,12 @@ AreReady lock_id calls seats =
 abbrev pub AreBack : (ℕ → Bool) → List Row → ℕ → TableId → List PoolSeat → Type 0
 AreBack uses rows per_processor lock_id seats = (k : ℕ) (d : PoolSeat) → k < length seats →
     IsDrainedSeat uses rows per_processor lock_id k (slice_index_or seats k d)
+
+-- the calls that the seat at this place made
+abbrev pub calls_by : List PoolSeat → ℕ → List (Made PoolCall PoolReply)
+calls_by seats caller = slice_index_or (map (λ s. s.own) seats) caller []
+
+-- one seat for each processor, and seat k has number k
+abbrev pub AreSeatsOf : ℕ → List PoolSeat → Type 0
+AreSeatsOf processors seats = (length seats ≡ processors)
+    × ((k : ℕ) (d : PoolSeat) → k < length seats → (slice_index_or seats k d).number ≡ k)

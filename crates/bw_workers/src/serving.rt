@@ -9,7 +9,7 @@ ghost use Rattle.bw_ticket.specs.declared.limits.TheConstants.{MAX_CALLS};
 ghost use Rattle.bw_ticket.specs.Faults.{InRange};
 ghost use Rattle.bw_workers.specs.Headline.{Headline};
 ghost use Rattle.bw_workers.specs.Working.{IsLeaves, IsDrainedSeat};
-ghost use Rattle.bw_workers.specs.Serving.{IsReady, AreReady, AreBack};
+ghost use Rattle.bw_workers.specs.Serving.{IsReady, AreReady, AreBack, AreSeatsOf, calls_by};
 
 use crate::fault::ServeFault;
 use crate::gate::Gate;
@@ -22,6 +22,7 @@ use bw_pool::{PoolCall, PoolReply, SlicePool};
 use bw_ticket::{Closed, OpenFault, Seat, TicketLock, close, open};
 use std::alloc::{AllocError, Global};
 use std::rt::Clock;
+use std::snapshot::Snapshot;
 use std::sync::Wait;
 use std::thread;
 use std::thread::{Promise, Threads, join_promised};
@@ -33,6 +34,9 @@ pub struct Served {
     pub history: Vec<Entry<PoolCall, PoolReply>>,
     /// The slices drawn by each group in the end, one number for each row.
     pub drawn: Vec<u64>,
+    /// The seats as the workers handed them back, one for each processor. Ghost state: only
+    /// contracts read it, and it takes no memory.
+    pub seats: Snapshot<Vec<Seat<SlicePool>>>,
 }
 
 // The promise of a worker's thread: the seat that it returns is drained.
@@ -50,6 +54,26 @@ impl<'a, G: Gate> Promise<Seat<SlicePool>> for WorkerPromise<'a, G> {
 
     ghost kept_by = { λ p seat. IsDrainedSeat (G.used p.gate.now) p.instance.now.rows
         (slices_per_processor p.instance.now.shape) p.lock.now.lock_id p.number seat };
+}
+
+// The promise of the worker that is handed this seat.
+fn promise_of<'a, G: Gate>(
+    lock: &'a TicketLock<SlicePool>,
+    instance: &'a Instance,
+    gate: &'a G,
+    seat: &Seat<SlicePool>,
+) -> WorkerPromise<'a, G>
+    ensures lock { result.lock.now ≡ lock.now }
+    ensures instance { result.instance.now ≡ instance.now }
+    ensures gate { result.gate.now ≡ gate.now }
+    ensures number { result.number ≡ seat.now.number }
+{
+    WorkerPromise {
+        lock,
+        instance,
+        gate,
+        number: seat.number(),
+    }
 }
 
 // The leaves, in row order.
@@ -102,12 +126,7 @@ fn in_threads<G: Gate, R: Threads + Wait + Clock + Sync>(
             let mut children = Vec::with_capacity(alloc, count)?;
             for seat in seats {
                 let mine = Vec::from_slice(alloc, leaves)?;
-                let promise = WorkerPromise {
-                    lock,
-                    instance,
-                    gate,
-                    number: seat.number(),
-                };
+                let promise = promise_of(lock, instance, gate, &seat);
                 let run = move || -> Seat<SlicePool>
                     requires { IsReady lock.now.lock_id
                         (slices_per_processor instance.now.shape + 2 * length mine.items)
@@ -166,8 +185,10 @@ pub fn serve<G: Gate, R: Threads + Wait + Clock + Sync>(
 ) -> Result<Served, ServeFault>
     requires { IsPlan instance.now plan.now.amounts.items }
     ensures headline { IfOk result (λ s.
-        Headline (G.used gate.now) instance.now plan.now.amounts.items s.history.items
-        s.drawn.items) }
+        Headline (G.used gate.now) instance.now plan.now.amounts.items
+        (calls_by s.seats.value.items) s.history.items s.drawn.items) }
+    ensures seats { IfOk result (λ s.
+        AreSeatsOf instance.now.shape.processors s.seats.value.items) }
     ensures legal { IfOk result (λ s.
         IsLegal after answer (opening instance.now plan.now.amounts.items) s.history.items) }
     ensures drained { IfOk result (λ s.
@@ -190,9 +211,14 @@ pub fn serve<G: Gate, R: Threads + Wait + Clock + Sync>(
         Err(_) => unreachable!(),
     };
     let seats = in_threads(rt, alloc, &lock, seats, instance, &leaves, gate)?;
+    let handed_back = Snapshot::of(&seats);
     let Ok(Closed { machine, history }) = close(lock, seats) else {
         unreachable!()
     };
     let drawn = machine.into_drawn();
-    Ok(Served { history, drawn })
+    Ok(Served {
+        history,
+        drawn,
+        seats: handed_back,
+    })
 }

@@ -1,11 +1,14 @@
 -- The closed lock has the history of drained workers, and so the headline holds.
-use Rattle.std.proofs.Common.{rules, ◌≡◌, ℕ, ◌+◌, ◌*◌, ◌<◌, length, sym, ap, ◌∙◌, subst}
+use Rattle.std.proofs.Common.{rules, ◌≡◌, ℕ, ◌+◌, ◌*◌, ◌<◌, List, length, sym, ap, ◌∙◌, subst}
 use Rattle.std.specs.List.{All}
 use Rattle.bw_model.specs.Host.{slices_per_processor}
 use Rattle.bw_machine.specs.History.{IsLegal, replay}
 use Rattle.bw_pool.specs.Pool.{after, answer}
 use Rattle.bw_pool.specs.Drained.{opening, IsDrawnOut}
 use Rattle.bw_pool.proofs.CallerLemmas.{drained_workers_draw_the_plan, plan_is_planned}
+use Rattle.bw_workers.specs.Headline.{Headline}
+use Rattle.bw_workers.specs.Serving.{AreSeatsOf, calls_by}
+use Rattle.bw_workers.specs.Working.{PoolSeat}
 use Rattle.bw_workers.proofs.Carried.{carried}
 use Rattle.bw_workers.proofs.DrainedHistories.{drained_history, seats_ready}
 use Rattle.bw_workers.proofs.serving.serve.Goals as goal
@@ -51,11 +54,25 @@ returns-clause-headline g c =
     let legal : IsLegal after answer (opening instance amounts) history = search rules in
     let replayed : c.into_drawn-drawn.result.items
     ≡ (replay after (opening instance amounts) history).drawn = search rules in
-    carried (g.G.Gate.used c.args.gate.now) instance amounts c.in-Ok.made.0.lock_id
+    let held : c.of-handed_back.result.value.items ≡ c.in_ok-seats.seats.items =
+    ap (λ v. v.items) c.of-handed_back.ensures in
+    subst (λ (seats : List PoolSeat). Headline (g.G.Gate.used c.args.gate.now) instance amounts
+    (calls_by seats) history c.into_drawn-drawn.result.items) (sym held)
+    (carried (g.G.Gate.used c.args.gate.now) instance amounts c.in-Ok.made.0.lock_id
     c.in_ok-seats.seats.items history c.into_drawn-drawn.result.items
     c.rows-rows.ensures.valid c.requires many c.in_ok-seats.ensures.1 c.in-Ok-close.ensures.own
     (subst (λ (n : ℕ). All (λ e. e.seat < n) history) opened c.in-Ok-close.ensures.callers)
-    legal replayed (returns-clause-drawn g c)
+    legal replayed (returns-clause-drawn g c))
+
+pub returns-clause-seats : goal.returns-clause-seats
+returns-clause-seats g c =
+    let instance = c.args.instance.now in
+    let opened : c.in-Ok.made.0.seats ≡ instance.shape.processors = search rules in
+    let many : length c.in_ok-seats.seats.items ≡ instance.shape.processors = search rules in
+    let held : c.of-handed_back.result.value.items ≡ c.in_ok-seats.seats.items =
+    ap (λ v. v.items) c.of-handed_back.ensures in
+    subst (AreSeatsOf instance.shape.processors) (sym held)
+    (many, λ k d lt. (c.in_ok-seats.ensures.1 k d lt).number)
 
 pub new-requires : goal.new-requires
 new-requires g c =
