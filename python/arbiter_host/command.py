@@ -6,16 +6,13 @@ import os
 import signal
 import sys
 from collections.abc import Sequence
-from typing import NoReturn
+from typing import Any, NoReturn
 
-from arbiter_host import __version__, names
-from arbiter_host.faults import HostFault
+from arbiter_host import __version__, helps, names
+from arbiter_host.faults import HostFault, missing_module
 from arbiter_host.output import drop_output, tell
 from arbiter_host.subcommands import ALL
-
-STATUSES = """\
-exit status: 0 done; 1 a source, the engine or the output failed; 2 the words of the command line
-or the host were refused; 4 lines of a script were refused, under --strict."""
+from arbiter_host.subcommands.base import Subcommand
 
 
 class Parser(argparse.ArgumentParser):
@@ -26,17 +23,30 @@ class Parser(argparse.ArgumentParser):
         self.exit(2, f"{self.prog}: {names.shown(message)}\n")
 
 
+def help_of(each: Subcommand) -> dict[str, Any]:
+    """The texts of a subcommand's help, and how they are laid out."""
+    return {"description": "\n\n".join([each.description, *each.details]),
+            "epilog": helps.examples(each.examples) + helps.statuses(),
+            "formatter_class": helps.Formatter}
+
+
+def parser_of(each: Subcommand) -> Parser:
+    """The parser of one subcommand alone."""
+    parser = Parser(prog=f"arbiterctl {each.name}", **help_of(each))
+    each.add_words(parser)
+    return parser
+
+
 def parser_of_all() -> Parser:
     """The parser of all subcommands."""
-    parser = Parser(prog="arbiterctl", epilog=STATUSES, allow_abbrev=False,
-                    description="Plans for the groups of a real host, each accepted by the proved"
-                    " check before it is shown.")
-    parser.add_argument("--version", action="version", version=f"arbiterctl {__version__}")
+    parser = Parser(prog="arbiterctl", description=helps.ABOUT, epilog=helps.statuses(),
+                    formatter_class=helps.Formatter, allow_abbrev=False)
+    parser.add_argument("-V", "--version", action="version", version=f"arbiterctl {__version__}",
+                        help="print the version, and end")
     commands = parser.add_subparsers(dest="command", required=True, metavar="COMMAND",
                                      parser_class=Parser)
     for each in ALL:
-        below = commands.add_parser(each.name, help=each.summary, description=each.description,
-                                    epilog=STATUSES)
+        below = commands.add_parser(each.name, help=each.summary, **help_of(each))
         each.add_words(below)
         below.set_defaults(run=each.run)
     return parser
@@ -58,6 +68,12 @@ def run(words: Sequence[str] | None = None) -> int:
         tell(fault)
         drop_output()
         return fault.status
+    except ModuleNotFoundError as error:
+        fault_ = missing_module(error)
+        if fault_ is None:
+            raise
+        tell(fault_)
+        return fault_.status
     except BrokenPipeError:
         drop_output()
         return 1

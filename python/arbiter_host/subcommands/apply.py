@@ -69,10 +69,24 @@ def add_undo_words(parser: argparse.ArgumentParser) -> None:
     parser.add_argument("--yes", action="store_true", help="do it")
 
 
+DETAILS = (
+    "Each file is read first. If one does not hold what BEFORE says, nothing is changed. The undo"
+    " file is written and synced before the first change. A burst is lowered before its quota, and"
+    " raised after it. An interruption at any point can be undone.",
+    "Nothing outside --root is opened for writing, no symbolic link is followed below it, and no"
+    " file is made there.",
+)
+APPLY_EXAMPLES = (
+    ("what would be done", "arbiterctl apply host.script --set web.service.weight=200"),
+    ("doing it", "arbiterctl apply host.script --set web.service.weight=200 --yes"
+     " --undo undo.json"),
+)
+UNDO_EXAMPLES = (("the old settings again", "arbiterctl undo undo.json --yes"),)
 APPLY = Subcommand("apply", "set weights and limits on a host; without --yes only print",
                    "Prints how the settings of BEFORE become those of AFTER on a host with cgroup"
                    " v2, each with what is there before. With --yes it is done, after an undo file"
-                   " was written, and read back.", add_apply_words, run_apply)
+                   " was written, and read back.", add_apply_words, run_apply, DETAILS,
+                   APPLY_EXAMPLES)
 UNDO = Subcommand("undo", "bring the settings before `apply` back",
                   "Prints how the settings of an undo file come back. With --yes it is done and"
-                  " read back.", add_undo_words, run_undo)
+                  " read back.", add_undo_words, run_undo, (), UNDO_EXAMPLES)

@@ -23,6 +23,10 @@ class Subcommand:
     description: str
     add_words: Callable[[argparse.ArgumentParser], None]
     run: Callable[[argparse.Namespace], None]
+    # More paragraphs of its help and its man page.
+    details: tuple[str, ...] = ()
+    # What an example does, and its command.
+    examples: tuple[tuple[str, str], ...] = ()
 
 
 def found_engine(options: argparse.Namespace) -> engine.Engine:

@@ -47,7 +47,16 @@ def add_words(parser: argparse.ArgumentParser) -> None:
     add_answer_options(parser)
 
 
+DETAILS = (
+    "A change is GROUP.KEY=VALUE, with KEY one of weight, max, burst, period, demand, tasks. `*`"
+    " in GROUP stands for any letters. Groups that are the same in both plans are counted alone.",
+)
+EXAMPLES = (
+    ("a greater weight on a host with more CPUs",
+     "arbiterctl compare host.toml --set web.weight=400 --cpus 32"),
+    ("two sources, as JSON", "arbiterctl compare before.script after.script --json"),
+)
 COMPARE = Subcommand("compare", "what changes from one plan to another",
                      "Says what changes from BEFORE to AFTER. Without AFTER it is BEFORE with the"
                      " changes of --set and the host of --cpus, --period and --slice.",
-                     add_words, run)
+                     add_words, run, DETAILS, EXAMPLES)

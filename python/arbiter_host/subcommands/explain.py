@@ -26,5 +26,21 @@ def add_words(parser: argparse.ArgumentParser) -> None:
     add_answer_options(parser)
 
 
+DETAILS = (
+    "The plan is that of the period after the end of SOURCE, with what was saved up. A group is"
+    " cut by its own limit, by the limit of a group above it, or because the host is full. Then"
+    " weights decide: `weight 100 of 400` has the sum over the siblings that can use a slice.",
+    "STARVED marks a group that wants something and gets nothing. THROTTLED, NOT BY ITS LIMIT"
+    " marks one that counts as throttled though it gets less than its limit.",
+)
+EXAMPLES = (
+    ("the groups of a host file", "arbiterctl explain host.toml"),
+    ("those that get less than they want, the greatest lack first",
+     "arbiterctl explain host.toml --only hurt --sort lack"),
+    ("this machine, by what it used in ten seconds",
+     "arbiterctl explain /sys/fs/cgroup --interval 10s"),
+    ("a Kubernetes node whose containers are all busy",
+     "arbiterctl explain pods.json node.json --want busy"),
+)
 EXPLAIN = Subcommand("explain", "why each group gets what it gets",
-                     "Says why each group gets what it gets.", add_words, run)
+                     "Says why each group gets what it gets.", add_words, run, DETAILS, EXAMPLES)

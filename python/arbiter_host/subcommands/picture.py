@@ -31,4 +31,11 @@ def add_words(parser: argparse.ArgumentParser) -> None:
     add_reading_options(parser)
 
 
-PICTURE = Subcommand("picture", "draw a plan as SVG", "Draws a plan as SVG.", add_words, run)
+DETAILS = ("The picture has the tree, and to one scale what each group wants, may have and gets.",)
+EXAMPLES = (
+    ("a picture of a host file", "arbiterctl picture host.toml -o host.svg"),
+    ("the two top levels alone, in thousandths of a CPU",
+     "arbiterctl picture host.toml --depth 1 --unit m -o top.svg"),
+)
+PICTURE = Subcommand("picture", "draw a plan as SVG", "Draws a plan as SVG.", add_words, run,
+                     DETAILS, EXAMPLES)

@@ -31,6 +31,12 @@ def add_words(parser: argparse.ArgumentParser) -> None:
     add_reading_options(parser)
 
 
+DETAILS = ("Its tree folds and can be searched. With --set or --before it has a table of what"
+           " changes.",)
+EXAMPLES = (
+    ("a page of a host file", "arbiterctl report host.toml -o host.html"),
+    ("the same with a change", "arbiterctl report host.toml --set web.max=4cpu -o change.html"),
+)
 REPORT = Subcommand("report", "write a plan as one HTML page",
                     "Writes a plan as one HTML page that asks for nothing from the network.",
-                    add_words, run)
+                    add_words, run, DETAILS, EXAMPLES)

@@ -106,7 +106,20 @@ def add_prometheus_options(parser: argparse.ArgumentParser) -> None:
     group.add_argument("--label", default="pod", help="the label that names groups (default pod)")
 
 
+DETAILS = (
+    "A cell of the table is gets/wants of one period, as a mean over the sample. Its letters tell"
+    " what happened in any of its periods: T throttled, t throttled but not by its limit, B a"
+    " burst, S starved.",
+    "A sample lasts one period, or as long as --sample says: then its period is repeated, so that"
+    " a burst lasts as long as it would on a host.",
+)
+EXAMPLES = (
+    ("samples of half an hour each", "arbiterctl series host.toml day.csv --sample 30m"),
+    ("the sums of each group alone", "arbiterctl series host.toml day.csv --sample 30m --summary"),
+    ("what each group gets, for a collector of metrics",
+     "arbiterctl series host.toml day.csv --sample 30m --to openmetrics -o plan.prom"),
+)
 SERIES = Subcommand("series", "plan many samples of demands",
                     "Plans the groups of SOURCE for each sample of DEMANDS: CSV with groups in the"
                     " first row and a time in the first column, or lines GROUP NUMBER GROUP"
-                    " NUMBER ..", add_words, run)
+                    " NUMBER ..", add_words, run, DETAILS, EXAMPLES)

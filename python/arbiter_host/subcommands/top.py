@@ -37,6 +37,12 @@ def add_words(parser: argparse.ArgumentParser) -> None:
     add_answer_options(parser)
 
 
+EXAMPLES = (
+    ("this machine, with the time that tasks waited counted as demand",
+     "arbiterctl top --want psi --interval 2s"),
+    ("one picture of a part of the tree",
+     "arbiterctl top /sys/fs/cgroup/system.slice --count 1"),
+)
 TOP = Subcommand("top", "live view over a host's cgroups and their plan",
                  "Shows a host's cgroups and their plan again and again, until Ctrl-C.",
-                 add_words, run)
+                 add_words, run, (), EXAMPLES)
