@@ -1,5 +1,8 @@
 # shellcheck shell=bash disable=SC2154
-# Installs the program, the C library and what belongs to them. For ./build --install.
+# Installs the program, the C library, arbiterctl and what belongs to them. For ./build --install.
+
+# The Python package, and its place below DIR.
+package=python/arbiter_host package_place=lib/arbiter/arbiter_host
 
 # What is installed: a file of the clone or the target of a link, its place below DIR, and its mode
 # or the word link.
@@ -17,14 +20,27 @@ find_installed() {
     share/completions/arbiter.bash share/bash-completion/completions/arbiter 644
     share/completions/_arbiter share/zsh/site-functions/_arbiter 644
     share/completions/arbiter.fish share/fish/vendor_completions.d/arbiter.fish 644
+    python/arbiterctl bin/arbiterctl 755
+    share/completions/arbiterctl.bash share/bash-completion/completions/arbiterctl 644
+    share/completions/_arbiterctl share/zsh/site-functions/_arbiterctl 644
+    share/completions/arbiterctl.fish share/fish/vendor_completions.d/arbiterctl.fish 644
   )
+  local file
+  for file in share/man/*.1; do installed+=("$file" "share/man/man1/${file##*/}" 644); done
 }
 
-# Prints the places below DIR, one a line.
+# Sets `modules` to the files of the package, relative to its folder.
+find_modules() {
+  modules=("$package"/*.py "$package"/*/*.py "$package/py.typed")
+  modules=("${modules[@]#"$package/"}")
+}
+
+# Prints the places below DIR, one a line. The package is one folder.
 places() {
   local at
   find_installed
   for ((at = 0; at < ${#installed[@]}; at += 3)); do echo "  ${installed[at + 1]}"; done
+  echo "  $package_place/"
 }
 
 # Fails if DIR can be neither written nor made. It is asked before anything is built.
@@ -46,23 +62,54 @@ copy_beside() { # FILE PLACE MODE
   fi
 }
 
+# Copies the package into a folder beside its place.
+copy_package() { # DIR
+  local above=$1/${package_place%/*}
+  mkdir -p -- "$above" && package_copy=$(mktemp -d "$above/.arbiter.XXXXXX") || return 1
+  beside+=("$package_copy")
+  (cd "$package" && cp --parents -- "${modules[@]}" "$package_copy") &&
+    find "$package_copy" -type f -exec chmod 644 {} +
+}
+
+# Gives the copied modules their names, and removes those of an earlier version.
+name_package() { # DIR
+  local folder file to=$1/$package_place
+  local -A ours=()
+  for folder in '' $(printf '%s\n' "${modules[@]}" | sed -n 's|/.*|/|p' | sort -u); do
+    mkdir -p -- "$to/$folder" && mv -f -t "$to/$folder" -- "$package_copy/$folder"*.* || return 1
+  done
+  for file in "${modules[@]}"; do ours[$file]=yes; done
+  for file in "$to"/*.py "$to"/*/*.py; do
+    [ -n "${ours[${file#"$to/"}]-}" ] || rm -f -- "$file"
+  done
+  echo "build: installed $to/"
+}
+
+# Refuses a folder where a file belongs.
+refuse_folder() { # PLACE
+  [ -d "$1" ] || return 0
+  echo "build: $1 is a folder" >&2
+  return 1
+}
+
 # Copies all files beside their places, and only then gives them their names.
 install_below() ( # DIR
   beside=()
-  trap 'rm -f -- "${beside[@]}"' EXIT
+  trap 'rm -rf -- "${beside[@]}"' EXIT
   trap 'exit 1' HUP INT TERM
   find_installed
+  find_modules
+  for file in "${modules[@]}"; do refuse_folder "$1/$package_place/$file" || exit 1; done
   for ((at = 0; at < ${#installed[@]}; at += 3)); do
     place=$1/${installed[at + 1]}
-    if [ -d "$place" ]; then
-      echo "build: $place is a folder" >&2
+    refuse_folder "$place" && copy_beside "${installed[at]}" "$place" "${installed[at + 2]}" ||
       exit 1
-    fi
-    copy_beside "${installed[at]}" "$place" "${installed[at + 2]}" || exit 1
   done
+  copy_package "$1" || exit 1
   for ((at = 0; at < ${#installed[@]}; at += 3)); do
     place=$1/${installed[at + 1]}
     mv -fT -- "${beside[at / 3]}" "$place" || exit 1
     echo "build: installed $place"
   done
+  name_package "$1"
 )

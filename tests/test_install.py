@@ -2,13 +2,15 @@
 
 What is installed, what is proved before, and that a file is replaced whole or not at all.
 """
+import json
 import os
+import shutil
 import stat
 
 import pytest
 
 from stand_in import (LIBRARY, LIBRARY_PROVED, PROGRAM, PROVED, Copy, holds, sources, version)
-from support import run, same
+from support import ROOT, run, same
 
 VERSION = version()
 SONAME = f"libarbiter.so.{VERSION.partition('.')[0]}"
@@ -23,8 +25,19 @@ FILES = {
     "share/bash-completion/completions/arbiter": ("share/completions/arbiter.bash", 0o644),
     "share/zsh/site-functions/_arbiter": ("share/completions/_arbiter", 0o644),
     "share/fish/vendor_completions.d/arbiter.fish": ("share/completions/arbiter.fish", 0o644),
+    "bin/arbiterctl": ("python/arbiterctl", 0o755),
+    "share/bash-completion/completions/arbiterctl": ("share/completions/arbiterctl.bash", 0o644),
+    "share/zsh/site-functions/_arbiterctl": ("share/completions/_arbiterctl", 0o644),
+    "share/fish/vendor_completions.d/arbiterctl.fish": ("share/completions/arbiterctl.fish", 0o644),
+    **{f"share/man/man1/{path.name}": (f"share/man/{path.name}", 0o644)
+       for path in (ROOT / "share/man").iterdir()},
 }
-INSTALLED = {*FILES, *LINKS}
+PACKAGE = "lib/arbiter/arbiter_host"
+MODULES = {f"lib/arbiter/{path.relative_to(ROOT / 'python')}":
+           (str(path.relative_to(ROOT)), 0o644)
+           for path in (ROOT / "python/arbiter_host").rglob("*")
+           if path.suffix in (".py", ".typed")}
+INSTALLED = {*FILES, *LINKS, *MODULES}
 
 
 @pytest.fixture
@@ -47,7 +60,7 @@ def is_installed(copy, folder):
     found = files_below(folder)
     same(sorted(found), sorted(INSTALLED), "what is installed")
     same({place: os.readlink(found[place]) for place in LINKS}, LINKS, "where links point to")
-    for place, (source, mode) in FILES.items():
+    for place, (source, mode) in {**FILES, **MODULES}.items():
         path = found[place]
         same(bytes_of(path) == bytes_of(f"{copy.top}/{source}"), True, f"the bytes of {place}")
         found_mode = stat.S_IMODE(os.stat(path).st_mode), os.path.islink(path)
@@ -61,7 +74,7 @@ def test_installs(copy):
     status, out, err = copy.call(words, cwd=cwd)
     same(status, 0, f"./build --install: {err}")
     folder = f"{copy.folder}/from here/to a/new place"
-    for place in INSTALLED:
+    for place in [*FILES, *LINKS, f"{PACKAGE}/"]:
         holds(f"build: installed {folder}/{place}\n", out, "standard output")
     same(copy.proved(), [PROVED, LIBRARY_PROVED], "what was proved")
     is_installed(copy, folder)
@@ -75,6 +88,9 @@ def test_installs(copy):
         with open(f"{folder}/{name}", "w", encoding="utf-8") as file:
             file.write("old\n")
     os.chmod(f"{folder}/share/man/man1/arbiter.1", 0o400)
+    # a module that the package had once
+    with open(f"{folder}/{PACKAGE}/sources/older.py", "w", encoding="utf-8") as file:
+        file.write("old\n")
     same(copy.call(["./build", f"--install={folder}"])[0], 0, "again, and without the kit")
     is_installed(copy, folder)
     same(copy.read("precious"), "precious\n", "what a link pointed to")
@@ -200,11 +216,33 @@ def test_installs_whole_or_not(copy):
     same(copy.call(cut)[0], 1, "a copy over old files that is cut short")
     found = {place: bytes_of(path) for place, path in files_below(folder).items()}
     same(found, dict.fromkeys(INSTALLED, b"old\n"), "old files")
-    last = f"{folder}/share/fish/vendor_completions.d/arbiter.fish"
-    os.remove(last)
-    os.makedirs(last)
-    status, _, err = copy.call(["./build", "--install", folder])
-    same(status, 1, "a folder in the way")
-    holds(f"build: {last} is a folder\n", err, "a folder in the way")
-    found = {bytes_of(path) for path in files_below(folder).values()}
-    same(found, {b"old\n"}, "old files beside a folder in the way")
+    for last in ("share/man/man1/arbiterctl.1", f"{PACKAGE}/sources/script.py"):
+        os.remove(f"{folder}/{last}")
+        os.makedirs(f"{folder}/{last}")
+        status, _, err = copy.call(["./build", "--install", folder])
+        same(status, 1, f"a folder in the way: {last}")
+        holds(f"build: {folder}/{last} is a folder\n", err, "a folder in the way")
+        found = {bytes_of(path) for path in files_below(folder).values()}
+        same(found, {b"old\n"}, f"old files beside a folder in the way: {last}")
+        os.rmdir(f"{folder}/{last}")
+
+
+def test_arbiterctl_of_the_installation(copy, program, library):
+    """The installed command runs from anywhere, and finds the library beside its package."""
+    shutil.copy(program.path, f"{copy.kit}/made")
+    copy.installs("there", "an installation", [PROVED, LIBRARY_PROVED])
+    folder = f"{copy.folder}/moved"
+    os.rename(f"{copy.top}/there", folder)
+    shutil.rmtree(copy.top)
+    shutil.copy(library, f"{folder}/lib/libarbiter.so.{VERSION}")
+    script = b"# arbiter run --processors 2\nmkdir a\ndemand a 7\n"
+    command = ["/usr/bin/python3", "-B", f"{folder}/bin/arbiterctl"]
+    ended = run([*command, "explain", "--json", "-"], script, env={}, cwd="/")
+    same((ended.status, ended.err), (0, b""), "explain")
+    found = json.loads(ended.out)
+    same(found["engine"], f"library {folder}/lib/{SONAME}", "the engine")
+    same([each["gets"]["slices"] for each in found["groups"]], [7, 7], "the plan")
+    ended = run([*command, "explain", "--json", "--library", "none", "-"], script, env={}, cwd="/")
+    same(json.loads(ended.out)["engine"], f"program {folder}/bin/arbiter", "the program")
+    ended = run([*command, "--version"], b"", env={}, cwd="/")
+    same(ended.out, f"arbiterctl {VERSION}\n".encode(), "--version")

@@ -147,10 +147,13 @@ def needed(command):
 
 
 def test_man_page_is_clean():
-    """mandoc finds nothing."""
+    """mandoc finds nothing but pages that it would find installed."""
     needed("mandoc")
     ended = run(["mandoc", "-Tlint", ROOT / "share/arbiter.1"])
-    same((ended.status, ended.out), (0, b""), "mandoc -Tlint")
+    others = {f"Xr {path.stem} 1" for path in (ROOT / "share/man").iterdir()}
+    found = [line for line in ended.out.decode().split("\n")[:-1]
+             if line.partition("referenced manual not found: ")[2] not in others]
+    same((found, ended.err), ([], b""), "mandoc -Tlint")
 
 
 # One version, one licence, one list of names

@@ -229,15 +229,20 @@ def current_clone_library() -> str | None:
 def installed_libraries() -> list[str]:
     """Names under which the library may be found: beside the package, by pkg-config, by name."""
     found = [str(path) for path in (PACKAGE / "libarbiter.so.1", PACKAGE / "libarbiter.so")]
-    prefix = next((each for each in PACKAGE.parents if each.name in ("lib", "lib64")), None)
-    if prefix is not None:
-        found.append(str(prefix / SONAME))
+    lib = prefix()
+    if lib is not None:
+        found.append(str(lib / SONAME))
     if shutil.which("pkg-config"):
         ended = subprocess.run(["pkg-config", "--variable=libdir", "arbiter"], text=True,
                                capture_output=True, check=False, stdin=subprocess.DEVNULL)
         if ended.returncode == 0 and ended.stdout.strip():
             found.append(f"{ended.stdout.strip()}/{SONAME}")
     return [each for each in found if os.path.isfile(each)]
+
+
+def prefix() -> Path | None:
+    """The folder `lib` that the package is installed below; None in a clone."""
+    return next((each for each in PACKAGE.parents if each.name in ("lib", "lib64")), None)
 
 
 def found_library() -> LibraryEngine | None:
@@ -252,7 +257,10 @@ def found_library() -> LibraryEngine | None:
 
 
 def found_program() -> ProgramEngine:
-    """`arbiter` of the PATH, else the clone's."""
+    """`arbiter` installed with the package, else of the PATH, else the clone's."""
+    lib = prefix()
+    if lib is not None and os.access(lib.parent / "bin/arbiter", os.X_OK):
+        return ProgramEngine(str(lib.parent / "bin/arbiter"))
     on_path = shutil.which("arbiter")
     if on_path:
         return ProgramEngine(on_path)

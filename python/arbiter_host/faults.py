@@ -24,6 +24,16 @@ class RefusedLines(HostFault):
         super().__init__("\n".join(lines), 4)
 
 
+# Debian's packages of modules that are imported where they are needed.
+PACKAGES = {"rich": "python3-rich", "yaml": "python3-yaml"}
+
+
+def missing_module(error: ModuleNotFoundError) -> HostFault | None:
+    """The fault of a module that one of Debian's packages brings; None for any other."""
+    package = PACKAGES.get((error.name or "").partition(".")[0])
+    return HostFault(f"{package} is missing: apt-get install {package}") if package else None
+
+
 def strerror(error: OSError) -> str:
     """The system's words for an error."""
     return error.strerror or type(error).__name__

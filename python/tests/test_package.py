@@ -8,12 +8,14 @@ from pathlib import Path
 
 import arbiter_host
 import pytest
+from arbiter_host.subcommands import ALL
 from places import PACKAGE
 
-SOURCES = sorted((PACKAGE / "arbiter_host").rglob("*.py")) + [PACKAGE / "arbiterctl"]
+FOLDERS = ("arbiter_host", "arbiter_pages")
+SOURCES = [path for folder in FOLDERS for path in sorted((PACKAGE / folder).rglob("*.py"))]
+SOURCES.append(PACKAGE / "arbiterctl")
 TESTS = sorted((PACKAGE / "tests").glob("*.py"))
-SUBCOMMANDS = ("explain", "compare", "picture", "report", "series", "top", "apply", "undo",
-               "import", "from-cgroup")
+SUBCOMMANDS = [each.name for each in ALL]
 MOST_LINES, MOST_COLUMNS = 40, 100
 
 
@@ -25,7 +27,7 @@ def ended(*words):
 
 
 def test_mypy(tmp_path):
-    status, said = ended("mypy", "--strict", "--cache-dir", str(tmp_path), "arbiter_host")
+    status, said = ended("mypy", "--strict", "--cache-dir", str(tmp_path), *FOLDERS)
     assert status == 0, said
 
 

@@ -3,6 +3,9 @@
 _arbiter() {
     local word=${COMP_WORDS[COMP_CWORD]} before=${COMP_WORDS[COMP_CWORD - 1]} given=''
     COMPREPLY=()
+    # no reply: bash completes files behind < and >
+    case $before in *[\<\>]) return ;; esac
+    case $word in [\<\>]*) return ;; esac
     # --slice=5000 is three words here
     if [[ $word == = ]]; then
         given=$before word=''
@@ -32,4 +35,4 @@ _arbiter() {
     esac
 }
 
-complete -F _arbiter arbiter
+complete -o bashdefault -o default -o nosort -F _arbiter arbiter

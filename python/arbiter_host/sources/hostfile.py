@@ -18,8 +18,6 @@ from dataclasses import replace
 from fractions import Fraction
 from typing import Any
 
-import yaml
-
 from arbiter_host import names, units
 from arbiter_host.faults import HostFault
 from arbiter_host.model import Group, Host, Model, check_settings
@@ -65,20 +63,27 @@ def parsed(text: str, name: str, kind: str) -> Any:
             return tomllib.loads(text)
         if kind == "json":
             return json.loads(text)
-        return yaml.safe_load(text)
+        return parsed_yaml(text, name)
     except tomllib.TOMLDecodeError as error:
         found = re.search(r"\(at line (\d+)", str(error))
         line = found.group(1) if found else str(text.count("\n") + 1)
         raise HostFault(f"{name}:{line}: {re.sub(r' .at .*', '', str(error))}") from error
     except json.JSONDecodeError as error:
         raise HostFault(f"{name}:{error.lineno}: {error.msg}") from error
+    except (RecursionError, ValueError, TypeError, OverflowError) as error:
+        raise HostFault(f"{name}:1: cannot be read as {kind}: {names.shown(str(error))}") from error
+
+
+def parsed_yaml(text: str, name: str) -> Any:
+    """The data of YAML."""
+    import yaml
+    try:
+        return yaml.safe_load(text)
     except yaml.YAMLError as error:
         mark = getattr(error, "problem_mark", None)
         line = mark.line + 1 if mark else 1
         problem = getattr(error, "problem", None) or "no YAML"
         raise HostFault(f"{name}:{line}: {names.shown(str(problem))}") from error
-    except (RecursionError, ValueError, TypeError, OverflowError) as error:
-        raise HostFault(f"{name}:1: cannot be read as {kind}: {names.shown(str(error))}") from error
 
 
 def whole(value: Any) -> int:
@@ -310,6 +315,7 @@ def write_toml(model: Model) -> str:
 
 def write_yaml(model: Model) -> str:
     """A host file in YAML, with the notes as comments."""
+    import yaml
     head = "".join(f"# ! {names.shown(note)}\n" for note in model.notes)
     found = data(model)
     is_plain = not any(map(names.is_raw, json.dumps(found, ensure_ascii=False)))

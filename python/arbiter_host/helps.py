@@ -1,0 +1,55 @@
+"""Texts that the help, the man pages and the completions share, and how help is laid out."""
+from __future__ import annotations
+
+import argparse
+import textwrap
+
+ABOUT = ("Plans for the groups of a real host, each accepted by the proved check before it is"
+         " shown.")
+STATUSES = {
+    0: "done",
+    1: "a source, the engine, the host or the output failed",
+    2: "the words of the command line or the host were refused",
+    4: "lines of a script were refused, under --strict",
+}
+ENVIRONMENT = {
+    "ARBITER_LIBRARY": "The C library, as of --library. `none` asks the program.",
+    "ARBITER": "The program that is asked where there is no library, as of --program.",
+    "COLUMNS": "Columns of the answers, in place of the terminal's.",
+    "NO_COLOR": "If it is set, answers have no colours.",
+}
+# What a source is, by its kind.
+KINDS = {
+    "script": "A script of arbiter(1). Its first line, `# arbiter run --processors N --period U"
+              " --slice U`, is the host.",
+    "toml": "A host file, with amounts such as 250m, 1.5cpu or 40%.",
+    "yaml": "The same in YAML.",
+    "json": "The same in JSON.",
+    "cgroup": "A tree of cgroup v2 or v1, such as /sys/fs/cgroup, or a copy of its files.",
+    "kubernetes": "What `kubectl get pods -o json` prints, and a node's JSON beside it.",
+    "systemd": "What `systemctl show '*.slice' '*.service' '*.scope'` prints.",
+    "docker": "What `docker inspect` or `podman inspect` prints.",
+}
+
+
+class Formatter(argparse.HelpFormatter):
+    """Lays out paragraphs one by one. Lines that begin with two blanks stay as they are."""
+
+    def _fill_text(self, text: str, width: int, indent: str) -> str:
+        filled = []
+        for part in text.split("\n\n"):
+            is_kept = part.startswith("  ") or "\n  " in part
+            filled.append(part if is_kept else textwrap.fill(part, width, initial_indent=indent,
+                                                             subsequent_indent=indent))
+        return "\n\n".join(filled)
+
+
+def statuses() -> str:
+    """The exit statuses as the end of a help text."""
+    return "exit status:\n" + "\n".join(f"  {each}  {what}" for each, what in STATUSES.items())
+
+
+def examples(found: tuple[tuple[str, str], ...]) -> str:
+    """Examples for the end of a help text: what each does, and its command."""
+    lines = "\n".join(f"  {command}\n      {what}" for what, command in found)
+    return f"examples:\n{lines}\n\n" if found else ""

@@ -1,0 +1,76 @@
+"""What the command prints and writes: text, styled lines, JSON, files."""
+from __future__ import annotations
+
+import json
+import os
+import sys
+from collections.abc import Sequence
+from typing import Any
+
+from arbiter_host import names
+from arbiter_host.faults import HostFault, strerror
+
+
+def emit(lines: str) -> None:
+    """Writes text to standard output, as UTF-8 whatever the locale is."""
+    if sys.stdout is None:
+        raise HostFault("standard output: Bad file descriptor")
+    try:
+        sys.stdout.buffer.write(lines.encode("utf-8", "backslashreplace"))
+        sys.stdout.buffer.flush()
+    except BrokenPipeError:
+        raise
+    except OSError as error:
+        raise HostFault(f"standard output: {strerror(error)}") from error
+
+
+def emit_styled(lines: Sequence[tuple[str, str]]) -> None:
+    """Writes lines, with their styles on a terminal."""
+    if sys.stdout is None or not sys.stdout.isatty() or "NO_COLOR" in os.environ:
+        emit("".join(f"{line}\n" for line, _ in lines))
+        return
+    try:
+        from rich.console import Console
+        from rich.text import Text
+    except ModuleNotFoundError:
+        emit("".join(f"{line}\n" for line, _ in lines))
+        return
+    console = Console(file=sys.stdout, highlight=False, soft_wrap=True)
+    for line, style in lines:
+        console.print(Text(line, style=style))
+
+
+def emit_json(data: Any) -> None:
+    """Writes data as JSON. Letters that a terminal could take as a command are escaped."""
+    dumped = json.dumps(data, indent=2, ensure_ascii=False)
+    emit("".join(f"\\u{ord(each):04x}" if names.is_raw(each) and each != "\n" and
+                 ord(each) < 0x10000 else each for each in dumped) + "\n")
+
+
+def write_file(path: str, data: str) -> None:
+    """Writes a file whole; `-` is standard output."""
+    if path == "-":
+        emit(data)
+        return
+    try:
+        with open(path, "w", encoding="utf-8", errors="backslashreplace") as file:
+            file.write(data)
+    except (OSError, ValueError) as error:
+        why = strerror(error) if isinstance(error, OSError) else "no path"
+        raise HostFault(f"{names.shown(path)}: {why}") from error
+
+
+def drop_output() -> None:
+    """Lets the interpreter flush to nowhere when it ends."""
+    try:
+        null = os.open(os.devnull, os.O_WRONLY)
+        os.dup2(null, 1)
+    except OSError:
+        pass
+
+
+def tell(fault: HostFault) -> None:
+    """Prints a fault on standard error, a line each."""
+    if sys.stderr is not None:
+        for line in fault.message.split("\n"):
+            print(f"arbiterctl: {names.shown(line)}", file=sys.stderr)

@@ -1,0 +1,97 @@
+"""What a subcommand is, and the words and steps that several have."""
+from __future__ import annotations
+
+import argparse
+from collections.abc import Callable, Sequence
+from dataclasses import dataclass
+
+from arbiter_host import engine, explain, load, names, text
+from arbiter_host.explain import View
+from arbiter_host.faults import UsageFault
+from arbiter_host.model import MAX_DEPTH
+from arbiter_host.plan import Plan, plan
+
+
+@dataclass(frozen=True)
+class Subcommand:
+    """One subcommand: its name, its help, its words, and what it does with them."""
+
+    name: str
+    # One line of the list of subcommands.
+    summary: str
+    # What it does, in sentences.
+    description: str
+    add_words: Callable[[argparse.ArgumentParser], None]
+    run: Callable[[argparse.Namespace], None]
+    # More paragraphs of its help and its man page.
+    details: tuple[str, ...] = ()
+    # What an example does, and its command.
+    examples: tuple[tuple[str, str], ...] = ()
+
+
+def found_engine(options: argparse.Namespace) -> engine.Engine:
+    """The engine that the options name, else the first that is found."""
+    return engine.find(options.library, options.program)
+
+
+def source_name(paths: Sequence[str]) -> str:
+    """The name of a source, for messages."""
+    return "standard input" if paths[0] == "-" else names.shown(paths[0])
+
+
+def loaded_plan(options: argparse.Namespace, paths: Sequence[str]) -> Plan:
+    """The accepted plan of a source, after its notes were told."""
+    by = found_engine(options)
+    model = load.load(options, paths, by)
+    load.warn(model, source_name(paths))
+    return plan(by, model)
+
+
+def view_of(options: argparse.Namespace) -> View:
+    """The view that the options ask for."""
+    only = tuple(each for each in (options.only or "").split(",") if each)
+    for each in only:
+        if each not in explain.ONLY:
+            raise UsageFault(f"--only {names.shown(each)}: {', '.join(explain.ONLY)}")
+    if not 0 <= options.depth <= MAX_DEPTH:
+        raise UsageFault(f"--depth: 0 to {MAX_DEPTH}")
+    if options.width is not None and not 40 <= options.width <= 10000:
+        raise UsageFault("--width: 40 to 10000")
+    return View(only, options.sort or "", options.depth, options.unit,
+                options.width or text.terminal_width(), options.all, options.full_names)
+
+
+def add_view_options(parser: argparse.ArgumentParser) -> None:
+    """The options that say what is shown."""
+    group = parser.add_argument_group("view")
+    group.add_argument("--only", metavar="WORD,..", help="the groups that are one of: "
+                       + ", ".join(explain.ONLY))
+    group.add_argument("--sort", choices=tuple(explain.SORTS), help="order of the groups")
+    group.add_argument("--depth", type=int, default=MAX_DEPTH, metavar="N",
+                       help="leave out groups more than N below the root, 0 to 64")
+    group.add_argument("--unit", choices=text.UNITS, default="cpu", help="unit (default cpu)")
+    group.add_argument("--width", type=int, metavar="N", help="columns (default: the terminal's,"
+                       " else 120)")
+    group.add_argument("--all", action="store_true", help="show groups that ask for nothing too")
+    group.add_argument("--full-names", action="store_true", help="show identifiers whole")
+    group.add_argument("--json", action="store_true", help="print the same as JSON")
+
+
+def add_reading_options(parser: argparse.ArgumentParser) -> None:
+    """The options of all that reads a source: of the host, the engine and the source."""
+    load.add_host_options(parser)
+    load.add_source_options(parser)
+
+
+def add_answer_options(parser: argparse.ArgumentParser) -> None:
+    """The options that all tables have."""
+    add_view_options(parser)
+    add_reading_options(parser)
+
+
+def add_drawn_options(parser: argparse.ArgumentParser) -> None:
+    """The words that pictures and pages have."""
+    parser.add_argument("source", nargs="+", metavar="SOURCE", help="a source, as of explain")
+    parser.add_argument("-o", "--output", default="-", metavar="FILE",
+                        help="the file that is written (default: standard output)")
+    parser.add_argument("--unit", choices=text.UNITS, default="cpu", help="unit (default cpu)")

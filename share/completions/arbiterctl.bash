@@ -1,0 +1,279 @@
+# Made from the help of arbiterctl by python/arbiter_pages; a test compares them.
+
+_arbiterctl() {
+    local word=${COMP_WORDS[COMP_CWORD]} before=${COMP_WORDS[COMP_CWORD - 1]} given=''
+    COMPREPLY=()
+    # no reply: bash completes files, and what stands behind < and >
+    case $before in *[\<\>]) return ;; esac
+    case $word in [\<\>]*) return ;; esac
+    # --unit=m is three words here
+    if [[ $word == = ]]; then
+        given=$before word=''
+    elif [[ $before == = ]]; then
+        given=${COMP_WORDS[COMP_CWORD - 2]}
+    else
+        given=$before
+    fi
+    if ((COMP_CWORD == 1)); then
+        mapfile -t COMPREPLY < <(compgen -W "explain compare picture report series top apply undo import from-cgroup -h --help -V --version" -- "$word")
+        return
+    fi
+    case ${COMP_WORDS[1]} in
+        explain)
+            case $given in
+                --only) mapfile -t COMPREPLY < <(compgen -W "starved throttled hurt asking tasks" -- "$word") ;;
+                --sort) mapfile -t COMPREPLY < <(compgen -W "lack gets wants weight name" -- "$word") ;;
+                --depth) ;;
+                --unit) mapfile -t COMPREPLY < <(compgen -W "cpu m % slices us" -- "$word") ;;
+                --width) ;;
+                --cpus|--processors) ;;
+                --period) ;;
+                --slice) ;;
+                --library) ;;
+                --program) ;;
+                --from) mapfile -t COMPREPLY < <(compgen -W "script toml yaml json cgroup kubernetes systemd docker" -- "$word") ;;
+                --want) mapfile -t COMPREPLY < <(compgen -W "usage peak p95 psi limit request busy" -- "$word") ;;
+                --scale) ;;
+                --interval) ;;
+                --samples) ;;
+                --later) ;;
+                --depth-read) ;;
+                --node) ;;
+                --conversion) mapfile -t COMPREPLY < <(compgen -W "linear log" -- "$word") ;;
+                --driver) mapfile -t COMPREPLY < <(compgen -W "systemd cgroupfs" -- "$word") ;;
+                *)
+                    [[ $word == -* ]] && mapfile -t COMPREPLY < <(compgen -W "--only --sort --depth --unit --width --all --full-names --json --cpus --processors --period --slice --library --program --from --want --scale --interval --samples --later --own --depth-read --node --conversion --driver --strict -h --help" -- "$word")
+                    ;;
+            esac
+            ;;
+        compare)
+            case $given in
+                --set) ;;
+                --only) mapfile -t COMPREPLY < <(compgen -W "starved throttled hurt asking tasks" -- "$word") ;;
+                --sort) mapfile -t COMPREPLY < <(compgen -W "lack gets wants weight name" -- "$word") ;;
+                --depth) ;;
+                --unit) mapfile -t COMPREPLY < <(compgen -W "cpu m % slices us" -- "$word") ;;
+                --width) ;;
+                --cpus|--processors) ;;
+                --period) ;;
+                --slice) ;;
+                --library) ;;
+                --program) ;;
+                --from) mapfile -t COMPREPLY < <(compgen -W "script toml yaml json cgroup kubernetes systemd docker" -- "$word") ;;
+                --want) mapfile -t COMPREPLY < <(compgen -W "usage peak p95 psi limit request busy" -- "$word") ;;
+                --scale) ;;
+                --interval) ;;
+                --samples) ;;
+                --later) ;;
+                --depth-read) ;;
+                --node) ;;
+                --conversion) mapfile -t COMPREPLY < <(compgen -W "linear log" -- "$word") ;;
+                --driver) mapfile -t COMPREPLY < <(compgen -W "systemd cgroupfs" -- "$word") ;;
+                *)
+                    [[ $word == -* ]] && mapfile -t COMPREPLY < <(compgen -W "--set --only --sort --depth --unit --width --all --full-names --json --cpus --processors --period --slice --library --program --from --want --scale --interval --samples --later --own --depth-read --node --conversion --driver --strict -h --help" -- "$word")
+                    ;;
+            esac
+            ;;
+        picture)
+            case $given in
+                -o|--output) ;;
+                --unit) mapfile -t COMPREPLY < <(compgen -W "cpu m % slices us" -- "$word") ;;
+                --depth) ;;
+                --rows) ;;
+                --cpus|--processors) ;;
+                --period) ;;
+                --slice) ;;
+                --library) ;;
+                --program) ;;
+                --from) mapfile -t COMPREPLY < <(compgen -W "script toml yaml json cgroup kubernetes systemd docker" -- "$word") ;;
+                --want) mapfile -t COMPREPLY < <(compgen -W "usage peak p95 psi limit request busy" -- "$word") ;;
+                --scale) ;;
+                --interval) ;;
+                --samples) ;;
+                --later) ;;
+                --depth-read) ;;
+                --node) ;;
+                --conversion) mapfile -t COMPREPLY < <(compgen -W "linear log" -- "$word") ;;
+                --driver) mapfile -t COMPREPLY < <(compgen -W "systemd cgroupfs" -- "$word") ;;
+                *)
+                    [[ $word == -* ]] && mapfile -t COMPREPLY < <(compgen -W "-o --output --unit --depth --rows --cpus --processors --period --slice --library --program --from --want --scale --interval --samples --later --own --depth-read --node --conversion --driver --strict -h --help" -- "$word")
+                    ;;
+            esac
+            ;;
+        report)
+            case $given in
+                -o|--output) ;;
+                --unit) mapfile -t COMPREPLY < <(compgen -W "cpu m % slices us" -- "$word") ;;
+                --before) ;;
+                --set) ;;
+                --title) ;;
+                --cpus|--processors) ;;
+                --period) ;;
+                --slice) ;;
+                --library) ;;
+                --program) ;;
+                --from) mapfile -t COMPREPLY < <(compgen -W "script toml yaml json cgroup kubernetes systemd docker" -- "$word") ;;
+                --want) mapfile -t COMPREPLY < <(compgen -W "usage peak p95 psi limit request busy" -- "$word") ;;
+                --scale) ;;
+                --interval) ;;
+                --samples) ;;
+                --later) ;;
+                --depth-read) ;;
+                --node) ;;
+                --conversion) mapfile -t COMPREPLY < <(compgen -W "linear log" -- "$word") ;;
+                --driver) mapfile -t COMPREPLY < <(compgen -W "systemd cgroupfs" -- "$word") ;;
+                *)
+                    [[ $word == -* ]] && mapfile -t COMPREPLY < <(compgen -W "-o --output --unit --before --set --title --cpus --processors --period --slice --library --program --from --want --scale --interval --samples --later --own --depth-read --node --conversion --driver --strict -h --help" -- "$word")
+                    ;;
+            esac
+            ;;
+        series)
+            case $given in
+                --unit) mapfile -t COMPREPLY < <(compgen -W "cpu m % slices us" -- "$word") ;;
+                --sample) ;;
+                --groups) ;;
+                --map) ;;
+                --to) mapfile -t COMPREPLY < <(compgen -W "table csv json openmetrics svg" -- "$word") ;;
+                -o|--output) ;;
+                --prometheus) ;;
+                --query) ;;
+                --start) ;;
+                --end) ;;
+                --step) ;;
+                --label) ;;
+                --cpus|--processors) ;;
+                --period) ;;
+                --slice) ;;
+                --library) ;;
+                --program) ;;
+                --from) mapfile -t COMPREPLY < <(compgen -W "script toml yaml json cgroup kubernetes systemd docker" -- "$word") ;;
+                --want) mapfile -t COMPREPLY < <(compgen -W "usage peak p95 psi limit request busy" -- "$word") ;;
+                --scale) ;;
+                --interval) ;;
+                --samples) ;;
+                --later) ;;
+                --depth-read) ;;
+                --node) ;;
+                --conversion) mapfile -t COMPREPLY < <(compgen -W "linear log" -- "$word") ;;
+                --driver) mapfile -t COMPREPLY < <(compgen -W "systemd cgroupfs" -- "$word") ;;
+                *)
+                    [[ $word == -* ]] && mapfile -t COMPREPLY < <(compgen -W "--csv --unit --sample --groups --map --summary --to -o --output --prometheus --query --start --end --step --label --cpus --processors --period --slice --library --program --from --want --scale --interval --samples --later --own --depth-read --node --conversion --driver --strict -h --help" -- "$word")
+                    ;;
+            esac
+            ;;
+        top)
+            case $given in
+                --count) ;;
+                --only) mapfile -t COMPREPLY < <(compgen -W "starved throttled hurt asking tasks" -- "$word") ;;
+                --sort) mapfile -t COMPREPLY < <(compgen -W "lack gets wants weight name" -- "$word") ;;
+                --depth) ;;
+                --unit) mapfile -t COMPREPLY < <(compgen -W "cpu m % slices us" -- "$word") ;;
+                --width) ;;
+                --cpus|--processors) ;;
+                --period) ;;
+                --slice) ;;
+                --library) ;;
+                --program) ;;
+                --from) mapfile -t COMPREPLY < <(compgen -W "script toml yaml json cgroup kubernetes systemd docker" -- "$word") ;;
+                --want) mapfile -t COMPREPLY < <(compgen -W "usage peak p95 psi limit request busy" -- "$word") ;;
+                --scale) ;;
+                --interval) ;;
+                --samples) ;;
+                --later) ;;
+                --depth-read) ;;
+                --node) ;;
+                --conversion) mapfile -t COMPREPLY < <(compgen -W "linear log" -- "$word") ;;
+                --driver) mapfile -t COMPREPLY < <(compgen -W "systemd cgroupfs" -- "$word") ;;
+                *)
+                    [[ $word == -* ]] && mapfile -t COMPREPLY < <(compgen -W "--count --only --sort --depth --unit --width --all --full-names --json --cpus --processors --period --slice --library --program --from --want --scale --interval --samples --later --own --depth-read --node --conversion --driver --strict -h --help" -- "$word")
+                    ;;
+            esac
+            ;;
+        apply)
+            case $given in
+                --set) ;;
+                --root) ;;
+                --by) mapfile -t COMPREPLY < <(compgen -W "systemd files" -- "$word") ;;
+                --undo) ;;
+                --cpus|--processors) ;;
+                --period) ;;
+                --slice) ;;
+                --library) ;;
+                --program) ;;
+                --from) mapfile -t COMPREPLY < <(compgen -W "script toml yaml json cgroup kubernetes systemd docker" -- "$word") ;;
+                --want) mapfile -t COMPREPLY < <(compgen -W "usage peak p95 psi limit request busy" -- "$word") ;;
+                --scale) ;;
+                --interval) ;;
+                --samples) ;;
+                --later) ;;
+                --depth-read) ;;
+                --node) ;;
+                --conversion) mapfile -t COMPREPLY < <(compgen -W "linear log" -- "$word") ;;
+                --driver) mapfile -t COMPREPLY < <(compgen -W "systemd cgroupfs" -- "$word") ;;
+                *)
+                    [[ $word == -* ]] && mapfile -t COMPREPLY < <(compgen -W "--set --root --by --undo --yes --cpus --processors --period --slice --library --program --from --want --scale --interval --samples --later --own --depth-read --node --conversion --driver --strict -h --help" -- "$word")
+                    ;;
+            esac
+            ;;
+        undo)
+            case $given in
+                *)
+                    [[ $word == -* ]] && mapfile -t COMPREPLY < <(compgen -W "--yes -h --help" -- "$word")
+                    ;;
+            esac
+            ;;
+        import)
+            case $given in
+                --to) mapfile -t COMPREPLY < <(compgen -W "script toml yaml json" -- "$word") ;;
+                -o|--output) ;;
+                --set) ;;
+                --cpus|--processors) ;;
+                --period) ;;
+                --slice) ;;
+                --library) ;;
+                --program) ;;
+                --from) mapfile -t COMPREPLY < <(compgen -W "script toml yaml json cgroup kubernetes systemd docker" -- "$word") ;;
+                --want) mapfile -t COMPREPLY < <(compgen -W "usage peak p95 psi limit request busy" -- "$word") ;;
+                --scale) ;;
+                --interval) ;;
+                --samples) ;;
+                --later) ;;
+                --depth-read) ;;
+                --node) ;;
+                --conversion) mapfile -t COMPREPLY < <(compgen -W "linear log" -- "$word") ;;
+                --driver) mapfile -t COMPREPLY < <(compgen -W "systemd cgroupfs" -- "$word") ;;
+                *)
+                    [[ $word == -* ]] && mapfile -t COMPREPLY < <(compgen -W "--to -o --output --set --cpus --processors --period --slice --library --program --from --want --scale --interval --samples --later --own --depth-read --node --conversion --driver --strict -h --help" -- "$word")
+                    ((COMP_CWORD == 2)) && [[ $word != -* ]] && mapfile -t COMPREPLY < <(compgen -W "script toml yaml json cgroup kubernetes systemd docker any" -- "$word")
+                    ;;
+            esac
+            ;;
+        from-cgroup)
+            case $given in
+                --to) mapfile -t COMPREPLY < <(compgen -W "script toml yaml json" -- "$word") ;;
+                -o|--output) ;;
+                --set) ;;
+                --cpus|--processors) ;;
+                --period) ;;
+                --slice) ;;
+                --library) ;;
+                --program) ;;
+                --from) mapfile -t COMPREPLY < <(compgen -W "script toml yaml json cgroup kubernetes systemd docker" -- "$word") ;;
+                --want) mapfile -t COMPREPLY < <(compgen -W "usage peak p95 psi limit request busy" -- "$word") ;;
+                --scale) ;;
+                --interval) ;;
+                --samples) ;;
+                --later) ;;
+                --depth-read) ;;
+                --node) ;;
+                --conversion) mapfile -t COMPREPLY < <(compgen -W "linear log" -- "$word") ;;
+                --driver) mapfile -t COMPREPLY < <(compgen -W "systemd cgroupfs" -- "$word") ;;
+                *)
+                    [[ $word == -* ]] && mapfile -t COMPREPLY < <(compgen -W "--to -o --output --set --cpus --processors --period --slice --library --program --from --want --scale --interval --samples --later --own --depth-read --node --conversion --driver --strict -h --help" -- "$word")
+                    ;;
+            esac
+            ;;
+    esac
+}
+
+complete -o bashdefault -o default -o nosort -F _arbiterctl arbiterctl
