@@ -289,9 +289,9 @@ def test_runs_at_once(copy):
 
 
 def test_builds_where_needed(copy):
-    """./build makes the program and its stamp, and does nothing if that is current."""
+    """./build makes the program and its stamp, and does nothing if that is up to date."""
     holds(f"build: {PROGRAM}, in ", copy.build(), "the first build")
-    same(copy.call(["./build"]), (0, f"build: {PROGRAM} is current\n", ""), "the second build")
+    same(copy.call(["./build"]), (0, f"build: {PROGRAM} is up to date\n", ""), "the second build")
     same([line for line in copy.log() if line.startswith("rt ")], [], "calls of the second build")
     time_of_build = "../cache/arbiter/time of build"
     holds("on this machine", copy.read(time_of_build), "the time from nothing")
@@ -395,7 +395,8 @@ def test_takes_no_wrong_program(copy):
     copy.write("../kit/while", f"[ $1 = try ] || echo late >>{copy.top}/{path}\n")
     status, _, err = copy.call(["./build"])
     same(status, 1, "sources that are changed meanwhile")
-    holds(f"{PROGRAM} is not taken as current: sources were changed while it was made", err, "")
+    late = f"{PROGRAM} does not count as up to date: sources were changed while it was made"
+    holds(late, err, "")
     copy.is_checked("after a build whose sources were changed")
     copy.write("../kit/while", "")
     copy.build()
@@ -461,7 +462,7 @@ def with_gate(copy, last, lines="grep -v NOT", during=":", keeps="--anew", **tes
 
 
 def test_test_counts_all(copy):
-    """The last line counts gate and tests. The program is current, the library is linked."""
+    """The last line counts gate and tests. The program is up to date, the library is linked."""
     same(copy.call(["./test", "frob"])[0], 2, "another word")
     with_gate(copy, "5 passed, 0 failed")
     copy.log()
@@ -521,7 +522,7 @@ def test_test_installs_what_it_needs(copy):
 
 
 def test_test_sees_changed_sources(copy):
-    """A program of sources that changed while the gate ran is not taken as current."""
+    """A program of sources that changed while the gate ran is not up to date."""
     with_gate(copy, "5 passed, 0 failed", during=f"echo late >>{sources('bw_text')[0]}")
     same(copy.call(["./test"])[0], 0, "./test")
     copy.is_checked("after ./test")
