@@ -291,7 +291,7 @@ def read_words():
     asked.add_argument("--periods", action="store_true",
                        help="the periods of some processors alone, without and with busy loops")
     asked.add_argument("--program",
-                       help=f"the program to measure (default: {PROGRAM}, which has to be current)")
+                       help=f"the program to measure (default: {PROGRAM}, if that is up to date)")
     options = asked.parse_args()
     if any(name and name not in SHAPES for name in options.shapes.split(",")):
         asked.error("an unknown shape")
@@ -301,7 +301,7 @@ def read_words():
 
 
 def program_of(options):
-    """The program to measure. The one of ./build has to be current."""
+    """The program to measure. The one of ./build has to be up to date."""
     if not options.program:
         options.program = f"{TOP}/{PROGRAM}"
         words = ["bash", "-c", ". scripts/current.sh; is_current"]

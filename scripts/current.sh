@@ -120,7 +120,7 @@ write_stamp() { # LINES of sources_now before they were made
   local now beside
   if [ -z "$1" ] || ! now=$(sources_now) || [ "$now" != "$1" ]; then
     cat >&2 <<END
-${made[0]} is not taken as current: sources were changed while it was made, or cannot be read
+${made[0]} does not count as up to date: sources were changed while it was made, or cannot be read
 END
     return 1
   fi

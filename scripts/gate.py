@@ -33,7 +33,7 @@ GOOD = re.compile(
     r"|.*(: trying its must-fail edits .*|: refused, as it must be.*"
     r"| ran( \(.*\))?, and wrote what its file stdout has|: its tests passed"
     r"| were tried by an earlier run on this machine.*|: begins with what a check kept .*"
-    r"|chose .*))$"
+    r"|chose .*|ok; handles allowed: .*))$"
 )
 # The lines of the log that say that a crate was proved, or taken from an earlier run.
 PROVED = re.compile(r"^rt: (\w+) (?:proved|is kept: .*)$")

@@ -117,9 +117,10 @@ def test_library_where_needed(copy):
     copy.build()
     same(copy.there(f"{LIBRARY}.so"), False, "a library without an installation")
     out, _ = copy.installs("there", "a first installation", [LIBRARY_PROVED])
-    holds(f"build: {PROGRAM} is current\nbuild: {LIBRARY}.so, in ", out, "a first installation")
+    holds(f"build: {PROGRAM} is up to date\nbuild: {LIBRARY}.so, in ", out, "a first installation")
     out, err = copy.installs("there", "a second one")
-    holds(f"build: {PROGRAM} is current\nbuild: {LIBRARY}.so is current\n", out, "a second one")
+    both = f"build: {PROGRAM} is up to date\nbuild: {LIBRARY}.so is up to date\n"
+    holds(both, out, "a second one")
     same(err, "", "standard error of a second one")
     both = [PROVED, LIBRARY_PROVED]
     for crate, wanted in (("bw_exports", [LIBRARY_PROVED]), ("bw_shell", [PROVED]),
@@ -156,7 +157,7 @@ def test_no_wrong_library(copy):
     """Nothing is installed if the library's proof or link fails, or its sources change."""
     copy.build()
     path = sources("bw_check")[1]
-    late = f"{LIBRARY}.so is not taken as current: sources were changed while it was made"
+    late = f"{LIBRARY}.so does not count as up to date: sources were changed while it was made"
     no_proof, no_room = "it is wrong\nbuild: not built", "no room\nbuild: not built"
     for hook, during, part in (("while", "echo it is wrong >&2; exit 1\n", no_proof),
                                ("toolchain/bin/while", "echo no room >&2; exit 1\n", no_room),

@@ -329,6 +329,35 @@ def test_long_sentence_is_found():
     same([len(each.split()) for each in sentences(text)], [3, 32, 1], "words")
 
 
+COMMENT = re.compile(r"\s*(?:--|//[/!]?) ?(.*)")
+HEADLESS = re.compile(r"(?:what|who|how|the same|so many|so much)\b", re.I)
+# The comments of this record are the phrases of one sentence.
+PHRASES = "bw_workers/specs/Headline.antt"
+
+
+def headless(text: str) -> list:
+    """The comments that do not begin with the noun or the verb of their item, by line."""
+    lines = ["", *text.splitlines()]
+    return [f"{at}: {line.strip()}" for at, line in enumerate(lines)
+            if (found := COMMENT.fullmatch(line)) and HEADLESS.match(found[1])
+            and not COMMENT.fullmatch(lines[at - 1])]
+
+
+def test_comments_name_their_item():
+    """Comments of specs/ and src/ begin with the noun that an item is, or the verb that it does."""
+    files = [*ROOT.glob("crates/*/specs/**/*.antt"), *ROOT.glob("crates/*/src/**/*.rt")]
+    names = {str(path.relative_to(ROOT / "crates")): path for path in files}
+    assert len(names) > 300, len(names)
+    found = [f"{name}:{each}" for name, path in sorted(names.items()) if name != PHRASES
+             for each in headless(path.read_text(encoding="utf-8"))]
+    same(found, [], "comments")
+
+
+def test_headless_comment_is_found():
+    text = "-- what a group has\nleft : N\n-- the sum\n-- what follows\nf x\n  // The same.\n"
+    same(headless(text), ["1: -- what a group has", "6: // The same."], "comments")
+
+
 # README
 
 

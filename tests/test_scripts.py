@@ -15,7 +15,7 @@ import time
 import pytest
 
 from stand_in import (LIBRARY, LIBRARY_PROVED, NATIVE, OUT, PROGRAM, PROVED, STAMP, Copy, holds,
-                      sources, version)
+                      sources, time_of, version)
 from support import ROOT, SECONDS, run, same
 
 RUNNING = ("arbiter: running the checked build, which proves nothing; "
@@ -45,7 +45,7 @@ def test_first_and_second_run(copy):
     status, out, err = copy.call(["./arbiter", "a"], b"in\n")
     same((status, out), (5, "checked: a\nin\n"), "the first run")
     wanted = ("arbiter: no native program of these sources: compiling the checked build, which "
-              "proves nothing.\narbiter: that took 1 min 7 s on a machine with 4 processors; "
+              f"proves nothing.\narbiter: that took {time_of('checked build')}; "
               f"later runs begin at once.\n{RUNNING}")
     same(err, wanted, "standard error of the first run")
     same(len([line for line in copy.log() if line.startswith("rt try")]), 1, "compilations")
@@ -289,9 +289,9 @@ def test_runs_at_once(copy):
 
 
 def test_builds_where_needed(copy):
-    """./build makes the program and its stamp, and does nothing if that is current."""
+    """./build makes the program and its stamp, and does nothing if that is up to date."""
     holds(f"build: {PROGRAM}, in ", copy.build(), "the first build")
-    same(copy.call(["./build"]), (0, f"build: {PROGRAM} is current\n", ""), "the second build")
+    same(copy.call(["./build"]), (0, f"build: {PROGRAM} is up to date\n", ""), "the second build")
     same([line for line in copy.log() if line.startswith("rt ")], [], "calls of the second build")
     time_of_build = "../cache/arbiter/time of build"
     holds("on this machine", copy.read(time_of_build), "the time from nothing")
@@ -315,7 +315,7 @@ def test_build_proves_side_by_side(copy):
     assert re.search(whole, err, re.M), err
     called = [line for line in copy.log() if line.startswith("rt all")]
     assert re.fullmatch(r"rt all check --jobs [1-9]\d*", *called), called
-    holds("that took 29 min 48 s on a machine with 4 processors", err, "the time is told before")
+    holds(f"that took {time_of('build')}", err, "the time is told before")
 
 
 def test_build_on_a_terminal(copy):
@@ -395,7 +395,8 @@ def test_takes_no_wrong_program(copy):
     copy.write("../kit/while", f"[ $1 = try ] || echo late >>{copy.top}/{path}\n")
     status, _, err = copy.call(["./build"])
     same(status, 1, "sources that are changed meanwhile")
-    holds(f"{PROGRAM} is not taken as current: sources were changed while it was made", err, "")
+    late = f"{PROGRAM} does not count as up to date: sources were changed while it was made"
+    holds(late, err, "")
     copy.is_checked("after a build whose sources were changed")
     copy.write("../kit/while", "")
     copy.build()
@@ -422,8 +423,10 @@ def test_help_of_build(copy):
 # ./test
 
 GATE = """#!/bin/sh
+# {keeps}
 case $1 in
   ci)
+    echo "rt $*" >>"{kit}/log"
     {during}
     mkdir -p {out} && cp "{kit}/made" {program} && chmod 755 {program}
     printf '== bw_text\\nsaid of it\\nrt: bw_text proved\\nrt: bw_plan NOT PROVED\\n' | {lines}
@@ -445,12 +448,12 @@ esac
 """
 
 
-def with_gate(copy, last, lines="grep -v NOT", during=":", **tests):
+def with_gate(copy, last, lines="grep -v NOT", during=":", keeps="--anew", **tests):
     """Puts stand-ins for the gate and for pytest into a copy."""
     if not os.path.exists(f"{copy.kit}/bin/kit"):
         shutil.copy(f"{copy.kit}/bin/rt", f"{copy.kit}/bin/kit")
     copy.write("../kit/bin/rt", GATE.format(kit=copy.kit, out=OUT, program=PROGRAM, last=last,
-                                            lines=lines, during=during))
+                                            lines=lines, during=during, keeps=keeps))
     wanted = {"failures": 0, "tests": 12, "status": 0, **tests}
     copy.write("../kit/python", PYTHON.format(**wanted))
     os.chmod(f"{copy.kit}/python", 0o755)
@@ -459,14 +462,14 @@ def with_gate(copy, last, lines="grep -v NOT", during=":", **tests):
 
 
 def test_test_counts_all(copy):
-    """The last line counts gate and tests. The program is current, the library is linked."""
+    """The last line counts gate and tests. The program is up to date, the library is linked."""
     same(copy.call(["./test", "frob"])[0], 2, "another word")
     with_gate(copy, "5 passed, 0 failed")
     copy.log()
     status, out, err = copy.call(["./test"], stdin=subprocess.DEVNULL)
     same((status, out.split("\n")[-2]), (0, "16 passed, 0 failed"), f"{out}{err}")
     lines = out.split("\n")
-    took = "52 min 53 s on a machine with 4 processors; less where the gate passed a part before"
+    took = f"{time_of('test')}; less where the gate passed a part before"
     same(lines[0], f"test: from nothing this took {took}", "its begin")
     holds("test: all that the gate says goes to out/gate.log\n", out, "the log")
     holds("said of it\n", copy.read("out/gate.log"), "the log")
@@ -475,6 +478,26 @@ def test_test_counts_all(copy):
     same(copy.proved(), [LIBRARY_PROVED], "what ./test proves after the gate")
     copy.is_native("after ./test")
     copy.installs(f"{copy.folder}/there", "after ./test")
+
+
+WHOLE = "echo 'rt: ok; every proof and must-fail edit was done in this run'"
+
+
+@pytest.mark.parametrize("keeps, during, called, less, noted", [
+    ("--anew", ":", "rt ci --anew", True, False),
+    ("--anew", WHOLE, "rt ci --anew", True, True),
+    ("keeps nothing", ":", "rt ci", False, True),
+], ids=["keeps a part", "keeps, and did all", "keeps nothing"])
+def test_test_anew(copy, keeps, during, called, less, noted):
+    """A kit that keeps nothing is given no word. The time of a run from nothing is noted."""
+    with_gate(copy, "5 passed, 0 failed", during=during, keeps=keeps)
+    copy.log()
+    status, out, err = copy.call(["./test", "--anew"], stdin=subprocess.DEVNULL)
+    same(status, 0, f"{out}{err}")
+    same([line for line in copy.log() if line.startswith("rt ci")], [called], "the gate's words")
+    first = out.split("\n")[0]
+    same("; less where" in first, less, first)
+    same(copy.there("../cache/arbiter/time of test"), noted, "whether the time is noted")
 
 
 def test_test_installs_what_it_needs(copy):
@@ -499,7 +522,7 @@ def test_test_installs_what_it_needs(copy):
 
 
 def test_test_sees_changed_sources(copy):
-    """A program of sources that changed while the gate ran is not taken as current."""
+    """A program of sources that changed while the gate ran is not up to date."""
     with_gate(copy, "5 passed, 0 failed", during=f"echo late >>{sources('bw_text')[0]}")
     same(copy.call(["./test"])[0], 0, "./test")
     copy.is_checked("after ./test")
