@@ -1,0 +1,689 @@
+-- Each turn of the lock is an event of the waiting protocol, or none.
+use Rattle.std.proofs.Common.{◌≡◌, ◌≢◌, ℕ, zero, suc, ◌+◌, ◌-◌, ◌*◌, ◌^◌, ◌%◌, ◌<◌, ◌≤◌, ◌==◌}
+use Rattle.std.proofs.Common.{nat_lt, Bool, true, false, List, [], ◌∷◌, map, length, refl, sym, ap}
+use Rattle.std.proofs.Common.{◌∙◌, subst, arith, slice_get, slice_set, slice_index, Some, None}
+use Rattle.std.proofs.Common.{Option, if◌then◌else◌, eq-eqb, ne_eqb, ◌||◌}
+use Rattle.std.specs.List.{list_any}
+use Rattle.std.proofs.lemmas.List.{length-set}
+use mathlib.Core.Logic.{dite}
+use mathlib.Core.Option.{none}
+use native.Mathlib.Decide.{ℕ_discrete}
+use prog.Atomic.{either}
+use Rattle.atomic_table.specs.Table.{Me, step}
+use Rattle.bw_wake.specs.declared.seats.Phase.{Phase as WaitPhase}
+use Rattle.bw_wake.specs.declared.seats.Phase.TheVariants.{Idle as PIdle, Looked as PLooked}
+use Rattle.bw_wake.specs.declared.seats.Phase.TheVariants.{Asleep as PAsleep, Wakes as PWakes}
+use Rattle.bw_wake.specs.declared.seats.Event.{Event}
+use Rattle.bw_wake.specs.declared.seats.Event.TheVariants.{Take, Look, Mark, Park, SpuriousWake}
+use Rattle.bw_wake.specs.declared.seats.Event.TheVariants.{Apply, Leave, PeekNext, PeekWord}
+use Rattle.bw_wake.specs.declared.seats.Event.TheVariants.{TakeMark, Wake}
+use Rattle.bw_wake.specs.Protocol.{WaitState, after, happens, run, or_same, moved, word_of, mark_at}
+use Rattle.bw_wake.specs.Protocol.{park_by, spurious_wake_by, wake_by, sleeps_on}
+use Rattle.bw_wake.specs.Protocol.{one_less as one_less_in}
+use Rattle.bw_wake.specs.Progress.{one_if, count}
+use Rattle.bw_wake.proofs.CallerLemmas.{Sound, waits as waits_there, happens_sound, to_next}
+use Rattle.bw_wake.proofs.CallerLemmas.{count_at, index_here, index_else}
+use Rattle.bw_ticket.specs.declared.limits.TheConstants.{MAX_SEATS}
+use Rattle.bw_ticket.specs.declared.board.SlotValue.{SlotValue}
+use Rattle.bw_ticket.specs.declared.board.SeatView.{SeatView}
+use Rattle.bw_ticket.specs.declared.board.Phase.{Phase}
+use Rattle.bw_ticket.specs.declared.board.Phase.TheVariants.{Idle, Waiting, Marked, Looked, Inside}
+use Rattle.bw_ticket.specs.declared.board.Phase.TheVariants.{Done, Served, Owes, Found, Wakes}
+use Rattle.bw_ticket.specs.Rule.{waits, wake_word, ticket_of}
+use Rattle.bw_ticket.specs.Plays.{waiting, entered, recorded, recorded_by, missed, marked, saw_next}
+use Rattle.bw_ticket.specs.Plays.{saw_word, took, woke, one_less, MayMark, goes, has_served, seeing}
+use Rattle.bw_ticket.specs.Plays.{ticketed, looked, mark_stored, noted, left_by, next_seen}
+use Rattle.bw_ticket.specs.Plays.{word_seen, mark_taken, wake_made, fronted}
+use Rattle.bw_ticket.specs.Follows.{words_of, IsLike, in_protocol, IsEvent, StepsAreEvents}
+use Rattle.bw_ticket.specs.Turns.{Doing, Turn, Sitter, Hall, seated, phase_while, where_is, IsStep}
+use Rattle.bw_ticket.specs.Turns.{NobodySleepsOn, IsTurn}
+use Rattle.bw_ticket.specs.Turns.Turn.{Draws, Looks, Marks, Records, Serves, PeeksNext, PeeksWord}
+use Rattle.bw_ticket.specs.Turns.Turn.{TakesMark, Fronts, Sleeps, Returns, Rings, RingsNobody}
+use Rattle.bw_ticket.specs.Turns.Turn.{NotesWake}
+use Rattle.bw_ticket.specs.Turns.Doing.{IsUp, Sleeping, HasRung}
+use Rattle.bw_ticket.proofs.OwedCounts.{same_words}
+use Rattle.bw_ticket.proofs.Followed.{steps_are_events, index_past}
+
+get_map : {X Y : Type 0} (f : X → Y) (xs : List X) (i : ℕ) (x : X) → slice_get xs i ≡ Some x
+    → slice_get (map f xs) i ≡ Some (f x)
+get_map f [] i x e = absurd (cc e)
+get_map f (y ∷ ys) zero x e = let d : y ≡ x = cc e in ap (λ z. Some (f z)) d
+get_map f (y ∷ ys) (suc i) x e = get_map f ys i x e
+
+set_map : {X Y : Type 0} (f : X → Y) (xs : List X) (i : ℕ) (y : X)
+    → slice_set (map f xs) i (f y) ≡ map f (slice_set xs i y)
+set_map f [] i y = refl
+set_map f (x ∷ xs) zero y = refl
+set_map f (x ∷ xs) (suc i) y = ap (λ zs. f x ∷ zs) (set_map f xs i y)
+
+set_same : {X Y : Type 0} (f : X → Y) (xs : List X) (i : ℕ) (p q : X) → slice_get xs i ≡ Some p
+    → f q ≡ f p → map f (slice_set xs i q) ≡ map f xs
+set_same f [] i p q e h = absurd (cc e)
+set_same f (x ∷ xs) zero p q e h = let d : x ≡ p = cc e in ap (λ z. z ∷ map f xs) (h ∙ ap f (sym d))
+set_same f (x ∷ xs) (suc i) p q e h = ap (λ zs. f x ∷ zs) (set_same f xs i p q e h)
+
+get_else : {X : Type 0} (xs : List X) (i j : ℕ) (y : X) → j ≢ i
+    → slice_get (slice_set xs i y) j ≡ slice_get xs j
+get_else [] i j y ne = refl
+get_else (x ∷ xs) zero zero y ne = absurd (ne refl)
+get_else (x ∷ xs) zero (suc j) y ne = refl
+get_else (x ∷ xs) (suc i) zero y ne = refl
+get_else (x ∷ xs) (suc i) (suc j) y ne = get_else xs i j y (λ e. ne (ap suc e))
+
+abbrev head_or : {X : Type 0} → X → List X → X
+head_or a [] = a
+head_or a (x ∷ xs) = x
+
+-- the one view of a seat
+first_is : {X Y : Type 0} (q r : X) (d c : Y) → ◌≡◌ {A = List X × Y} (q ∷ [], d) (r ∷ [], c)
+    → q ≡ r
+first_is q r d c e = ap (λ m. head_or q m.0) e
+
+-- each number of the list stays below the bound
+below_set : (ws : List ℕ) (b i v : ℕ) → ((x : ℕ) → slice_index ws x < b) → v < b → (x : ℕ)
+    → slice_index (slice_set ws i v) x < b
+below_set [] b i v h lt x = h x
+below_set (w ∷ ws) b zero v h lt zero = lt
+below_set (w ∷ ws) b zero v h lt (suc x) = h (suc x)
+below_set (w ∷ ws) b (suc i) v h lt zero = h 0
+below_set (w ∷ ws) b (suc i) v h lt (suc x) = below_set ws b i v (λ y. h (suc y)) lt x
+
+small : (n : ℕ) → n < 2 ^ 32 → (n + 1) % 2 ^ 64 ≡ n + 1
+small n h = grind arith
+
+either_below : (c : Bool) (n b : ℕ) → n < b → either c 0 n < b
+either_below true n b h = omega arith
+either_below false n b h = h
+
+module _ {M C R : Type 0} where
+  -- the calls that the seats have left
+  abbrev pub left_in : List (Sitter M C R) → ℕ
+  left_in [] = 0
+  left_in (x ∷ xs) = x.view.left + left_in xs
+
+  left_set : (xs : List (Sitter M C R)) (i : ℕ) (x y : Sitter M C R) → slice_get xs i ≡ Some x
+      → left_in (slice_set xs i y) + x.view.left ≡ left_in xs + y.view.left
+  left_set [] i x y e = absurd (cc e)
+  left_set (z ∷ zs) zero x y e = let d : z ≡ x = cc e in
+      let h = ap (λ (w : Sitter M C R). w.view.left) d in omega arith
+  left_set (z ∷ zs) (suc i) x y e = let h = left_set zs i x y e in omega arith
+
+  left_at : (xs : List (Sitter M C R)) (i : ℕ) (x : Sitter M C R) → slice_get xs i ≡ Some x
+      → x.view.left ≤ left_in xs
+  left_at [] i x e = absurd (cc e)
+  left_at (z ∷ zs) zero x e = let d : z ≡ x = cc e in
+      let h = ap (λ (w : Sitter M C R). w.view.left) d in omega arith
+  left_at (z ∷ zs) (suc i) x e = let h = left_at zs i x e in omega arith
+
+-- The protocol is where the lock is, all marks fit in half a word, and the calls left and the
+-- tickets drawn are all calls
+pub record Meets {M C R : Type 0} (total : ℕ) (h : Hall M C R) (s : WaitState) : Type 0 where
+  pub words : words_of s ≡ h.words
+  pub phases : s.phases ≡ map where_is h.seats
+  pub sound : Sound s
+  pub long : length s.words ≡ MAX_SEATS
+  pub left : left_in h.seats + s.next ≡ total
+  pub fits : (x : ℕ) → slice_index h.words x < 2 ^ 32
+  pub bound : total < 2 ^ 32
+
+-- some events lead the protocol where the turn leads the lock
+abbrev pub Goes : {M C R : Type 0} → ℕ → Hall M C R → WaitState → Type 0
+Goes total k s = (events : List Event) × Meets total k (run s events)
+
+module _ {M C R : Type 0} (total : ℕ) (h : Hall M C R) (s : WaitState) (m : Meets total h s) where
+  next_is : s.next ≡ slice_index h.words 0
+  next_is = ap (λ ws. slice_index ws 0) m.words
+
+  serving_is : s.serving ≡ slice_index h.words 1
+  serving_is = ap (λ ws. slice_index ws 1) m.words
+
+  like : IsLike s
+  like = let a = m.fits 0 in let b = m.fits 1 in let c = next_is in let d = serving_is in
+      (m.long, omega arith, omega arith)
+
+  at_place : (i : ℕ) (x : Sitter M C R) → slice_get h.seats i ≡ Some x
+      → slice_get s.phases i ≡ Some (where_is x)
+  at_place i x at = ap (λ ps. slice_get ps i) m.phases ∙ get_map where_is h.seats i x at
+
+  -- a step of a seat that is up is the event of its name
+  by_event : (i : ℕ) (p q : SeatView M C R) (e : ℕ → Event) (w : ℕ) (g : ℕ → ℕ) (P : ℕ → Type 0)
+      (f : Phase M C R) (then_f : ℕ → Phase M C R) → IsEvent e w g P f then_f
+      → slice_get h.seats i ≡ Some (seated IsUp p) → p.phase ≡ f → P (slice_index h.words w)
+      → q.phase ≡ then_f (slice_index h.words w)
+      → g (slice_index h.words w) < 2 ^ 32
+      → q.left + slice_index (slice_set h.words w (g (slice_index h.words w))) 0
+      ≡ p.left + slice_index h.words 0
+      → Goes total (record {
+        words = slice_set h.words w (g (slice_index h.words w));
+        seats = slice_set h.seats i (seated IsUp q);
+      }) s
+  by_event i p q e w g P f then_f is at f_is found q_is few calls =
+      let n : ℕ = slice_index h.words w in
+      let here : slice_get s.phases i ≡ Some (in_protocol f) =
+      at_place i (seated IsUp p) at ∙ ap (λ z. Some (in_protocol z)) f_is in
+      let got = is s i like here
+      (subst (λ ws. P (slice_index ws w)) (sym m.words) found) in
+      let t : WaitState = got.0 in
+      let t_is : happens s (e i) ≡ t = ap (or_same s) got.1 in
+      let k : Hall M C R = record {
+        words = slice_set h.words w (g n);
+        seats = slice_set h.seats i (seated IsUp q);
+      } in
+      let ws_are : words_of t ≡ k.words =
+      got.2 ∙ ap (λ ws. slice_set ws w (g (slice_index ws w))) m.words in
+      let ps_are : t.phases ≡ map where_is k.seats =
+      got.3 ∙ (ap (λ ws. slice_set s.phases i (in_protocol (then_f (slice_index ws w)))) m.words
+      ∙ (ap (λ z. slice_set s.phases i (in_protocol z)) (sym q_is)
+      ∙ (ap (λ ps. slice_set ps i (in_protocol q.phase)) m.phases
+      ∙ set_map where_is h.seats i (seated IsUp q)))) in
+      let size : length (words_of t) ≡ length (words_of s) =
+      ap length got.2 ∙ length-set (words_of s) w (g (slice_index (words_of s) w)) in
+      let new_next : t.next ≡ slice_index k.words 0 = ap (λ ws. slice_index ws 0) ws_are in
+      let old_next = next_is in
+      let lefts = left_set h.seats i (seated IsUp p) (seated IsUp q) at in
+      let all = m.left in
+      let long_was = m.long in
+      let there : Meets total k t = record {
+        words = ws_are;
+        phases = ps_are;
+        sound = subst Sound t_is (happens_sound s (e i) m.sound);
+        long = omega arith;
+        left = omega arith;
+        fits = below_set h.words (2 ^ 32) w (g n) m.fits few;
+        bound = m.bound;
+      } in
+      (e i ∷ [], subst (Meets total k) (sym t_is) there)
+
+  -- a step that the protocol does not have
+  no_event : (i : ℕ) (x y : Sitter M C R) (w : ℕ) → slice_get h.seats i ≡ Some x
+      → where_is y ≡ where_is x → y.view.left ≡ x.view.left
+      → Goes total (record {
+        words = slice_set h.words w (slice_index h.words w);
+        seats = slice_set h.seats i y;
+      }) s
+  no_event i x y w at same left_same = let lefts = left_set h.seats i x y at in
+      let all = m.left in (
+        [],
+        record {
+          words = m.words ∙ sym (same_words h.words w);
+          phases = m.phases ∙ sym (set_same where_is h.seats i x y at same);
+          sound = m.sound;
+          long = m.long;
+          left = omega arith;
+          fits = below_set h.words (2 ^ 32) w (slice_index h.words w) m.fits (m.fits w);
+          bound = m.bound;
+        },
+      )
+
+  -- the words stay, and so do the calls left
+  by_sleep : (t : WaitState) (e : Event) (xs : List (Sitter M C R)) → after s e ≡ Some t
+      → words_of t ≡ words_of s → t.phases ≡ map where_is xs → left_in xs ≡ left_in h.seats
+      → Goes total (record { words = h.words; seats = xs }) s
+  by_sleep t e xs is ws ps lefts =
+      let t_is : happens s e ≡ t = ap (or_same s) is in
+      let k : Hall M C R = record { words = h.words; seats = xs } in
+      let size : length (words_of t) ≡ length (words_of s) = ap length ws in
+      let next : t.next ≡ s.next = ap (λ vs. slice_index vs 0) ws in
+      let all = m.left in let long_was = m.long in
+      let there : Meets total k t = record {
+        words = ws ∙ m.words;
+        phases = ps;
+        sound = subst Sound t_is (happens_sound s e m.sound);
+        long = omega arith;
+        left = omega arith;
+        fits = m.fits;
+        bound = m.bound;
+      } in
+      (e ∷ [], subst (Meets total k) (sym t_is) there)
+
+-- no seat that is up sleeps on a word, and none that sleeps on another word
+module _ {M C R : Type 0} (n b : ℕ) where
+  up_awake : (f : Phase M C R) → sleeps_on n b (in_protocol f) ≡ false
+  up_awake Idle = refl
+  up_awake (Waiting t) = refl
+  up_awake (Marked t) = refl
+  up_awake (Looked t) = refl
+  up_awake (Inside t y) = refl
+  up_awake (Done t) = refl
+  up_awake (Served t) = refl
+  up_awake (Owes t c) = refl
+  up_awake (Found t c) = refl
+  up_awake (Wakes t c) = refl
+
+  not_there : (d : Doing) (f : Phase M C R)
+      → (d ≡ Sleeping → (t : ℕ) → f ≡ Looked t → t % n ≢ b)
+      → sleeps_on n b (phase_while d f) ≡ false
+  not_there IsUp f h = up_awake f
+  not_there Sleeping Idle h = refl
+  not_there Sleeping (Waiting t) h = refl
+  not_there Sleeping (Marked t) h = refl
+  not_there Sleeping (Looked t) h = ne_eqb (t % n) b (h refl t refl)
+  not_there Sleeping (Inside t y) h = refl
+  not_there Sleeping (Done t) h = refl
+  not_there Sleeping (Served t) h = refl
+  not_there Sleeping (Owes t c) h = refl
+  not_there Sleeping (Found t c) h = refl
+  not_there Sleeping (Wakes t c) h = refl
+  not_there HasRung f h = up_awake (woke f)
+
+  none_sleeps : (xs : List (Sitter M C R))
+      → ((j : ℕ) (p : SeatView M C R) (t : ℕ) → slice_get xs j ≡ Some (seated Sleeping p)
+      → p.phase ≡ Looked t → t % n ≢ b)
+      → list_any (sleeps_on n b) (map where_is xs) ≡ false
+  none_sleeps [] h = refl
+  none_sleeps (x ∷ xs) h =
+      let here = not_there x.doing x.view.phase
+      (λ d t is. h 0 x.view t (ap (λ z. Some (seated z x.view)) d) is) in
+      let rest = none_sleeps xs (λ j p t at is. h (suc j) p t at is) in
+      ap (λ c. c || list_any (sleeps_on n b) (map where_is xs)) here ∙ rest
+
+whole_word : (n : ℕ) → n < 2 ^ 32 → n % 2 ^ 32 ≡ n
+whole_word n h = grind arith
+
+may_waits : {M C R : Type 0} (t : ℕ) (f : Phase M C R) → MayMark t f
+    → waits_there t (in_protocol f) ≡ 1
+may_waits t Idle h = absurd h
+may_waits t (Waiting u) h = ap one_if (eq-eqb u t h)
+may_waits t (Marked u) h = absurd h
+may_waits t (Looked u) h = ap one_if (eq-eqb u t h)
+may_waits t (Inside u y) h = absurd h
+may_waits t (Done u) h = absurd h
+may_waits t (Served u) h = absurd h
+may_waits t (Owes u n) h = absurd h
+may_waits t (Found u n) h = absurd h
+may_waits t (Wakes u n) h = absurd h
+
+-- the first word, where another one is written or the same number
+first_else : (ws : List ℕ) (w v : ℕ) → 0 ≢ w → slice_index (slice_set ws w v) 0 ≡ slice_index ws 0
+first_else ws w v ne = index_else ws w 0 v ne
+
+first_read : (ws : List ℕ) (w : ℕ)
+    → slice_index (slice_set ws w (slice_index ws w)) 0 ≡ slice_index ws 0
+first_read ws w = ap (λ vs. slice_index vs 0) (same_words ws w)
+
+past_first : (t : ℕ) → 0 ≢ wake_word t
+past_first t e = absurd (omega arith)
+
+not_first : (n : ℕ) → n ≡ 1 → 0 ≢ n
+not_first n is e = absurd (omega arith)
+
+module _ {M C R : Type 0} (total : ℕ) (h k : Hall M C R) (s : WaitState) (m : Meets total h s) where
+  steps : StepsAreEvents M C R
+  steps = steps_are_events M C R
+
+  draws : (i : ℕ) → IsTurn (Draws i) h k → Goes total k s
+  draws i turn =
+      let p = turn.0 in let q = turn.1 in let c = turn.2 in let d = turn.3 in
+      let at = turn.4 in let told = turn.5 in
+      let n : ℕ = slice_index h.words 0 in
+      let q_is : q ≡ waiting n p = first_is q (waiting n p) d c told.1.0 in
+      let idle : p.phase ≡ Idle = told.1.2.0 in
+      let some_left : 0 < p.left = told.0.0 in
+      let one = left_at h.seats i (seated IsUp p) at in
+      let all = m.left in let next = next_is total h s m in
+      let bound = m.bound in
+      let fit : n < 2 ^ 32 = m.fits 0 in
+      let q_left : q.left ≡ p.left - 1 = ap (λ (v : SeatView M C R). v.left) q_is in
+      let up : (n + 1) % 2 ^ 64 ≡ n + 1 = small n fit in
+      let few : (n + 1) % 2 ^ 64 < 2 ^ 32 = omega arith in
+      let long : suc (suc (length s.words)) ≡ length h.words = ap length m.words in
+      let here : slice_index (slice_set h.words 0 ((n + 1) % 2 ^ 64)) 0 ≡ (n + 1) % 2 ^ 64 =
+      index_here h.words 0 ((n + 1) % 2 ^ 64) (omega arith) in
+      subst (λ (x : Hall M C R). Goes total x s) (sym turn.6)
+      (by_event total h s m i p q Take 0 (λ x. (x + 1) % 2 ^ 64) (λ x. Unit {0}) Idle
+      (λ x. Waiting x) steps.ticket at idle tt (ap (λ (v : SeatView M C R). v.phase) q_is)
+      few (omega arith))
+
+  looks : (i : ℕ) → IsTurn (Looks i) h k → Goes total k s
+  looks i turn =
+      let p = turn.0 in let q = turn.1 in let c = turn.2 in let d = turn.3 in
+      let at = turn.4 in let told = turn.5 in
+      let n : ℕ = slice_index h.words 1 in let t : ℕ = ticket_of p.phase in
+      let waits_so : waits t p.phase ≡ 1 = told.2.0 in
+      let same = first_read h.words 1 in
+      dite (ℕ_discrete n t)
+      (λ (e : n ≡ t). let got = told.0 e in let y = got.0 in
+      let q_is : q ≡ entered n y p = first_is q (entered n y p) d ((0, y) ∷ c) got.1 in
+      let q_left : q.left ≡ p.left = ap (λ (v : SeatView M C R). v.left) q_is in
+      subst (λ (x : Hall M C R). Goes total x s) (sym turn.6)
+      (by_event total h s m i p q Look 1 (λ x. x) (λ x. x ≡ t) p.phase (λ x. Inside x y)
+      (steps.enter p.phase t y waits_so) at refl e (ap (λ (v : SeatView M C R). v.phase) q_is)
+      (m.fits 1) (omega arith)))
+      (λ (ne : n ≢ t). let got = told.1 ne in
+      let q_is : q ≡ goes missed p = first_is q (goes missed p) d c got.0 in
+      let q_left : q.left ≡ p.left = ap (λ (v : SeatView M C R). v.left) q_is in
+      subst (λ (x : Hall M C R). Goes total x s) (sym turn.6)
+      (by_event total h s m i p q Look 1 (λ x. x) (λ x. x ≢ t) p.phase (λ x. missed p.phase)
+      (steps.look p.phase t waits_so) at refl ne (ap (λ (v : SeatView M C R). v.phase) q_is)
+      (m.fits 1) (omega arith)))
+
+  marks : (i : ℕ) → IsTurn (Marks i) h k → Goes total k s
+  marks i turn =
+      let w = turn.0 in let v = turn.1 in let st = turn.2 in
+      let p = st.0 in let q = st.1 in let c = st.2 in let d = st.3 in
+      let at = st.4 in let told = st.5 in
+      let t : ℕ = ticket_of p.phase in
+      let may : MayMark t p.phase = told.3.0 in
+      let q_is : q ≡ goes marked p = first_is q (goes marked p) d c told.2 in
+      let q_left : q.left ≡ p.left = ap (λ (x : SeatView M C R). x.left) q_is in
+      let here = count_at (waits_there t) s.phases i (in_protocol p.phase)
+      (at_place total h s m i (seated IsUp p) at) in
+      let one = may_waits t p.phase may in
+      let drawn = to_next s m.sound t (omega arith) in
+      let fit = m.fits 0 in let next = next_is total h s m in
+      let same = first_else h.words (wake_word t) (t + 1) (past_first t) in
+      let k_is : k ≡ record {
+        words = slice_set h.words (wake_word t) (t + 1);
+        seats = slice_set h.seats i (seated IsUp q);
+      } = st.6 ∙ (λ j. record {
+        words = slice_set h.words (told.0 j) (told.1 j);
+        seats = slice_set h.seats i (seated IsUp q);
+      }) in
+      subst (λ (x : Hall M C R). Goes total x s) (sym k_is)
+      (by_event total h s m i p q Mark (wake_word t) (λ x. t + 1) (λ x. Unit {0}) p.phase
+      (λ x. marked p.phase) (steps.mark p.phase t may) at refl tt
+      (ap (λ (x : SeatView M C R). x.phase) q_is) (omega arith) (omega arith))
+
+  records : (i : ℕ) → IsTurn (Records i) h k → Goes total k s
+  records i turn =
+      let p = turn.0 in let q = turn.1 in let c = turn.2 in let d = turn.3 in
+      let at = turn.4 in let told = turn.5 in
+      let z = told.0.0 in
+      let t : ℕ = ticket_of p.phase in
+      let by = told.1.1.0 in let y = by.0 in
+      let q_by : q ≡ recorded_by c p = first_is q (recorded_by c p) d [] told.1.0 in
+      let q_is : q ≡ recorded z p = q_by ∙ ap (λ l. recorded_by l p) told.0.1 in
+      let q_left : q.left ≡ p.left = ap (λ (x : SeatView M C R). x.left) q_is in
+      let same = first_read h.words 1 in
+      subst (λ (x : Hall M C R). Goes total x s) (sym turn.6)
+      (by_event total h s m i p q Apply 1 (λ x. x) (λ x. Unit {0}) (Inside t y) (λ x. Done t)
+      (steps.record_call t y) at by.1 tt (ap (λ (x : SeatView M C R). x.phase) q_is)
+      (m.fits 1) (omega arith))
+
+  serves : (i : ℕ) → IsTurn (Serves i) h k → Goes total k s
+  serves i turn =
+      let p = turn.0 in let q = turn.1 in let c = turn.2 in let d = turn.3 in
+      let at = turn.4 in let told = turn.5 in
+      let n : ℕ = slice_index h.words 1 in
+      let t : ℕ = ticket_of p.phase in
+      let q_is : q ≡ has_served p = first_is q (has_served p) d c told.2 in
+      let q_left : q.left ≡ p.left = ap (λ (x : SeatView M C R). x.left) q_is in
+      let fit : n < 2 ^ 32 = m.fits 1 in
+      let more : n + 1 < 2 ^ 32 = told.1 in
+      let up : (n + 1) % 2 ^ 64 ≡ n + 1 = small n fit in
+      let few : (n + 1) % 2 ^ 64 < 2 ^ 32 = omega arith in
+      let same = first_else h.words 1 ((n + 1) % 2 ^ 64) (not_first 1 refl) in
+      subst (λ (x : Hall M C R). Goes total x s) (sym turn.6)
+      (by_event total h s m i p q Leave 1 (λ x. (x + 1) % 2 ^ 64) (λ x. x ≡ t) (Done t)
+      (λ x. Served t) (steps.serve t) at told.3.0 told.0
+      (ap (λ (x : SeatView M C R). x.phase) q_is) few (omega arith))
+
+  peeks_next : (i : ℕ) → IsTurn (PeeksNext i) h k → Goes total k s
+  peeks_next i turn =
+      let w = turn.0 in let st = turn.1 in
+      let p = st.0 in let q = st.1 in let c = st.2 in let d = st.3 in
+      let at = st.4 in let told = st.5 in
+      let t : ℕ = ticket_of p.phase in
+      let is : p.phase ≡ Served t = told.2.0 in
+      let q_is : q ≡ goes (saw_next (slice_index h.words w)) p =
+      first_is q (goes (saw_next (slice_index h.words w)) p) d c told.1 in
+      let q_left : q.left ≡ p.left = ap (λ (x : SeatView M C R). x.left) q_is in
+      let q_phase : q.phase ≡ saw_next (slice_index h.words 0) (Served t) =
+      ap (λ (x : SeatView M C R). x.phase) q_is
+      ∙ (λ j. saw_next (slice_index h.words (told.0 j)) (is j)) in
+      let same = first_read h.words 0 in
+      let k_is : k ≡ record {
+        words = slice_set h.words 0 (slice_index h.words 0);
+        seats = slice_set h.seats i (seated IsUp q);
+      } = st.6 ∙ (λ j. record {
+        words = slice_set h.words (told.0 j) (slice_index h.words (told.0 j));
+        seats = slice_set h.seats i (seated IsUp q);
+      }) in
+      subst (λ (x : Hall M C R). Goes total x s) (sym k_is)
+      (by_event total h s m i p q PeekNext 0 (λ x. x) (λ x. Unit {0}) (Served t)
+      (λ x. saw_next x (Served t)) (steps.peek_next t) at is tt q_phase (m.fits 0) (omega arith))
+
+  peeks_word : (i : ℕ) → IsTurn (PeeksWord i) h k → Goes total k s
+  peeks_word i turn =
+      let w = turn.0 in let st = turn.1 in
+      let p = st.0 in let q = st.1 in let c = st.2 in let d = st.3 in
+      let at = st.4 in let told = st.5 in
+      let t : ℕ = ticket_of p.phase in
+      let by = told.2.0 in let n = by.0 in
+      let is : p.phase ≡ Owes t n = by.1 in
+      let q_is : q ≡ goes (saw_word (slice_index h.words w)) p =
+      first_is q (goes (saw_word (slice_index h.words w)) p) d c told.1 in
+      let q_left : q.left ≡ p.left = ap (λ (x : SeatView M C R). x.left) q_is in
+      let q_phase : q.phase ≡ saw_word (slice_index h.words (wake_word t)) (Owes t n) =
+      ap (λ (x : SeatView M C R). x.phase) q_is
+      ∙ (λ j. saw_word (slice_index h.words (told.0 j)) (is j)) in
+      let same = first_read h.words (wake_word t) in
+      let k_is : k ≡ record {
+        words = slice_set h.words (wake_word t) (slice_index h.words (wake_word t));
+        seats = slice_set h.seats i (seated IsUp q);
+      } = st.6 ∙ (λ j. record {
+        words = slice_set h.words (told.0 j) (slice_index h.words (told.0 j));
+        seats = slice_set h.seats i (seated IsUp q);
+      }) in
+      subst (λ (x : Hall M C R). Goes total x s) (sym k_is)
+      (by_event total h s m i p q PeekWord (wake_word t) (λ x. x) (λ x. Unit {0}) (Owes t n)
+      (λ x. saw_word x (Owes t n)) (steps.peek_word t n) at is tt q_phase
+      (m.fits (wake_word t)) (omega arith))
+
+  takes_mark : (i : ℕ) → IsTurn (TakesMark i) h k → Goes total k s
+  takes_mark i turn =
+      let w = turn.0 in let v = turn.1 in let u = turn.2 in let st = turn.3 in
+      let p = st.0 in let q = st.1 in let c = st.2 in let d = st.3 in
+      let at = st.4 in let told = st.5 in
+      let t : ℕ = ticket_of p.phase in
+      let by = told.4.0 in let n = by.0 in
+      let is : p.phase ≡ Found t n = by.1 in
+      let x : ℕ = slice_index h.words (wake_word t) in
+      let q_is : q ≡ goes took p = first_is q (goes took p) d c told.3 in
+      let q_left : q.left ≡ p.left = ap (λ (y : SeatView M C R). y.left) q_is in
+      let q_phase : q.phase ≡ took (Found t n) =
+      ap (λ (y : SeatView M C R). y.phase) q_is ∙ ap took is in
+      let same = first_else h.words (wake_word t) (either (x == t + 1) 0 x) (past_first t) in
+      let k_is : k ≡ record {
+        words = slice_set h.words (wake_word t) (either (x == t + 1) 0 x);
+        seats = slice_set h.seats i (seated IsUp q);
+      } = st.6 ∙ (λ j. record {
+        words = slice_set h.words (told.0 j)
+            (either (slice_index h.words (told.0 j) == told.1 j) (told.2 j)
+            (slice_index h.words (told.0 j)));
+        seats = slice_set h.seats i (seated IsUp q);
+      }) in
+      subst (λ (y : Hall M C R). Goes total y s) (sym k_is)
+      (by_event total h s m i p q TakeMark (wake_word t) (λ y. either (y == t + 1) 0 y)
+      (λ y. Unit {0}) (Found t n) (λ y. took (Found t n)) (steps.take_mark t n) at is tt q_phase
+      (either_below (x == t + 1) x (2 ^ 32) (m.fits (wake_word t))) (omega arith))
+
+  fronts : (i : ℕ) → IsTurn (Fronts i) h k → Goes total k s
+  fronts i turn =
+      let a = turn.0 in let st = turn.1 in
+      let p = st.0 in let q = st.1 in let c = st.2 in let d = st.3 in
+      let at = st.4 in let told = st.5 in
+      let q_is : q ≡ seeing (slice_index h.words 1) p =
+      first_is q (seeing (slice_index h.words 1) p) d c told.0 in
+      subst (λ (x : Hall M C R). Goes total x s) (sym st.6)
+      (no_event total h s m i (seated a p) (seated a q) 1 at
+      (ap (λ (x : SeatView M C R). phase_while a x.phase) q_is)
+      (ap (λ (x : SeatView M C R). x.left) q_is))
+
+  notes_wake : (i : ℕ) → IsTurn (NotesWake i) h k → Goes total k s
+  notes_wake i turn =
+      let p = turn.0 in let q = turn.1 in let c = turn.2 in let d = turn.3 in
+      let at = turn.4 in let told = turn.5 in
+      let q_is : q ≡ goes woke p = first_is q (goes woke p) d c told.0 in
+      subst (λ (x : Hall M C R). Goes total x s) (sym turn.6)
+      (no_event total h s m i (seated HasRung p) (seated IsUp q) 1 at
+      (ap (λ (x : SeatView M C R). in_protocol x.phase) q_is)
+      (ap (λ (x : SeatView M C R). x.left) q_is))
+
+  -- what stands in the wake word
+  found : (t : ℕ) → mark_at s t ≡ slice_index h.words (wake_word t)
+  found t = ap (λ (n : ℕ). slice_index s.words (t % n)) m.long
+      ∙ (sym (index_past s.next s.serving (t % MAX_SEATS) s.words)
+      ∙ ap (λ ws. slice_index ws (wake_word t)) m.words)
+
+  -- one seat changes what it does, and no view changes
+  resting : (i : ℕ) (p : SeatView M C R) (a b : Doing) → slice_get h.seats i ≡ Some (seated a p)
+      → left_in (slice_set h.seats i (seated b p)) ≡ left_in h.seats
+  resting i p a b at = let e = left_set h.seats i (seated a p) (seated b p) at in omega arith
+
+  there : (i : ℕ) (x : Sitter M C R)
+      → slice_set s.phases i (where_is x) ≡ map where_is (slice_set h.seats i x)
+  there i x = ap (λ ps. slice_set ps i (where_is x)) m.phases ∙ set_map where_is h.seats i x
+
+  sleeps : (i : ℕ) → IsTurn (Sleeps i) h k → Goes total k s
+  sleeps i turn =
+      let p = turn.0 in let t = turn.1 in let at = turn.2 in
+      let is : p.phase ≡ Looked t = turn.3 in
+      let low : slice_index h.words (wake_word t) % 2 ^ 32 ≡ t + 1 = turn.4 in
+      let whole = whole_word (slice_index h.words (wake_word t)) (m.fits (wake_word t)) in
+      let mark : mark_at s t ≡ t + 1 = found t ∙ (sym whole ∙ low) in
+      let here : slice_get s.phases i ≡ Some (PLooked t) =
+      at_place total h s m i (seated IsUp p) at ∙ ap (λ f. Some (in_protocol f)) is in
+      let after_is : after s (Park i) ≡ Some (moved s i (PAsleep t)) =
+      ap (park_by s i) here
+      ∙ ap (λ b. Some (if b then moved s i (PAsleep t) else s)) (eq-eqb (mark_at s t) (t + 1) mark)
+      in
+      let asleep : PAsleep t ≡ where_is (seated Sleeping p) =
+      ap (λ f. phase_while Sleeping f) (sym is) in
+      subst (λ (x : Hall M C R). Goes total x s) (sym turn.5)
+      (by_sleep total h s m (moved s i (PAsleep t)) (Park i)
+      (slice_set h.seats i (seated Sleeping p)) after_is refl
+      (ap (slice_set s.phases i) asleep ∙ there i (seated Sleeping p))
+      (resting i p IsUp Sleeping at))
+
+  -- what a seat does changes, and its phase in the protocol does not
+  quiet : (i : ℕ) (x y : Sitter M C R) → slice_get h.seats i ≡ Some x → where_is y ≡ where_is x
+      → y.view.left ≡ x.view.left
+      → Goes total (record { words = h.words; seats = slice_set h.seats i y }) s
+  quiet i x y at same left_same =
+      subst (λ ws. Goes total (record { words = ws; seats = slice_set h.seats i y }) s)
+      (same_words h.words 0) (no_event total h s m i x y 0 at same left_same)
+
+  returned : (i : ℕ) (p : SeatView M C R) (f : Phase M C R) → p.phase ≡ f
+      → slice_get h.seats i ≡ Some (seated Sleeping p)
+      → Goes total (record {
+        words = h.words;
+        seats = slice_set h.seats i (seated IsUp p);
+      }) s
+  returned i p (Looked t) is at =
+      let here : slice_get s.phases i ≡ Some (PAsleep t) =
+      at_place total h s m i (seated Sleeping p) at ∙ ap (λ f. Some (phase_while Sleeping f)) is in
+      let up : PLooked t ≡ where_is (seated IsUp p) = ap (λ f. in_protocol f) (sym is) in
+      by_sleep total h s m (moved s i (PLooked t)) (SpuriousWake i)
+      (slice_set h.seats i (seated IsUp p)) (ap (spurious_wake_by s i) here) refl
+      (ap (slice_set s.phases i) up ∙ there i (seated IsUp p)) (resting i p Sleeping IsUp at)
+  returned i p Idle is at = quiet i (seated Sleeping p) (seated IsUp p) at
+      (ap (λ f. in_protocol f) is ∙ sym (ap (λ f. phase_while Sleeping f) is)) refl
+  returned i p (Waiting t) is at = quiet i (seated Sleeping p) (seated IsUp p) at
+      (ap (λ f. in_protocol f) is ∙ sym (ap (λ f. phase_while Sleeping f) is)) refl
+  returned i p (Marked t) is at = quiet i (seated Sleeping p) (seated IsUp p) at
+      (ap (λ f. in_protocol f) is ∙ sym (ap (λ f. phase_while Sleeping f) is)) refl
+  returned i p (Inside t y) is at = quiet i (seated Sleeping p) (seated IsUp p) at
+      (ap (λ f. in_protocol f) is ∙ sym (ap (λ f. phase_while Sleeping f) is)) refl
+  returned i p (Done t) is at = quiet i (seated Sleeping p) (seated IsUp p) at
+      (ap (λ f. in_protocol f) is ∙ sym (ap (λ f. phase_while Sleeping f) is)) refl
+  returned i p (Served t) is at = quiet i (seated Sleeping p) (seated IsUp p) at
+      (ap (λ f. in_protocol f) is ∙ sym (ap (λ f. phase_while Sleeping f) is)) refl
+  returned i p (Owes t n) is at = quiet i (seated Sleeping p) (seated IsUp p) at
+      (ap (λ f. in_protocol f) is ∙ sym (ap (λ f. phase_while Sleeping f) is)) refl
+  returned i p (Found t n) is at = quiet i (seated Sleeping p) (seated IsUp p) at
+      (ap (λ f. in_protocol f) is ∙ sym (ap (λ f. phase_while Sleeping f) is)) refl
+  returned i p (Wakes t n) is at = quiet i (seated Sleeping p) (seated IsUp p) at
+      (ap (λ f. in_protocol f) is ∙ sym (ap (λ f. phase_while Sleeping f) is)) refl
+
+  returns : (i : ℕ) → IsTurn (Returns i) h k → Goes total k s
+  returns i turn = let p = turn.0 in
+      subst (λ (x : Hall M C R). Goes total x s) (sym turn.2) (returned i p p.phase refl turn.1)
+
+  less_there : (a n : ℕ) → one_less_in a n ≡ in_protocol (one_less {M = M} {C = C} {R = R} a n)
+  less_there a zero = refl
+  less_there a (suc zero) = refl
+  less_there a (suc (suc n)) = refl
+
+  -- the phase of a seat that has made its wake
+  rung : (p : SeatView M C R) (a n : ℕ) → p.phase ≡ Wakes a n
+      → one_less_in a n ≡ where_is (seated HasRung p)
+  rung p a n is = less_there a n ∙ ap (λ f. in_protocol (woke f)) (sym is)
+
+  abbrev doing_of : Option (Sitter M C R) → Doing
+  doing_of (Some x) = x.doing
+  doing_of None = IsUp
+
+  rings : (i j : ℕ) → IsTurn (Rings i j) h k → Goes total k s
+  rings i j turn =
+      let p = turn.0 in let a = turn.1 in let n = turn.2 in let q = turn.3 in let t = turn.4 in
+      let at : slice_get h.seats i ≡ Some (seated IsUp p) = turn.5 in
+      let p_is : p.phase ≡ Wakes a n = turn.6 in
+      let at_j : slice_get h.seats j ≡ Some (seated Sleeping q) = turn.7 in
+      let q_is : q.phase ≡ Looked t = turn.8 in
+      let word_is : wake_word t ≡ wake_word a = turn.9 in
+      let here : slice_get s.phases i ≡ Some (PWakes a n) =
+      at_place total h s m i (seated IsUp p) at ∙ ap (λ f. Some (in_protocol f)) p_is in
+      let here_j : slice_get s.phases j ≡ Some (PAsleep t) =
+      at_place total h s m j (seated Sleeping q) at_j
+      ∙ ap (λ f. Some (phase_while Sleeping f)) q_is in
+      let rest : t % MAX_SEATS ≡ a % MAX_SEATS = omega arith in
+      let same : word_of s t ≡ word_of s a = ap (λ (l : ℕ). t % l) m.long
+      ∙ (rest ∙ sym (ap (λ (l : ℕ). a % l) m.long)) in
+      let next : WaitState = record s {
+        phases = slice_set (slice_set s.phases i (one_less_in a n)) j (PLooked t);
+      } in
+      let after_is : after s (Wake i j) ≡ Some next =
+      ap (λ o. wake_by s i o j (slice_get s.phases j)) here
+      ∙ (ap (wake_by s i (Some (PWakes a n)) j) here_j
+      ∙ ap (λ b. if b then Some next else None) (eq-eqb (word_of s t) (word_of s a) same)) in
+      let less = rung p a n p_is in
+      let up : PLooked t ≡ where_is (seated IsUp q) = ap (λ f. in_protocol f) (sym q_is) in
+      let mid : List (Sitter M C R) = slice_set h.seats i (seated HasRung p) in
+      let ne : j ≢ i = λ e. absurd (cc (ap doing_of
+      (sym at ∙ (ap (slice_get h.seats) (sym e) ∙ at_j)))) in
+      let at_mid : slice_get mid j ≡ Some (seated Sleeping q) =
+      get_else h.seats i j (seated HasRung p) ne ∙ at_j in
+      let first = resting i p IsUp HasRung at in
+      let second = left_set mid j (seated Sleeping q) (seated IsUp q) at_mid in
+      subst (λ (x : Hall M C R). Goes total x s) (sym turn.10)
+      (by_sleep total h s m next (Wake i j) (slice_set mid j (seated IsUp q)) after_is refl
+      ((λ z. slice_set (slice_set s.phases i (less z)) j (up z))
+      ∙ (ap (λ ps. slice_set ps j (where_is (seated IsUp q))) (there i (seated HasRung p))
+      ∙ set_map where_is mid j (seated IsUp q))) (omega arith))
+
+  rings_nobody : (i : ℕ) → IsTurn (RingsNobody i) h k → Goes total k s
+  rings_nobody i turn =
+      let p = turn.0 in let a = turn.1 in let n = turn.2 in
+      let at : slice_get h.seats i ≡ Some (seated IsUp p) = turn.3 in
+      let p_is : p.phase ≡ Wakes a n = turn.4 in
+      let nobody : NobodySleepsOn a h.seats = turn.5 in
+      let here : slice_get s.phases i ≡ Some (PWakes a n) =
+      at_place total h s m i (seated IsUp p) at ∙ ap (λ f. Some (in_protocol f)) p_is in
+      let none : list_any (sleeps_on (length s.words) (word_of s a)) s.phases ≡ false =
+      (λ z. list_any (sleeps_on (m.long z) (a % m.long z)) (m.phases z))
+      ∙ none_sleeps MAX_SEATS (a % MAX_SEATS) h.seats
+      (λ j v t at_j is e. nobody j v t at_j is (ap (λ (x : ℕ). 2 + x) e)) in
+      let next : WaitState = moved s i (one_less_in a n) in
+      let after_is : after s (Wake i i) ≡ Some next =
+      (λ z. wake_by s i (here z) i (here z)) ∙ ap (λ b. if b then None else Some next) none in
+      subst (λ (x : Hall M C R). Goes total x s) (sym turn.6)
+      (by_sleep total h s m next (Wake i i) (slice_set h.seats i (seated HasRung p)) after_is refl
+      (ap (slice_set s.phases i) (rung p a n p_is) ∙ there i (seated HasRung p))
+      (resting i p IsUp HasRung at))
+
+  pub one_turn : (t : Turn) → IsTurn t h k → Goes total k s
+  one_turn (Draws i) turn = draws i turn
+  one_turn (Looks i) turn = looks i turn
+  one_turn (Marks i) turn = marks i turn
+  one_turn (Records i) turn = records i turn
+  one_turn (Serves i) turn = serves i turn
+  one_turn (PeeksNext i) turn = peeks_next i turn
+  one_turn (PeeksWord i) turn = peeks_word i turn
+  one_turn (TakesMark i) turn = takes_mark i turn
+  one_turn (Fronts i) turn = fronts i turn
+  one_turn (Sleeps i) turn = sleeps i turn
+  one_turn (Returns i) turn = returns i turn
+  one_turn (Rings i j) turn = rings i j turn
+  one_turn (RingsNobody i) turn = rings_nobody i turn
+  one_turn (NotesWake i) turn = notes_wake i turn
