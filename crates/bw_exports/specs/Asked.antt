@@ -1,6 +1,6 @@
 -- What a caller asks, in columns of numbers, and the number that answers it.
-use Rattle.std.specs.Prelude.{◌≡◌, ◌⊎◌, ℕ, Bool, true, ◌==◌, ◌&&◌, List, [], ◌∷◌, Option, Some}
-use Rattle.std.specs.Prelude.{None, length, map, slice_index, if◌then◌else◌}
+use Rattle.std.specs.Prelude.{◌≡◌, ◌≢◌, ◌<◌, ◌⊎◌, ℕ, Bool, true, ◌==◌, ◌&&◌, List, [], ◌∷◌}
+use Rattle.std.specs.Prelude.{Option, Some, None, length, map, slice_index, if◌then◌else◌}
 use Rattle.std.specs.List.{range_with_len}
 use Rattle.std.specs.Option.{option_map_or}
 use Rattle.bw_model.specs.declared.row.Row.{Row}
@@ -99,9 +99,14 @@ groups_asked host columns = groups_in (shape_of host) (table_of columns)
 abbrev pub refusal_of : Host → Columns → ℕ
 refusal_of host columns = asked_number (shape_of host) (table_of columns)
 
--- what a call may answer that refuses so: that number, or 71 when out of memory
+-- Memory was asked for before this refusal: there is none, or its number is above 3 and not 50.
+abbrev pub IsAfterMemory : ℕ → Type 0
+IsAfterMemory refused = (refused ≡ 0) ⊎ ((3 < refused) × (refused ≢ 50))
+
+-- What a call may answer that refuses so: that number, or 71 when out of memory. So 50 and 1 to 3
+-- are exact.
 abbrev pub Answers : ℕ → ℕ → Type 0
-Answers refused number = (number ≡ refused) ⊎ (number ≡ 71)
+Answers refused number = (number ≡ refused) ⊎ ((number ≡ 71) × IsAfterMemory refused)
 
 -- the same where a list for the answer has so many entries: 50 also where they are not as many as
 -- the rows
