@@ -24,9 +24,17 @@
  *   50        not one entry for each row (WrongLength)
  *   51 to 58  the amounts are not the plan by this certificate
  *   71        memory was refused (OutOfMemory)
- * The first that applies in this order is answered, but 50 for the columns before the others, and 71 at any time.
+ * The first that applies is answered, in this order:
+ *   1. 50, where the columns of the rows differ in length, or a column of an answer from them, or nums, dens and places of
+ *      arbiter_check from each other
+ *   2. 1 to 3
+ *   3. 4 to 10, of a text 40 to 43 too
+ *   4. of a check 50, where amounts, flags or levels are not one for each row, and then 51 to 58
+ * Memory is asked for after steps 1 and 2: 71 can stand in place of any later answer, and of no earlier one. So of arbiter_check
+ * a bad host with amounts of another length than the rows answers 1 to 3, and one with uneven nums, dens and places 50. Of
+ * arbiter_check_text 71 can stand in place of any answer.
  * arbiter_name gives the name of each, and docs/NUMBERS.md says what to do about it. Where a call does not answer 0, all that
- * it may write is as it was, but for `row`, as said below.
+ * it may write is as it was, but for `row` in step 4.
  */
 #ifndef ARBITER_H
 #define ARBITER_H
@@ -60,8 +68,8 @@ uint32_t arbiter_certify(uint64_t processors, uint64_t period_us, uint64_t slice
                          uint32_t *places, size_t places_length);
 
 /* 0 where the flags and levels show that the amounts are the plan. A flag is any number but 0, and a level with `nums` or
- * `dens` 0 is none. For 51 to 58, and for 50 where amounts, flags or levels are not one for each row, `row` is the row of the
- * first group with this fault. */
+ * `dens` 0 is none. In step 4 `row` is written: the row of the first group with the fault, and 0 for 50. For 0, and in steps 1 to
+ * 3, `row` is as it was. */
 uint32_t arbiter_check(uint64_t processors, uint64_t period_us, uint64_t slice_us,
                        const uint32_t *parents, size_t parents_length, const uint64_t *weights, size_t weights_length,
                        const uint64_t *limits, size_t limits_length, const uint64_t *demands, size_t demands_length,
@@ -69,7 +77,7 @@ uint32_t arbiter_check(uint64_t processors, uint64_t period_us, uint64_t slice_u
                        const uint64_t *nums, size_t nums_length, const uint64_t *dens, size_t dens_length,
                        const uint32_t *places, size_t places_length, uint32_t *row);
 
-/* The same for a certified text (docs/CERTIFIED.md); `row` is written for 51 to 58. */
+/* The same for a certified text (docs/CERTIFIED.md); `row` is written for 51 to 58, and is as it was otherwise. */
 uint32_t arbiter_check_text(const uint8_t *text, size_t text_length, uint32_t *row);
 
 /* Writes the rows of the groups whose limits hold the total down to the beginning of `groups`, how many they are to `count`, and

@@ -1,4 +1,4 @@
--- How the program ends when its words give no job.
+-- The end of the program when its words give no job.
 use Rattle.std.specs.Prelude.{ℕ, ◌≡◌, ◌⊎◌}
 use Rattle.bw_words.specs.declared.words.WordsFault.{WordsFault}
 use Rattle.bw_words.specs.declared.words.WordsFault.TheVariants.{Help, Usage, Memory}

@@ -1,4 +1,4 @@
-//! What the command line asks for.
+//! The request of the command line.
 ghost use Rattle.std.specs.Prelude.{◌≡◌, Some, None, IfErr, IfOk, drop};
 ghost use Rattle.bw_model.specs.Host.{host_refusal};
 

@@ -35,7 +35,7 @@ fn run_script<R: AllocGlobal + Input + Print + Threads + Wait + Clock + Sync>(
     let mut writer = Watched::new(output);
     let ran = run(rt, &mut reader, &mut writer, shape);
     let outcome = explained(ran, &reader, &writer);
-    // what waits in the buffer after a fault is not written
+    // after a fault the rest of the buffer is not written
     let _ = writer.into_inner().end();
     outcome
 }
@@ -49,7 +49,7 @@ fn check_input(rt: &HostRuntime) -> Result<bool, Failure> {
     let mut writer = Watched::new(output);
     let checked = check_text(rt.alloc(), &mut reader, &mut writer);
     let outcome = explained(checked, &reader, &writer);
-    // what waits in the buffer after a fault is not written
+    // after a fault the rest of the buffer is not written
     let _ = writer.into_inner().end();
     outcome
 }

@@ -1,4 +1,4 @@
-//! How a job ends: what is printed, and the exit status.
+//! The end of a job: the text that is printed, and the exit status.
 ghost use Rattle.std.specs.Prelude.{◌≡◌, ◌≢◌, is_ok, if◌then◌else◌};
 ghost use Rattle.arbiter.specs.Failure.{what_failed};
 ghost use Rattle.arbiter.specs.Told.{EndsWithoutJob};

@@ -28,6 +28,7 @@ use Rattle.bw_exports.specs.declared.columns.Columns.{Columns}
 use Rattle.bw_exports.specs.declared.asked_instance.Host.{Host}
 use Rattle.bw_exports.specs.Asked.{Table, table_of, shape_of, row_in, rows_in, groups_in, are_even}
 use Rattle.bw_exports.specs.Asked.{refusal_number, asked_number, asked_number_with, Answers}
+use Rattle.bw_exports.specs.Asked.{IsAfterMemory}
 
 -- uneven columns
 pub asked_uneven : (shape : Shape) (table : Table) → are_even table ≡ false
@@ -67,6 +68,25 @@ asked_rows shape table r e host h =
     (IsHost-accepted shape host)
     ∙ ap (λ (o : Option InstanceFault). option_map_or instance_fault_number o 0) h
 
+-- the rows are refused by a number above 3 that is not 50
+after_memory : (r : Option InstanceFault) → IsAfterMemory (option_map_or instance_fault_number r 0)
+after_memory None = inl refl
+after_memory (Some TooMany) = inr (omega arith, λ e. omega (arith, e))
+after_memory (Some BadParent) = inr (omega arith, λ e. omega (arith, e))
+after_memory (Some BadWeight) = inr (omega arith, λ e. omega (arith, e))
+after_memory (Some TooDeep) = inr (omega arith, λ e. omega (arith, e))
+after_memory (Some InnerDemand) = inr (omega arith, λ e. omega (arith, e))
+after_memory (Some DemandTooLarge) = inr (omega arith, λ e. omega (arith, e))
+after_memory (Some RootLimited) = inr (omega arith, λ e. omega (arith, e))
+after_memory (Some OutOfMemory) = inr (omega arith, λ e. omega (arith, e))
+
+-- even columns and a host: memory may be asked for
+pub host_accepted : (shape : Shape) (table : Table) → are_even table ≡ true → IsHost shape
+    → IsAfterMemory (asked_number shape table)
+host_accepted shape table e host =
+    subst IsAfterMemory (sym (asked_rows shape table (refusal (rows_in table)) e host refl))
+    (after_memory (refusal (rows_in table)))
+
 pub rows_refused : (shape : Shape) (table : Table) (fault : InstanceFault) → are_even table ≡ true
     → IsHost shape → IsRefused (refusal (rows_in table)) fault →
     Answers (asked_number shape table) (instance_fault_number fault)
@@ -84,7 +104,7 @@ rows_refused shape table DemandTooLarge e host h =
     inl (sym (asked_rows shape table (Some DemandTooLarge) e host h))
 rows_refused shape table RootLimited e host h =
     inl (sym (asked_rows shape table (Some RootLimited) e host h))
-rows_refused shape table OutOfMemory e host h = inr refl
+rows_refused shape table OutOfMemory e host h = inr (refl, host_accepted shape table e host)
 
 -- an instance is refused by nothing
 pub asked_none : (shape : Shape) (table : Table) → are_even table ≡ true → IsHost shape

@@ -1,6 +1,6 @@
 -- A caller's request, in columns of numbers, and the number that answers it.
-use Rattle.std.specs.Prelude.{◌≡◌, ◌⊎◌, ℕ, Bool, true, ◌==◌, ◌&&◌, List, [], ◌∷◌, Option, Some}
-use Rattle.std.specs.Prelude.{None, length, map, slice_index, if◌then◌else◌}
+use Rattle.std.specs.Prelude.{◌≡◌, ◌≢◌, ◌<◌, ◌⊎◌, ℕ, Bool, true, ◌==◌, ◌&&◌, List, [], ◌∷◌}
+use Rattle.std.specs.Prelude.{Option, Some, None, length, map, slice_index, if◌then◌else◌}
 use Rattle.std.specs.List.{range_with_len}
 use Rattle.std.specs.Option.{option_map_or}
 use Rattle.bw_model.specs.declared.row.Row.{Row}
@@ -99,9 +99,14 @@ groups_asked host columns = groups_in (shape_of host) (table_of columns)
 abbrev pub refusal_of : Host → Columns → ℕ
 refusal_of host columns = asked_number (shape_of host) (table_of columns)
 
--- the answer of a refused call: the number of the refusal, or 71 when out of memory
+-- A refusal that was found after memory was asked for: none, or a number above 3 other than 50.
+abbrev pub IsAfterMemory : ℕ → Type 0
+IsAfterMemory refused = (refused ≡ 0) ⊎ ((3 < refused) × (refused ≢ 50))
+
+-- The answer of a refused call: the number of the refusal, or 71 when out of memory. So 50 and 1 to
+-- 3 are exact.
 abbrev pub Answers : ℕ → ℕ → Type 0
-Answers refused number = (number ≡ refused) ⊎ (number ≡ 71)
+Answers refused number = (number ≡ refused) ⊎ ((number ≡ 71) × IsAfterMemory refused)
 
 -- the refusal of a request whose list for the answer has `count` entries: 50 also where `count`
 -- differs from the number of rows

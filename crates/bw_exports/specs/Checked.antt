@@ -97,7 +97,7 @@ pub record IsFound (refused : ℕ) (groups : Groups) (amounts : List ℕ) (claim
   pub number_is : number ≡ verdict_number verdict
   pub row_is : after ≡ verdict_row before verdict
 
--- a number above 0 that refuses, or 71, and the row as it was
+-- a number above 0 that refuses, or 71 where memory was asked for, and the row as it was
 pub record IsRefused (refused before after number : ℕ) : Type 0 where
   pub positive : 0 < number
   pub answers : Answers refused number

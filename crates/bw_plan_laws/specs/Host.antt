@@ -1,4 +1,4 @@
--- What a greater capacity, greater limits and greater demands do to a plan.
+-- Laws of a greater capacity, greater limits and greater demands.
 use Rattle.std.specs.Prelude.{◌≡◌, ℕ, ◌<◌, ◌≤◌, List, Some, length, slice_index}
 use Rattle.bw_model.specs.declared.row.Row.{Row}
 use Rattle.bw_model.specs.Groups.{Groups, IsInstance, demand_of, limit_of}
@@ -6,7 +6,7 @@ use Rattle.bw_model.specs.Host.{Shape, capacity_of}
 use Rattle.bw_model.specs.Plan.{IsPlan}
 use Rattle.bw_plan_laws.specs.Tree.{IsSameTree}
 
--- The same groups on a host with a greater capacity: none has less.
+-- On a host with a greater capacity no group has less.
 abbrev pub CapacityTakesNothing : Type 0
 CapacityTakesNothing = (rows : List Row) (shape greater : Shape) (amounts others : List ℕ)
     → IsInstance (record { shape = shape; rows = rows })
@@ -16,7 +16,7 @@ CapacityTakesNothing = (rows : List Row) (shape greater : Shape) (amounts others
     → IsPlan (record { shape = greater; rows = rows }) others
     → (g : ℕ) → g < length rows → slice_index amounts g ≤ slice_index others g
 
--- The same tree with no demand smaller and no limit lower, where the root's limit is the capacity.
+-- A roomier instance: no demand is smaller and no limit lower. The limit of the root is the capacity.
 pub record IsRoomier (groups roomier : Groups) : Type 0 where
   pub tree : IsSameTree groups.rows roomier.rows
   pub demands : (g : ℕ) → demand_of groups.rows g ≤ demand_of roomier.rows g

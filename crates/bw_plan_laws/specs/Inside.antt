@@ -5,8 +5,8 @@ use Rattle.bw_model.specs.Groups.{Groups, IsInstance, weight_of, demand_of, limi
 use Rattle.bw_model.specs.Plan.{IsPlan}
 use Rattle.bw_plan_laws.specs.Tree.{IsSameTree, IsNotBelow}
 
--- The same tree, whose groups that are not below one group have the weights, the demands and the
--- limits that they had; that group's most is as it was.
+-- Two instances that differ below one group alone: all other groups have equal weights, demands and
+-- limits, and that group has an equal most.
 pub record IsChangedInside (groups others : Groups) (group : ℕ) (most other_most : List ℕ) : Type 0
   where
     pub tree : IsSameTree groups.rows others.rows

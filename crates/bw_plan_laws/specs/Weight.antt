@@ -1,10 +1,10 @@
--- What a raised weight does to a plan.
+-- Law of a raised weight.
 use Rattle.std.specs.Prelude.{◌≡◌, ◌≢◌, ℕ, ◌<◌, ◌≤◌, List, Some, length, slice_index}
 use Rattle.bw_model.specs.Groups.{Groups, IsInstance, parent_of, weight_of, demand_of, limit_of}
 use Rattle.bw_model.specs.Plan.{IsPlan}
 use Rattle.bw_plan_laws.specs.Tree.{IsSameTree, IsNotBelow}
 
--- The same tree, with the demands and the limits that it had, and one group of a greater weight.
+-- Two instances with equal demands and limits, of which one group has a greater weight.
 pub record IsHeavier (groups heavier : Groups) (group : ℕ) : Type 0 where
   pub tree : IsSameTree groups.rows heavier.rows
   pub demands : (h : ℕ) → demand_of heavier.rows h ≡ demand_of groups.rows h

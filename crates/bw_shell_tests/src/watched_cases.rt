@@ -89,7 +89,7 @@ impl Write for Noted {
     }
 }
 
-// What a watched stream has to answer and to pass on.
+// The answers of a watched stream, and the calls that it passes on.
 #[derive(Drop)]
 struct Wanted {
     passed: Vec<Call>,

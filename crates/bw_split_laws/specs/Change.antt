@@ -1,4 +1,4 @@
--- What a change of an amount, of one child's weight or maximum, or of the children does to a split.
+-- Laws of a changed amount, of a child's changed weight or maximum, and of a child taken away.
 use Rattle.std.specs.Prelude.{◌≡◌, ◌≢◌, ℕ, ◌+◌, ◌-◌, ◌<◌, ◌≤◌, List, length, remove, slice_index}
 use Rattle.std.specs.Prelude.{slice_set}
 use Rattle.bw_model.specs.Split.{IsBestSplit}

@@ -1,4 +1,4 @@
--- What a weight is worth beside the siblings' weights.
+-- Laws of the worth of a weight beside the siblings' weights.
 use Rattle.std.specs.Prelude.{ℕ, ◌+◌, ◌-◌, ◌*◌, ◌==◌, ◌<◌, ◌≤◌, List, length, cond}
 use Rattle.std.specs.Prelude.{slice_index, sum_by}
 use Rattle.std.specs.List.{range_with_len}

@@ -1,4 +1,4 @@
--- What contracts see of a buffered output.
+-- The parts of a buffered output that contracts see.
 use Rattle.std.specs.Prelude.{ℕ, List, Option}
 use Rattle.std.specs.Io.Buffered.{writer_inner, writer_buffer, writer_contents}
 use Rattle.bw_streams.specs.declared.output.Output.{Output}

@@ -1,4 +1,4 @@
--- What is claimed of the ticket that is served: a few events of seats that are awake raise it.
+-- Progress of the served ticket: a few events of seats that are awake raise it.
 use Rattle.std.specs.Prelude.{◌≡◌, ℕ, ◌+◌, ◌<◌, ◌≤◌, true, false, List, [], ◌∷◌, length, Some}
 use Rattle.std.specs.Prelude.{slice_get}
 use Rattle.bw_wake.specs.declared.seats.Phase.{Phase}

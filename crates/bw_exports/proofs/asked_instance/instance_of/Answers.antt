@@ -4,8 +4,10 @@ use Rattle.bw_model.specs.declared.row.Row.{Row}
 use Rattle.bw_model.specs.Host.{Shape, IsHost}
 use Rattle.bw_model.specs.Groups.{IsInstance}
 use Rattle.bw_model.specs.Refusal.{refusal, IsRefused}
-use Rattle.bw_exports.specs.Asked.{shape_of, table_of, rows_in, are_even}
+use Rattle.bw_exports.specs.Asked.{shape_of, table_of, rows_in, are_even, asked_number}
+use Rattle.bw_exports.specs.Asked.{IsAfterMemory}
 use Rattle.bw_exports.proofs.Asked.{asked_uneven, host_refused, asked_none, rows_refused}
+use Rattle.bw_exports.proofs.Asked.{host_accepted}
 use Rattle.bw_exports.proofs.asked_instance.instance_of.Goals as goal
 
 pub returns-then-not-are_even-clause-err : goal.returns-then-not-are_even-clause-err
@@ -41,3 +43,12 @@ returns-in-Err-new-clause-err c =
     (subst IsHost c.in-Ok.ensures.ok c.in-Ok.ensures.valid)
     (subst (λ (rows : List Row). IsRefused (refusal rows) c.in-Err-new.fault) c.in_ok-rows.ensures
     c.in-Err-new.ensures.err)
+
+pub returns-in_err-rows-clause-err : goal.returns-in_err-rows-clause-err
+returns-in_err-rows-clause-err c =
+    let e : are_even (table_of c.args.columns.now) ≡ true = search rules in
+    let late : IsAfterMemory
+    (asked_number (shape_of c.args.host) (table_of c.args.columns.now)) =
+    host_accepted (shape_of c.args.host) (table_of c.args.columns.now) e
+    (subst IsHost c.in-Ok.ensures.ok c.in-Ok.ensures.valid) in
+    search (late, rules)

@@ -1,6 +1,6 @@
 -- The goals of `verdict_of` that are answered by hand.
 use Rattle.std.proofs.Common.{rules, ◌≡◌, ℕ, true, false, sym, ◌∙◌, subst, inl}
-use Rattle.bw_exports.specs.Asked.{shape_of, table_of, Answers}
+use Rattle.bw_exports.specs.Asked.{shape_of, table_of, Answers, IsAfterMemory}
 use Rattle.bw_exports.specs.Checked.{claimed_of, claimed_number, are_levels_even}
 use Rattle.bw_exports.specs.Numbers.{number_of_refusal}
 use Rattle.bw_exports.proofs.Claimed.{claimed_uneven, claimed_even}
@@ -29,3 +29,23 @@ returns-clause-none c =
     let e : are_levels_even (claimed_of c.args.claim.now) ≡ true = search rules in
     claimed_even (shape_of c.args.host) (table_of c.args.columns.now) (claimed_of c.args.claim.now)
     e ∙ c.in_ok-instance.ensures.none
+
+pub returns-in_err-certificate-clause-err : goal.returns-in_err-certificate-clause-err
+returns-in_err-certificate-clause-err c =
+    let e : are_levels_even (claimed_of c.args.claim.now) ≡ true = search rules in
+    let late : IsAfterMemory
+    (claimed_number (shape_of c.args.host) (table_of c.args.columns.now)
+    (claimed_of c.args.claim.now)) =
+    inl (claimed_even (shape_of c.args.host) (table_of c.args.columns.now)
+    (claimed_of c.args.claim.now) e ∙ c.in_ok-instance.ensures.none) in
+    search (late, rules)
+
+pub returns-in_err-check-clause-err : goal.returns-in_err-check-clause-err
+returns-in_err-check-clause-err c =
+    let e : are_levels_even (claimed_of c.args.claim.now) ≡ true = search rules in
+    let late : IsAfterMemory
+    (claimed_number (shape_of c.args.host) (table_of c.args.columns.now)
+    (claimed_of c.args.claim.now)) =
+    inl (claimed_even (shape_of c.args.host) (table_of c.args.columns.now)
+    (claimed_of c.args.claim.now) e ∙ c.in_ok-instance.ensures.none) in
+    search (late, rules)
