@@ -16,7 +16,8 @@ CapacityTakesNothing = (rows : List Row) (shape greater : Shape) (amounts others
     → IsPlan (record { shape = greater; rows = rows }) others
     → (g : ℕ) → g < length rows → slice_index amounts g ≤ slice_index others g
 
--- A roomier instance: no demand is smaller and no limit lower. The limit of the root is the capacity.
+-- A roomier instance: no demand is smaller and no limit lower. The root is limited by the
+-- capacity.
 pub record IsRoomier (groups roomier : Groups) : Type 0 where
   pub tree : IsSameTree groups.rows roomier.rows
   pub demands : (g : ℕ) → demand_of groups.rows g ≤ demand_of roomier.rows g

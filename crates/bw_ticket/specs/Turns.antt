@@ -150,7 +150,7 @@ module _ {M C R : Type 0} where
   Leads h [] k = k ≡ h
   Leads h (t ∷ ts) k = (m : Hall M C R) × IsTurn t h m × Leads m ts k
 
--- What holds of each state that a lock of so many seats is led to.
+-- Facts of each state that a lock of so many seats is led to.
 pub record FollowsProtocol {M C R : Type 0} (seats : ℕ) (h : Hall M C R) : Type 0 where
   -- it is the state of the protocol after some list of events
   pub events : List Event
