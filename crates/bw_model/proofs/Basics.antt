@@ -26,6 +26,12 @@ pub sum_below-front : (n : ℕ) (f : ℕ → ℕ) → sum_below (suc n) f ≡ f 
 sum_below-front zero f = omega arith
 sum_below-front (suc n) f = omega (arith, sum_below-front n f)
 
+-- the sum of a list as the sum over its places
+pub sum-is : (xs : List ℕ) → sum xs ≡ sum_below (length xs) (λ k. get_or xs k 0)
+sum-is [] = refl
+sum-is (x ∷ xs) = sum-cons x xs
+    ∙ omega (arith, sum-is xs, sum_below-front (length xs) (λ k. get_or (x ∷ xs) k 0))
+
 -- equal terms have equal sums
 pub sum_below-ap : (n : ℕ) (f g : ℕ → ℕ) → ((k : ℕ) → k < n → f k ≡ g k)
     → sum_below n f ≡ sum_below n g

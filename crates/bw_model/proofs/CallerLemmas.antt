@@ -1,5 +1,5 @@
 -- What other crates may cite of this one's proofs, each passed on from the module that proves it.
-pub use Rattle.bw_model.proofs.Basics.{sum_below, sum-cons, sum_below-front, sum_below-ap}
+pub use Rattle.bw_model.proofs.Basics.{sum_below, sum-cons, sum-is, sum_below-front, sum_below-ap}
 pub use Rattle.bw_model.proofs.Basics.{sum_below-le, sum_below-zero, sum_by-range}
 pub use Rattle.bw_model.proofs.Basics.{sum_by-filter_range}
 pub use Rattle.bw_model.proofs.Basics.{sum_below-change, sum_below-term, and_no, passed, goes_on}
@@ -24,7 +24,7 @@ pub use Rattle.bw_model.proofs.allocation.Reach.{joined_zero, total-joined, capp
 pub use Rattle.bw_model.proofs.allocation.Reach.{most_le_want, most_le_limit}
 pub use Rattle.bw_model.proofs.allocation.Reach.{reached, capped-IsMost}
 pub use Rattle.bw_model.proofs.plan.Planned.{parent_not_leaf, tight-bound_at, planned-IsPlan}
-pub use Rattle.bw_model.proofs.allocation.DemandOutside.{above-top, above-child, demand_outside-is}
+pub use Rattle.bw_model.proofs.allocation.DemandOutside.{any-ap, above-top, above-child, demand_outside-is}
 pub use Rattle.bw_model.proofs.allocation.Limiting.{limited_total-is, limited-IsGreatestTotal}
 pub use Rattle.bw_model.proofs.split.NoGainfulMove.{product-remove, cost-set, lex_at, product-pos}
 pub use Rattle.bw_model.proofs.split.NoGainfulMove.{moved-IsSplit, move-marks-apart, best-IsAtLevel}

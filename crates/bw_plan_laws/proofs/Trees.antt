@@ -17,7 +17,7 @@ use Rattle.bw_model.specs.Plan.{child_weights}
 use Rattle.bw_model.specs.Split.{IsBestSplit}
 use Rattle.bw_model.proofs.CallerLemmas.{strong, same_map, get_or-map, listed_child, child_at}
 use Rattle.bw_model.proofs.CallerLemmas.{parent_not_leaf, parent_lt, is_under-step, is_under-top}
-use Rattle.bw_model.proofs.CallerLemmas.{IsBestSplit-unique}
+use Rattle.bw_model.proofs.CallerLemmas.{IsBestSplit-unique, any-ap}
 use Rattle.bw_plan.specs.Shared.{IsPlanning}
 use Rattle.bw_plan.proofs.CallerLemmas.{weights_in_range}
 use Rattle.bw_split_laws.specs.Change.{AreWeighted}
@@ -28,10 +28,6 @@ filter-ap : (p q : ℕ → Bool) (xs : List ℕ) → ((x : ℕ) → p x ≡ q x)
 filter-ap p q [] e = refl
 filter-ap p q (x ∷ xs) e =
     rw (e x) (ap (λ rest. cond (q x) (x ∷ rest) rest) (filter-ap p q xs e))
-
-list_any-ap : (p q : ℕ → Bool) (xs : List ℕ) → ((x : ℕ) → p x ≡ q x) → list_any p xs ≡ list_any q xs
-list_any-ap p q [] e = refl
-list_any-ap p q (x ∷ xs) e = rw (e x, list_any-ap p q xs e) refl
 
 pub children_same : (rows others : List Row) → IsSameTree rows others → (g : ℕ)
     → children_of others g ≡ children_of rows g
@@ -46,7 +42,7 @@ pub leaf_same : (rows others : List Row) → IsSameTree rows others → (g : ℕ
 unfolding is_leaf
 leaf_same rows others tree g =
     rw tree.as_many
-    (ap not (list_any-ap (is_child others g) (is_child rows g) (range_with_len 0 (length rows))
+    (ap not (any-ap (is_child others g) (is_child rows g) (range_with_len 0 (length rows))
     (λ c. ap (λ o. option_map_or (λ p. eqb p g) o false) (tree.parents c))))
 
 -- numbers of the children of a group, where they agree at each child

@@ -9,10 +9,10 @@ use Rattle.std.proofs.lemmas.List.Sums.{sum_by-set}
 use Rattle.std.proofs.Math.ListN.{length-set}
 use Rattle.bw_model.specs.Split.{IsBestSplit}
 use Rattle.bw_model.proofs.CallerLemmas.{IsPairwise, pairwise-IsBestSplit, cross_lt_right}
-use Rattle.bw_model.proofs.CallerLemmas.{sum_below, sum_below-ap}
+use Rattle.bw_model.proofs.CallerLemmas.{sum_below, sum_below-ap, sum-is}
 use Rattle.bw_split.specs.Levels.{taken_by_all, AreTaken, TakesMore, NoneTakesMore}
 use Rattle.bw_split.proofs.Takes.{IsTaken, taken-is, taken-mono, taken-step, each_takes, same_cost}
-use Rattle.bw_split.proofs.Takes.{by_all-is, sum-is}
+use Rattle.bw_split.proofs.Takes.{by_all-is}
 use Rattle.bw_model.specs.declared.limits.TheConstants.{MIN_WEIGHT, MAX_WEIGHT}
 use Rattle.bw_split.specs.declared.limits.TheConstants.{STEPS}
 

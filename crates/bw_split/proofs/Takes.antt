@@ -4,7 +4,7 @@ use Rattle.std.proofs.Common.{refl, ◌∙◌, add-one, arith, inl, inr}
 use Rattle.std.specs.Prelude.{sum, min}
 use Rattle.std.proofs.Math.Nat.{mul-le-mul_left, mul-le-mul_right}
 use Rattle.std.proofs.lemmas.Bool.{cases_order}
-use Rattle.bw_model.proofs.CallerLemmas.{sum_below, sum-cons, sum_below-front, sum_below-le}
+use Rattle.bw_model.proofs.CallerLemmas.{sum_below, sum-is, sum_below-le}
 use Rattle.bw_model.proofs.CallerLemmas.{sum_below-zero, sum_by-range}
 use Rattle.bw_split.specs.Levels.{taken, taken_by_all}
 use Rattle.bw_model.specs.declared.limits.TheConstants.{MAX_WEIGHT, MAX_CAPACITY}
@@ -85,11 +85,6 @@ by_all-one weights most light = by_all-is 1 weights most ∙
 
 pub sum_below-more : (n : ℕ) (f : ℕ → ℕ) → sum_below (n + 1) f ≡ sum_below n f + f n
 sum_below-more n f = rw add-one refl
-
-pub sum-is : (xs : List ℕ) → sum xs ≡ sum_below (length xs) (λ k. get_or xs k 0)
-sum-is [] = refl
-sum-is (x ∷ xs) = sum-cons x xs
-    ∙ omega (arith, sum-is xs, sum_below-front (length xs) (λ k. get_or (x ∷ xs) k 0))
 
 capped : (n : ℕ) (f g : ℕ → ℕ) → ((k : ℕ) → k < n → min MAX_CAPACITY (g k) ≤ f k)
     → min MAX_CAPACITY (sum_below n g) ≤ sum_below n f

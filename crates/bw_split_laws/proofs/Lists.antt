@@ -3,7 +3,7 @@ use Rattle.std.proofs.Common.{◌≡◌, ℕ, zero, suc, ◌+◌, ◌<◌, ◌�
 use Rattle.std.proofs.Common.{get_or, set, refl, ap, ◌∙◌, arith, inl, inr}
 use Rattle.std.specs.Prelude.{sum, remove}
 use Rattle.std.proofs.lemmas.Bool.{cases_lt}
-use Rattle.bw_model.proofs.CallerLemmas.{sum-cons, sum_below, sum_below-front}
+use Rattle.bw_model.proofs.CallerLemmas.{sum-cons}
 
 -- A list of at least the sum is greater somewhere, or it is the same list.
 pub find_greater : (xs ys : List ℕ) → length xs ≡ length ys → sum xs ≤ sum ys
@@ -61,17 +61,6 @@ pub outside : (xs : List ℕ) (k : ℕ) → length xs ≤ k → get_or xs k 0 �
 outside [] k h = refl
 outside (x ∷ xs) zero h = absurd (omega (arith, h))
 outside (x ∷ xs) (suc k) h = outside xs k (omega (arith, h))
-
--- the sum of a list as the sum over its places
-pub sum-places : (xs : List ℕ) → sum xs ≡ sum_below (length xs) (λ k. get_or xs k 0)
-sum-places [] = refl
-sum-places (x ∷ xs) =
-    omega (
-      arith,
-      sum-cons x xs,
-      sum-places xs,
-      sum_below-front (length xs) (λ k. get_or (x ∷ xs) k 0),
-    )
 
 pub removed_before : (xs : List ℕ) (r k : ℕ) → r < length xs → k < r
     → get_or (remove xs r) k 0 ≡ get_or xs k 0

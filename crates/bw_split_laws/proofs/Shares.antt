@@ -3,11 +3,10 @@ use Rattle.std.proofs.Common.{◌≡◌, ℕ, zero, suc, ◌+◌, ◌-◌, ◌*�
 use Rattle.std.proofs.Common.{length, get_or, ap, sym, ◌∙◌, arith, inl, inr}
 use Rattle.std.proofs.lemmas.Bool.{cases_lt, cases_eq, ne_eqb}
 use Rattle.bw_model.specs.Split.{IsBestSplit}
-use Rattle.bw_model.proofs.CallerLemmas.{sum_below, sum_by-range}
+use Rattle.bw_model.proofs.CallerLemmas.{sum_below, sum-is, sum_by-range}
 use Rattle.bw_split_laws.specs.Change.{AreWeighted}
 use Rattle.bw_split_laws.specs.Fairness.{FairWithinHalfASlice, WeightIsAFloor, of_active, active}
 use Rattle.bw_split_laws.specs.Fairness.{active_weight}
-use Rattle.bw_split_laws.proofs.Lists.{sum-places}
 use Rattle.bw_split_laws.proofs.Pairs.{best_pairs}
 
 pub fair : FairWithinHalfASlice
@@ -93,7 +92,7 @@ module _ (amount : ℕ) (weights most parts : List ℕ) (weighted : AreWeighted 
   unfolding part weight_of one_of
   floor =
       let total : sum_below (length parts) (λ k. get_or parts k 0) ≡ amount =
-      sym (sum-places parts) ∙ best.split.whole in
+      sym (sum-is parts) ∙ best.split.whole in
       let weighed : active_weight weights most
       ≡ sum_below (length parts) (of_active most (λ k. get_or weights k 0)) =
       sum_by-range (of_active most (λ k. get_or weights k 0)) (length most)

@@ -14,7 +14,7 @@ use Rattle.bw_model.proofs.Basics.{sum_below-ap, sum_by-filter_range}
 use Rattle.bw_model.proofs.tree.Under.{parent_lt, path_up-top, path_up-step, is_under-top}
 use Rattle.bw_model.proofs.tree.Under.{is_under-step}
 
-any-ap : (p q : ℕ → Bool) (xs : List ℕ) → ((x : ℕ) → p x ≡ q x) → list_any p xs ≡ list_any q xs
+pub any-ap : (p q : ℕ → Bool) (xs : List ℕ) → ((x : ℕ) → p x ≡ q x) → list_any p xs ≡ list_any q xs
 any-ap p q [] same = refl
 any-ap p q (x ∷ xs) same = rw (same x, any-ap p q xs same) refl
 
