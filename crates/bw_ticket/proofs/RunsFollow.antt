@@ -1,6 +1,7 @@
--- Every list of turns of an opened lock is a run of the waiting protocol: an induction on the turns.
+-- Every list of turns of an opened lock is a run of the waiting protocol. It is an induction on
+-- the turns.
 use Rattle.std.proofs.Common.{◌≡◌, ℕ, zero, suc, ◌+◌, ◌*◌, ◌^◌, ◌<◌, ◌≤◌, List, [], ◌∷◌, ◌++◌, map}
-use Rattle.std.proofs.Common.{length, replicate, refl, sym, ap, ◌∙◌, subst, arith, slice_index}
+use Rattle.std.proofs.Common.{replicate, refl, sym, ap, subst, arith, slice_index}
 use Rattle.std.proofs.Common.{suc-mul}
 use Rattle.std.proofs.Math.Nat.{mul-le-mul_left, mul-le-mul_right}
 use Rattle.bw_wake.specs.declared.seats.Phase.TheVariants.{Idle as PIdle}
@@ -12,8 +13,8 @@ use Rattle.bw_wake.proofs.CallerLemmas.{start_sound, seven_events_raise_serving}
 use Rattle.bw_ticket.specs.declared.limits.TheConstants.{MAX_SEATS, MAX_CALLS}
 use Rattle.bw_ticket.specs.Rule.{views_from}
 use Rattle.bw_ticket.specs.UnderWay.{SleepersAreSeen, NoWakeIsLostIn, state_with}
-use Rattle.bw_ticket.specs.Turns.{Doing, Turn, Hall, seated, where_is, state_of, opened, Leads}
-use Rattle.bw_ticket.specs.Turns.{FollowsProtocol, RunsFollowTheProtocol}
+use Rattle.bw_ticket.specs.Turns.{Turn, Hall, seated, where_is, state_of, opened, Leads}
+use Rattle.bw_ticket.specs.Turns.{RunsFollowTheProtocol}
 use Rattle.bw_ticket.specs.Turns.Doing.{IsUp}
 use Rattle.bw_ticket.proofs.TurnsFollow.{Meets, Goes, left_in, one_turn}
 

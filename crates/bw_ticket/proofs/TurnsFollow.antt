@@ -1,17 +1,14 @@
 -- Each turn of the lock is an event of the waiting protocol, or none.
-use Rattle.std.proofs.Common.{◌≡◌, ◌≢◌, ℕ, zero, suc, ◌+◌, ◌-◌, ◌*◌, ◌^◌, ◌%◌, ◌<◌, ◌≤◌, ◌==◌}
-use Rattle.std.proofs.Common.{nat_lt, Bool, true, false, List, [], ◌∷◌, map, length, refl, sym, ap}
+use Rattle.std.proofs.Common.{◌≡◌, ◌≢◌, ℕ, zero, suc, ◌+◌, ◌-◌, ◌^◌, ◌%◌, ◌<◌, ◌≤◌, ◌==◌}
+use Rattle.std.proofs.Common.{Bool, true, false, List, [], ◌∷◌, map, length, refl, sym, ap}
 use Rattle.std.proofs.Common.{◌∙◌, subst, arith, slice_get, slice_set, slice_index, Some, None}
 use Rattle.std.proofs.Common.{Option, if◌then◌else◌, eq-eqb, ne_eqb, ◌||◌}
 use Rattle.std.specs.List.{list_any}
 use Rattle.std.proofs.lemmas.List.{length-set}
 use mathlib.Core.Logic.{dite}
-use mathlib.Core.Option.{none}
 use native.Mathlib.Decide.{ℕ_discrete}
 use prog.Atomic.{either}
-use Rattle.atomic_table.specs.Table.{Me, step}
-use Rattle.bw_wake.specs.declared.seats.Phase.{Phase as WaitPhase}
-use Rattle.bw_wake.specs.declared.seats.Phase.TheVariants.{Idle as PIdle, Looked as PLooked}
+use Rattle.bw_wake.specs.declared.seats.Phase.TheVariants.{Looked as PLooked}
 use Rattle.bw_wake.specs.declared.seats.Phase.TheVariants.{Asleep as PAsleep, Wakes as PWakes}
 use Rattle.bw_wake.specs.declared.seats.Event.{Event}
 use Rattle.bw_wake.specs.declared.seats.Event.TheVariants.{Take, Look, Mark, Park, SpuriousWake}
@@ -20,11 +17,10 @@ use Rattle.bw_wake.specs.declared.seats.Event.TheVariants.{TakeMark, Wake}
 use Rattle.bw_wake.specs.Protocol.{WaitState, after, happens, run, or_same, moved, word_of, mark_at}
 use Rattle.bw_wake.specs.Protocol.{park_by, spurious_wake_by, wake_by, sleeps_on}
 use Rattle.bw_wake.specs.Protocol.{one_less as one_less_in}
-use Rattle.bw_wake.specs.Progress.{one_if, count}
+use Rattle.bw_wake.specs.Progress.{one_if}
 use Rattle.bw_wake.proofs.CallerLemmas.{Sound, waits as waits_there, happens_sound, to_next}
 use Rattle.bw_wake.proofs.CallerLemmas.{count_at, index_here, index_else}
 use Rattle.bw_ticket.specs.declared.limits.TheConstants.{MAX_SEATS}
-use Rattle.bw_ticket.specs.declared.board.SlotValue.{SlotValue}
 use Rattle.bw_ticket.specs.declared.board.SeatView.{SeatView}
 use Rattle.bw_ticket.specs.declared.board.Phase.{Phase}
 use Rattle.bw_ticket.specs.declared.board.Phase.TheVariants.{Idle, Waiting, Marked, Looked, Inside}
@@ -32,10 +28,8 @@ use Rattle.bw_ticket.specs.declared.board.Phase.TheVariants.{Done, Served, Owes,
 use Rattle.bw_ticket.specs.Rule.{waits, wake_word, ticket_of}
 use Rattle.bw_ticket.specs.Plays.{waiting, entered, recorded, recorded_by, missed, marked, saw_next}
 use Rattle.bw_ticket.specs.Plays.{saw_word, took, woke, one_less, MayMark, goes, has_served, seeing}
-use Rattle.bw_ticket.specs.Plays.{ticketed, looked, mark_stored, noted, left_by, next_seen}
-use Rattle.bw_ticket.specs.Plays.{word_seen, mark_taken, wake_made, fronted}
 use Rattle.bw_ticket.specs.Follows.{words_of, IsLike, in_protocol, IsEvent, StepsAreEvents}
-use Rattle.bw_ticket.specs.Turns.{Doing, Turn, Sitter, Hall, seated, phase_while, where_is, IsStep}
+use Rattle.bw_ticket.specs.Turns.{Doing, Turn, Sitter, Hall, seated, phase_while, where_is}
 use Rattle.bw_ticket.specs.Turns.{NobodySleepsOn, IsTurn}
 use Rattle.bw_ticket.specs.Turns.Turn.{Draws, Looks, Marks, Records, Serves, PeeksNext, PeeksWord}
 use Rattle.bw_ticket.specs.Turns.Turn.{TakesMark, Fronts, Sleeps, Returns, Rings, RingsNobody}

@@ -22,7 +22,7 @@ pub fn steps_are_events<M: Machine>()
 /// its mark. Assume that the mark of each sleeping seat is still stored, or that its wake is the
 /// next step. Then: if a sleeper's ticket is served, its wake-up is under way; no state is stuck;
 /// and the assumption still holds after each event of the protocol. If only seats with stored
-/// marks sleep, the assumption holds.
+/// marks sleep, the assumption holds. It holds in every run: `runs_follow_the_protocol`.
 pub fn no_wake_is_lost<M: Machine>()
     ensures { NoWakeIsLostInLock M.after M.answer }
 {}
