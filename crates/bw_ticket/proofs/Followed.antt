@@ -27,7 +27,7 @@ use Rattle.bw_ticket.specs.Rule.{waits, wake_word}
 use Rattle.bw_ticket.specs.Plays.{missed, marked, saw_next, saw_word, took, one_less}
 use Rattle.bw_ticket.specs.Plays.{MayMark}
 use Rattle.bw_ticket.specs.Follows.{words_of, in_protocol, IsEvent, IsWake, StepsAreEvents}
-use Rattle.bw_ticket.proofs.RuleKept.{waits_is}
+use Rattle.bw_ticket.proofs.KeptLemmas.{waits_is}
 use Rattle.bw_ticket.proofs.OwedCounts.{same_words}
 
 -- a list that has at a place what is written there stays

@@ -22,7 +22,7 @@ use Rattle.bw_ticket.specs.Plays.{placed, missed, marked, MayMark, saw_next, one
 use Rattle.bw_ticket.specs.Plays.{took, woke}
 use Rattle.bw_ticket.proofs.Views.{weigh_set, weigh_le_at, weigh_all-le, same_one}
 use Rattle.bw_ticket.proofs.OwedCounts.{owed_still, read_stands, other_stands, waits-no_peek}
-use Rattle.bw_ticket.proofs.RuleKept.{waits_only}
+use Rattle.bw_ticket.proofs.KeptLemmas.{waits_only}
 
 -- after an exchange for 0, the mark does not stand
 not_mark : (n v : ℕ) → 0 < v → either (n == v) 0 n ≢ v
