@@ -253,11 +253,21 @@ fn one_waits(rt: HostRuntime) -> Result<(), Fail> {
     Ok(())
 }
 
-// Counts the calls round the draws of worker 0, and sees whether each comes in its turn.
+// Counts the calls round the draws of worker 0, and sees whether each comes in its turn. Uses all
+// rows but one.
 #[derive(Drop)]
 struct InTurn {
+    unused: u32,
     calls: AtomicCell<u64>,
     astray: AtomicCell<bool>,
+}
+
+fn in_turn(unused: u32) -> InTurn {
+    InTurn {
+        unused,
+        calls: AtomicCell::new(0),
+        astray: AtomicCell::new(false),
+    }
 }
 
 impl InTurn {
@@ -271,7 +281,7 @@ impl InTurn {
 }
 
 impl Gate for InTurn {
-    ghost used = { λ gate leaf. true };
+    ghost used = { λ gate leaf. not (leaf == gate.unused) };
 
     fn before(&self, worker: u32, nth: u64) {
         self.called(worker, nth, 0);
@@ -282,8 +292,7 @@ impl Gate for InTurn {
     }
 
     fn uses(&self, leaf: u32) -> bool {
-        let _ = leaf;
-        true
+        leaf != self.unused
     }
 }
 
@@ -298,10 +307,8 @@ fn serve_in_row_order<R: Threads + Wait + Clock + Abort + Sync>(
     alloc: Global,
 ) -> Result<(), AllocError> {
     let (instance, plan) = planned(rt, alloc, 1, &TWO_GROUPS)?;
-    let gate = InTurn {
-        calls: AtomicCell::new(0),
-        astray: AtomicCell::new(false),
-    };
+    // the root is no leaf, so each leaf is used
+    let gate = in_turn(0);
     let served = served(rt, alloc, &instance, &plan, &gate, &[20, 7, 13])?;
     assert!(rt; served.history.len() == 21);
     for (entry, leaf) in served.history.iter().zip(&ROUND_AND_ROUND) {
@@ -317,6 +324,31 @@ fn row_order(rt: HostRuntime) -> Result<(), Fail> {
     let alloc = rt.alloc();
     if serve_in_row_order(&rt, alloc).is_err() {
         serve_in_row_order(&rt, alloc)?;
+    }
+    Ok(())
+}
+
+// Leaf 2 does not use its slices: its first one goes back, and it is not asked again.
+fn serve_with_a_give_back<R: Threads + Wait + Clock + Abort + Sync>(
+    rt: &R,
+    alloc: Global,
+) -> Result<(), AllocError> {
+    let (instance, plan) = planned(rt, alloc, 1, &TWO_GROUPS)?;
+    let gate = in_turn(2);
+    let served = served(rt, alloc, &instance, &plan, &gate, &[7, 7, 0])?;
+    // of leaf 1 seven draws that are kept and one that is short; of leaf 2 a draw and a give-back
+    assert!(rt; served.history.len() == 10);
+    assert!(rt; matches!(served.history[2].call, PoolCall::GiveBack { leaf: 2, n: 1 }));
+    // the gate is called round each of the nine draws, and not round the give-back
+    assert!(rt; gate.calls.load() == 18 && !gate.astray.load());
+    Ok(())
+}
+
+#[test]
+fn give_backs_are_not_told(rt: HostRuntime) -> Result<(), Fail> {
+    let alloc = rt.alloc();
+    if serve_with_a_give_back(&rt, alloc).is_err() {
+        serve_with_a_give_back(&rt, alloc)?;
     }
     Ok(())
 }

@@ -43,7 +43,7 @@ get_here [] i a b e = absurd (cc e)
 get_here (x ∷ xs) zero a b e = refl
 get_here (x ∷ xs) (suc i) a b e = get_here xs i a b e
 
-get_else : {A : Type 0} (xs : List A) (i j : ℕ) (b : A) → j ≢ i
+pub get_else : {A : Type 0} (xs : List A) (i j : ℕ) (b : A) → j ≢ i
     → slice_get (slice_set xs i b) j ≡ slice_get xs j
 get_else [] i j b ne = refl
 get_else (x ∷ xs) zero zero b ne = absurd (ne refl)
@@ -61,7 +61,7 @@ index_past a b x ws = ap (λ (k : ℕ). slice_index (a ∷ b ∷ ws) k) (two_on 
 set_past : (a b x v : ℕ) (ws : List ℕ) → slice_set (a ∷ b ∷ ws) (2 + x) v ≡ a ∷ b ∷ slice_set ws x v
 set_past a b x v ws = ap (λ (k : ℕ). slice_set (a ∷ b ∷ ws) k v) (two_on x)
 
-small : (n : ℕ) → n < 2 ^ 32 → (n + 1) % 2 ^ 64 ≡ n + 1
+pub small : (n : ℕ) → n < 2 ^ 32 → (n + 1) % 2 ^ 64 ≡ n + 1
 small n h = grind arith
 
 taken : (b : Bool) (a c x : ℕ) (ws : List ℕ) →

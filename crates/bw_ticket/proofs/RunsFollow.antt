@@ -3,7 +3,6 @@
 use Rattle.std.proofs.Common.{◌≡◌, ℕ, zero, suc, ◌+◌, ◌*◌, ◌^◌, ◌<◌, ◌≤◌, List, [], ◌∷◌, ◌++◌, map}
 use Rattle.std.proofs.Common.{replicate, refl, sym, ap, subst, arith, slice_index}
 use Rattle.std.proofs.Common.{suc-mul}
-use Rattle.std.proofs.Math.Nat.{mul-le-mul_left, mul-le-mul_right}
 use Rattle.bw_wake.specs.declared.seats.Phase.TheVariants.{Idle as PIdle}
 use Rattle.bw_wake.specs.declared.seats.Event.{Event}
 use Rattle.bw_wake.specs.Protocol.{WaitState, happens, start, run}
@@ -16,6 +15,7 @@ use Rattle.bw_ticket.specs.UnderWay.{SleepersAreSeen, NoWakeIsLostIn, state_with
 use Rattle.bw_ticket.specs.Turns.{Turn, Hall, seated, where_is, state_of, opened, Leads}
 use Rattle.bw_ticket.specs.Turns.{RunsFollowTheProtocol}
 use Rattle.bw_ticket.specs.Turns.Doing.{IsUp}
+use Rattle.bw_ticket.proofs.Allowed.{few_calls}
 use Rattle.bw_ticket.proofs.TurnsFollow.{Meets, Goes, left_in, one_turn}
 
 run-append : (s : WaitState) (es fs : List Event) → run s (es ++ fs) ≡ run (run s es) fs
@@ -51,10 +51,6 @@ words_below : (n x : ℕ) → slice_index (0 ∷ 0 ∷ replicate {A = ℕ} n 0) 
 words_below n zero = omega arith
 words_below n (suc zero) = omega arith
 words_below n (suc (suc x)) = zeros_below n x
-
-few_calls : (seats calls : ℕ) → seats ≤ 64 → calls ≤ 65536 → seats * calls < 2 ^ 32
-few_calls seats calls h k = let a = mul-le-mul_left seats k in let b = mul-le-mul_right 65536 h in
-    omega arith
 
 at_start : (M C R : Type 0) (seats calls : ℕ) → seats ≤ MAX_SEATS → calls ≤ MAX_CALLS
     → Meets {M = M} {C = C} {R = R} (seats * calls) (opened seats calls) (start seats MAX_SEATS)

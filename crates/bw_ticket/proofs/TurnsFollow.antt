@@ -19,7 +19,7 @@ use Rattle.bw_wake.specs.Protocol.{park_by, spurious_wake_by, wake_by, sleeps_on
 use Rattle.bw_wake.specs.Protocol.{one_less as one_less_in}
 use Rattle.bw_wake.specs.Progress.{one_if}
 use Rattle.bw_wake.proofs.CallerLemmas.{Sound, waits as waits_there, happens_sound, to_next}
-use Rattle.bw_wake.proofs.CallerLemmas.{count_at, index_here, index_else}
+use Rattle.bw_wake.proofs.CallerLemmas.{count_at, index_here, index_else, get_map}
 use Rattle.bw_ticket.specs.declared.limits.TheConstants.{MAX_SEATS}
 use Rattle.bw_ticket.specs.declared.board.SeatView.{SeatView}
 use Rattle.bw_ticket.specs.declared.board.Phase.{Phase}
@@ -36,13 +36,7 @@ use Rattle.bw_ticket.specs.Turns.Turn.{TakesMark, Fronts, Sleeps, Returns, Rings
 use Rattle.bw_ticket.specs.Turns.Turn.{NotesWake}
 use Rattle.bw_ticket.specs.Turns.Doing.{IsUp, Sleeping, HasRung}
 use Rattle.bw_ticket.proofs.OwedCounts.{same_words}
-use Rattle.bw_ticket.proofs.Followed.{steps_are_events, index_past}
-
-get_map : {X Y : Type 0} (f : X → Y) (xs : List X) (i : ℕ) (x : X) → slice_get xs i ≡ Some x
-    → slice_get (map f xs) i ≡ Some (f x)
-get_map f [] i x e = absurd (cc e)
-get_map f (y ∷ ys) zero x e = let d : y ≡ x = cc e in ap (λ z. Some (f z)) d
-get_map f (y ∷ ys) (suc i) x e = get_map f ys i x e
+use Rattle.bw_ticket.proofs.Followed.{steps_are_events, index_past, get_else, small}
 
 set_map : {X Y : Type 0} (f : X → Y) (xs : List X) (i : ℕ) (y : X)
     → slice_set (map f xs) i (f y) ≡ map f (slice_set xs i y)
@@ -55,14 +49,6 @@ set_same : {X Y : Type 0} (f : X → Y) (xs : List X) (i : ℕ) (p q : X) → sl
 set_same f [] i p q e h = absurd (cc e)
 set_same f (x ∷ xs) zero p q e h = let d : x ≡ p = cc e in ap (λ z. z ∷ map f xs) (h ∙ ap f (sym d))
 set_same f (x ∷ xs) (suc i) p q e h = ap (λ zs. f x ∷ zs) (set_same f xs i p q e h)
-
-get_else : {X : Type 0} (xs : List X) (i j : ℕ) (y : X) → j ≢ i
-    → slice_get (slice_set xs i y) j ≡ slice_get xs j
-get_else [] i j y ne = refl
-get_else (x ∷ xs) zero zero y ne = absurd (ne refl)
-get_else (x ∷ xs) zero (suc j) y ne = refl
-get_else (x ∷ xs) (suc i) zero y ne = refl
-get_else (x ∷ xs) (suc i) (suc j) y ne = get_else xs i j y (λ e. ne (ap suc e))
 
 abbrev head_or : {X : Type 0} → X → List X → X
 head_or a [] = a
@@ -81,9 +67,6 @@ below_set (w ∷ ws) b zero v h lt zero = lt
 below_set (w ∷ ws) b zero v h lt (suc x) = h (suc x)
 below_set (w ∷ ws) b (suc i) v h lt zero = h 0
 below_set (w ∷ ws) b (suc i) v h lt (suc x) = below_set ws b i v (λ y. h (suc y)) lt x
-
-small : (n : ℕ) → n < 2 ^ 32 → (n + 1) % 2 ^ 64 ≡ n + 1
-small n h = grind arith
 
 either_below : (c : Bool) (n b : ℕ) → n < b → either c 0 n < b
 either_below true n b h = omega arith

@@ -8,3 +8,4 @@ pub use Rattle.bw_wake.proofs.Counts.{count_at}
 pub use Rattle.bw_wake.proofs.Raising.{seven_events_raise_serving}
 pub use Rattle.bw_wake.proofs.OneSeatSound.{among_none, among_in, among_rest, one_less-will_peek}
 pub use Rattle.bw_wake.proofs.WakeWords.{index_here, index_else}
+pub use Rattle.bw_wake.proofs.CoreRefined.{get_map}

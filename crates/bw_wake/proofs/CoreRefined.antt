@@ -29,7 +29,7 @@ use Rattle.bw_wake.specs.Protocol.{peek_next_by, peek_word_by, take_mark_by}
 use Rattle.bw_wake.specs.Protocol.{sleeps_on, woken, ticket_asleep, wake_by}
 use Rattle.bw_wake.specs.Refines.{phase_in_core, event_in_core, Matches, core_after, RefinesTheCore}
 
-get_map : {X Y : Type 0} (f : X → Y) (xs : List X) (i : ℕ) (x : X) → slice_get xs i ≡ Some x
+pub get_map : {X Y : Type 0} (f : X → Y) (xs : List X) (i : ℕ) (x : X) → slice_get xs i ≡ Some x
     → slice_get (map f xs) i ≡ Some (f x)
 get_map f [] i x e = absurd (cc e)
 get_map f (y ∷ ys) zero x e = let d : y ≡ x = cc e in ap (λ z. Some (f z)) d

@@ -27,6 +27,7 @@ use Rattle.bw_machine.proofs.CallerLemmas.{equal_or_not}
 use Rattle.bw_wake.proofs.Counts.{count_set, count-le, count_at, count_le_at}
 use Rattle.bw_wake.proofs.Invariant.{waits, may_sleep, Stands, Sound}
 use Rattle.bw_wake.proofs.WakeWords.{index_here, index_else}
+use Rattle.bw_wake.proofs.RunSound.{differ}
 use Rattle.bw_wake.proofs.WordsApart.{may_sleep-waits, to_next, words_apart}
 
 -- 1 of a seat that looks for the mark of x first of all, or has seen it and has yet to take it
@@ -84,9 +85,6 @@ if_words : (s : WaitState) (vs ws : List ℕ) (ps : List Phase) (b : Bool)
     → PeekIsFirst record s { words = if b then vs else ws; phases = ps }
 if_words s vs ws ps true f g = f refl
 if_words s vs ws ps false f g = g refl
-
-differ : (a b : ℕ) → (a == b) ≡ false → a ≢ b
-differ a b e same = absurd (cc (sym (eq-eqb a b same) ∙ e))
 
 none_there : (t x : ℕ) → t ≢ x → one_if (t == x) ≡ 0
 none_there t x ne = ap one_if (ne_eqb t x ne)
@@ -265,7 +263,7 @@ paid_first : (s : WaitState) (i k n : ℕ) → slice_get s.phases i ≡ Some (Wa
 paid_first s i k n at f = let z = less_sleeps s.serving k n in
     plain s i (Wakes k n) (one_less k n) at (omega arith) (omega arith) f
 
-get_else : (xs : List Phase) (i j : ℕ) (y : Phase) → j ≢ i
+pub get_else : (xs : List Phase) (i j : ℕ) (y : Phase) → j ≢ i
     → slice_get (slice_set xs i y) j ≡ slice_get xs j
 get_else [] i j y ne = refl
 get_else (x ∷ xs) zero zero y ne = absurd (ne refl)

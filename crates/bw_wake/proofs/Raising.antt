@@ -22,7 +22,7 @@ use Rattle.bw_wake.proofs.Invariant.{waits, may_sleep, Stands, Sound}
 use Rattle.bw_wake.proofs.NotStuck.{sleeps-may_sleep}
 use Rattle.bw_wake.proofs.WakeSound.{start_sound}
 use Rattle.bw_wake.proofs.RunSound.{happens_sound}
-use Rattle.bw_wake.proofs.PeekFirst.{peeks_first, PeekIsFirst, happens_first}
+use Rattle.bw_wake.proofs.PeekFirst.{peeks_first, PeekIsFirst, happens_first, get_else}
 
 -- one event that leaves the served ticket, and then the others
 step : (n : ℕ) (s t : WaitState) (e : Event) (p : Phase) → slice_get s.phases (seat_of e) ≡ Some p
@@ -48,14 +48,6 @@ get_here : (xs : List Phase) (i : ℕ) (a b : Phase) → slice_get xs i ≡ Some
 get_here [] i a b e = absurd (cc e)
 get_here (x ∷ xs) zero a b e = refl
 get_here (x ∷ xs) (suc i) a b e = get_here xs i a b e
-
-get_else : (xs : List Phase) (i j : ℕ) (y : Phase) → j ≢ i
-    → slice_get (slice_set xs i y) j ≡ slice_get xs j
-get_else [] i j y ne = refl
-get_else (x ∷ xs) zero zero y ne = absurd (ne refl)
-get_else (x ∷ xs) zero (suc j) y ne = refl
-get_else (x ∷ xs) (suc i) zero y ne = refl
-get_else (x ∷ xs) (suc i) (suc j) y ne = get_else xs i j y (λ e. ne (ap suc e))
 
 -- some seat is as g says
 some_seat : (g : Phase → ℕ) (ps : List Phase) → 1 ≤ count g ps

@@ -50,7 +50,7 @@ if_words s vs ws ps false f g = g refl
 true-false : true ≡ false → ⊥
 true-false e = cc e
 
-differ : (a b : ℕ) → (a == b) ≡ false → a ≢ b
+pub differ : (a b : ℕ) → (a == b) ≡ false → a ≢ b
 differ a b e same = true-false (sym (eq-eqb a b same) ∙ e)
 
 entered : (s : WaitState) (i t : ℕ) (p : Phase) → slice_get s.phases i ≡ Some p

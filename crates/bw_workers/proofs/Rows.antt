@@ -1,18 +1,28 @@
 -- The leaves of the first rows.
 use Rattle.bw_model.specs.declared.row.Row.{Row}
-use Rattle.std.proofs.Common.{◌≡◌, ◌≢◌, ℕ, ◌+◌, ◌==◌, inl, inr, List, [], ◌∷◌, ◌++◌, true, false}
-use Rattle.std.proofs.Common.{cond, ◌&&◌, sym, ap, ◌∙◌, arith}
+use Rattle.std.proofs.Common.{◌≡◌, ◌≢◌, ℕ, zero, suc, ◌+◌, ◌==◌, inl, inr, List, [], ◌∷◌, ◌++◌}
+use Rattle.std.proofs.Common.{length, Bool, true, false, cond, ◌&&◌, refl, sym, ap, ◌∙◌, subst, arith}
+use Rattle.std.proofs.Common.{append-nil}
 use Rattle.std.specs.Prelude.{nat_lt}
 use Rattle.std.proofs.lemmas.Bool.{lt-ltb, le-ltb, cases_lt, and_from, and_left, and_right}
 use Rattle.std.proofs.lemmas.Bool.Decides.{eqb_tells}
 use Rattle.bw_model.specs.Groups.{is_leaf}
-use Rattle.bw_workers.specs.Working.{times}
+use Rattle.bw_workers.specs.Rounds.{leaves_below, leaves_in}
+
+-- how often x stands in the list
+abbrev pub times : ℕ → List ℕ → ℕ
+times x [] = 0
+times x (y ∷ ys) = cond {A = ℕ} (y == x) 1 0 + times x ys
+
+-- whether it is a row, and a leaf
+abbrev pub is_leaf_row : List Row → ℕ → Bool
+is_leaf_row tree g = nat_lt g (length tree) && is_leaf tree g
 
 abbrev pub AreLeavesTo : List Row → ℕ → List ℕ → Type 0
 AreLeavesTo tree n leaves = (x : ℕ)
     → times x leaves ≡ cond {A = ℕ} (nat_lt x n && is_leaf tree x) 1 0
 
-later : (a t t' c : ℕ) → t ≡ t' + c → a + t ≡ (a + t') + c
+pub later : (a t t' c : ℕ) → t ≡ t' + c → a + t ≡ (a + t') + c
 later a t t' c h = omega arith
 
 times_snoc : (xs : List ℕ) (x y : ℕ)
@@ -63,3 +73,35 @@ next_inner tree row leaves h is x = elim (eqb_tells row x) [
       ∙ sym (and_right (nat_lt x (row + 1)) (is_leaf tree x) not_leaf))
   | inr e ↦ h x ∙ ap (λ b. cond {A = ℕ} (b && is_leaf tree x) 1 0) (sym (same_below x row e.1))
 ]
+
+one_more : (tree : List Row) (n : ℕ) (leaves : List ℕ) (b : Bool) → is_leaf tree n ≡ b
+    → AreLeavesTo tree n leaves
+    → AreLeavesTo tree (n + 1) (leaves ++ (cond {A = List ℕ} b (n ∷ []) []))
+one_more tree n leaves true h was = next_leaf tree n leaves was h
+one_more tree n leaves false h was =
+    subst (AreLeavesTo tree (n + 1)) (sym (append-nil leaves)) (next_inner tree n leaves was h)
+
+stand_once : (tree : List Row) (n : ℕ) → AreLeavesTo tree n (leaves_below tree n)
+stand_once tree zero = no_rows tree
+stand_once tree (suc n) = let e : n + 1 ≡ suc n = omega arith in
+    subst (λ (k : ℕ). AreLeavesTo tree k (leaves_below tree (suc n))) e
+    (one_more tree n (leaves_below tree n) (is_leaf tree n) refl (stand_once tree n))
+
+-- each leaf stands once among all leaves, and nothing else does
+pub leaves_once : (tree : List Row) (g : ℕ)
+    → times g (leaves_in tree) ≡ cond {A = ℕ} (is_leaf_row tree g) 1 0
+leaves_once tree g = stand_once tree (length tree) g
+
+-- one row more
+pub more_leaf : (tree : List Row) (n : ℕ) → is_leaf tree n ≡ true
+    → leaves_below tree (n + 1) ≡ leaves_below tree n ++ n ∷ []
+more_leaf tree n h = let e : n + 1 ≡ suc n = omega arith in
+    ap (leaves_below tree) e
+    ∙ ap (λ b. leaves_below tree n ++ (cond {A = List ℕ} b (n ∷ []) [])) h
+
+pub more_inner : (tree : List Row) (n : ℕ) → is_leaf tree n ≡ false
+    → leaves_below tree (n + 1) ≡ leaves_below tree n
+more_inner tree n h = let e : n + 1 ≡ suc n = omega arith in
+    ap (leaves_below tree) e
+    ∙ ap (λ b. leaves_below tree n ++ (cond {A = List ℕ} b (n ∷ []) [])) h
+    ∙ append-nil (leaves_below tree n)

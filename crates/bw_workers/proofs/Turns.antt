@@ -13,8 +13,9 @@ use Rattle.bw_pool.specs.declared.calls.PoolCall.TheVariants.{Draw, GiveBack}
 use Rattle.bw_pool.specs.declared.calls.PoolReply.{PoolReply}
 use Rattle.bw_pool.specs.Drained.{PoolEntry, Worker, fresh, among, got_one, drawn_one, returned_one}
 use Rattle.bw_pool.specs.Drained.{MayCall, Drains}
-use Rattle.bw_workers.specs.Working.{times, is_leaf_row, IsLeaves, PoolSeat, calls_of, Keeps}
-use Rattle.bw_workers.specs.Working.{DropsLeaf}
+use Rattle.bw_workers.specs.Rounds.{InRounds, owed_after, asked_after}
+use Rattle.bw_workers.specs.Working.{PoolSeat, calls_of, Keeps, DropsLeaf}
+use Rattle.bw_workers.proofs.Rows.{times, is_leaf_row}
 
 pub record IsWorking (uses : ℕ → Bool) (tree : List Row) (slices : ℕ) (calls : List PoolEntry)
     (rows : List ℕ) (kept : ℕ) : Type 0 where
@@ -42,7 +43,8 @@ one_if_not true e h = omega arith
 one_if_not false e h = true≢false (sym e)
 
 pub begins : (uses : ℕ → Bool) (tree : List Row) (slices : ℕ) (calls : List PoolEntry)
-    (leaves : List ℕ) → calls ≡ [] → IsLeaves tree leaves →
+    (leaves : List ℕ) → calls ≡ []
+    → ((g : ℕ) → times g leaves ≡ cond {A = ℕ} (is_leaf_row tree g) 1 0) →
     IsWorking uses tree slices calls leaves 0
 begins uses tree slices calls leaves e h = record {
   worker = fresh;
@@ -248,3 +250,59 @@ module _ (uses : ℕ → Bool) (tree : List Row) (slices : ℕ) where
             → (among leaf w.worker.short ≡ true) ⊎ (among leaf w.worker.returned ≡ true))
         why (inl e) = inl (w.has ∙ e)
         why (inr e) = inr (λ leaf lt is. w.closed leaf lt is (ap (times leaf) e))
+
+-- the calls go round the leaves, and after them those that are still asked are next
+abbrev pub GoesRound : (ℕ → Bool) → List ℕ → List PoolEntry → List ℕ → Type 0
+GoesRound uses leaves calls asked = (rest : List PoolEntry) → InRounds uses None asked rest
+    → InRounds uses None leaves (calls ++ rest)
+
+module _ (uses : ℕ → Bool) (leaves : List ℕ) where
+  pub round_begins : (calls : List PoolEntry) → calls ≡ [] → GoesRound uses leaves calls leaves
+  round_begins calls e rest d = subst (λ l. InRounds uses None leaves (l ++ rest)) (sym e) d
+
+  after_draw : (leaf : ℕ) (reply : PoolReply) (others : List ℕ) (rest : List PoolEntry)
+      (used got : Bool) → uses leaf ≡ used → got_one reply ≡ got
+      → InRounds uses (owed_after used got leaf) (asked_after used got leaf others) rest
+      → InRounds uses (owed_after (uses leaf) (got_one reply) leaf)
+      (asked_after (uses leaf) (got_one reply) leaf others) rest
+  after_draw leaf reply others rest used got u h d =
+      subst (λ b. InRounds uses (owed_after b (got_one reply) leaf)
+      (asked_after b (got_one reply) leaf others) rest) (sym u)
+      (subst (λ b. InRounds uses (owed_after used b leaf) (asked_after used b leaf others) rest)
+      (sym h) d)
+
+  -- the calls of one turn, in front of the rest
+  in_front : (calls calls' turn rest : List PoolEntry) → calls' ≡ calls ++ turn
+      → InRounds uses None leaves (calls ++ (turn ++ rest))
+      → InRounds uses None leaves (calls' ++ rest)
+  in_front calls calls' turn rest e d = subst (InRounds uses None leaves)
+      (sym (ap (λ l. l ++ rest) e ∙ append_assoc calls turn rest)) d
+
+  pub round_kept : (old new : PoolSeat) (leaf : ℕ) (others : List ℕ)
+      → GoesRound uses leaves (calls_of old) (leaf ∷ others) → Keeps uses leaf old new
+      → GoesRound uses leaves (calls_of new) (others ++ leaf ∷ [])
+  round_kept old new leaf others go k rest d =
+      in_front (calls_of old) (calls_of new) (entry old.number (Draw leaf 1) k.reply ∷ []) rest
+      k.calls (go (entry old.number (Draw leaf 1) k.reply ∷ rest)
+      (refl, after_draw leaf k.reply others rest true true k.used k.got d))
+
+  pub round_left : (old new : PoolSeat) (leaf : ℕ) (others : List ℕ)
+      → GoesRound uses leaves (calls_of old) (leaf ∷ others) → DropsLeaf uses leaf old new
+      → GoesRound uses leaves (calls_of new) others
+  round_left old new leaf others go k rest d = elim k.calls [
+    | inl h ↦ in_front (calls_of old) (calls_of new) (entry old.number (Draw leaf 1) k.reply ∷ [])
+        rest h.1 (go (entry old.number (Draw leaf 1) k.reply ∷ rest)
+        (refl, after_draw leaf k.reply others rest (uses leaf) false refl h.0 d))
+    | inr h ↦ in_front (calls_of old) (calls_of new)
+        (entry old.number (Draw leaf 1) k.reply ∷ entry old.number (GiveBack leaf 1) h.2 ∷ []) rest
+        h.3 (go
+        (entry old.number (Draw leaf 1) k.reply ∷ entry old.number (GiveBack leaf 1) h.2 ∷ rest) (
+          refl,
+          after_draw leaf k.reply others (entry old.number (GiveBack leaf 1) h.2 ∷ rest) false
+              true h.0 h.1 (refl, d),
+        ))
+  ]
+
+  pub round_ends : (calls : List PoolEntry) (asked : List ℕ) → GoesRound uses leaves calls asked
+      → InRounds uses None leaves calls
+  round_ends calls asked go = subst (InRounds uses None leaves) (append-nil calls) (go [] tt)

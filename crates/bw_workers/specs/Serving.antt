@@ -5,7 +5,8 @@ use Rattle.bw_machine.specs.declared.history.Made.{Made}
 use Rattle.bw_model.specs.declared.row.Row.{Row}
 use Rattle.bw_pool.specs.declared.calls.PoolCall.{PoolCall}
 use Rattle.bw_pool.specs.declared.calls.PoolReply.{PoolReply}
-use Rattle.bw_workers.specs.Working.{PoolSeat, IsDrainedSeat}
+use Rattle.bw_workers.specs.Rounds.{leaves_in, InRounds}
+use Rattle.bw_workers.specs.Working.{PoolSeat, calls_of, IsDrainedSeat}
 
 -- a seat with which no call was made, and that has so many calls left
 pub record IsReady (lock_id : TableId) (calls seat_number : ℕ) (seat : PoolSeat) : Type 0 where
@@ -33,3 +34,8 @@ calls_by seats caller = slice_index_or (map (λ s. s.own) seats) caller []
 abbrev pub AreSeatsOf : ℕ → List PoolSeat → Type 0
 AreSeatsOf processors seats = (length seats ≡ processors)
     × ((k : ℕ) (d : PoolSeat) → k < length seats → (slice_index_or seats k d).number ≡ k)
+
+-- each seat's calls go round the leaves that are still asked, in row order
+abbrev pub AreInRounds : (ℕ → Bool) → List Row → List PoolSeat → Type 0
+AreInRounds uses rows seats = (k : ℕ) (d : PoolSeat) → k < length seats →
+    InRounds uses None (leaves_in rows) (calls_of (slice_index_or seats k d))

@@ -1,6 +1,7 @@
 //! Workers that draw the slices of one period, a thread for each processor.
 #![tactic(auto)]
 
+mod draws;
 mod fault;
 mod gate;
 mod serving;

@@ -9,7 +9,8 @@ ghost use Rattle.bw_ticket.specs.declared.limits.TheConstants.{MAX_CALLS};
 ghost use Rattle.bw_ticket.specs.Faults.{InRange};
 ghost use Rattle.bw_workers.specs.Headline.{Headline};
 ghost use Rattle.bw_workers.specs.Working.{IsLeaves, IsDrainedSeat};
-ghost use Rattle.bw_workers.specs.Serving.{IsReady, AreReady, AreBack, AreSeatsOf, calls_by};
+ghost use Rattle.bw_workers.specs.Serving.{IsReady, AreReady, AreBack, AreSeatsOf, AreInRounds};
+ghost use Rattle.bw_workers.specs.Serving.{calls_by};
 
 use crate::fault::ServeFault;
 use crate::gate::Gate;
@@ -189,6 +190,8 @@ pub fn serve<G: Gate, R: Threads + Wait + Clock + Sync>(
         (calls_by s.seats.value.items) s.history.items s.drawn.items) }
     ensures seats { IfOk result (λ s.
         AreSeatsOf instance.now.shape.processors s.seats.value.items) }
+    ensures rounds { IfOk result (λ s.
+        AreInRounds (G.used gate.now) instance.now.rows s.seats.value.items) }
     ensures legal { IfOk result (λ s.
         IsLegal after answer (opening instance.now plan.now.amounts.items) s.history.items) }
     ensures drained { IfOk result (λ s.

@@ -1,13 +1,15 @@
 //! The draws of one worker.
-ghost use Rattle.std.specs.Prelude.{◌≡◌, ℕ, ◌+◌, ◌*◌, ◌<◌, ◌≤◌, [], length, None, MatchBool};
+ghost use Rattle.std.specs.Prelude.{◌≡◌, ◌+◌, ◌*◌, ◌^◌, ◌<◌, ◌≤◌, [], length, None, MatchBool};
 ghost use Rattle.bw_model.specs.Host.{slices_per_processor};
 ghost use Rattle.bw_pool.specs.Drained.{got_one};
-ghost use Rattle.bw_workers.specs.Working.{IsLeaves, Asks, Keeps, DropsLeaf, IsDrainedSeat};
+ghost use Rattle.bw_workers.specs.Rounds.{draws_in};
+ghost use Rattle.bw_workers.specs.Working.{IsLeaves, Keeps, DropsLeaf, IsDrainedSeat, calls_of};
 
+use crate::draws::Draws;
 use crate::gate::Gate;
 use bw_model::Instance;
 use bw_model::limits::MAX_GROUPS;
-use bw_pool::{PoolCall, PoolReply, SlicePool};
+use bw_pool::{PoolReply, SlicePool};
 use bw_ticket::{Seat, TicketLock};
 use std::collections::VecDeque;
 use std::rt::Clock;
@@ -23,51 +25,34 @@ fn got_one(reply: PoolReply) -> bool
     }
 }
 
-// One call of a seat that has calls left.
-fn ask<R: Wait + Clock>(
-    rt: &R,
-    lock: &TicketLock<SlicePool>,
-    seat: &mut Seat<SlicePool>,
-    call: PoolCall,
-) -> PoolReply
-    requires lock { seat.old.lock_id ≡ lock.now.lock_id }
-    requires idle { seat.old.pending ≡ None }
-    requires left { 0 < seat.old.calls_left }
-    ensures { Asks seat.old call result seat.new }
-{
-    let Ok(answer) = seat.call(rt, lock, call) else {
-        unreachable!()
-    };
-    answer.reply
-}
-
 // Draws one slice of the leaf and returns whether it is kept. A slice that the leaf does not use is
 // given back at once.
 fn take_turn<G: Gate, R: Wait + Clock>(
     rt: &R,
     lock: &TicketLock<SlicePool>,
-    seat: &mut Seat<SlicePool>,
+    draws: &mut Draws<'_, G>,
     leaf: u32,
-    nth: u64,
-    gate: &G,
 ) -> bool
-    requires lock { seat.old.lock_id ≡ lock.now.lock_id }
-    requires idle { seat.old.pending ≡ None }
-    requires left { 2 ≤ seat.old.calls_left }
-    ensures { MatchBool result (Keeps (G.used gate.now) leaf seat.old seat.new)
-        (DropsLeaf (G.used gate.now) leaf seat.old seat.new) }
+    requires lock { draws.old.seat.lock_id ≡ lock.now.lock_id }
+    requires idle { draws.old.seat.pending ≡ None }
+    requires left { 2 ≤ draws.old.seat.calls_left }
+    requires counted { draws.old.nth ≡ draws_in (calls_of draws.old.seat) }
+    requires small { draws.old.nth + 1 < 2 ^ 64 }
+    ensures turn { MatchBool result
+        (Keeps (G.used draws.old.gate.now) leaf draws.old.seat draws.new.seat)
+        (DropsLeaf (G.used draws.old.gate.now) leaf draws.old.seat draws.new.seat) }
+    ensures gate { draws.new.gate.now ≡ draws.old.gate.now }
+    ensures nth { draws.new.nth ≡ draws.old.nth + 1 }
+    ensures counted { draws.new.nth ≡ draws_in (calls_of draws.new.seat) }
 {
-    let worker = seat.number();
-    gate.before(worker, nth);
-    let reply = ask(rt, lock, seat, PoolCall::Draw { leaf, ask: 1 });
-    gate.after(worker, nth);
+    let reply = draws.draw(rt, lock, leaf);
     if !got_one(reply) {
         return false;
     }
-    if gate.uses(leaf) {
+    if draws.uses(leaf) {
         return true;
     }
-    ask(rt, lock, seat, PoolCall::GiveBack { leaf, n: 1 });
+    draws.give_back(rt, lock, leaf);
     false
 }
 
@@ -77,7 +62,7 @@ fn take_turn<G: Gate, R: Wait + Clock>(
 pub(crate) fn work<G: Gate, R: Wait + Clock>(
     rt: &R,
     lock: &TicketLock<SlicePool>,
-    mut seat: Seat<SlicePool>,
+    seat: Seat<SlicePool>,
     instance: &Instance,
     leaves: Vec<u32>,
     gate: &G,
@@ -98,17 +83,16 @@ pub(crate) fn work<G: Gate, R: Wait + Clock>(
     let slices = shape.per_processor();
     // the next leaf to be asked is first
     let mut leaves = VecDeque::from_vec(leaves);
+    let mut draws = Draws::new(seat, gate);
     let mut kept = 0;
-    let mut nth = 0;
     while kept < slices && !leaves.is_empty() {
         let Some(leaf) = leaves.pop_front() else {
             unreachable!()
         };
-        if take_turn(rt, lock, &mut seat, leaf, nth, gate) {
+        if take_turn(rt, lock, &mut draws, leaf) {
             kept += 1;
             leaves.push_back_reserved(leaf);
         }
-        nth += 1;
     }
-    seat
+    draws.into_seat()
 }

@@ -1,7 +1,7 @@
 -- One more row keeps the list that of the leaves.
-use Rattle.std.proofs.Common.{rules, arith, ◌≡◌, ◌+◌, [], ◌∷◌, ◌++◌, length, vec_capacity, sym, ap}
-use Rattle.std.proofs.Common.{subst, length-append}
-use Rattle.bw_workers.proofs.Rows.{AreLeavesTo, next_leaf, next_inner}
+use Rattle.std.proofs.Common.{rules, arith, ◌≡◌, ℕ, List, [], ◌∷◌, ◌++◌, length, vec_capacity}
+use Rattle.std.proofs.Common.{sym, ap, ◌∙◌, length-append}
+use Rattle.bw_workers.proofs.Rows.{more_leaf, more_inner}
 use Rattle.bw_workers.proofs.serving.leaves_of.Goals.{then-is_leaf, else-is_leaf}
 use Rattle.bw_workers.proofs.serving.leaves_of.Goals as goal
 
@@ -24,8 +24,8 @@ loop-row-preserved c = let was = c.loop-row.invariant in let tree = c.args.insta
               length-append c.loop-row.leaves.items (row ∷ []),
             );
             room = omega (arith, was.room, room);
-            leaves = subst (AreLeavesTo tree (row + 1)) (sym items)
-                (next_leaf tree row c.loop-row.leaves.items was.leaves (search rules));
+            leaves = items ∙ ap (λ (l : List ℕ). l ++ row ∷ []) was.leaves
+                ∙ sym (more_leaf tree row (search rules));
           }
       | else-is_leaf w ↦
           let items : c.if-is_leaf.leaves.items ≡ c.loop-row.leaves.items = search rules in
@@ -36,7 +36,6 @@ loop-row-preserved c = let was = c.loop-row.invariant in let tree = c.args.insta
             few = was.few;
             so_far = omega (arith, was.so_far, ap length items);
             room = omega (arith, was.room, room);
-            leaves = subst (AreLeavesTo tree (row + 1)) (sym items)
-                (next_inner tree row c.loop-row.leaves.items was.leaves (search rules));
+            leaves = items ∙ was.leaves ∙ sym (more_inner tree row (search rules));
           }
     ]

@@ -7,7 +7,7 @@ use Rattle.bw_pool.specs.Pool.{after, answer}
 use Rattle.bw_pool.specs.Drained.{opening, IsDrawnOut}
 use Rattle.bw_pool.proofs.CallerLemmas.{drained_workers_draw_the_plan, plan_is_planned}
 use Rattle.bw_workers.specs.Headline.{Headline}
-use Rattle.bw_workers.specs.Serving.{AreSeatsOf, calls_by}
+use Rattle.bw_workers.specs.Serving.{AreSeatsOf, AreInRounds, calls_by}
 use Rattle.bw_workers.specs.Working.{PoolSeat}
 use Rattle.bw_workers.proofs.Carried.{carried}
 use Rattle.bw_workers.proofs.DrainedHistories.{drained_history, seats_ready}
@@ -73,6 +73,13 @@ returns-clause-seats g c =
     ap (λ v. v.items) c.of-handed_back.ensures in
     subst (AreSeatsOf instance.shape.processors) (sym held)
     (many, λ k d lt. (c.in_ok-seats.ensures.1 k d lt).number)
+
+pub returns-clause-rounds : goal.returns-clause-rounds
+returns-clause-rounds g c =
+    let held : c.of-handed_back.result.value.items ≡ c.in_ok-seats.seats.items =
+    ap (λ v. v.items) c.of-handed_back.ensures in
+    subst (AreInRounds (g.G.Gate.used c.args.gate.now) c.args.instance.now.rows) (sym held)
+    (λ k d lt. (c.in_ok-seats.ensures.1 k d lt).rounds)
 
 pub new-requires : goal.new-requires
 new-requires g c =
