@@ -100,7 +100,12 @@ struct Wanted {
 
 impl Wanted {
     // The answer to a call, `None` for a failure.
-    fn answer(&mut self, call: Call, faulty: usize, fails: bool) -> Result<Option<usize>, AllocError> {
+    fn answer(
+        &mut self,
+        call: Call,
+        faulty: usize,
+        fails: bool,
+    ) -> Result<Option<usize>, AllocError> {
         let is_over = self.failed || self.stalled;
         let (length, is_read) = match call {
             Call::Read(length) => (length, true),
