@@ -1,0 +1,144 @@
+"""The command: boots guests, runs scenarios in them, and compares."""
+from __future__ import annotations
+
+import argparse
+import json
+import subprocess
+import sys
+from collections.abc import Iterator
+from pathlib import Path
+from typing import Any
+
+from kernel import compare, faults, layout, machine, packages, readings, scenario, table
+from kernel.scenario import Scenario
+
+SCENARIOS = Path(__file__).with_name("scenarios")
+ARBITERCTL = Path(__file__).resolve().parents[2] / "python/arbiterctl"
+# By how much each repeat begins later, in microseconds: another place in a quota period and in
+# a tick.
+LATER = 21300
+# Scenarios of one boot.
+BATCH = 12
+
+EPILOG = """\
+SOURCE is a script, whose line `#:` may have options for it, or a host file. Without one all of
+tests/kernel/scenarios run. Exit status: 0 all that is judged is within its bounds; 1 a group is not, or a
+run was refused; 2 something could not be had or run."""
+
+
+def sources(words: list[str]) -> list[Scenario]:
+    """The scenarios that are named: a file, or the beginning of names of scenarios/."""
+    found = []
+    for word in words or [""]:
+        path = Path(word)
+        if path.suffix in (".toml", ".yaml", ".json") and path.is_file():
+            text = packages.said([sys.executable, str(ARBITERCTL), "import", word])
+            found.append(scenario.parse(path.stem, with_host(text)))
+        elif path.suffix == ".script" and path.is_file():
+            found.append(scenario.read(path))
+        else:
+            paths = sorted(SCENARIOS.glob(f"{word}*.script"))
+            if not paths:
+                raise faults.KernelFault(f"{word}: neither a file nor a scenario")
+            found += [scenario.read(each) for each in paths]
+    return found
+
+
+def with_host(text: str) -> str:
+    """A script of `arbiterctl import` with its first line as options: that line names the host."""
+    head, _, rest = text.partition("\n")
+    return f"#: {head.partition(' run ')[2]}\n{rest}"
+
+
+def batches(found: list[Scenario], repeats: int) -> Iterator[list[tuple[Scenario, int]]]:
+    """The runs of each boot: scenarios of equally many processors."""
+    for processors in sorted({each.processors for each in found}):
+        runs = [(each, repeat) for each in found if each.processors == processors
+                for repeat in range(repeats)]
+        for at in range(0, len(runs), BATCH):
+            yield runs[at:at + BATCH]
+
+
+def measured(kernel: packages.Kernel, setting: machine.Setting, options: argparse.Namespace,
+             runs: list[tuple[Scenario, int]]) -> Iterator[compare.Outcome]:
+    """Boots one guest for some runs, and compares them."""
+    jobs = []
+    for each, repeat in runs:
+        span = layout.Span(options.seconds, options.settle, LATER * repeat)
+        jobs.append((f"{each.name} {kernel.name} {repeat + 1}", each, span))
+    lines = machine.run(kernel, runs[0][0].processors, setting, layout.many(jobs))
+    for (_, each, span), run in zip(jobs, readings.runs(lines), strict=True):
+        yield compare.outcome_of(each, run, span)
+
+
+def arguments(words: list[str]) -> argparse.Namespace:
+    """The words of the command line."""
+    parser = argparse.ArgumentParser(
+        prog="test --kernel", epilog=EPILOG, formatter_class=argparse.RawDescriptionHelpFormatter,
+        description="Runs groups of scripts on Linux in a guest, and compares with the plan.")
+    parser.add_argument("sources", nargs="*", metavar="SOURCE", help="scripts or host files")
+    parser.add_argument("--kernels", default=",".join(packages.KERNELS), metavar="NAME,..",
+                        help="of %(default)s (default all)")
+    parser.add_argument("--repeats", type=int, default=5, metavar="N",
+                        help="runs of each scenario, each a little later (default 5)")
+    parser.add_argument("--seconds", type=float, default=10, help="how long counters are watched")
+    parser.add_argument("--settle", type=float, default=1, help="how long tasks run before that")
+    parser.add_argument("--shift", type=int, default=4, metavar="N",
+                        help="an instruction takes 2^N ns of the guest's time (default 4)")
+    parser.add_argument("--kvm", action="store_true", help="run in real time with /dev/kvm")
+    parser.add_argument("--tcg", action="store_true", help="run in real time without it")
+    parser.add_argument("--save", metavar="FILE", help="add each outcome to a file, as JSON lines")
+    parser.add_argument("--list", action="store_true", help="print the scenarios and end")
+    return parser.parse_args(words)
+
+
+def setting_of(options: argparse.Namespace) -> machine.Setting:
+    """How the guests run."""
+    real = options.kvm or options.tcg
+    return machine.Setting(None if real else options.shift, options.kvm)
+
+
+def saved(options: argparse.Namespace, kernel: packages.Kernel, setting: machine.Setting,
+          outcome: compare.Outcome) -> None:
+    """Adds an outcome to the file of `--save`."""
+    if options.save:
+        data: dict[str, Any] = {"release": kernel.release, "ticks": kernel.ticks,
+                                "setting": setting.told, **outcome.as_data()}
+        with open(options.save, "a", encoding="utf-8") as file:
+            file.write(json.dumps(data) + "\n")
+
+
+def work(words: list[str]) -> int:
+    """Runs all, and returns the exit status."""
+    options = arguments(words)
+    found = sources(options.sources)
+    if options.list:
+        print("\n".join(f"{each.name}: {each.about}" for each in found))
+        return 0
+    lacks = packages.missing()
+    if lacks:
+        raise faults.KernelFault(lacks)
+    setting, outcomes = setting_of(options), []
+    for name in options.kernels.split(","):
+        kernel = packages.kernel(name)
+        print(f"Linux {kernel.release}, {kernel.ticks} ticks a second; {setting.told}")
+        for runs in batches(found, options.repeats):
+            for outcome in measured(kernel, setting, options, runs):
+                outcomes.append(outcome)
+                saved(options, kernel, setting, outcome)
+                print("\n".join(table.shown(outcome)), flush=True)
+    print("\n".join(table.summary(outcomes)))
+    return 1 if any(each.wrong or each.refusal for each in outcomes) else 0
+
+
+def main() -> int:
+    """The command, with its faults in one line."""
+    try:
+        return work(sys.argv[1:])
+    except (faults.KernelFault, subprocess.SubprocessError) as fault:
+        print(f"test --kernel: {fault}", file=sys.stderr)
+        return 2
+
+
+if __name__ == "__main__":
+    sys.exit(main())

@@ -1,0 +1,200 @@
+/* The guest's program. Times START, END and AT are nanoseconds of CLOCK_MONOTONIC.
+
+   guest now                                  prints the clock
+   guest until AT                             sleeps
+   guest load NAME START END PERIOD NAP CPUS WORK..
+       One task. PERIOD, NAP and WORK are microseconds; CPUS is a mask of the processors that it may
+       use. In the k-th period from START on it uses the k-th WORK of processor time, round and
+       round, and then sleeps until the next period; what a period did not serve is dropped. With
+       a NAP there are no periods: it uses the first WORK, sleeps for NAP, and so on. At END it
+       prints `task NAME HAD WANTED MET PERIODS MOVES SEEN..`: microseconds had and asked for, the
+       periods that served all, how often it saw itself on another processor than before, and how
+       often it saw itself on each processor.
+   guest watch AT.. -- FILE..
+       At each AT prints `at CLOCK`, and each FILE after a line `file NAME`.
+   guest grid START END FILE..
+       Reads each cpu.stat once a millisecond and prints `grid FILE CLOCK` where nr_periods rose.  */
+
+#define _GNU_SOURCE
+#include <errno.h>
+#include <fcntl.h>
+#include <sched.h>
+#include <stdint.h>
+#include <stdio.h>
+#include <stdlib.h>
+#include <string.h>
+#include <sys/prctl.h>
+#include <time.h>
+#include <unistd.h>
+
+#define MOST_PROCESSORS 64
+#define MOST_FILES 64
+#define MICRO 1000LL
+#define MILLI 1000000LL
+#define SECOND 1000000000LL
+
+static char text[1 << 20];
+static int64_t seen[MOST_PROCESSORS];
+static int moves;
+
+static int64_t read_clock(clockid_t clock) {
+    struct timespec now;
+    clock_gettime(clock, &now);
+    return now.tv_sec * SECOND + now.tv_nsec;
+}
+
+static void sleep_until(int64_t at) {
+    struct timespec then = { at / SECOND, at % SECOND };
+    while (clock_nanosleep(CLOCK_MONOTONIC, TIMER_ABSTIME, &then, NULL) == EINTR)
+        ;
+}
+
+static const char *read_file(const char *name) {
+    int file = open(name, O_RDONLY);
+    ssize_t length = file < 0 ? 0 : read(file, text, sizeof text - 1);
+    if (file >= 0)
+        close(file);
+    text[length < 0 ? 0 : length] = 0;
+    return text;
+}
+
+/* Ahead of every task of the run.  */
+static void go_first(void) {
+    struct sched_param first = { .sched_priority = 50 };
+    sched_setscheduler(0, SCHED_FIFO, &first);
+}
+
+static void spin_until(int64_t at) {
+    static int before = -1;
+    int64_t now = read_clock(CLOCK_MONOTONIC);
+    while (now < at) {
+        for (volatile int i = 0; i < 200; i++)
+            ;
+        int processor = sched_getcpu();
+        moves += before >= 0 && processor != before;
+        before = processor;
+        seen[processor % MOST_PROCESSORS]++;
+        now = read_clock(CLOCK_MONOTONIC);
+    }
+}
+
+/* Uses so much processor time from MARK on, or what there is until END. Returns the processor time
+   at its end, which is the next mark: sleeping and waking count as work. What it had is never more
+   than the time that passed, so a spin for what is missing does not overshoot.  */
+static int64_t work_for(int64_t mark, int64_t work, int64_t end) {
+    int64_t clock = read_clock(CLOCK_THREAD_CPUTIME_ID);
+    while (clock - mark < work) {
+        int64_t now = read_clock(CLOCK_MONOTONIC), until = now + work - (clock - mark);
+        if (now >= end)
+            break;
+        spin_until(until < end ? until : end);
+        clock = read_clock(CLOCK_THREAD_CPUTIME_ID);
+    }
+    return clock;
+}
+
+static void keep_to(uint64_t mask) {
+    cpu_set_t set;
+    CPU_ZERO(&set);
+    for (int processor = 0; processor < MOST_PROCESSORS; processor++)
+        if (mask >> processor & 1)
+            CPU_SET(processor, &set);
+    if (sched_setaffinity(0, sizeof set, &set) != 0)
+        perror("guest: sched_setaffinity");
+}
+
+static void tell(const char *name, int64_t had, int64_t wanted, int64_t met, int64_t periods) {
+    int length = sprintf(text, "task %s %lld %lld %lld %lld %d", name, (long long)(had / MICRO),
+                         (long long)(wanted / MICRO), (long long)met, (long long)periods, moves);
+    long processors = sysconf(_SC_NPROCESSORS_ONLN);
+    for (int at = 0; at < processors && at < MOST_PROCESSORS; at++)
+        length += sprintf(text + length, " %lld", (long long)seen[at]);
+    length += sprintf(text + length, "\n");
+    if (write(1, text, length) != length)
+        exit(1);
+}
+
+static int load(int count, char **words) {
+    if (count < 7)
+        return 2;
+    int64_t start = atoll(words[1]), end = atoll(words[2]), period = atoll(words[3]) * MICRO;
+    int64_t nap = atoll(words[4]) * MICRO, wanted = 0, met = 0, periods = 0;
+    int steps = count - 6;
+    prctl(PR_SET_TIMERSLACK, 1);
+    keep_to(strtoull(words[5], NULL, 16));
+    sleep_until(start);
+    int64_t first = read_clock(CLOCK_THREAD_CPUTIME_ID), mark = first;
+    for (int64_t at = start; at < end; periods++) {
+        int64_t work = atoll(words[6 + periods % steps]) * MICRO, next = at + period;
+        int64_t before = mark;
+        if (nap) {
+            mark = work_for(mark, work, end);
+            next = read_clock(CLOCK_MONOTONIC) + nap;
+        } else if (work >= period) {
+            spin_until(next); /* who asks for the whole period never sleeps in it */
+        } else {
+            mark = work_for(mark, work, next);
+        }
+        met += mark - before >= work;
+        wanted += work;
+        at = next;
+        if (read_clock(CLOCK_MONOTONIC) < next)
+            sleep_until(next);
+    }
+    tell(words[0], read_clock(CLOCK_THREAD_CPUTIME_ID) - first, wanted, met, periods);
+    return 0;
+}
+
+static int watch(int count, char **words) {
+    static char all[1 << 22];
+    size_t length = 0;
+    int times = 0;
+    while (times < count && strcmp(words[times], "--") != 0)
+        times++;
+    go_first();
+    for (int at = 0; at < times; at++) {
+        sleep_until(atoll(words[at]));
+        length += snprintf(all + length, sizeof all - length, "at %lld\n",
+                           (long long)read_clock(CLOCK_MONOTONIC));
+        for (int file = times + 1; file < count; file++) {
+            const char *found = read_file(words[file]);
+            length += snprintf(all + length, sizeof all - length, "file %s\n%s", words[file], found);
+        }
+    }
+    return fwrite(all, 1, length, stdout) != length;
+}
+
+static int grid(int count, char **words) {
+    static long before[MOST_FILES];
+    int64_t end = atoll(words[1]);
+    go_first();
+    for (int64_t at = atoll(words[0]); at < end; at += MILLI) {
+        sleep_until(at);
+        for (int file = 2; file < count && file < MOST_FILES; file++) {
+            char *found = strstr(read_file(words[file]), "nr_periods ");
+            long periods = found ? atol(found + 11) : 0;
+            if (before[file] && periods > before[file])
+                printf("grid %s %lld\n", words[file], (long long)at);
+            before[file] = periods;
+        }
+    }
+    return 0;
+}
+
+int main(int count, char **words) {
+    if (count >= 2 && strcmp(words[1], "now") == 0)
+        return printf("%lld\n", (long long)read_clock(CLOCK_MONOTONIC)) < 0;
+    if (count == 3 && strcmp(words[1], "until") == 0) {
+        go_first();
+        sleep_until(atoll(words[2]));
+        return 0;
+    }
+    if (count >= 3 && strcmp(words[1], "load") == 0)
+        return load(count - 2, words + 2);
+    if (count >= 3 && strcmp(words[1], "watch") == 0)
+        return watch(count - 2, words + 2);
+    if (count >= 4 && strcmp(words[1], "grid") == 0)
+        return grid(count - 2, words + 2);
+    fprintf(stderr, "guest: now, until, load, watch or grid\n");
+    return 2;
+}
