@@ -271,6 +271,51 @@ def test_layout():
         assert not crates_below[crate] & (tower("Tree of groups") | tower("Scripts")), crate
 
 
+# What may stand once in the lock's sources, beside the file and the number of times.
+CALLS_OF_THE_LOCK = {
+    r"\.park\w*\(": ("sleeping.rt", 1),
+    r"\.wake_\w+\(": ("sleeping.rt", 1),
+    r"\bspin_loop\(": ("sleeping.rt", 1),
+    r"\byield_now\(": ("sleeping.rt", 1),
+    # `enter` begins the count of a wait, and `park_on` begins it anew.
+    r"\bAwake::none\(": ("sleeping.rt", 2),
+    r"\bCount::none\(": ("sleeping.rt", 1),
+    # `tickets_ahead` counts each look that is no step.
+    r"\.peek\(": ("steps.rt", 1),
+}
+
+
+def sources_of_the_lock() -> dict:
+    """The code of each file of bw_ticket, without comments."""
+    files = sorted((ROOT / "crates/bw_ticket/src").glob("*.rt"))
+    return {file.name: re.sub(r"//.*", "", file.read_text(encoding="utf-8")) for file in files}
+
+
+def calls_of_the_lock(sources: dict) -> list:
+    """The calls that stand elsewhere than they should, or another number of times."""
+    found = []
+    for call, (name, times) in CALLS_OF_THE_LOCK.items():
+        counts = {file: len(re.findall(call, text)) for file, text in sources.items()}
+        if {file: count for file, count in counts.items() if count} != {name: times}:
+            found.append(call)
+    return found
+
+
+def test_calls_of_the_lock():
+    """DECISIONS: the system is called in one private file, and only there a count begins."""
+    same(calls_of_the_lock(sources_of_the_lock()), [], "calls of the system")
+
+
+@pytest.mark.parametrize("call", ["board.shared.park(rt, 2, 1)", "board.shared.wake_all(2)",
+                                  "spin_loop()", "yield_now()", "Awake::none()",
+                                  "Count::none()", "board.shared.peek(SERVING)"])
+def test_another_call_is_found(call):
+    """One call more in any file is found."""
+    sources = sources_of_the_lock()
+    for name in ("steps.rt", "sleeping.rt", "patience.rt"):
+        assert len(calls_of_the_lock({**sources, name: sources[name] + call})) == 1
+
+
 def test_proofs_are_listed():
     """PROOFS is what its script prints."""
     same(run([ROOT / "scripts/proofs"]).out.decode(), text_of("docs/PROOFS.md"), "scripts/proofs")
