@@ -92,16 +92,17 @@ class Run:
 
 
 def main():
-    runs = []
+    runs, signals = [], []
 
     def pass_on(number, _):
         """rt ends all that it started. What was proved stays."""
+        signals.append(number)
         if not runs:
             sys.exit(128 + number)
         runs[0].rt.send_signal(number)
 
     # Before rt begins: it would inherit an ignored interrupt. That of a terminal reaches it.
-    signal.signal(signal.SIGINT, lambda *_: None)
+    signal.signal(signal.SIGINT, lambda number, _: signals.append(number))
     for number in (signal.SIGTERM, signal.SIGHUP):
         signal.signal(number, pass_on)
     run = Run(*sys.argv[1:])
@@ -111,6 +112,8 @@ def main():
         used = resource.getrusage(resource.RUSAGE_CHILDREN)
         seconds = f"{used.ru_utime + used.ru_stime:.0f} s of the processors"
         run.progress.line(f"{len(run.all)} crates proved, {run.progress.took()}, {seconds}")
+    elif signals:
+        run.progress.line(f"interrupted: {run.how_far()}, {run.progress.took()}")
     else:
         run.progress.line(f"not proved; all that the kit said is in {run.log}")
         print(run.failures(), end="", file=sys.stderr)

@@ -363,6 +363,8 @@ def test_interrupted_build_goes_on(copy, send):
             err = process.communicate(timeout=30)[1]
         same((process.returncode, copy.there(STAMP)), (1, False), f"signal {number}")
         holds(b"build: not built; what was proved is kept", err, f"signal {number}")
+        told = rb"^build: interrupted: 0 of \d+ crates, \d+ s\nbuild: not built; .*\n\Z"
+        assert re.search(told, err, re.M), f"signal {number}: {err}"
         same(group_is_gone(process.pid), True, "processes that are left end soon")
     copy.write("go", "")
     holds(f"build: {PROGRAM}, in ", copy.build(), "the build that goes on")
