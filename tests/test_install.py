@@ -228,6 +228,37 @@ def test_installs_whole_or_not(copy):
         os.rmdir(f"{folder}/{last}")
 
 
+def test_packages_need_debhelper(copy):
+    """Without debhelper the line to type is named, before anything is built."""
+    status, out, err = copy.call(["./build", "--deb"])
+    same((status, out, copy.proved()), (2, "", []), "./build --deb without debhelper")
+    holds("build: dh is missing: sudo apt-get install -y debhelper dh-python ", err, "the line")
+
+
+def test_packages_take_what_is_installed(copy):
+    """Debian's tools get all that is installed, with the pages, and what they make is kept."""
+    tool = ("#!/bin/sh\ncd .. && for at in arbiter/installed arbiter/debian arbiter/docs; do\n"
+            "[ -d $at ] || exit 1; done\nfind arbiter/installed ! -type d >arbiter_1_all.deb\n")
+    for name in ("dh", "dh_python3", "dpkg-buildpackage"):
+        copy.write(f"../bin/{name}", tool)
+        os.chmod(f"{copy.bin}/{name}", 0o755)
+    os.makedirs(f"{copy.top}/docs")
+    os.makedirs(f"{copy.top}/examples")
+    status, out, err = copy.call(["./build", "--deb"])
+    same((status, copy.proved()), (0, [PROVED, LIBRARY_PROVED]), f"./build --deb: {err}")
+    holds("build: made out/debs/arbiter_1_all.deb\n", out, "./build --deb")
+    given = copy.read("out/debs/arbiter_1_all.deb").split("\n")[:-1]
+    same(sorted(given), sorted(f"arbiter/installed/{each}" for each in INSTALLED), "the files")
+    copy.write("../bin/dpkg-buildpackage", "#!/bin/sh\necho no room >&2\nexit 1\n")
+    status, _, err = copy.call(["./build", "--deb"])
+    same((status, copy.there("out/debs/arbiter_1_all.deb")), (1, True), "packages that fail")
+    holds("no room\nbuild: no packages made\n", err, "packages that fail")
+    copy.write("share/debian/changelog", "arbiter (9.9.9) unstable; urgency=low\n")
+    status, _, err = copy.call(["./build", "--deb"])
+    same(status, 1, "another version")
+    holds("begins with 'arbiter (9.9.9)", err, "another version")
+
+
 def test_arbiterctl_of_the_installation(copy, program, library):
     """The installed command runs from anywhere, and finds the library beside its package."""
     shutil.copy(program.path, f"{copy.kit}/made")

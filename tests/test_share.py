@@ -166,7 +166,8 @@ def test_one_version(path):
     for name, spelled in (("arbiter.pc", "^Version: (.*)$"),
                           ("arbiter.h", '^#define ARBITER_VERSION "(.*)"$'),
                           ("rust/Cargo.toml", '^version = "(.*)"$'),
-                          ("arbiter.1", r"^\.Ql arbiter (\S*) ,$")):
+                          ("arbiter.1", r"^\.Ql arbiter (\S*) ,$"),
+                          ("debian/changelog", r"\Aarbiter \((.*)\) ")):
         same(re.findall(spelled, share(name), re.M), [wanted], f"version in {name}")
     first = wanted.partition(".")[0]
     same(re.findall(r"^LIBARBITER_(\w+) {$", share("arbiter.map"), re.M), [first], "exported names")

@@ -119,6 +119,27 @@ def test_script_warns():
     assert script.read(b"mkdir a\n", "F", Host(2, 100000, 1000)).notes == []
 
 
+@pytest.mark.parametrize("comment, tasks, asks", [
+    ("# tasks 2", 2, 500), ("# tasks 2, asks 9cpu", None, 500), ("# tasks 0", None, 500),
+    ("# tasks 1, asks 500m", 1, 500), ("# tasks x", None, 500), ("# tasks 2\n#", None, 500),
+])
+def test_tasks_above_a_demand(comment, tasks, asks):
+    """They are taken where they are of this demand: half a CPU that one task or two can use."""
+    text = f"mkdir a\n{comment}\ndemand a 10\n"
+    group = script.read(text.encode(), "F", Host()).groups["a"]
+    assert (group.tasks, group.demand) == (tasks, asks)
+
+
+def test_tasks_that_cut_are_kept():
+    """A demand of 6 CPUs of one task is one CPU, and reads back as 6 CPUs of one task."""
+    model = Model(Host(8, 100000, 5000))
+    model.add(Group("a", demand=Fraction(6000), tasks=1))
+    text = script.write(model)
+    assert text.endswith("# tasks 1, asks 6cpu\ndemand a 20\n")
+    group = script.read(text.encode(), "F").groups["a"]
+    assert (group.tasks, group.demand, group.usable) == (1, 6000, 1000)
+
+
 def test_script_with_carriage_returns():
     """They are parts of words, as for the program, and that is told."""
     model = script.read(b"mkdir a\r\ndemand a 5\r\n", "F", Host())
@@ -142,6 +163,7 @@ def models(draw):
         group.burst = draw(st.integers(0, min(quota or 10**15, 10**15)))
         slices = draw(st.integers(0, 100000))
         group.demand = script.slices_demand(slices, model.host)
+        group.tasks = draw(st.one_of(st.none(), st.integers(0, 8)))
         model.add(group)
     return model
 

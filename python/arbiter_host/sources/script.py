@@ -7,7 +7,7 @@ from __future__ import annotations
 
 import re
 from collections.abc import Callable
-from dataclasses import dataclass
+from dataclasses import dataclass, replace
 from fractions import Fraction
 
 from arbiter_host import names, units
@@ -16,6 +16,8 @@ from arbiter_host.faults import HostFault
 from arbiter_host.model import MAX_DEPTH, MAX_GROUPS, Group, Host, Model
 
 HEAD = re.compile(r"^#\s*(?:\./)?arbiter run((?:\s+--[a-z]+[ =][0-9]{1,9})+)\s*(?:<.*)?$")
+# Above a `demand`: the tasks that bound it, and what is asked where they cut it.
+TASKS = re.compile(r"# tasks ([0-9]{1,9})(?:, asks ([0-9]{1,30}[a-z]{0,3}))?")
 OPTION = re.compile(r"--([a-z]+)[ =]([0-9]+)")
 NUMBER = re.compile(r"0|[1-9][0-9]*")
 MAX_LINE = 65536
@@ -229,6 +231,24 @@ def take_line(reader: Reader, line: bytes) -> None:
         reader.line(text)
 
 
+def take_tasks(model: Model, before: bytes, line: bytes) -> None:
+    """Takes what the comment above a `demand` says of tasks, unless it is of another demand."""
+    found = TASKS.fullmatch(before.decode(errors="replace"))
+    if not found or not line.lstrip(b" \t").startswith(b"demand"):
+        return
+    host, path = model.host, re.split(r"[ \t]+", line.decode().strip(" \t"))[1]
+    group = model.groups[path]
+    asks = units.parse_cpu(found.group(2)) if found.group(2) else group.demand
+    told = replace(group, tasks=int(found.group(1)), demand=asks)
+    if slices_of(told, host) == slices_of(group, host):
+        model.groups[path] = told
+
+
+def slices_of(group: Group, host: Host) -> int:
+    """The slices that a group's tasks can use of its demand."""
+    return units.demand_slices(group.usable, host.period, host.slice_usec)
+
+
 def script_lines(data: bytes) -> list[bytes]:
     """The lines of a script without their newlines."""
     lines = data.split(b"\n")
@@ -250,9 +270,10 @@ def read(data: bytes, name: str, host: Host | None = None, engine: Engine | None
         model.notes.append("its lines end with carriage returns, which are parts of words here:"
                            " write newlines alone")
     reader = Reader(model, engine)
-    for number, line in enumerate(lines, 1):
+    for number, (before, line) in enumerate(zip([b"", *lines], lines), 1):
         try:
             take_line(reader, line)
+            take_tasks(model, before, line)
         except RefusedLine as refused:
             text = names.shown(names.cut(line[:400].decode(errors="replace"), 120))
             model.refused.append(f"{name}:{number}: error {refused.number} {refused}: {text}")
@@ -278,9 +299,17 @@ def comments(group: Group) -> list[str]:
     found = []
     if group.title:
         found.append(f"# {names.shown(group.path)} is {names.shown(group.title)}")
-    if group.tasks is not None and group.usable < group.demand:
-        found.append(f"# {names.shown(group.path)}: demand cut to its {group.tasks} tasks")
     return found
+
+
+def demanded(group: Group, host: Host) -> list[str]:
+    """The lines of a group's demand, with its tasks in a comment."""
+    slices = slices_of(group, host)
+    if slices == 0:
+        return []
+    asks = f", asks {units.cpu_text(group.demand)}" if group.usable < group.demand else ""
+    tasks = [f"# tasks {group.tasks}{asks}"] if group.tasks is not None else []
+    return [*tasks, f"demand {group.path} {slices}"]
 
 
 def write(model: Model) -> str:
@@ -290,9 +319,7 @@ def write(model: Model) -> str:
     for group in model.groups.values():
         lines += [*comments(group), *settings(group)]
     for group in model.groups.values():
-        slices = units.demand_slices(group.usable, host.period, host.slice_usec)
-        if slices:
-            lines.append(f"demand {group.path} {slices}")
+        lines += demanded(group, host)
     return "".join(f"{line}\n" for line in lines)
 
 
