@@ -67,7 +67,10 @@ fn assert_many(rt: &impl Abort, alloc: Global) -> Result<(), AllocError> {
     assert_fours(rt, &split(alloc, 64000, &WEIGHTS, &MOST)?);
     assert_fours(rt, &split_by_marks(alloc, 64000, &WEIGHTS, &MOST)?);
     let mut work = Work::new();
-    assert_fours(rt, &split_counted(alloc, 64000, &WEIGHTS, &MOST, &mut work)?);
+    assert_fours(
+        rt,
+        &split_counted(alloc, 64000, &WEIGHTS, &MOST, &mut work)?,
+    );
     Ok(())
 }
 
