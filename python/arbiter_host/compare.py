@@ -69,7 +69,16 @@ def cell(plan: Plan, group: Planned | None, key: str, unit: str) -> str:
     return "-" if group is None else text.amount(plan, getattr(group, key), unit)
 
 
-def reason(one: Plan, two: Plan, pair: Pair, is_wide: bool) -> str:
+def reasons(one: Plan, two: Plan, pair: Pair, view: View) -> tuple[str, ...]:
+    """The forms of a reason that the table may have, from long to short."""
+    if view.width < explain.WIDE:
+        return (reason(one, two, pair, False, False),)
+    whole = reason(one, two, pair, True, True)
+    return (whole, explain.starred(whole), reason(one, two, pair, False, True),
+            reason(one, two, pair, False, False))
+
+
+def reason(one: Plan, two: Plan, pair: Pair, is_wide: bool, has_before: bool) -> str:
     """Why the second plan gives its amount, and why the first did where that differs."""
     if pair.two is None or pair.one is None:
         plan, group = (one, pair.one) if pair.two is None else (two, pair.two)
@@ -77,11 +86,12 @@ def reason(one: Plan, two: Plan, pair: Pair, is_wide: bool) -> str:
         return f"{which}: {explain.why(plan, group, is_wide)}" if group else which
     before = explain.why(one, pair.one, is_wide)
     after = explain.why(two, pair.two, is_wide)
-    return after if before == after or not is_wide else f"{after} (before: {before})"
+    return after if before == after or not has_before else f"{after} (before: {before})"
 
 
-def row(one: Plan, two: Plan, pair: Pair, view: View) -> tuple[list[str], str, str, str]:
-    """The numbers, the reason, the name and the style of a group's line."""
+def row(one: Plan, two: Plan, pair: Pair,
+        view: View) -> tuple[list[str], tuple[str, ...], str, str]:
+    """The numbers, the forms of the reason, the name and the style of a group's line."""
     unit = view.unit
     cells = [cell(one, pair.one, "gets", unit), cell(two, pair.two, "gets", unit),
              signed(one, two, pair, unit), cell(one, pair.one, "want", unit),
@@ -89,7 +99,7 @@ def row(one: Plan, two: Plan, pair: Pair, view: View) -> tuple[list[str], str, s
     change = gain(one, two, pair)
     style = "green" if change > 0 else "red" if change < 0 else ""
     name = "the host (.)" if pair.path == "." else short(shown(pair.path))
-    return cells, reason(one, two, pair, view.width >= explain.WIDE), name, style
+    return cells, reasons(one, two, pair, view), name, style
 
 
 def heads(one: Plan, two: Plan, view: View) -> Iterator[tuple[str, str]]:
@@ -114,16 +124,19 @@ def table(one: Plan, two: Plan, view: View) -> list[tuple[str, str]]:
     widths = [max([len(names_[at]), *(len(each[0][at]) for each in rows)]) for at in range(5)]
     left = sum(widths) + 12
     room = max(view.width - left, 30)
-    whys = max([width(each[1]) for each in rows] + [3])
-    longest = max([width(each[2]) for each in rows] + [5])
-    whys = min(whys, max(room - max(min(longest, room // 2), LEAST_NAME), 12))
-    lines = [(names_, "why", "group", "bold"), *rows]
+    # In a narrow table names are cut and not reasons.
+    longest = max([width(each[2]) for each in rows] + [5]) if view.width >= explain.WIDE else 0
+    most = max(room - max(min(longest, room // 2), LEAST_NAME), 12)
+    why_ = explain.fitting([each[1] for each in rows], most)
+    whys = min(max([width(each) for each in why_] + [3]), most)
+    lines = [(names_, "why", "group", "bold"),
+             *((cells, why, name, style) for (cells, _, name, style), why in zip(rows, why_))]
     for cells, why, name, style in lines if rows else []:
         numbers = "  ".join(each.rjust(widths[at]) for at, each in enumerate(cells))
         end = tail(name, max(view.width - left - whys, LEAST_NAME))
         found.append((f"{numbers}  {padded(cut(why, whys), whys)}  {end}".rstrip(), style))
     found.append((f"{len(all_) - len(chosen)} of {len(all_)} groups are the same in both", ""))
-    if any("THROTTLED*" in each[1] for each in rows):
+    if any("THROTTLED*" in each for each in why_):
         found.append((explain.THROTTLED_NOTE, ""))
     return found
 

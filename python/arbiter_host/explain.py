@@ -57,7 +57,8 @@ class Line:
     cells: tuple[str, str, str]
     part: int
     whole: int
-    why: str
+    # Its reason, from long to short.
+    forms: tuple[str, ...]
     label: str
     style: str = ""
 
@@ -67,9 +68,8 @@ def why(plan: Plan, group: Planned, is_wide: bool) -> str:
     reason = plan.reason(group)
     words = reason.words if is_wide else narrow(plan, group)
     found = [each for each in marks(group) if each != "THROTTLED" or reason.name != "own limit"]
-    if not is_wide:
-        found = [each.replace("THROTTLED, NOT BY ITS LIMIT", "THROTTLED*") for each in found]
-    return "; ".join([*found, words])
+    whole = "; ".join([*found, words])
+    return whole if is_wide else starred(whole)
 
 
 def narrow(plan: Plan, group: Planned) -> str:
@@ -104,9 +104,26 @@ def line_of(plan: Plan, group: Planned, view: View) -> Line:
     cells = tuple(text.amount(plan, value, view.unit)
                   for value in (group.gets, group.want, group.limit))
     name = "STARVED" if group.is_starved else plan.reason(group).name
-    words = why(plan, group, view.width >= WIDE)
-    return Line((cells[0], cells[1], cells[2]), group.gets, group.want, words,
+    return Line((cells[0], cells[1], cells[2]), group.gets, group.want,
+                forms(why(plan, group, True), why(plan, group, False), view),
                 label(plan, group, view), STYLES.get(name, ""))
+
+
+def forms(whole: str, brief: str, view: View) -> tuple[str, ...]:
+    """The forms of a reason that a table may have, from long to short."""
+    return (whole, starred(whole), brief) if view.width >= WIDE else (brief,)
+
+
+def starred(words: str) -> str:
+    """A reason whose longest mark refers to the note below the table."""
+    return words.replace("THROTTLED, NOT BY ITS LIMIT", "THROTTLED*")
+
+
+def fitting(found: Sequence[tuple[str, ...]], room: int) -> list[str]:
+    """The reasons whole where none is cut, else each in the longest other form that fits."""
+    if all(width(each[0]) <= room for each in found):
+        return [each[0] for each in found]
+    return [next((form for form in each[1:] if width(form) <= room), each[-1]) for each in found]
 
 
 def ordered(groups: Sequence[Planned], view: View) -> list[Planned]:
@@ -177,9 +194,9 @@ def few_tasks(plan: Plan) -> int:
                and group.gets < group.want)
 
 
-def foot(plan: Plan, view: View, lines: Sequence[Line]) -> Iterator[str]:
+def foot(plan: Plan, view: View, lines: Sequence[str]) -> Iterator[str]:
     """The lines below the table."""
-    if any("THROTTLED*" in line.why for line in lines):
+    if any("THROTTLED*" in line for line in lines):
         yield THROTTLED_NOTE
     idle = sum(1 for group in plan.groups[1:] if group.want == 0)
     if idle and not view.everything and not view.is_flat:
@@ -199,19 +216,20 @@ def rendered(lines: Sequence[Line], view: View) -> list[tuple[str, Line | None]]
     left = sum(widths) + 4 + (cells + 4 if cells else 0)
     longest = max([width(line.label) for line in lines] + [5])
     room = max(view.width - left - 4, 30)
-    whys = max([width(line.why) for line in lines] + [3])
-    whys = min(whys, max(room - max(min(longest, room // 2), LEAST_NAME), 12))
+    most = max(room - max(min(longest, room // 2), LEAST_NAME), 12)
+    reasons = fitting([line.forms for line in lines], most)
+    whys = min(max([width(each) for each in reasons] + [3]), most)
     found: list[tuple[str, Line | None]] = []
     heads = "  ".join(name.rjust(widths[at]) for at, name in enumerate(names_))
     heads += "  " + padded("gets of wants"[:cells + 2], cells + 2) if cells else ""
     found.append((f"{heads}  {padded('why', whys)}  group", None))
-    for line in lines:
+    for line, reason in zip(lines, reasons):
         numbers = "  ".join(each.rjust(widths[at]) for at, each in enumerate(line.cells))
         numbers += "  " + text.bar(line.part, line.whole, cells) if cells else ""
         fit = tail if view.is_flat else cut
         room = max(view.width - left - whys - 4, LEAST_NAME)
         name = line.label if view.full_names else fit(line.label, room)
-        found.append((f"{numbers}  {padded(cut(line.why, whys), whys)}  {name}".rstrip(), line))
+        found.append((f"{numbers}  {padded(cut(reason, whys), whys)}  {name}".rstrip(), line))
     return found
 
 
@@ -223,7 +241,7 @@ def table(plan: Plan, view: View) -> list[tuple[str, str]]:
         found += [(each, line.style if line else "bold") for each, line in rendered(lines, view)]
     else:
         found.append((f"no group is {' or '.join(view.only)}", ""))
-    return found + [(each, "") for each in foot(plan, view, lines)]
+    return found + [(each, "") for each in foot(plan, view, [each for each, _ in found])]
 
 
 def amounts(plan: Plan, slices: int | None) -> dict[str, Any] | None:

@@ -1,7 +1,8 @@
 """Draws a plan as SVG: the tree, and to one scale what each group wants, may have and gets.
 
-Groups beyond the number of rows are folded into one row for each parent, the small ones first;
-groups that ask for nothing are left out.
+Groups beyond the number of rows are folded into one row for each parent, the small ones first,
+or into their parent's own row where none of them is shown. Groups that ask for nothing are left
+out.
 The scale is repeated every few rows.
 """
 from __future__ import annotations
@@ -14,7 +15,7 @@ from arbiter_host.names import cut, last_name, short, shown
 from arbiter_host.plan import Plan, Planned
 
 ROW, INDENT, BARS, EDGE, HEAD = 20, 14, 400, 16, 70
-NAME_CELLS, NOTE_CELLS = 40, 86
+NAME_CELLS, NOTE_CELLS = 40, 128
 # Rows from one scale to the next.
 SCALE_ROWS = 24
 MOST_ROWS = 1000
@@ -80,6 +81,16 @@ def folded(plan: Plan, groups: list[Planned], depth: int, unit: str) -> Entry:
     return Entry(depth, name, gets, want, None, note, name, is_marked=starved > 0, is_folded=True)
 
 
+def fold_into(entry: Entry, groups: list[Planned]) -> None:
+    """Tells of groups that are not shown in the row of their parent."""
+    count = sum(explain.size(each) for each in groups)
+    starved = sum(1 for each in groups if each.is_starved)
+    entry.name += f" (+{count} below)"
+    if starved:
+        entry.note += f"; starved below: {starved}"
+        entry.is_marked = True
+
+
 def fitting(plan: Plan, unit: str, depth: int, rows: int) -> list[Entry]:
     """The rows of as many groups as leave room for the rows of the folds."""
     shown_ = rows
@@ -107,7 +118,9 @@ def entries(plan: Plan, unit: str, depth: int, rows: int) -> list[Entry]:
         rest = [child for child in each.children if child.row not in shows and child.want]
         if len(rest) == 1 and not rest[0].children:
             shows.add(rest.pop().row)
-        if rest:
+        if rest and len(rest) == sum(1 for child in each.children if child.want):
+            fold_into(entry, rest)
+        elif rest:
             waiting.append((folded(plan, rest, each.depth + 1, unit), place))
         waiting += [(child, place) for child in reversed(each.children) if child.row in shows]
     return found

@@ -25,17 +25,18 @@ summary{list-style:none;position:relative;padding-left:1rem;cursor:pointer}
 summary::-webkit-details-marker{display:none}
 summary::before{content:"\\25b8";position:absolute;left:0;color:#616e7c}
 details[open]>summary::before{content:"\\25be"}
-.row{display:grid;grid-template-columns:minmax(8rem,1fr) 11rem 9rem 27rem;
+.row{display:grid;grid-template-columns:minmax(8rem,1fr) 11rem 8rem 32rem;
 gap:.8rem;align-items:center;padding:.05rem 0}
 summary:hover,.leaf:hover{background:#f3f6f9}
 .name{overflow-wrap:anywhere}.num{font-variant-numeric:tabular-nums;white-space:nowrap}
 .track{background:#eef1f4;height:.7rem;position:relative;display:block}
 .want{background:#bcd4ec;height:100%;position:absolute;left:0;top:0}
 .get{background:#2b6cb0;height:100%;position:absolute;left:0;top:0}
-.bad{color:#b4231f;font-weight:600}.idle{opacity:.55}
+.bad{color:#b4231f}.idle{opacity:.55}
 table{border-collapse:collapse;width:100%}th,td{text-align:right;padding:.15rem .5rem;
 border-bottom:1px solid #e4e7eb;font-variant-numeric:tabular-nums}
 th:nth-last-child(-n+2),td:nth-last-child(-n+2){text-align:left;overflow-wrap:anywhere}
+td:last-child{min-width:16em}.changes h2{display:inline}.changes>summary{margin-top:1.2rem}
 .up{color:#1a7f37}.down{color:#b4231f}
 @media(max-width:64rem){.row{grid-template-columns:1fr 9rem}.row>:nth-child(n+3){grid-column:1/-1}}
 """
@@ -61,10 +62,12 @@ function show(){
 find.addEventListener('input',show);hurt.addEventListener('change',show);
 for(const [name,open] of [['open',true],['shut',false]])
  document.getElementById(name).addEventListener('click',()=>{
-  for(const each of document.querySelectorAll('details'))each.open=open||each.className==='top';});
+  for(const each of document.querySelectorAll('details:not(.changes)'))each.open=open||each.className==='top';});
 """
 # Trees of at most so many groups are open when the page is.
 OPEN_GROUPS = 150
+# Tables of at most so many changes are open.
+OPEN_CHANGES = 40
 
 
 def percent(part: int, whole: int) -> str:
@@ -121,19 +124,20 @@ def changes(before: Plan, plan: Plan, unit: str) -> Iterator[str]:
     """The table of what differs from an earlier plan."""
     view = explain.View(unit=unit, width=1000)
     pairs = [pair for pair in compare.pairs(before, plan) if compare.differs(before, plan, pair)]
-    yield "<h2>Before and after</h2>"
+    opened = " open" if len(pairs) <= OPEN_CHANGES else ""
+    yield f'<details class="top changes"{opened}><summary><h2>Before and after</h2></summary>'
     heads = [escape(next(explain.head(each, view))) for each in (before, plan)]
     yield f"<p>{heads[0]} before; {heads[1]} after. Groups that differ: {len(pairs)}.</p>"
     yield ("<table><tr><th>gets</th><th>then</th><th>change</th><th>wants</th><th>then</th>"
            "<th>why</th><th>group</th></tr>")
     for pair in pairs:
-        cells, why, name, style = compare.row(before, plan, pair, view)
+        cells, (why, *_), name, style = compare.row(before, plan, pair, view)
         kind = {"green": "up", "red": "down"}.get(style, "")
         numbers = "".join(f"<td>{escape(each)}</td>" for each in cells[:2])
         rest = "".join(f"<td>{escape(each)}</td>" for each in cells[3:])
         yield (f'<tr>{numbers}<td class="{kind}">{escape(cells[2])}</td>{rest}'
                f"<td>{escape(why)}</td><td>{escape(name)}</td></tr>")
-    yield "</table>"
+    yield "</table></details>"
 
 
 def notes(plan: Plan) -> Iterator[str]:

@@ -5,6 +5,7 @@ import os
 import sys
 import time
 from collections.abc import Callable
+from dataclasses import replace
 
 from arbiter_host import explain, names
 from arbiter_host.explain import View
@@ -21,9 +22,22 @@ def height() -> int:
         return 24
 
 
-def screen(plan: Plan, view: View, rows: int) -> Lines:
-    """The lines of one picture of the host, cut to so many rows."""
+def folded(plan: Plan, view: View, rows: int) -> Lines:
+    """The table as deep as it has room; else the top of the tree, the greatest lack first."""
     lines = explain.table(plan, view)
+    deepest = min(max(group.depth for group in plan.groups), view.depth)
+    for depth in range(deepest - 1, 0, -1):
+        if len(lines) <= rows or view.is_flat:
+            return lines
+        lines = explain.table(plan, replace(view, depth=depth))
+    if len(lines) <= rows or view.sort or view.is_flat:
+        return lines
+    return explain.table(plan, replace(view, depth=1, sort="lack"))
+
+
+def screen(plan: Plan, view: View, rows: int) -> Lines:
+    """The lines of one picture of the host, folded and cut to so many rows."""
+    lines = folded(plan, view, rows)
     head = [(f"{time.strftime('%H:%M:%S')}  {lines[0][0]}", lines[0][1]), *lines[1:]]
     if len(head) <= rows:
         return head

@@ -1,6 +1,7 @@
 """Apply and undo: what is printed, what is written, in which order, and what is refused."""
 import json
 import os
+import signal
 from fractions import Fraction
 
 import pytest
@@ -236,3 +237,54 @@ def test_places_of_an_import(folder):
     after.groups["a%20b"].weight = 5
     found, left = apply.changes(before, after, beneath.Root(str(folder / "t")))
     assert ([each.folder for each in found], left) == (["a b"], [])
+
+
+# Sets the properties of a unit as systemd would, and kills its caller at one of its calls.
+SYSTEMCTL = """#!/usr/bin/python3 -SE
+import os, signal, sys
+tree, count, stop, late = {tree!r}, {count!r}, {stop}, {late}
+made = int(open(count).read()) + 1
+open(count, "w").write(str(made))
+if made == stop and not late:
+    os.kill(os.getppid(), signal.SIGKILL)
+    sys.exit()
+unit, properties = sys.argv[4], dict(each.split("=", 1) for each in sys.argv[5:])
+if "CPUWeight" in properties:
+    open(f"{{tree}}/{{unit}}/cpu.weight", "w").write(properties["CPUWeight"] + "\\n")
+if "CPUQuota" in properties:
+    period = int(properties["CPUQuotaPeriodSec"].removesuffix("us"))
+    part = properties["CPUQuota"].removesuffix("%")
+    quota = round(float(part) * period / 100) if part else "max"
+    open(f"{{tree}}/{{unit}}/cpu.max", "w").write(f"{{quota}} {{period}}\\n")
+if made == stop:
+    os.kill(os.getppid(), signal.SIGKILL)
+"""
+
+
+@pytest.mark.parametrize("stop, late", [(1, False), (2, True), (3, False), (4, True)])
+def test_killed_at_any_call_and_undone(ctl, folder, stop, late):
+    """The command is killed at a call of systemctl; `undo` brings all old settings back."""
+    tree, bin_ = folder / "t", folder / "bin"
+    host(tree, [(f"{name}.service", OLD) for name in "abc"])
+    before = imported(ctl, tree)
+    bin_.mkdir()
+    (bin_ / "count").write_text("0")
+
+    def systemctl(stop):
+        text = SYSTEMCTL.format(tree=str(tree), count=str(bin_ / "count"), stop=stop, late=late)
+        (bin_ / "systemctl").write_text(text)
+        (bin_ / "systemctl").chmod(0o755)
+
+    systemctl(stop)
+    ctl.environment["PATH"] = f"{bin_}:{os.environ['PATH']}"
+    words = ["apply", before, "--root", tree, "--yes", "--undo", folder / "u"]
+    for name in "ab":
+        words += ["--set", f"{name}.service.weight=200", "--set", f"{name}.service.max=50%"]
+    assert ctl.ended(*words).returncode == -signal.SIGKILL
+    assert int((bin_ / "count").read_text()) == stop
+    done = sum(holds(tree, f"{name}.service").weight == 200 for name in "ab")
+    done += sum(holds(tree, f"{name}.service").quota == 50000 for name in "ab")
+    assert done == (stop if late else stop - 1)
+    systemctl(0)
+    ctl.run("undo", folder / "u", "--yes")
+    assert [holds(tree, f"{name}.service") for name in "abc"] == [OLD] * 3

@@ -93,6 +93,18 @@ def test_as_wide_as_the_terminal(ctl, columns):
     assert "queue" in out
 
 
+@pytest.mark.parametrize("columns", [80, 120, 200])
+@pytest.mark.parametrize("words", [["explain"], ["compare", "--set", "burstable.weight=300"]])
+def test_no_reason_is_cut(ctl, columns, words):
+    """Reasons are shorter where a terminal is narrow, and whole in each width."""
+    ctl.environment["COLUMNS"] = str(columns)
+    out, _ = ctl.run(*words, ROOT / "examples/node.script")
+    assert "\u2026  " not in out
+    short = "THROTTLED*; " in out
+    assert short == (columns < 200) == ("* throttled, not by its limit" in out)
+    assert ("THROTTLED, NOT BY ITS LIMIT; the host is full: weight 10 of 30" in out) == (not short)
+
+
 def test_long_identifiers_are_short(ctl):
     name = f"cri-containerd-{'ab' * 32}.scope"
     given = f"{HEAD}mkdir {name}\ndemand {name} 30\n".encode()
@@ -105,7 +117,7 @@ def test_only_and_sort(ctl):
     out, _ = ctl.run("explain", "--only", "starved", "-", given=REASONS.encode())
     assert [line.split()[-1] for line in out.split("\n")[6:-1]] == ["small", "none"]
     out, _ = ctl.run("explain", "--only", "asking", "--sort", "lack", "--unit", "slices", "-",
-                     given=REASONS.encode())
+                     "--width", "200", given=REASONS.encode())
     rows = [line.split() for line in out.split("\n")[6:-1]]
     lacks = [int(row[1]) - int(row[0]) for row in rows]
     assert lacks == sorted(lacks, reverse=True) and len(rows) == 8

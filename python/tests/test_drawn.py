@@ -12,7 +12,7 @@ from fractions import Fraction
 
 import pytest
 import trees
-from arbiter_host import picture, report, samples, series
+from arbiter_host import explain, picture, report, samples, series, top
 from arbiter_host.faults import HostFault
 from arbiter_host.model import Group, Host, Model
 from arbiter_host.plan import plan
@@ -51,6 +51,17 @@ def test_picture_is_legible(library_engine, count):
     assert all(min(abs(row - unit) for unit in units) <= 25 * picture.ROW for row in rows)
     if count == 1950:
         assert "more groups" in drawn
+
+
+def test_picture_cuts_no_reason(library_engine):
+    """Each note is whole, a group's marks and reason with it, and idle rows take no room."""
+    for count in (5, 111, 1950):
+        found = picture.fitting(plan(library_engine, wide_host(count)), "cpu", 64, 120)
+        assert max(len(entry.note) for entry in found) <= picture.NOTE_CELLS
+        own = [entry for entry in found if "below)" in entry.name]
+        assert bool(own) == (count == 1950) and not any(entry.below for entry in own)
+        drawn = [entry for entry in found if not entry.is_folded]
+        assert len(drawn) >= min(count, 110)
 
 
 @pytest.mark.parametrize("rows", [1, 10, 1000])
@@ -267,6 +278,23 @@ def test_prometheus(ctl):
     assert "refused" in err
 
 
+@pytest.mark.parametrize("rows, first, folds", [
+    (200, "pod0", False), (40, "pod0 (+3 below)", True), (24, "pod5 (+3 below)", True),
+])
+def test_top_folds_what_has_no_room(library_engine, rows, first, folds):
+    """28 pods of 4: whole, folded to the pods, and these by what they lack where 28 are too many.
+
+    pod5 lacks most: it has the greatest want, 2.46, of those that get little.
+    """
+    found = plan(library_engine, wide_host(111))
+    lines = [line for line, _ in top.screen(found, explain.View(width=80), rows)]
+    assert len(lines) <= rows and lines[7].endswith(f"  {first}")
+    assert any("below)" in line for line in lines) == folds
+    assert ("no room here" in lines[-1]) == (rows == 24)
+    lacks = sorted((each.gets - each.want, each.path) for each in found.groups if each.depth == 1)
+    assert rows != 24 or lacks[0][1] == "pod5"
+
+
 def test_top_without_a_terminal(ctl, folder):
     trees.root2(folder)
     trees.group2(folder / "web", usage=5)
@@ -286,7 +314,7 @@ def test_top_on_a_terminal(ctl, folder, columns, lines):
                "if pid==0: os.read(ready,1); os.execvp(sys.argv[1],sys.argv[1:])\n"
                f"fcntl.ioctl(fd,termios.TIOCSWINSZ,struct.pack('HHHH',{lines},{columns},0,0))\n"
                "os.write(say,b'x')\n"
-               "out=b'';end=time.time()+20\n"
+               "out=b'';end=time.time()+50\n"
                "while time.time()<end and out.count(b'CPUs, period')<3:\n"
                "  if select.select([fd],[],[],.2)[0]:\n"
                "    try: out+=os.read(fd,65536)\n"
@@ -303,7 +331,8 @@ def test_top_on_a_terminal(ctl, folder, columns, lines):
     ctl.environment["TERM"] = "xterm"
     words = ["python3", "-c", command, "/usr/bin/python3", PACKAGE / "arbiterctl", "top", folder,
              "--want", "busy", "--cpus", "2", "--interval", "100ms"]
-    ended = subprocess.run(words, capture_output=True, timeout=60, env=ctl.environment, check=False)
+    ended = subprocess.run(words, capture_output=True, timeout=120, env=ctl.environment,
+                           check=False)
     assert ended.returncode == 0, ended.stdout[-500:]
     said = ended.stdout.decode()
     assert said.count("CPUs, period") >= 2 and "Traceback" not in said
