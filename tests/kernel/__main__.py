@@ -37,7 +37,8 @@ def sources(words: list[str]) -> list[Scenario]:
         elif path.suffix == ".script" and path.is_file():
             found.append(scenario.read(path))
         else:
-            paths = sorted(SCENARIOS.glob(f"{word}*.script"))
+            one = SCENARIOS / f"{word}.script"
+            paths = [one] if one.is_file() else sorted(SCENARIOS.glob(f"{word}*.script"))
             if not paths:
                 raise faults.KernelFault(f"{word}: neither a file nor a scenario")
             found += [scenario.read(each) for each in paths]
