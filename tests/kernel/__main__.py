@@ -9,7 +9,7 @@ from collections.abc import Iterator
 from pathlib import Path
 from typing import Any
 
-from kernel import compare, faults, layout, machine, packages, readings, scenario, table
+from kernel import compare, deliberate, faults, layout, machine, packages, readings, scenario, table
 from kernel.scenario import Scenario
 
 SCENARIOS = Path(__file__).with_name("scenarios")
@@ -21,9 +21,11 @@ LATER = 21300
 BATCH = 12
 
 EPILOG = """\
-SOURCE is a script, whose line `#:` may have options for it, or a host file. Without one all of
-tests/kernel/scenarios run. Exit status: 0 all that is judged is within its bounds; 1 a group is not, or a
-run was refused; 2 something could not be had or run."""
+SOURCE is a script, whose line `#:` may have options for it, a host file, a scenario of
+tests/kernel/scenarios, or the beginning of names of scenarios. Without one all scenarios run.
+
+exit status: 0 all that is judged is within its bounds; 1 a group is not, or a run was refused;
+2 something could not be had or run"""
 
 
 def sources(words: list[str]) -> list[Scenario]:
@@ -37,7 +39,8 @@ def sources(words: list[str]) -> list[Scenario]:
         elif path.suffix == ".script" and path.is_file():
             found.append(scenario.read(path))
         else:
-            paths = sorted(SCENARIOS.glob(f"{word}*.script"))
+            one = SCENARIOS / f"{word}.script"
+            paths = [one] if one.is_file() else sorted(SCENARIOS.glob(f"{word}*.script"))
             if not paths:
                 raise faults.KernelFault(f"{word}: neither a file nor a scenario")
             found += [scenario.read(each) for each in paths]
@@ -63,10 +66,12 @@ def measured(kernel: packages.Kernel, setting: machine.Setting, options: argpars
              runs: list[tuple[Scenario, int]]) -> Iterator[compare.Outcome]:
     """Boots one guest for some runs, and compares them."""
     jobs = []
+    change = deliberate.FAULTS[options.fault] if options.fault else None
     for each, repeat in runs:
         span = layout.Span(options.seconds, options.settle, LATER * repeat)
         jobs.append((f"{each.name} {kernel.name} {repeat + 1}", each, span))
-    lines = machine.run(kernel, runs[0][0].processors, setting, layout.many(jobs))
+    given = [(key, change(each) if change else each, span) for key, each, span in jobs]
+    lines = machine.run(kernel, runs[0][0].processors, setting, layout.many(given))
     for (_, each, span), run in zip(jobs, readings.runs(lines), strict=True):
         yield compare.outcome_of(each, run, span)
 
@@ -88,6 +93,8 @@ def arguments(words: list[str]) -> argparse.Namespace:
     parser.add_argument("--kvm", action="store_true", help="run in real time with /dev/kvm")
     parser.add_argument("--tcg", action="store_true", help="run in real time without it")
     parser.add_argument("--save", metavar="FILE", help="add each outcome to a file, as JSON lines")
+    parser.add_argument("--fault", choices=tuple(deliberate.FAULTS),
+                        help="give the guest something else than the plan, which has to be seen")
     parser.add_argument("--list", action="store_true", help="print the scenarios and end")
     return parser.parse_args(words)
 

@@ -67,7 +67,7 @@ class Outcome:
         """Why the run says nothing; empty if it does."""
         if self.run.refused:
             return f"the kernel refused {'; '.join(self.run.refused)}"
-        if self.stolen > MOST_OTHERS or abs(self.others) > MOST_OTHERS:
+        if self.stolen > MOST_OTHERS or self.others > MOST_OTHERS:
             return f"{self.stolen:.1%} stolen, {self.others:.1%} used by others"
         return ""
 
@@ -165,10 +165,10 @@ def spent(outcome: Outcome, microseconds: float) -> None:
     """Where the processors' time went, as parts of it. A tick of /proc/stat is 10 ms."""
     one, two = outcome.run.readings
     whole = microseconds * outcome.scenario.processors
-    ticks = [after - before for before, after in zip(one.ticks, two.ticks)]
-    used = outcome.kernel_counters["."]["usage_usec"]
-    outcome.idle, outcome.stolen = (ticks[3] + ticks[4]) * 10000 / whole, ticks[7] * 10000 / whole
-    outcome.others = 1 - used / whole - outcome.idle - outcome.stolen
+    used = outcome.kernel_counters["."]["usage_usec"] / whole
+    outcome.stolen = (two.ticks[7] - one.ticks[7]) * 10000 / whole
+    outcome.others = two.others / 1000 / whole
+    outcome.idle = 1 - used - outcome.stolen - outcome.others
 
 
 def outcome_of(scenario: Scenario, run: Run, span: Span) -> Outcome:
@@ -179,7 +179,7 @@ def outcome_of(scenario: Scenario, run: Run, span: Span) -> Outcome:
     one, two = run.readings
     microseconds = (two.at - one.at) / 1000
     spent(found, microseconds)
-    supply = Fraction(1) - Fraction(max(found.others, 0) + found.stolen).limit_denominator(10**6)
+    supply = Fraction(1) - Fraction(found.others + found.stolen).limit_denominator(10**6)
     shares = exact.means(scenario, supply, settle, rounds)
     for path in (".", *scenario.paths):
         plan = found.plan_counters[path][KEYS[0]] / (rounds * scenario.round)

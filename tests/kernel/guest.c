@@ -2,6 +2,7 @@
 
    guest now                                  prints the clock
    guest until AT                             sleeps
+   guest beat                                 makes the clock of the board beat 8192 times a second
    guest load NAME START END PERIOD NAP CPUS WORK..
        One task. PERIOD, NAP and WORK are microseconds; CPUS is a mask of the processors that it may
        use. In the k-th period from START on it uses the k-th WORK of processor time, round and
@@ -10,12 +11,15 @@
        prints `task NAME HAD WANTED MET PERIODS MOVES SEEN..`: microseconds had and asked for, the
        periods that served all, how often it saw itself on another processor than before, and how
        often it saw itself on each processor.
-   guest watch AT.. -- FILE..
-       At each AT prints `at CLOCK`, and each FILE after a line `file NAME`.
+   guest watch AT AT -- FILE..
+       At each of two AT prints `at CLOCK`, and each FILE after a line `file NAME`. At the end prints
+       `others NS`, the processor time of all tasks but loads. That is read a while before the
+       first AT and after the second one's files, so that it costs no time between them.
    guest grid START END FILE..
        Reads each cpu.stat once a millisecond and prints `grid FILE CLOCK` where nr_periods rose.  */
 
 #define _GNU_SOURCE
+#include <dirent.h>
 #include <errno.h>
 #include <fcntl.h>
 #include <sched.h>
@@ -23,12 +27,14 @@
 #include <stdio.h>
 #include <stdlib.h>
 #include <string.h>
+#include <sys/io.h>
 #include <sys/prctl.h>
 #include <time.h>
 #include <unistd.h>
 
 #define MOST_PROCESSORS 64
 #define MOST_FILES 64
+#define MOST_TASKS 32768
 #define MICRO 1000LL
 #define MILLI 1000000LL
 #define SECOND 1000000000LL
@@ -121,6 +127,7 @@ static int load(int count, char **words) {
     int64_t nap = atoll(words[4]) * MICRO, wanted = 0, met = 0, periods = 0;
     int steps = count - 6;
     prctl(PR_SET_TIMERSLACK, 1);
+    prctl(PR_SET_NAME, "load");
     keep_to(strtoull(words[5], NULL, 16));
     sleep_until(start);
     int64_t first = read_clock(CLOCK_THREAD_CPUTIME_ID), mark = first;
@@ -145,23 +152,51 @@ static int load(int count, char **words) {
     return 0;
 }
 
-static int watch(int count, char **words) {
-    static char all[1 << 22];
-    size_t length = 0;
-    int times = 0;
-    while (times < count && strcmp(words[times], "--") != 0)
-        times++;
-    go_first();
-    for (int at = 0; at < times; at++) {
-        sleep_until(atoll(words[at]));
-        length += snprintf(all + length, sizeof all - length, "at %lld\n",
-                           (long long)read_clock(CLOCK_MONOTONIC));
-        for (int file = times + 1; file < count; file++) {
-            const char *found = read_file(words[file]);
-            length += snprintf(all + length, sizeof all - length, "file %s\n%s", words[file], found);
-        }
+/* The processor time that all tasks but loads and this one used since the last call, of those that
+   are still there.  */
+static int64_t others(void) {
+    static int64_t before[MOST_TASKS];
+    int64_t sum = 0;
+    DIR *tasks = opendir("/proc");
+    for (struct dirent *task; tasks && (task = readdir(tasks));) {
+        char name[300];
+        int id = atoi(task->d_name);
+        if (id <= 0 || id >= MOST_TASKS || id == getpid())
+            continue;
+        snprintf(name, sizeof name, "/proc/%d/comm", id);
+        if (strcmp(read_file(name), "load\n") == 0)
+            continue;
+        snprintf(name, sizeof name, "/proc/%d/schedstat", id);
+        int64_t used = atoll(read_file(name));
+        sum += used - before[id];
+        before[id] = used;
     }
-    return fwrite(all, 1, length, stdout) != length;
+    if (tasks)
+        closedir(tasks);
+    return sum;
+}
+
+static size_t add_files(char *to, size_t size, int count, char **files) {
+    size_t length = snprintf(to, size, "at %lld\n", (long long)read_clock(CLOCK_MONOTONIC));
+    for (int at = 0; at < count; at++)
+        length += snprintf(to + length, size - length, "file %s\n%s", files[at],
+                           read_file(files[at]));
+    return length;
+}
+
+static int watch(int count, char **words) {
+    static char one[1 << 21], two[1 << 21];
+    if (count < 4)
+        return 2;
+    int64_t begin = atoll(words[0]);
+    go_first();
+    sleep_until(begin - 500 * MILLI);
+    others();
+    sleep_until(begin);
+    add_files(one, sizeof one, count - 3, words + 3);
+    sleep_until(atoll(words[1]));
+    add_files(two, sizeof two, count - 3, words + 3);
+    return printf("%s%sothers %lld\n", one, two, (long long)others()) < 0;
 }
 
 static int grid(int count, char **words) {
@@ -181,9 +216,28 @@ static int grid(int count, char **words) {
     return 0;
 }
 
+/* An emulator that counts instructions runs one processor at a time, up to its next timer. The beat
+   bounds these turns to an eighth of a millisecond. Nobody takes its interrupt.  */
+static int beat(void) {
+    enum { INDEX = 0x70, DATA = 0x71, RATE = 0x0a, CONTROL = 0x0b, BEAT_8192 = 0x23, IS_ON = 0x40 };
+    if (iopl(3) != 0) {
+        perror("guest: iopl");
+        return 1;
+    }
+    outb(RATE, INDEX);
+    outb(BEAT_8192, DATA);
+    outb(CONTROL, INDEX);
+    unsigned char control = inb(DATA);
+    outb(CONTROL, INDEX);
+    outb(control | IS_ON, DATA);
+    return 0;
+}
+
 int main(int count, char **words) {
     if (count >= 2 && strcmp(words[1], "now") == 0)
         return printf("%lld\n", (long long)read_clock(CLOCK_MONOTONIC)) < 0;
+    if (count == 2 && strcmp(words[1], "beat") == 0)
+        return beat();
     if (count == 3 && strcmp(words[1], "until") == 0) {
         go_first();
         sleep_until(atoll(words[2]));
@@ -195,6 +249,6 @@ int main(int count, char **words) {
         return watch(count - 2, words + 2);
     if (count >= 4 && strcmp(words[1], "grid") == 0)
         return grid(count - 2, words + 2);
-    fprintf(stderr, "guest: now, until, load, watch or grid\n");
+    fprintf(stderr, "guest: now, until, beat, load, watch or grid\n");
     return 2;
 }

@@ -11,6 +11,11 @@ TOP = "/sys/fs/cgroup"
 # All groups of a scenario are below this one, so that its root has counters of its own.
 HOME = f"{TOP}/host"
 GRID = 100000000
+# The board's clock without its driver, so that nobody takes its interrupt.
+BEAT = """\
+cd /sys/bus/pnp/drivers/rtc_cmos && for clock in *:*; do echo $clock > unbind; done; cd /
+/guest beat
+"""
 
 
 @dataclass(frozen=True)
@@ -111,7 +116,7 @@ def script(scenario: Scenario, span: Span) -> str:
 
 def many(runs: list[tuple[str, Scenario, Span]]) -> str:
     """The script of several runs, one after another, each with a key."""
-    parts = [f"echo '+cpu' > {TOP}/cgroup.subtree_control\n"]
+    parts = [f"echo '+cpu' > {TOP}/cgroup.subtree_control\n{BEAT}"]
     for key, scenario, span in runs:
         parts.append(f"echo run {shlex.quote(key)}\n{script(scenario, span)}")
     return "".join(parts)

@@ -86,6 +86,12 @@ def fetch(packages: list[str], to: Path, apt: tuple[str, ...] = ()) -> None:
         shutil.rmtree(made, ignore_errors=True)
 
 
+def unpacked() -> list[str]:
+    """The names of kernels that are in the cache folder."""
+    return [name for name in KERNELS
+            if any(cache_folder().glob(f"linux-image-{name}.*"))]
+
+
 def kernel(name: str) -> Kernel:
     """A kernel of `KERNELS`."""
     if name not in KERNELS:

@@ -11,11 +11,17 @@ from kernel.scenario import Scenario
 
 PROGRAM = Path(__file__).resolve().parents[2] / "crates/arbiter/out/arbiter"
 SECONDS = 120
+chosen: list[Path] = []
+
+
+def use(path: str) -> None:
+    """Asks this program from now on."""
+    chosen[:] = [Path(path)]
 
 
 def program() -> Path:
-    """The program: $ARBITER, else the one that was built here."""
-    found = Path(os.environ.get("ARBITER") or PROGRAM)
+    """The program: the one that is chosen, $ARBITER, else the one that was built here."""
+    found = chosen[0] if chosen else Path(os.environ.get("ARBITER") or PROGRAM)
     if not found.exists():
         raise KernelFault(f"{found}: not there; ./build makes it")
     return found

@@ -23,9 +23,11 @@ class Task:
 
 @dataclass
 class Reading:
-    """The counters of all groups at a time (nanoseconds), and ticks of all processors."""
+    """The counters of all groups at a time (nanoseconds), and the ticks of all processors. The
+    second one has the processor time that all other tasks used since the first (nanoseconds)."""
 
     at: int
+    others: int = 0
     groups: dict[str, dict[str, int]] = field(default_factory=dict)
     ticks: tuple[int, ...] = ()
 
@@ -75,6 +77,8 @@ def add(run: Run, line: str, file: str) -> str:
         run.times = tuple(map(int, words[1:]))
     elif words[:1] == ["at"]:
         run.readings.append(Reading(int(words[1])))
+    elif words[:1] == ["others"]:
+        run.readings[-1].others = int(words[1])
     elif words[:1] == ["file"]:
         return words[1]
     elif words[:1] == ["grid"]:

@@ -1,0 +1,156 @@
+"""The parts of the comparison that need no guest: exact shares, bounds, scripts and faults."""
+from fractions import Fraction
+
+import pytest
+
+from kernel import compare, deliberate, exact, layout, planned, readings, scenario
+from kernel.__main__ import SCENARIOS
+from kernel.faults import KernelFault
+
+ALL = sorted(path.stem for path in SCENARIOS.glob("*.script"))
+# A plan in slices of 1 ms of 1 s is this near to exact shares, in hundredths of a processor, per
+# group on the way.
+FINE = 0.3
+
+
+def of(text):
+    """The scenario of a script."""
+    return scenario.parse("here", text)
+
+
+def shares(text, supply=Fraction(1)):
+    """The exact shares of a script."""
+    return exact.means(of(text), supply, 0, 1)
+
+
+@pytest.mark.parametrize("text, wanted", [
+    ("mkdir a\nmkdir b\nwrite b cpu.weight 300\ndemand a 100\ndemand b 100\n",
+     {".": 100, "a": 25, "b": 75}),
+    ("mkdir a\nmkdir b\nmkdir c\ndemand a 10\ndemand b 100\ndemand c 100\n",
+     {".": 100, "a": 10, "b": 45, "c": 45}),
+    ("mkdir p\nwrite p cpu.max 50000\nmkdir p/x\nmkdir p/y\nwrite p/y cpu.weight 300\nmkdir j\n"
+     "demand p/x 100\ndemand p/y 100\ndemand j 20\n",
+     {".": 70, "p": 50, "p/x": Fraction(25, 2), "p/y": Fraction(75, 2), "j": 20}),
+    # one task of each: the greater weight cannot use more than a processor
+    ("#: --processors 2 --tasks 1\nmkdir a\nmkdir b\nwrite b cpu.weight 300\ndemand a 200\n"
+     "demand b 200\n", {".": 200, "a": 100, "b": 100}),
+])
+def test_shares_by_hand(text, wanted):
+    """Shares that were worked by hand."""
+    assert shares(text) == wanted
+
+
+def test_series_by_hand():
+    """A quota of 20 and a burst of 20: idle, then 40, and then 20 a period."""
+    text = ("mkdir a\nwrite a cpu.max 20000\nwrite a cpu.max.burst 20000\ndemand a 0\nperiod\n"
+            "demand a 100\nperiod\nperiod\n")
+    # the first round has saved 20 in its idle period, as has each one after it
+    assert exact.means(of(text), Fraction(1), 1, 1)["a"] == Fraction(0 + 40 + 20, 3)
+
+
+@pytest.mark.parametrize("name", [name for name in ALL if not name.startswith("series")])
+def test_shares_are_fine_plans(program, name):
+    """The program's plan in small slices is near to the exact shares where no task cuts them."""
+    planned.use(program.path)
+    found = scenario.read(SCENARIOS / f"{name}.script")
+    if found.is_series:
+        pytest.skip("a series has no plan of one period")
+    step = found.steps[0]
+    cut = {path: int(exact.usable(found, path, slices) * 10) for path, slices in step.items()}
+    found.period, found.slice, found.steps = 1000000, 1000, [cut]
+    lines = [" ".join(words) for words in found.settings]
+    lines += [f"demand {path} {slices}" for path, slices in cut.items()]
+    answer = planned.answers(found, [*lines, "plan"])[-len(found.paths) - 1:]
+    plan = {path: int(amount) / 10 for amount, path in (line.split(" ", 1) for line in answer)}
+    wanted = exact.means(found, Fraction(1), 0, 1)
+    assert max(abs(plan[path] - wanted[path]) for path in wanted) < FINE
+
+
+def lines_of(found, had):
+    """Judged lines with these amounts."""
+    wanted = exact.means(found, Fraction(1), 0, 1)
+    lines = [compare.Line(path, 0, float(wanted[path]), float(had.get(path, wanted[path])))
+             for path in wanted]
+    compare.judge(found, lines, Fraction(1))
+    return {line.path: line for line in lines}
+
+
+TWO = "#: --processors 2\nmkdir a\nmkdir b\nwrite b cpu.weight 300\ndemand a 200\ndemand b 200\n"
+
+
+@pytest.mark.parametrize("text, path, off, is_wrong", [
+    ("mkdir a\nmkdir b\ndemand a 100\ndemand b 100\n", "a", 0.29, False),
+    ("mkdir a\nmkdir b\ndemand a 100\ndemand b 100\n", "a", -0.31, True),
+    ("mkdir a\nwrite a cpu.max 20000\ndemand a 100\n", "a", 0.19, False),
+    ("mkdir a\nwrite a cpu.max 20000\ndemand a 100\n", "a", -0.21, True),
+    (TWO, "a", 0.9, False), (TWO, "a", 1.1, True),
+    # fewer tasks than processors: printed and not judged
+    (TWO.replace("#:", "#: --tasks 1"), "a", 40, False),
+])
+def test_bounds(text, path, off, is_wrong):
+    """What is just within a bound is right, what is just out of it is wrong."""
+    found = of(text)
+    share = exact.means(found, Fraction(1), 0, 1)[path]
+    assert lines_of(found, {path: float(share) + off})[path].is_wrong is is_wrong
+
+
+def test_bounds_of_a_series():
+    """From the plan to one quota and 4 ms more in each busy stretch."""
+    found = of("mkdir a\nwrite a cpu.max 20000\nmkdir b\n" + "demand b 100\ndemand a 0\nperiod\n" * 5
+               + "demand a 100\nperiod\n" * 5)
+    lines = lines_of(found, {})
+    assert (lines["a"].least, lines["a"].most) == (pytest.approx(9.7), pytest.approx(12.7))
+    assert (lines["b"].least, lines["b"].most) == (pytest.approx(87.3), pytest.approx(90.3))
+
+
+@pytest.mark.parametrize("name", ALL)
+def test_scenario_has_loads(name):
+    """Each scenario is one that the guest can run, and asks for something."""
+    found = scenario.read(SCENARIOS / f"{name}.script")
+    text = layout.script(found, layout.Span())
+    assert found.about and text.count("/guest load") >= 1
+    assert text.count("mkdir ") == len(found.paths) + 1
+
+
+@pytest.mark.parametrize("line", ["rmdir a", "demand a", "nonsense", "period\nmkdir b"])
+def test_what_is_no_scenario(line):
+    """Lines that a guest cannot follow are refused by name."""
+    with pytest.raises(KernelFault, match="has no place"):
+        of(f"mkdir a\n{line}\n")
+
+
+def test_weights_are_swapped():
+    """The fault changes what the guest is given, and nothing else."""
+    found = scenario.read(SCENARIOS / "one-weights.script")
+    wrong = deliberate.swapped_weights(found)
+    assert found.files("cpu.weight") == {"b": "300"}
+    assert wrong.files("cpu.weight") == {"a": "300", "b": "100"}
+
+
+def test_quota_is_moved():
+    """The limit stands in the other group."""
+    found = scenario.read(SCENARIOS / "limit-below.script")
+    wrong = deliberate.moved_quota(found)
+    assert (list(found.files("cpu.max")), list(wrong.files("cpu.max"))) == (["a"], ["b"])
+    assert wrong.paths == found.paths
+
+
+def test_guest_lines_are_read():
+    """A run's counters, tasks and quota periods."""
+    text = ["kernel 6.1", "run here", "times 1000000 2000000 3000000",
+            "grid /sys/fs/cgroup/host/a/cpu.stat 1500000", "at 2000000",
+            "file /sys/fs/cgroup/host/a/cpu.stat", "usage_usec 5", "nr_periods 1", "file /proc/stat",
+            "cpu  1 2 3 4 5 6 7 8", "at 3000000", "file /sys/fs/cgroup/host/a/cpu.stat",
+            "usage_usec 9", "nr_periods 3", "file /proc/stat", "cpu  1 2 3 4 5 6 7 9",
+            "others 17", "task a 9 10 0 2 3 40 2"]
+    run, = readings.runs(text)
+    assert run.rose()["a"]["usage_usec"] == 4 and run.rose()["a"]["nr_periods"] == 2
+    assert run.offset("a", 1000) == 500
+    assert [task.seen for task in run.tasks] == [(40, 2)]
+    assert run.readings[1].others == 17 and run.readings[1].ticks[7] - run.readings[0].ticks[7] == 1
+
+
+def test_unfinished_guest_is_refused():
+    """A run without its second reading is no run."""
+    with pytest.raises(KernelFault, match="did not read it whole"):
+        list(readings.runs(["run here", "times 1 2 3", "at 2"]))
