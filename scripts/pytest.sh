@@ -12,6 +12,8 @@ test_folders=(tests)
 # Debian's packages that the tests need, and their modules.
 packages=(python3-pytest python3-hypothesis python3-rich python3-yaml mypy pyflakes3)
 modules='pytest, hypothesis, rich, yaml, mypy, pyflakes'
+# Packages of the same name as their command. Tests that need one that is missing are skipped.
+tools=(mandoc zsh fish chromium prometheus)
 
 has_packages() {
   "$python" -c "import $modules" 2>/dev/null
@@ -19,13 +21,21 @@ has_packages() {
 
 # Installs what is missing if this may be done, otherwise names the command.
 need_packages() {
-  local words=(apt-get install -y "${packages[@]}")
-  has_packages && return
+  local tool missing=()
+  has_packages || missing=("${packages[@]}")
+  for tool in "${tools[@]}"; do
+    command -v "$tool" >/dev/null || missing+=("$tool")
+  done
+  [ "${#missing[@]}" = 0 ] && return
+  local words=(apt-get install -y --no-install-recommends "${missing[@]}")
   if [ "$(id -u)" = 0 ] && command -v apt-get >/dev/null; then
-    echo "test: installing what the tests need: ${words[*]}"
+    echo "test: installing what the tests need: ${words[*]}" >&2
     { apt-get update && DEBIAN_FRONTEND=noninteractive "${words[@]}"; } >out/apt.log 2>&1 </dev/null
     has_packages && return
     tail -n 20 out/apt.log
+  elif has_packages; then
+    echo "test: some tests are skipped: sudo ${words[*]}" >&2
+    return
   fi
   echo "test: a package is missing: sudo ${words[*]}" >&2
   exit 2

@@ -519,8 +519,17 @@ def test_test_installs_what_it_needs(copy):
         status, _, err = copy.call(["./test"])
         called = [line for line in copy.log() if line.startswith("apt-get")]
         same((status, called), (0 if wanted else 2, wanted), f"user {user}: {err}")
-        named = ": sudo apt-get install -y python3-pytest" in err
+        named = ": sudo apt-get install -y --no-install-recommends python3-pytest" in err
         same(named, not wanted, f"user {user}: whether the command is named")
+
+
+def test_test_names_what_is_skipped(copy):
+    """Tools without which tests are skipped are named, and ./test goes on."""
+    with_gate(copy, "5 passed, 0 failed")
+    status, out, err = copy.call(["./test"])
+    same((status, out.split("\n")[-2]), (0, "16 passed, 0 failed"), err)
+    holds("test: some tests are skipped: sudo apt-get install -y --no-install-recommends mandoc ",
+          err, "the tools")
 
 
 def test_test_sees_changed_sources(copy):

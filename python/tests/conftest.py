@@ -12,7 +12,7 @@ from places import PACKAGE
 
 sys.path[:0] = [str(PACKAGE), str(PACKAGE.parent / "tests")]
 pytest_plugins = ["shared_fixtures"]
-SECONDS = 60
+SECONDS = 300
 
 
 @pytest.fixture(scope="session")
