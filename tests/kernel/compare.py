@@ -20,6 +20,8 @@ EVEN = 1.0
 SLACK = 4
 # Most of the processors' time that may be stolen or used by others.
 MOST_OTHERS = 0.01
+# By how much counters may be read late, in nanoseconds.
+LATEST = 20000000
 
 
 @dataclass
@@ -67,6 +69,9 @@ class Outcome:
         """Why the run says nothing; empty if it does."""
         if self.run.refused:
             return f"the kernel refused {'; '.join(self.run.refused)}"
+        late = max(each.at - time for each, time in zip(self.run.readings, self.run.times[1:]))
+        if late > LATEST:
+            return f"counters were read {late // 1000000} ms late"
         if self.stolen > MOST_OTHERS or self.others > MOST_OTHERS:
             return f"{self.stolen:.1%} stolen, {self.others:.1%} used by others"
         return ""

@@ -12,11 +12,12 @@
        periods that served all, how often it saw itself on another processor than before, and how
        often it saw itself on each processor.
    guest watch AT AT -- FILE..
-       At each of two AT prints `at CLOCK`, and each FILE after a line `file NAME`. At the end prints
-       `others NS`, the processor time of all tasks but loads. That is read a while before the
-       first AT and after the second one's files, so that it costs no time between them.
+       At each of two AT prints `at CLOCK`, and each FILE after a line `file NAME`. At the end
+       prints `others NS`, the processor time of all tasks but loads. That is read a while before
+       the first AT and after the second one's files, so that it costs no time between them.
    guest grid START END FILE..
-       Reads each cpu.stat once a millisecond and prints `grid FILE CLOCK` where nr_periods rose.  */
+       Reads each cpu.stat once a millisecond, or as often as a quarter of the time allows; prints
+       `grid FILE CLOCK` where nr_periods rose.  */
 
 #define _GNU_SOURCE
 #include <dirent.h>
@@ -201,17 +202,21 @@ static int watch(int count, char **words) {
 
 static int grid(int count, char **words) {
     static long before[MOST_FILES];
-    int64_t end = atoll(words[1]);
+    int64_t end = atoll(words[1]), at = atoll(words[0]);
     go_first();
-    for (int64_t at = atoll(words[0]); at < end; at += MILLI) {
+    while (at < end) {
         sleep_until(at);
+        int64_t began = read_clock(CLOCK_MONOTONIC);
         for (int file = 2; file < count && file < MOST_FILES; file++) {
             char *found = strstr(read_file(words[file]), "nr_periods ");
             long periods = found ? atol(found + 11) : 0;
             if (before[file] && periods > before[file])
-                printf("grid %s %lld\n", words[file], (long long)at);
+                printf("grid %s %lld\n", words[file], (long long)began);
             before[file] = periods;
         }
+        /* at most a quarter of the time: the kernel stops who runs first too long */
+        int64_t now = read_clock(CLOCK_MONOTONIC), next = now + 3 * (now - began);
+        at = next > at + MILLI ? next : at + MILLI;
     }
     return 0;
 }

@@ -105,7 +105,7 @@ def script(scenario: Scenario, span: Span) -> str:
         "echo times $first $begin $last",
         *(set_offsets(scenario) if scenario.offset is not None else ()),
         f"/guest watch $begin $last -- {files} &",
-        *([f"/guest grid $first $begin {' '.join(limited)} &"] if limited else ()),
+        *([f"/guest grid $first $((begin - 20000000)) {' '.join(limited)} &"] if limited else ()),
         *tasks,
         "echo ready $(/guest now)",
         "wait",

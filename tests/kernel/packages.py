@@ -105,7 +105,8 @@ def kernel(name: str) -> Kernel:
     release = package.removeprefix("linux-image-")
     config = (folder / "boot" / f"config-{release}").read_text(encoding="utf-8")
     ticks = re.search(r"^CONFIG_HZ=(\d+)$", config, re.MULTILINE)
-    return Kernel(name, release, folder / "boot" / f"vmlinuz-{release}", int(ticks[1] if ticks else 0))
+    image = folder / "boot" / f"vmlinuz-{release}"
+    return Kernel(name, release, image, int(ticks[1] if ticks else 0))
 
 
 def emulator_of(words: tuple[str, ...]) -> Emulator:

@@ -133,7 +133,8 @@ def work(scenario: Scenario) -> str:
 
 def read(lines: list[str]) -> Found:
     """What the guest printed."""
-    found, texts = Found(), {}
+    found = Found()
+    texts: dict[str, str] = {}
     for line in lines:
         kind, _, rest = line.partition(" ")
         if kind == "text":

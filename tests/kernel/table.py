@@ -34,7 +34,8 @@ def verdict(line: Any) -> str:
     """What a line's judgement says."""
     if line.least is None:
         return "not judged"
-    return f"{line.rule}: {'WRONG' if line.is_wrong else 'within'} {line.least:.1f}..{line.most:.1f}"
+    word = "WRONG" if line.is_wrong else "within"
+    return f"{line.rule}: {word} {line.least:.1f}..{line.most:.1f}"
 
 
 def shown(outcome: Outcome) -> Iterator[str]:

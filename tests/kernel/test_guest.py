@@ -8,7 +8,7 @@ from kernel import compare, deliberate, layout, machine, packages, planned, read
 from kernel.__main__ import SCENARIOS
 
 SPAN = layout.Span(seconds=3, settle=1)
-SETTING = machine.Setting(shift=5, seconds=600)
+SETTING = machine.Setting(shift=4, seconds=900)
 GOOD = ("one-weights", "limit-below", "series-burst-set")
 BAD = {"one-weights": "weights", "limit-below": "quota"}
 

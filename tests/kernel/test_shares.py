@@ -96,7 +96,8 @@ def test_bounds(text, path, off, is_wrong):
 
 def test_bounds_of_a_series():
     """From the plan to one quota and 4 ms more in each busy stretch."""
-    found = of("mkdir a\nwrite a cpu.max 20000\nmkdir b\n" + "demand b 100\ndemand a 0\nperiod\n" * 5
+    found = of("mkdir a\nwrite a cpu.max 20000\nmkdir b\n"
+               + "demand b 100\ndemand a 0\nperiod\n" * 5
                + "demand a 100\nperiod\n" * 5)
     lines = lines_of(found, {})
     assert (lines["a"].least, lines["a"].most) == (pytest.approx(9.7), pytest.approx(12.7))
@@ -139,15 +140,33 @@ def test_guest_lines_are_read():
     """A run's counters, tasks and quota periods."""
     text = ["kernel 6.1", "run here", "times 1000000 2000000 3000000",
             "grid /sys/fs/cgroup/host/a/cpu.stat 1500000", "at 2000000",
-            "file /sys/fs/cgroup/host/a/cpu.stat", "usage_usec 5", "nr_periods 1", "file /proc/stat",
-            "cpu  1 2 3 4 5 6 7 8", "at 3000000", "file /sys/fs/cgroup/host/a/cpu.stat",
-            "usage_usec 9", "nr_periods 3", "file /proc/stat", "cpu  1 2 3 4 5 6 7 9",
+            "file /sys/fs/cgroup/host/a/cpu.stat", "usage_usec 5", "nr_periods 1",
+            "file /proc/stat", "cpu  1 2 3 4 5 6 7 8", "at 3000000",
+            "file /sys/fs/cgroup/host/a/cpu.stat", "usage_usec 9", "nr_periods 3",
+            "file /proc/stat", "cpu  1 2 3 4 5 6 7 9",
             "others 17", "task a 9 10 0 2 3 40 2"]
     run, = readings.runs(text)
     assert run.rose()["a"]["usage_usec"] == 4 and run.rose()["a"]["nr_periods"] == 2
     assert run.offset("a", 1000) == 500
     assert [task.seen for task in run.tasks] == [(40, 2)]
     assert run.readings[1].others == 17 and run.readings[1].ticks[7] - run.readings[0].ticks[7] == 1
+
+
+@pytest.mark.parametrize("late, others, why", [
+    (0, 0, ""), (21000000, 0, "counters were read 21 ms late"),
+    (0, 20000000000, "0.0% stolen, 2000.0% used by others")])
+def test_run_is_refused(program, late, others, why):
+    """A run that was read late, or in which others ran, says nothing."""
+    planned.use(program.path)
+    found = of("mkdir a\ndemand a 100\n")
+    groups = [{path: dict.fromkeys(readings.KEYS, number) for path in (".", "a")}
+              for number in (0, 0)]
+    run = readings.Run("here", (0, 0, 1000000000), [
+        readings.Reading(late, 0, groups[0], (0,) * 8),
+        readings.Reading(1000000000 + late, others, groups[1], (0,) * 8)])
+    outcome = compare.Outcome(found, run, kernel_counters=run.rose())
+    compare.spent(outcome, 1000000)
+    assert outcome.refusal == why
 
 
 def test_unfinished_guest_is_refused():
