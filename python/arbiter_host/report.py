@@ -62,7 +62,8 @@ function show(){
 find.addEventListener('input',show);hurt.addEventListener('change',show);
 for(const [name,open] of [['open',true],['shut',false]])
  document.getElementById(name).addEventListener('click',()=>{
-  for(const each of document.querySelectorAll('details:not(.changes)'))each.open=open||each.className==='top';});
+  for(const each of document.querySelectorAll('details:not(.changes)'))
+   each.open=open||each.className==='top';});
 """
 # Trees of at most so many groups are open when the page is.
 OPEN_GROUPS = 150
