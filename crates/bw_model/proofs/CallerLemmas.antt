@@ -24,7 +24,8 @@ pub use Rattle.bw_model.proofs.allocation.Reach.{joined_zero, total-joined, capp
 pub use Rattle.bw_model.proofs.allocation.Reach.{most_le_want, most_le_limit}
 pub use Rattle.bw_model.proofs.allocation.Reach.{reached, capped-IsMost}
 pub use Rattle.bw_model.proofs.plan.Planned.{parent_not_leaf, tight-bound_at, planned-IsPlan}
-pub use Rattle.bw_model.proofs.allocation.DemandOutside.{any-ap, above-top, above-child, demand_outside-is}
+pub use Rattle.bw_model.proofs.allocation.DemandOutside.{any-ap, above-top, above-child}
+pub use Rattle.bw_model.proofs.allocation.DemandOutside.{demand_outside-is}
 pub use Rattle.bw_model.proofs.allocation.Limiting.{limited_total-is, limited-IsGreatestTotal}
 pub use Rattle.bw_model.proofs.split.NoGainfulMove.{product-remove, cost-set, lex_at, product-pos}
 pub use Rattle.bw_model.proofs.split.NoGainfulMove.{moved-IsSplit, move-marks-apart, best-IsAtLevel}

@@ -1,4 +1,5 @@
-//! The check of a whole text over readers and writers that fail. A check that is refused memory has written nothing.
+//! The check of a whole text over readers and writers that fail. A check that is refused memory has
+//! written nothing.
 ghost use Rattle.std.specs.Prelude.{◌<◌};
 
 use crate::streams::{Broken, Choked};
@@ -18,7 +19,8 @@ fn assert_fault(rt: &impl Abort, checked: &Result<bool, RunFault>, fault: RunFau
     assert!(rt; status_of_check(checked) == 1);
 }
 
-// A check over a reader that gives at most so many bytes a call, and fails in place of giving more than so many in all.
+// A check over a reader that gives at most so many bytes a call. It fails in place of giving more
+// than so many in all.
 fn assert_read(
     rt: &impl Abort,
     alloc: Global,

@@ -1,5 +1,7 @@
-//! The script of one period over readers and writers that fail. The period needs a thread: where the machine refuses one, the
-//! answer is another, and a test ends at its assertion.
+//! The script of one period over readers and writers that fail.
+//!
+//! The period needs a thread. Where the machine refuses one, the answer is another, and a test ends
+//! at its assertion.
 ghost use Rattle.std.specs.Prelude.{◌<◌};
 
 use crate::streams::{Broken, Choked};
@@ -19,7 +21,8 @@ pub(crate) fn host() -> Result<HostShape, Fail> {
     Ok(HostShape::new(1, 100000, 5000)?)
 }
 
-// The lines of one period of one processor, and their answers. A static table costs its readers no proof.
+// The lines of one period of one processor, and their answers. A static table costs its readers no
+// proof.
 static ONE_PERIOD: [(&str, &str); 14] = [
     ("mkdir pod", "ok"),
     ("mkdir pod/x", "ok"),
@@ -137,7 +140,8 @@ fn a_reader_that_fails(rt: HostRuntime) -> Result<(), Fail> {
     Ok(())
 }
 
-// A run over a writer that takes at most so many bytes a call, and fails, or takes none, after so many calls.
+// A run over a writer that takes at most so many bytes a call. It fails, or takes none, after so
+// many calls.
 fn assert_written<R: AllocGlobal + Threads + Wait + Clock + Abort + Sync>(
     rt: &R,
     script: &str,

@@ -34,7 +34,8 @@ impl Read for Broken<'_> {
     }
 }
 
-// A writer that takes at most `most` bytes a call, and at the call after `left` fails, or takes none.
+// A writer that takes at most `most` bytes a call. At the call after `left` it fails, or takes
+// none.
 #[derive(Drop)]
 pub(crate) struct Choked {
     pub(crate) bytes: Vec<u8>,

@@ -26,8 +26,8 @@ abbrev pub drawn_after : Groups → List ℕ → List PoolEntry → List ℕ
 drawn_after groups amounts history = (replay after (opening groups amounts) history).drawn
 
 -- The sentence, of the amounts of a plan, of the calls that each caller made in one period, and of
--- the history of that period. `uses` tells the leaves that use their slices. `drawn` is what is drawn
--- of each group in the end.
+-- the history of that period. `uses` tells the leaves that use their slices. `drawn` has the slices
+-- drawn of each group in the end.
 pub record Headline (uses : ℕ → Bool) (groups : Groups) (amounts : List ℕ)
     (calls : ℕ → List (Made PoolCall PoolReply)) (history : List PoolEntry) (drawn : List ℕ)
     : Type 0 where

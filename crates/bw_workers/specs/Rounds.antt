@@ -1,5 +1,6 @@
 -- The order of a worker's draws: a slice of each leaf in row order, round and round.
-use Rattle.std.specs.Prelude.{◌≡◌, ℕ, zero, suc, ◌+◌, List, [], ◌∷◌, ◌++◌, length, Bool, true, false}
+use Rattle.std.specs.Prelude.{◌≡◌, ℕ, zero, suc, ◌+◌, List, [], ◌∷◌, ◌++◌, length, Bool, true}
+use Rattle.std.specs.Prelude.{false}
 use Rattle.std.specs.Prelude.{Option, None, Some, if◌then◌else◌}
 use Rattle.bw_model.specs.declared.row.Row.{Row}
 use Rattle.bw_model.specs.Groups.{is_leaf}
@@ -43,7 +44,8 @@ asked_after used false leaf others = others
 -- is still asked
 abbrev pub InRounds : (ℕ → Bool) → Option ℕ → List ℕ → List PoolEntry → Type 0
 InRounds uses owed leaves [] = Unit {0}
-InRounds uses (Some leaf) leaves (e ∷ es) = (e.call ≡ GiveBack leaf 1) × InRounds uses None leaves es
+InRounds uses (Some leaf) leaves (e ∷ es) =
+    (e.call ≡ GiveBack leaf 1) × InRounds uses None leaves es
 InRounds uses None [] (e ∷ es) = ⊥
 InRounds uses None (leaf ∷ others) (e ∷ es) = (e.call ≡ Draw leaf 1)
     × InRounds uses (owed_after (uses leaf) (got_one e.reply) leaf)

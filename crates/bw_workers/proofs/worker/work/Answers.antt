@@ -147,6 +147,7 @@ returns-clause-drained g c = let was = c.loop-kept.invariant in
           (elim c.loop-kept-test.branch [
             | then-loop-kept-test+else-not-is_empty w ↦
                 inr (nil_from_length c.loop-kept.leaves.items (search rules))
-            | else-loop-kept-test w ↦ inl (omega (arith, was.kept, was.slices, w.loop-kept-test.false))
+            | else-loop-kept-test w ↦
+                inl (omega (arith, was.kept, was.slices, w.loop-kept-test.false))
           ]);
     })

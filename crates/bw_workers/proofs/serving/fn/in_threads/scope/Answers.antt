@@ -47,17 +47,20 @@ loop-seat-preserved g c =
           (get_or rest (k + 1) d)) e z);
       lock = each_pushed old new child n m items old_long new_long
           (λ k x. x.promise.lock.now.lock_id ≡ c.captures.lock.now.lock_id) was.lock
-          (ap (λ p. p.lock.now.lock_id) made ∙ ap (λ l. l.lock_id) c.promise_of-promise.ensures.lock);
+          (ap (λ p. p.lock.now.lock_id) made
+          ∙ ap (λ l. l.lock_id) c.promise_of-promise.ensures.lock);
       tree = each_pushed old new child n m items old_long new_long
           (λ k x. x.promise.instance.now.rows ≡ c.captures.instance.now.rows) was.tree
-          (ap (λ p. p.instance.now.rows) made ∙ ap (λ n. n.rows) c.promise_of-promise.ensures.instance);
+          (ap (λ p. p.instance.now.rows) made
+          ∙ ap (λ n. n.rows) c.promise_of-promise.ensures.instance);
       slices = each_pushed old new child n m items old_long new_long
           (λ k x. slices_per_processor x.promise.instance.now.shape
           ≡ slices_per_processor c.captures.instance.now.shape) was.slices
           (ap (λ p. slices_per_processor p.instance.now.shape) made
           ∙ ap (λ n. slices_per_processor n.shape) c.promise_of-promise.ensures.instance);
       gate = each_pushed old new child n m items old_long new_long
-          (λ k x. x.promise.gate.now ≡ c.captures.gate.now) was.gate (ap (λ p. p.gate.now) made ∙ c.promise_of-promise.ensures.gate);
+          (λ k x. x.promise.gate.now ≡ c.captures.gate.now) was.gate
+          (ap (λ p. p.gate.now) made ∙ c.promise_of-promise.ensures.gate);
       numbers = each_pushed old new child n m items old_long new_long (λ k x. x.promise.number ≡ k)
           was.numbers
           (ap (λ p. p.number) made ∙ c.promise_of-promise.ensures.number ∙ numbered);
