@@ -182,7 +182,7 @@ module _ (a b : Groups) (va : IsInstance a) (vb : IsInstance b) (roomier : IsRoo
             rw lower.1 (omega (arith, lower.2, h))
       ]) refl
 
-  mosts_less : (g : ℕ) → g < length a.rows
+  pub mosts_less : (g : ℕ) → g < length a.rows
       → get_or (mosts a va.tree) g 0 ≤ get_or (mosts b vb.tree) g 0
   mosts_less = from_the_last (length a.rows)
       (λ g. get_or (mosts a va.tree) g 0 ≤ get_or (mosts b vb.tree) g 0)

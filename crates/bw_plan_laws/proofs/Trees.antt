@@ -4,7 +4,7 @@ use Rattle.std.proofs.Common.{true, false, None, Some, length, get_or, refl, ap,
 use Rattle.std.proofs.Common.{arith, inl, inr, eqb}
 use Rattle.std.specs.Prelude.{not}
 use Rattle.std.specs.Prelude.{filter, map, sum, sum_by, slice_index}
-use Rattle.std.specs.List.{range_with_len, list_any}
+use Rattle.std.specs.List.{range_with_len}
 use Rattle.std.specs.Option.{option_map_or}
 use Rattle.std.proofs.lemmas.Bool.{eqb-true, or_cases, or_right}
 use Rattle.std.proofs.lemmas.List.{length-map}
@@ -72,7 +72,8 @@ at_place rows values g k c below here =
 
 -- The groups that are not below one group: a parent of one, and a child of one.
 module _ (rows : List Row) (tree : AreTreeRows rows) (group : ℕ) where
-  under_le : (l : ℕ) → is_under rows group l ≡ true → group ≤ l
+  -- What is below a group is not before it.
+  pub under_le : (l : ℕ) → is_under rows group l ≡ true → group ≤ l
   under_le = strong (λ l. is_under rows group l ≡ true → group ≤ l) (λ l before under.
       (elim (parent_of rows l) as (λ o. parent_of rows l ≡ o → group ≤ l) [
         | None ↦ λ e. let same : l ≡ group =
@@ -125,19 +126,29 @@ module _ (a b : Groups) (va : IsInstance a) (vb : IsInstance b)
 
   module _ (ma mb xs ys : List ℕ) (pa : IsPlanning a ma (λ _. true) xs)
       (pb : IsPlanning b mb (λ _. true) ys) where
-    -- The split of b at a group, over the rows of a, where the children's mosts are the same.
+    -- The split of b at a group, over the rows of a.
+    pub split_beside : (p : ℕ) → p < length a.rows → is_leaf a.rows p ≡ false
+        → IsBestSplit (get_or ys p 0) (map (weight_of b.rows) (children_of a.rows p))
+        (map (slice_index mb) (children_of a.rows p)) (map (slice_index ys) (children_of a.rows p))
+    split_beside p below inner =
+        rw (children_same a.rows b.rows tree p) at
+        (pb.splits p (omega (arith, below, tree.as_many)) refl
+        (leaf_same a.rows b.rows tree p ∙ inner))
+
+    pub weighted_beside : (p : ℕ) → AreWeighted (map (weight_of b.rows) (children_of a.rows p))
+        (map (slice_index mb) (children_of a.rows p))
+    weighted_beside p =
+        rw (children_same a.rows b.rows tree p) at (weighted b vb mb p)
+
+    -- The same, where the children's mosts are equal.
     pub split_over : (p : ℕ) → p < length a.rows → is_leaf a.rows p ≡ false
         → ((c : ℕ) → c < length a.rows → parent_of a.rows c ≡ Some p
         → get_or mb c 0 ≡ get_or ma c 0)
         → IsBestSplit (get_or ys p 0) (map (weight_of b.rows) (children_of a.rows p))
         (map (slice_index ma) (children_of a.rows p)) (map (slice_index ys) (children_of a.rows p))
     split_over p below inner same_most =
-        rw (
-          children_same a.rows b.rows tree p,
-          at_children a.rows (slice_index mb) (slice_index ma) p same_most,
-        ) at
-        (pb.splits p (omega (arith, below, tree.as_many)) refl
-        (leaf_same a.rows b.rows tree p ∙ inner))
+        rw (at_children a.rows (slice_index mb) (slice_index ma) p same_most) at
+        (split_beside p below inner)
 
     -- Equal amounts of a parent, weights and mosts of its children give equal amounts.
     pub step_same : (c p : ℕ) → c < length a.rows → p < length a.rows

@@ -2,23 +2,22 @@
 use Rattle.std.proofs.Common.{◌≡◌, ◌≢◌, ℕ, ◌<◌, ◌≤◌, List, true, false, Some, length, get_or}
 use Rattle.std.proofs.Common.{refl, ap, sym, ◌∙◌, arith, inl, inr, eqb}
 use Rattle.std.specs.Prelude.{map, slice_index}
-use Rattle.std.proofs.lemmas.Bool.{cases_eq, cases_lt, or_right}
-use Rattle.std.proofs.lemmas.List.{length-map}
+use Rattle.std.proofs.lemmas.Bool.{cases_eq, or_right}
 use Rattle.bw_model.specs.Groups.{Groups, IsInstance, parent_of, children_of, is_leaf, weight_of}
 use Rattle.bw_model.specs.Groups.{limit_of, is_under}
-use Rattle.bw_model.specs.Certificate.{sibling_place}
 use Rattle.bw_model.specs.Demand.{want_of}
 use Rattle.bw_model.specs.Plan.{IsPlan, child_weights}
 use Rattle.bw_model.specs.Split.{IsBestSplit}
 use Rattle.bw_model.proofs.CallerLemmas.{strong, from_the_last, capped, mosts, mosts-capped}
-use Rattle.bw_model.proofs.CallerLemmas.{parent_lt, parent_not_leaf, listed_child, child_at}
-use Rattle.bw_model.proofs.CallerLemmas.{get_or-map, is_under-step, is_under-self}
+use Rattle.bw_model.proofs.CallerLemmas.{parent_lt, parent_not_leaf, listed_child}
+use Rattle.bw_model.proofs.CallerLemmas.{is_under-step, is_under-self}
 use Rattle.bw_plan.specs.Shared.{IsPlanning}
 use Rattle.bw_plan.proofs.CallerLemmas.{plan-IsPlanning}
 use Rattle.bw_split_laws.specs.Change.{AreWeighted, IsRaised}
-use Rattle.bw_split_laws.proofs.CallerLemmas.{outside, raised_alone_gains}
+use Rattle.bw_split_laws.proofs.CallerLemmas.{raised_alone_gains}
 use Rattle.bw_plan_laws.specs.Tree.{IsNotBelow}
 use Rattle.bw_plan_laws.specs.Weight.{IsHeavier, RaisedWeightAloneGains}
+use Rattle.bw_plan_laws.proofs.Siblings.{raised_child}
 use Rattle.bw_plan_laws.proofs.Trees.{want_same, step_same, split_over, weighted, at_place}
 use Rattle.bw_plan_laws.proofs.Trees.{children_same, parent_not_below, child_not_below}
 
@@ -99,40 +98,12 @@ module _ (a b : Groups) (group parent : ℕ) (xs ys : List ℕ) (va : IsInstance
   same_parent : get_or ys parent 0 ≡ get_or xs parent 0
   same_parent = elsewhere parent parent_in (λ under. refl)
 
-  weight_at : (values : Groups) (k : ℕ) → k < length (children_of a.rows parent)
-      → get_or (map (weight_of values.rows) (children_of a.rows parent)) k 0
-      ≡ weight_of values.rows (get_or (children_of a.rows parent) k 0)
-  weight_at values k below = get_or-map (weight_of values.rows) (children_of a.rows parent) k below
-
-  -- The child at another place is another group.
-  apart_at : (k : ℕ) → k < length (children_of a.rows parent) → k ≢ place.0
-      → get_or (children_of a.rows parent) k 0 ≢ group
-  unfolding place
-  apart_at k below other same =
-      other (sym (child_at a.rows parent k below).place
-      ∙ ap (sibling_place a.rows parent) (same ∙ sym place.2)
-      ∙ (child_at a.rows parent place.0 place.1).place)
-
   raised : IsRaised (child_weights a.rows parent) (map (slice_index ma) (children_of a.rows parent))
       (map (weight_of b.rows) (children_of a.rows parent))
       (map (slice_index ma) (children_of a.rows parent)) place.0
-  raised = record {
-    as_many = refl;
-    weight = rw (weight_at a place.0 place.1, weight_at b place.0 place.1, place.2) heavier.raised;
-    maximum = omega arith;
-    others = λ k other. (
-      elim (cases_lt k (length (children_of a.rows parent))) [
-        | inl within ↦ rw (weight_at a k within, weight_at b k within)
-            (heavier.weights (get_or (children_of a.rows parent) k 0) (apart_at k within other))
-        | inr past ↦
-            outside (map (weight_of b.rows) (children_of a.rows parent)) k
-            (omega (arith, past, length-map (children_of a.rows parent) (weight_of b.rows)))
-            ∙ sym (outside (map (weight_of a.rows) (children_of a.rows parent)) k
-            (omega (arith, past, length-map (children_of a.rows parent) (weight_of a.rows))))
-      ],
-      refl,
-    );
-  }
+  raised = raised_child a.rows parent (weight_of a.rows) (weight_of b.rows) (slice_index ma)
+      (slice_index ma) place.0 group place.1 place.2 heavier.raised (omega arith)
+      (λ s s_in e other. heavier.weights s other) (λ s s_in e other. refl)
 
   more_weighted : AreWeighted (map (weight_of b.rows) (children_of a.rows parent))
       (map (slice_index ma) (children_of a.rows parent))

@@ -1,5 +1,6 @@
 -- The files of definitions.
 pub mod Host
 pub mod Inside
+pub mod Room
 pub mod Tree
 pub mod Weight

@@ -7,8 +7,10 @@
 
 mod host;
 mod inside;
+mod room;
 mod weight;
 
 pub use host::{capacity_takes_nothing, raised_limits_serve_no_less};
 pub use inside::inside_stays_inside;
+pub use room::{more_room_takes_nothing, others_demands_give_nothing};
 pub use weight::raised_weight_alone_gains;
