@@ -17,8 +17,8 @@ use Rattle.bw_model.specs.Marks.{MarkValue}
 use Rattle.bw_cert.specs.Spelling.{groups_of, Value, text_lines, line, parent_word, limit_word}
 use Rattle.bw_cert.specs.Spelling.{flag_word, level_word, head_words, group_words, groups_text}
 use Rattle.bw_cert.specs.Spelling.{spelling, IsSmallRow, IsSmallLevel, IsValue}
-use Rattle.bw_cert.specs.Reading.{ReadsAs, line_at, head_of, group_of, groups_at, certified_of}
-use Rattle.bw_cert.specs.Reading.{certified_view}
+use Rattle.bw_cert.specs.Reading.{ReadsAs, line_at, head_of, group_of, group_at, groups_at}
+use Rattle.bw_cert.specs.Reading.{certified_of, certified_view}
 use Rattle.bw_cert.proofs.Lines.{line_there}
 use Rattle.bw_cert.proofs.WordsAgain.{IsPlain, digits_plain, number_again, parent_again}
 use Rattle.bw_cert.proofs.WordsAgain.{limit_again, flag_again, level_again, words_again, line_again}
@@ -90,6 +90,25 @@ one_line : (first : List ℕ) (others : List (List ℕ)) (rest : List ℕ)
 one_line first others rest h =
     line_there (line (first ∷ others) ++ rest) (join_with_byte 32 (first ∷ others)) rest
     (line_again first others rest h)
+
+-- the line of a group is read as its values
+pub group_line_again : (text rest : List ℕ) (r : Row) (a : ℕ) (f : Bool) (m : Option MarkValue)
+    → text ≡ line (group_words r a f m) ++ rest → IsSmallRow r → a < 2 ^ 64
+    → IfSome m IsSmallLevel
+    → group_at (text_lines text)
+    ≡ Ok (record { row = r; amount = a; flag = f; level = m }, text_lines rest)
+group_line_again text rest r a f m e row amount level =
+    let plain = plain_group r a f m row amount level in
+    rw (
+      e,
+      one_line (parent_word r.parent)
+          (decimal r.weight ∷ limit_word r.limit ∷ decimal r.demand ∷ decimal a ∷ flag_word f
+          ∷ level_word m ∷ []) rest plain,
+      words_again (parent_word r.parent)
+          (decimal r.weight ∷ limit_word r.limit ∷ decimal r.demand ∷ decimal a ∷ flag_word f
+          ∷ level_word m ∷ []) plain,
+      group_again r a f m row amount level,
+    ) refl
 
 groups_again : (rows : List Row) (amounts : List ℕ) (flags : List Bool)
     (levels : List (Option MarkValue))

@@ -147,6 +147,13 @@ group_of (parent ∷ weight ∷ limit ∷ demand ∷ amount ∷ flag ∷ level �
   })
 group_of _ = Err faults.BadLine
 
+-- the contents of the first line, and the parts after it
+abbrev pub group_at : List (List ℕ) → Result (Group × List (List ℕ)) CertFault
+group_at parts = do
+  l ← line_at parts
+  g ← group_of (words_of l.0)
+  Ok (g, l.1)
+
 -- a group in front of others
 abbrev pub with_group : Group → Columns → Columns
 with_group g c =

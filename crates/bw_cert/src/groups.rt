@@ -1,11 +1,12 @@
 //! Groups of a certified text, line by line.
-ghost use Rattle.std.specs.Prelude.{◌≡◌};
+ghost use Rattle.std.specs.Prelude.{◌≡◌, ◌≤◌};
 ghost use Rattle.bw_cert.specs.Spelling.{text_lines, words_of};
-ghost use Rattle.bw_cert.specs.Reading.{ReadsAs, seen, line_at, group_of, groups_at};
+ghost use Rattle.bw_cert.specs.Reading.{ReadsAs, seen, line_at, group_of, group_at, groups_at};
 ghost use Rattle.bw_cert.specs.Reading.{group_view, columns_view};
 
 use crate::fault::CertFault;
 use crate::line_words::group_words;
+use crate::spelled::spelled_group;
 use crate::word_values::{flag, level, limit, number, parent};
 use bw_model::limits::MAX_GROUPS;
 use bw_model::{Certificate, Instance, Mark, Row};
@@ -20,13 +21,13 @@ pub struct Certified {
     pub certificate: Certificate,
 }
 
-// All values of a group's line.
+/// All values of a group's line.
 #[derive(Clone, Copy)]
-struct GroupLine {
-    row: Row,
-    amount: u64,
-    flag: bool,
-    level: Option<Mark>,
+pub(crate) struct GroupLine {
+    pub(crate) row: Row,
+    pub(crate) amount: u64,
+    pub(crate) flag: bool,
+    pub(crate) level: Option<Mark>,
 }
 
 /// The values of the groups' lines, by column.
@@ -77,25 +78,45 @@ fn group(line: &[u8]) -> Result<GroupLine, CertFault>
     })
 }
 
+// The values of the first line, read word by word, and the text after it.
+fn group_by_words(text: &[u8]) -> Result<(GroupLine, &[u8]), CertFault>
+    ensures { seen (λ p. (group_view p.0, text_lines p.1.now)) result
+        ≡ group_at (text_lines text.now) }
+{
+    let (line, rest) = first_line(text)?;
+    let read = group(line)?;
+    Ok((read, rest))
+}
+
+// The values of the first line, and the text after it.
+fn next_group(text: &[u8]) -> Result<(GroupLine, &[u8]), CertFault>
+    ensures { seen (λ p. (group_view p.0, text_lines p.1.now)) result
+        ≡ group_at (text_lines text.now) }
+{
+    match spelled_group(text) {
+        Some((read, rest)) => Ok((read, rest)),
+        None => group_by_words(text),
+    }
+}
+
 /// Reads `count` groups. Returns them with the text after their lines.
 pub(crate) fn groups(alloc: Global, count: u64, text: &[u8]) -> Result<(Columns, &[u8]), CertFault>
+    requires { count ≤ MAX_GROUPS }
     ensures { ReadsAs (λ p. (columns_view p.0, text_lines p.1.now)) result
         (groups_at count (text_lines text.now)) }
 {
-    // A text that is cut short has fewer groups.
-    let room = count.min(MAX_GROUPS as u64) as usize;
+    let room = count as usize;
     let mut rows = Vec::with_capacity(alloc, room)?;
     let mut amounts = Vec::with_capacity(alloc, room)?;
     let mut tight = Vec::with_capacity(alloc, room)?;
     let mut levels = Vec::with_capacity(alloc, room)?;
     let mut rest = text;
     for _ in 0..count {
-        let (line, after) = first_line(rest)?;
-        let next = group(line)?;
-        rows.push(next.row)?;
-        amounts.push(next.amount)?;
-        tight.push(next.flag)?;
-        levels.push(next.level)?;
+        let (next, after) = next_group(rest)?;
+        rows.push_reserved(next.row);
+        amounts.push_reserved(next.amount);
+        tight.push_reserved(next.flag);
+        levels.push_reserved(next.level);
         rest = after;
     }
     let columns = Columns {

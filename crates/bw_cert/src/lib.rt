@@ -7,6 +7,7 @@ mod groups;
 mod laws;
 mod line_words;
 mod reading;
+mod spelled;
 mod word_values;
 mod writing;
 

@@ -1,5 +1,5 @@
 //! Reading of certified texts.
-ghost use Rattle.std.specs.Prelude.{◌≡◌, Ok, IfOk};
+ghost use Rattle.std.specs.Prelude.{◌≡◌, ◌≤◌, Ok, IfOk};
 ghost use Rattle.bw_cert.specs.Spelling.{Value, text_lines, words_of, spelling, IsValue};
 ghost use Rattle.bw_cert.specs.Reading.{ReadsAs, head_of, host_in, certified_of, certified_view};
 
@@ -14,7 +14,8 @@ use std::alloc::Global;
 // The host, and the number of groups that follow.
 #[tactic(auto, unfolding(crate::specs::Reading::head_of))]
 fn head(line: &[u8]) -> Result<(HostShape, u64), CertFault>
-    ensures { result ≡ head_of (words_of line.now) }
+    ensures read { result ≡ head_of (words_of line.now) }
+    ensures few { IfOk result (λ p. p.1 ≤ MAX_GROUPS) }
 {
     let Some(words) = head_words(line) else {
         return Err(CertFault::BadLine);

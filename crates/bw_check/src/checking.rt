@@ -5,7 +5,7 @@ ghost use Rattle.bw_model.specs.Plan.{IsPlan};
 ghost use Rattle.bw_check.specs.Verdict.{IsVerdict};
 ghost use Rattle.bw_check.specs.declared.verdict.Verdict.TheVariants.{Accepted};
 
-use crate::conditions::{OF_ROWS, are_one_per_row, first_group};
+use crate::conditions::{OF_ROWS, are_free, are_one_per_row, first_group};
 use crate::fault::CheckFault;
 use crate::tables::tables_of;
 use crate::verdict::Verdict;
@@ -38,6 +38,9 @@ pub fn check(
         });
     }
     let tables = tables_of(alloc, instance, amounts, certificate)?;
+    if are_free(instance, amounts, certificate, &tables) {
+        return Ok(Verdict::Accepted);
+    }
     for fault in OF_ROWS {
         if let Some(group) = first_group(instance, amounts, certificate, &tables, fault) {
             return Ok(Verdict::Refused { fault, group });

@@ -8,11 +8,13 @@ ghost use Rattle.bw_check.specs.Faults.{check_fault_number};
 ghost use Rattle.bw_check.specs.Levels.{AreSmall, IsFirst};
 ghost use Rattle.bw_check.specs.Tables.{AreTables};
 ghost use Rattle.bw_check.specs.Verdict.{AreOnePerRow, IsWithinLimit, IsWithinDemand};
-ghost use Rattle.bw_check.specs.Verdict.{IsChildrenSum, IsFlagLimited, HasLevel, IsFree};
+ghost use Rattle.bw_check.specs.Verdict.{IsChildrenSum, IsFlagLimited, HasLevel, IsFree, AreFree};
+ghost use Rattle.bw_check.specs.declared.fault.CheckFault.{CheckFault};
 
 use crate::fault::CheckFault;
 use crate::marks::{is_last_mark_kept, is_next_mark_kept};
 use crate::tables::Tables;
+use bw_model::limits::MAX_CAPACITY;
 use bw_model::{Certificate, Instance};
 
 /// The faults of single groups, in order.
@@ -143,4 +145,55 @@ pub fn first_group(
         }
     }
     None
+}
+
+// Whether a group is free of each fault. Marks are read only if its amount is small.
+fn is_free_of_all(
+    instance: &Instance,
+    amounts: &[u64],
+    certificate: &Certificate,
+    tables: &Tables,
+    g: u32,
+) -> bool
+    requires tables { AreTables instance.now amounts.now (certified_of certificate.now) tables.now }
+    requires within { g < length instance.now.rows }
+    ensures { IsTrue result → (fault : CheckFault) → IsFree instance.now amounts.now
+        (certified_of certificate.now) tables.now.bounds.items fault g }
+{
+    is_within_limit(instance, amounts, g)
+        && is_within_demand(instance, amounts, g)
+        && is_children_sum(instance, amounts, &tables.sums, g)
+        && is_flag_limited(instance, certificate, g)
+        && u128::from(amounts[0]) == tables.bounds[0]
+        && has_level(instance, amounts, certificate, g)
+        && amounts[g as usize] <= MAX_CAPACITY
+        && is_last_mark_kept(instance, amounts, certificate, &tables.places, g)
+        && is_next_mark_kept(
+            instance,
+            amounts,
+            certificate,
+            &tables.places,
+            &tables.bounds,
+            g,
+        )
+}
+
+/// Whether one pass over the rows shows that no group has a fault. If it does not,
+/// [`first_group`] finds the first.
+pub fn are_free(
+    instance: &Instance,
+    amounts: &[u64],
+    certificate: &Certificate,
+    tables: &Tables,
+) -> bool
+    requires tables { AreTables instance.now amounts.now (certified_of certificate.now) tables.now }
+    ensures { IsTrue result → AreFree instance.now amounts.now (certified_of certificate.now)
+        tables.now.bounds.items }
+{
+    for g in 0..instance.group_count() {
+        if !is_free_of_all(instance, amounts, certificate, tables, g) {
+            return false;
+        }
+    }
+    true
 }

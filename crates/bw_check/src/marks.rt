@@ -1,9 +1,9 @@
 //! The marks of a child against its parent's level.
-ghost use Rattle.std.specs.Prelude.{◌≡◌, ℕ, ◌<◌, ◌≤◌, ◌↔◌, IsTrue, length};
+ghost use Rattle.std.specs.Prelude.{◌≡◌, ℕ, ◌<◌, ◌≤◌, ◌↔◌, IsTrue, length, slice_index};
 ghost use Rattle.bw_model.specs.Certificate.{certified_of, AreBounds};
 ghost use Rattle.bw_model.specs.Marks.{price_of, last_mark, next_mark};
 ghost use Rattle.bw_check.specs.Counts.{ArePlaces};
-ghost use Rattle.bw_check.specs.Levels.{level_above, AreSmall};
+ghost use Rattle.bw_check.specs.Levels.{level_above};
 ghost use Rattle.bw_check.specs.Verdict.{AreOnePerRow, IsLastMarkKept, IsNextMarkKept};
 
 use bw_model::limits::MAX_CAPACITY;
@@ -69,7 +69,7 @@ pub fn is_last_mark_kept(
 ) -> bool
     requires one_per_row { AreOnePerRow instance.now amounts.now (certified_of certificate.now) }
     requires places { ArePlaces instance.now.rows (length instance.now.rows) places.now }
-    requires small { AreSmall amounts.now }
+    requires small { slice_index amounts.now c ≤ MAX_CAPACITY }
     requires within { c < length instance.now.rows }
     ensures { IsTrue result
         ↔ IsLastMarkKept instance.now amounts.now (certified_of certificate.now) c }
@@ -97,7 +97,7 @@ pub fn is_next_mark_kept(
     requires one_per_row { AreOnePerRow instance.now amounts.now (certified_of certificate.now) }
     requires places { ArePlaces instance.now.rows (length instance.now.rows) places.now }
     requires bounds { length bounds.now ≡ length instance.now.rows }
-    requires small { AreSmall amounts.now }
+    requires small { slice_index amounts.now c ≤ MAX_CAPACITY }
     requires within { c < length instance.now.rows }
     ensures { IsTrue result
         ↔ IsNextMarkKept instance.now amounts.now (certified_of certificate.now) bounds.now c }

@@ -1,29 +1,14 @@
 -- The goals of `groups` that are answered by hand.
-use Rattle.std.proofs.Common.{map, sym}
+use Rattle.std.proofs.Common.{◌≡◌, ◌≤◌, map, sym, arith, rules}
+use Rattle.std.specs.Prelude.{vec_len, vec_capacity}
 use Rattle.std.specs.Option.{option_map}
 use Rattle.std.proofs.lemmas.Result.{err_from_is_err_and}
 use Rattle.std.proofs.lemmas.List.{map_push}
 use Rattle.bw_model.specs.Marks.{price_of}
 use Rattle.bw_cert.specs.Spelling.{Columns, text_lines}
 use Rattle.bw_cert.specs.Reading.{groups_at, group_view}
-use Rattle.bw_cert.proofs.Loop.{goes_on, line_ends, group_ends, is_done}
+use Rattle.bw_cert.proofs.Loop.{goes_on, group_ends, is_done}
 use Rattle.bw_cert.proofs.groups.groups.Goals as goal
-
-pub returns-in_err-line : goal.returns-in_err-line
-returns-in_err-line c =
-    let front : Columns = record {
-      rows = c.loop.rows.items;
-      amounts = c.loop.amounts.items;
-      flags = c.loop.tight.items;
-      levels = map (option_map price_of) c.loop.levels.items;
-    } in
-    let p = err_from_is_err_and c.from_residual-in_err-line.result
-    c.from_residual-in_err-line.ensures.1 in
-    rw (p.1, p.2)
-    (line_ends c.in_err-line.field-0.0 front c.args.count c.loop.counter
-    (text_lines c.loop.rest.now)
-    (groups_at c.args.count (text_lines c.args.text.now)) c.loop-test.true
-    (sym c.in_err-line.ensures) c.loop.invariant)
 
 pub returns-in_err-next : goal.returns-in_err-next
 returns-in_err-next c =
@@ -38,9 +23,8 @@ returns-in_err-next c =
     rw (p.1, p.2)
     (group_ends c.in_err-next.field-0.0 front c.args.count c.loop.counter
     (text_lines c.loop.rest.now)
-    (text_lines c.in_ok-line.after.now) c.in_ok-line.line.now
     (groups_at c.args.count (text_lines c.args.text.now)) c.loop-test.true
-    (sym c.in_ok-line.ensures) (sym c.in_err-next.ensures) c.loop.invariant)
+    (sym c.in_err-next.ensures) c.loop.invariant.read)
 
 pub loop-preserved : goal.loop-preserved
 loop-preserved c =
@@ -50,18 +34,27 @@ loop-preserved c =
       flags = c.loop.tight.items;
       levels = map (option_map price_of) c.loop.levels.items;
     } in
-    rw (
-      c.in_ok-push.ensures.items,
-      c.in_ok-push-2.ensures.items,
-      c.in_ok-push-3.ensures.items,
-      c.in_ok-push-4.ensures.items,
-      map_push (option_map price_of) c.loop.levels.items c.in_ok-next.next.level,
-    )
-    (goes_on front c.args.count c.loop.counter (text_lines c.loop.rest.now)
-    (text_lines c.in_ok-line.after.now) c.in_ok-line.line.now
-    (group_view c.in_ok-next.next) (groups_at c.args.count (text_lines c.args.text.now))
-    c.loop-test.true (sym c.in_ok-line.ensures)
-    (sym c.in_ok-next.ensures) c.loop.invariant)
+    record {
+      read = rw (
+        c.push_reserved.ensures.items,
+        c.push_reserved-in-loop.ensures.items,
+        c.push_reserved-in-loop-2.ensures.items,
+        c.push_reserved-in-loop-3.ensures.items,
+        map_push (option_map price_of) c.loop.levels.items c.in_ok-next.next.level,
+      )
+          (goes_on front c.args.count c.loop.counter (text_lines c.loop.rest.now)
+          (text_lines c.in_ok-next.after.now) (group_view c.in_ok-next.next)
+          (groups_at c.args.count (text_lines c.args.text.now))
+          c.loop-test.true (sym c.in_ok-next.ensures) c.loop.invariant.read);
+      rows_len = search rules;
+      rows_room = search rules;
+      amounts_len = search rules;
+      amounts_room = search rules;
+      tight_len = search rules;
+      tight_room = search rules;
+      levels_len = search rules;
+      levels_room = search rules;
+    }
 
 pub returns : goal.returns
 returns c =
@@ -72,4 +65,4 @@ returns c =
       levels = map (option_map price_of) c.loop.levels.items;
     } in
     is_done front c.args.count c.loop.counter (text_lines c.loop.rest.now)
-    (groups_at c.args.count (text_lines c.args.text.now)) c.loop-test.false c.loop.invariant
+    (groups_at c.args.count (text_lines c.args.text.now)) c.loop-test.false c.loop.invariant.read

@@ -12,7 +12,7 @@ returns-then-not-is_empty c =
     trailing (text_lines c.args.text.now) (text_lines c.in_ok-line.rest.now)
     (text_lines c.in_ok-columns.rest.now) c.in_ok-line.line.now c.in_ok-shape.shape
     c.in_ok-shape.count (columns_view c.in_ok-columns.columns)
-    (sym c.in_ok-line.ensures) (sym c.in_ok-shape.ensures) c.in_ok-columns.ensures
+    (sym c.in_ok-line.ensures) (sym c.in_ok-shape.ensures.read) c.in_ok-columns.ensures
     (not_over c.in_ok-columns.rest.now (search rules))
 
 pub returns : goal.returns
@@ -23,5 +23,5 @@ returns c =
     rw is (whole (text_lines c.args.text.now) (text_lines c.in_ok-line.rest.now)
     (text_lines c.in_ok-columns.rest.now) c.in_ok-line.line.now c.in_ok-shape.shape
     c.in_ok-shape.count (columns_view c.in_ok-columns.columns)
-    (sym c.in_ok-line.ensures) (sym c.in_ok-shape.ensures) c.in_ok-columns.ensures
+    (sym c.in_ok-line.ensures) (sym c.in_ok-shape.ensures.read) c.in_ok-columns.ensures
     (over c.in_ok-columns.rest.now (search rules)) fine)
