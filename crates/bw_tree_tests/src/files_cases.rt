@@ -39,17 +39,17 @@ fn line_breaks(rt: HostRuntime) {
 
 static GREATEST: Stat = Stat {
     usage_usec: u64::MAX,
-    nr_periods: 1,
-    nr_throttled: 2,
+    nr_periods: u64::MAX,
+    nr_throttled: u64::MAX,
     throttled_usec: u64::MAX,
-    nr_bursts: 3,
+    nr_bursts: u64::MAX,
     burst_usec: u64::MAX,
 };
 
 static OF_THE_ROOT: &str = "usage_usec 18446744073709551615\n";
 
 static OF_A_GROUP: &str =
-    "usage_usec 18446744073709551615\nnr_periods 1\nnr_throttled 2\nthrottled_usec 18446744073709551615\nnr_bursts 3\nburst_usec 18446744073709551615\n";
+    "usage_usec 18446744073709551615\nnr_periods 18446744073709551615\nnr_throttled 18446744073709551615\nthrottled_usec 18446744073709551615\nnr_bursts 18446744073709551615\nburst_usec 18446744073709551615\n";
 
 fn assert_writes(rt: &impl Abort, alloc: Global, root: bool, wanted: &str) -> Result<(), Fail> {
     let text = match write_stat(alloc, &GREATEST, root) {

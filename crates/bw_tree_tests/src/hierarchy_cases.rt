@@ -154,6 +154,20 @@ fn builders_below_a_burst(rt: HostRuntime) -> Result<(), Fail> {
     Ok(())
 }
 
+static LONGEST_NAME: [u8; 255] = [b'n'; 255];
+
+// A build copies the tree, with each name in it.
+#[test]
+fn builder_beside_the_longest_name(rt: HostRuntime) -> Result<(), Fail> {
+    let name = str::from_utf8(&LONGEST_NAME)?;
+    let mut hierarchy = new_hierarchy(rt.alloc())?;
+    make(&mut hierarchy, name)?;
+    assert!(rt; number_of(built(&mut hierarchy, "p", Some(300), None, None)) == 0);
+    assert_reads(&rt, &hierarchy, "p", "cpu.weight", 0, "300\n");
+    assert_reads(&rt, &hierarchy, name, "cpu.weight", 0, "100\n");
+    Ok(())
+}
+
 #[test]
 fn builder_of_the_root(rt: HostRuntime) -> Result<(), Fail> {
     let mut hierarchy = new_hierarchy(rt.alloc())?;
