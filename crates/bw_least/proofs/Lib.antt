@@ -1,0 +1,5 @@
+-- The files of lemmas.
+mod Halving
+mod Reaching
+mod Rising
+mod StillInstance
