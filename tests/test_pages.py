@@ -316,6 +316,20 @@ def test_another_call_is_found(call):
         assert len(calls_of_the_lock({**sources, name: sources[name] + call})) == 1
 
 
+def loops_in(text: str) -> list:
+    return re.findall(r"(?:^|[{;])\s*(?:for|while|loop)\b", text, re.M)
+
+
+def test_no_loop_beside_the_calls():
+    """Each function that calls the system does so once, so one call is one of the count."""
+    same(loops_in(sources_of_the_lock()["sleeping.rt"]), [], "loops")
+
+
+@pytest.mark.parametrize("text", ["    for _ in 0..2 {", "{ while more {", "add(); loop {"])
+def test_loop_is_found(text):
+    same(len(loops_in(text)), 1)
+
+
 def test_proofs_are_listed():
     """PROOFS is what its script prints."""
     same(run([ROOT / "scripts/proofs"]).out.decode(), text_of("docs/PROOFS.md"), "scripts/proofs")

@@ -82,6 +82,13 @@ fn many_children(rt: HostRuntime) -> Result<(), Fail> {
     Ok(())
 }
 
+/// A level is greatest where nearly all slices go to a child of the least weight.
+#[test]
+fn great_level(rt: HostRuntime) -> Result<(), Fail> {
+    assert_split(&rt, rt.alloc(), 60005, &[1, 1], &[60000, 10], &[59995, 10])?;
+    Ok(())
+}
+
 /// The cost of three parts: each squared, times the weights of the other two.
 fn cost_of([a, b, c]: [u64; 3], [x, y, z]: [u64; 3]) -> u64 {
     let first = a.wrapping_mul(a).wrapping_mul(y).wrapping_mul(z);

@@ -1,0 +1,90 @@
+"""Wrong bodies and must-fail edits stand in the sources, and MUTATION names what is there.
+
+A text that its file has no more, or twice, makes a BAD EDIT, which fails nothing in the gate.
+"""
+import re
+from pathlib import Path
+
+import pytest
+
+from support import ROOT, same
+from test_pages import is_there, references, text_of
+from wrong_bodies import BODIES, Body, changed_files
+
+PAGE = "docs/MUTATION.md"
+EDITS = sorted(ROOT.glob("crates/*/must-fail/*.edit"))
+
+
+def stale_texts(edit: str, crate: Path) -> list:
+    """The texts of an edit that its files do not have exactly once, one change after another."""
+    path, old, texts, stale = crate, "", {}, []
+    for line in edit.splitlines():
+        if line.startswith("file: "):
+            path = crate / line[6:].strip()
+        elif line.startswith("old: "):
+            old = line[5:]
+        elif line.startswith("new:"):
+            text = texts.get(path) or path.read_text(encoding="utf-8")
+            if text.count(old) != 1:
+                stale.append(old)
+            texts[path] = text.replace(old, line[5:])
+    return stale
+
+
+@pytest.mark.parametrize("edit", EDITS, ids=lambda edit: edit.stem)
+def test_edit_applies(edit):
+    text = edit.read_text(encoding="utf-8")
+    assert "new: " in text
+    same(stale_texts(text, edit.parent.parent), [], "texts")
+
+
+def test_stale_edit_is_found():
+    """A text that is not there is found, and one that is there twice."""
+    crate = ROOT / "crates/bw_model"
+    edit = "file: src/host.rt\nold: {}\nnew: x\n"
+    for old in ("no such text", "fn "):
+        same(stale_texts(edit.format(old), crate), [old])
+
+
+@pytest.mark.parametrize("path", sorted(BODIES.glob("*.body")), ids=lambda path: path.stem)
+def test_body_applies(path):
+    """`wrong_bodies.py` can put the body and the right one into the sources."""
+    body = Body(path)
+    for kind in ("new", "neutral"):
+        assert changed_files(ROOT, body, kind)
+
+
+def is_test(file: str, name: str) -> bool:
+    """Whether a file of tests/ has this test."""
+    path = ROOT / "tests" / file
+    return path.is_file() and f"\ndef {name}(" in path.read_text(encoding="utf-8")
+
+
+def is_case(crate: str, module: str, name: str) -> bool:
+    """Whether a crate of tests has this test."""
+    path = ROOT / "crates" / crate / "src" / f"{module}.rt"
+    return path.is_file() and f"\n#[test]\nfn {name}(" in path.read_text(encoding="utf-8")
+
+
+def test_clauses_are_there():
+    found = references(PAGE)
+    assert len(found) >= 20
+    same([name for *reference, name in found if not is_there(*reference)], [], "clauses")
+
+
+def test_tests_are_there():
+    text = text_of(PAGE)
+    tests = re.findall(r"(test_\w+\.py) `(test_\w+)", text)
+    assert len(tests) >= 20
+    same([each for each in tests if not is_test(*each)], [], "tests")
+    cases = re.findall(r"(bw_\w+_tests) `(\w+)::(\w+)`", text)
+    assert len(cases) >= 5
+    same([each for each in cases if not is_case(*each)], [], "cases")
+
+
+def test_edits_are_there():
+    """Each edit that the page names is one of the gate, or a body beside it."""
+    named = re.findall(r"\b(?:edit|body) `(\w+)`", text_of(PAGE))
+    assert len(named) >= 10
+    there = {path.stem for path in [*EDITS, *BODIES.glob("*.body")]}
+    same([name for name in named if name not in there], [], "edits")
