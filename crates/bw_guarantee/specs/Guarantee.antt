@@ -1,4 +1,4 @@
--- What a group gets whatever the others ask for.
+-- Guarantees: the least amount of a group, whatever the others ask for.
 use Rattle.std.specs.Prelude.{◌≡◌, ℕ, ◌<◌, ◌≤◌, List, true, length, slice_index}
 use Rattle.bw_model.specs.Groups.{Groups, IsInstance, weight_of, demand_of, limit_of, is_under}
 use Rattle.bw_model.specs.Plan.{IsPlan}

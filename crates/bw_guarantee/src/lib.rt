@@ -1,4 +1,4 @@
-//! What a group is guaranteed: the least that it gets, whatever the other groups ask for.
+//! Guarantees: the least that a group gets, whatever the other groups ask for.
 #![tactic(auto)]
 
 mod busy;

@@ -1,4 +1,4 @@
-//! What a group is guaranteed.
+//! Guarantees of groups.
 use bw_guarantee::{GuaranteeFault, guarantee};
 use bw_model::{HostShape, Instance, InstanceFault, Row};
 use std::alloc::Global;
