@@ -9,4 +9,6 @@ mod builder_cases;
 #[cfg(test)]
 mod core_cases;
 #[cfg(test)]
+mod guarantee_cases;
+#[cfg(test)]
 mod split_cases;

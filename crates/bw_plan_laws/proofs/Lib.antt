@@ -1,6 +1,7 @@
 -- The files of lemmas.
 mod Above
 mod BusyLaw
+pub mod CallerLemmas
 mod HostLaws
 mod InsideLaw
 mod RoomLaw

@@ -3,3 +3,4 @@ pub use Rattle.bw_split_laws.proofs.Lists.{find_greater, outside}
 pub use Rattle.bw_split_laws.proofs.Pairs.{never_less}
 pub use Rattle.bw_split_laws.proofs.Raised.{raised_alone_gains, no_more_with_room}
 pub use Rattle.bw_split_laws.proofs.Raised.{child_keeps, others_lose}
+pub use Rattle.bw_split_laws.proofs.Removed.{rest_stays}

@@ -1,0 +1,3 @@
+-- The files of lemmas.
+mod BusyRows
+mod Least

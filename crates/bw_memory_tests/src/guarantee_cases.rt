@@ -1,0 +1,86 @@
+//! Guarantees of groups.
+use bw_guarantee::{GuaranteeFault, guarantee};
+use bw_model::{HostShape, Instance, InstanceFault, Row};
+use std::alloc::Global;
+use std::process::Abort;
+use std::test::Fail;
+
+const ROOT: u32 = 0;
+
+const WEB: u32 = 1;
+
+const POD: u32 = 2;
+
+const POD_A: u32 = 3;
+
+const POD_B: u32 = 4;
+
+const MISSING: u32 = 5;
+
+// Parent, weight and demand of each group. `web` is idle.
+static GROUPS: [(Option<u32>, u64, u64); 5] = [
+    (None, 100, 0),
+    (Some(ROOT), 100, 0),
+    (Some(ROOT), 300, 0),
+    (Some(POD), 100, 20),
+    (Some(POD), 100, 8),
+];
+
+// A host of 20 slices with these groups.
+fn new_instance(alloc: Global, shape: HostShape) -> Result<Instance, InstanceFault> {
+    let mut rows = Vec::new(alloc);
+    for (parent, weight, demand) in &GROUPS {
+        rows.push(Row {
+            parent: *parent,
+            weight: *weight,
+            limit: None,
+            demand: *demand,
+        })?;
+    }
+    Instance::new(alloc, rows, shape)
+}
+
+fn instance(alloc: Global) -> Result<Instance, Fail> {
+    let shape = HostShape::new(1, 100_000, 5_000)?;
+    match new_instance(alloc, shape) {
+        Err(_) => Ok(new_instance(alloc, shape)?),
+        Ok(instance) => Ok(instance),
+    }
+}
+
+// The guaranteed amount, asked for again if an allocation failed.
+fn guaranteed(
+    rt: &impl Abort,
+    alloc: Global,
+    instance: &Instance,
+    group: u32,
+) -> Result<u64, GuaranteeFault> {
+    match guarantee(alloc, instance, group) {
+        Err(GuaranteeFault::OutOfMemory) => {
+            assert!(rt; GuaranteeFault::OutOfMemory.number() == 71);
+            guarantee(alloc, instance, group)
+        }
+        answer => answer,
+    }
+}
+
+#[test]
+fn guarantees(rt: HostRuntime) -> Result<(), Fail> {
+    let instance = instance(rt.alloc())?;
+    assert!(rt; guaranteed(&rt, rt.alloc(), &instance, ROOT) == Ok(20));
+    assert!(rt; guaranteed(&rt, rt.alloc(), &instance, WEB) == Ok(0));
+    assert!(rt; guaranteed(&rt, rt.alloc(), &instance, POD) == Ok(15));
+    assert!(rt; guaranteed(&rt, rt.alloc(), &instance, POD_A) == Ok(8));
+    assert!(rt; guaranteed(&rt, rt.alloc(), &instance, POD_B) == Ok(7));
+    Ok(())
+}
+
+#[test]
+fn no_such_group(rt: HostRuntime) -> Result<(), Fail> {
+    let instance = instance(rt.alloc())?;
+    let refused = guarantee(rt.alloc(), &instance, MISSING);
+    assert!(rt; refused == Err(GuaranteeFault::NotFound));
+    assert!(rt; GuaranteeFault::NotFound.number() == 20);
+    assert!(rt; GuaranteeFault::NotFound.name() == "NotFound");
+    Ok(())
+}
