@@ -1,8 +1,11 @@
 -- The files of lemmas.
 mod Above
 mod BusyLaw
+mod CutLaw
 mod HostLaws
 mod InsideLaw
+mod Lacking
+mod RaisedLimit
 mod RoomLaw
 mod Siblings
 mod Trees
