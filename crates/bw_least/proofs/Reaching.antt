@@ -1,22 +1,23 @@
 -- What the one plan says of what is reached.
-use Rattle.std.proofs.Common.{◌≡◌, ℕ, ◌≤◌, List, length, get_or, ap, ◌∙◌, arith, leb}
+use Rattle.std.proofs.Common.{◌≡◌, ℕ, ◌<◌, ◌≤◌, List, length, get_or, ap, arith, leb}
 use Rattle.std.specs.Prelude.{IsTrue, ◌↔◌}
-use Rattle.std.specs.List.{range_with_len}
 use Rattle.std.proofs.lemmas.Bool.{leb-true, le-leb}
-use Rattle.std.proofs.lemmas.List.{length-map}
-use Rattle.std.proofs.lemmas.List.FromFn.{length-map-range_with_len}
-use Rattle.bw_model.specs.Allocation.{total}
-use Rattle.bw_model.specs.Groups.{Groups, AreTreeRows}
+use Rattle.bw_model.specs.Groups.{Groups, IsInstance, AreTreeRows}
 use Rattle.bw_model.specs.Plan.{IsPlan}
-use Rattle.bw_model.proofs.CallerLemmas.{IsPlan-unique}
+use Rattle.bw_model.proofs.CallerLemmas.{IsPlan-unique, mosts, mosts-capped}
+use Rattle.bw_plan.proofs.CallerLemmas.{plan-IsPlanning}
 use Rattle.bw_least.specs.Least.{Reaches}
 
 -- A plan has an amount for each group.
-pub one_each : (groups : Groups) (amounts : List ℕ) → IsPlan groups amounts
-    → length amounts ≡ length groups.rows
-one_each groups amounts plan =
-    ap length plan.amounts_are
-    ∙ length-map-range_with_len (total groups.rows plan.allocation) 0 (length groups.rows)
+pub inside_plan : (groups : Groups) → IsInstance groups → (amounts : List ℕ) → IsPlan groups amounts
+    → (group : ℕ) → group < length groups.rows → group < length amounts
+inside_plan groups valid amounts plan group below =
+    omega (
+      arith,
+      below,
+      (plan-IsPlanning groups valid (mosts groups valid.tree) (mosts-capped groups valid.tree)
+          amounts plan).one_each,
+    )
 
 -- The amount of a plan tells what is reached.
 pub reached_by : (groups : Groups) (group amount value : ℕ) (amounts : List ℕ)

@@ -1,16 +1,16 @@
 -- An instance with one setting changed is an instance.
 use Rattle.std.proofs.Common.{◌≡◌, ◌≢◌, ℕ, zero, suc, ◌<◌, ◌≤◌, List, [], ◌∷◌, false, Option, None}
-use Rattle.std.proofs.Common.{Some, length, get_or, set, refl, ap, sym, ◌∙◌, arith, inl, inr}
-use Rattle.std.proofs.Common.{get_or-set_same, get_or-set_other, length-set}
+use Rattle.std.proofs.Common.{Some, length, refl, ap, sym, ◌∙◌, arith, inl, inr}
+use Rattle.std.proofs.Common.{get_or-set_same, get_or-set_other}
 use Rattle.std.specs.Option.{option_map_or}
 use Rattle.std.proofs.lemmas.Bool.{cases_eq}
+use Rattle.std.proofs.lemmas.List.{length-set}
 use Rattle.bw_model.specs.declared.row.Row.{Row}
 use Rattle.bw_model.specs.declared.limits.TheConstants.{MIN_WEIGHT, MAX_WEIGHT, MAX_PROCESSORS}
-use Rattle.bw_model.specs.Groups.{Groups, IsInstance, AreTreeRows, no_row, row_of, parent_of}
-use Rattle.bw_model.specs.Groups.{weight_of, demand_of, limit_of, path_up_within, path_up, depth_of}
-use Rattle.bw_model.specs.Groups.{is_leaf}
+use Rattle.bw_model.specs.Groups.{Groups, IsInstance, no_row, row_of, parent_of}
+use Rattle.bw_model.specs.Groups.{weight_of, demand_of, path_up_within, path_up, depth_of, is_leaf}
 use Rattle.bw_model.proofs.CallerLemmas.{inner_has_child, parent_not_leaf}
-use Rattle.bw_least.specs.Change.{with_weight, with_processors}
+use Rattle.bw_least.specs.Change.{with_row, with_processors}
 
 -- rows of the same parents
 module _ (rows others : List Row) (same : (h : ℕ) → parent_of others h ≡ parent_of rows h) where
@@ -41,79 +41,72 @@ module _ (rows others : List Row) (same : (h : ℕ) → parent_of others h ≡ p
       parent_not_leaf rows g child.0 (omega (arith, child.1, as_many))
       (sym (same child.0) ∙ child.2)
 
--- A field of a row, where one row is replaced by one of the same field.
-field_same : {A : Type 0} (f : Row → A) (rows : List Row) (group : ℕ) (row : Row) (h : ℕ)
-    → group < length rows → f row ≡ f (row_of rows group)
-    → f (row_of (set rows group row) h) ≡ f (row_of rows h)
-field_same f rows group row h below e = elim (cases_eq h group) [
-  | inl here ↦ rw here (ap f (get_or-set_same rows group row no_row below) ∙ e)
-  | inr other ↦ ap f (get_or-set_other rows group h row no_row other)
-]
+-- another row of one group
+module _ (groups : Groups) (group : ℕ) (row : Row) (inside : group < length groups.rows) where
+  -- A field in which the new row is as the old one.
+  pub field_same : {A : Type 0} (f : Row → A) → f row ≡ f (row_of groups.rows group) → (h : ℕ)
+      → f (row_of (with_row groups group row).rows h) ≡ f (row_of groups.rows h)
+  field_same f e h = elim (cases_eq h group) [
+    | inl here ↦ rw here (ap f (get_or-set_same groups.rows group row no_row inside) ∙ e)
+    | inr other ↦ ap f (get_or-set_other groups.rows group h row no_row other)
+  ]
 
-module _ (groups : Groups) (valid : IsInstance groups) (group weight : ℕ)
-    (inside : group < length groups.rows) where
-  heavy : Row
-  heavy = record (row_of groups.rows group) { weight = weight }
+  pub row_here : row_of (with_row groups group row).rows group ≡ row
+  row_here = get_or-set_same groups.rows group row no_row inside
 
-  pub parents_kept : (h : ℕ)
-      → parent_of (with_weight groups group weight).rows h ≡ parent_of groups.rows h
-  parents_kept h = field_same (λ r. r.parent) groups.rows group
-      (record (row_of groups.rows group) { weight = weight }) h inside refl
+  pub row_other : (h : ℕ) → h ≢ group
+      → row_of (with_row groups group row).rows h ≡ row_of groups.rows h
+  row_other h other = get_or-set_other groups.rows group h row no_row other
 
-  pub demands_kept : (h : ℕ)
-      → demand_of (with_weight groups group weight).rows h ≡ demand_of groups.rows h
-  demands_kept h = field_same (λ r. r.demand) groups.rows group
-      (record (row_of groups.rows group) { weight = weight }) h inside refl
+  pub weight_here : weight_of (with_row groups group row).rows group ≡ row.weight
+  weight_here = ap (λ (r : Row). r.weight) row_here
 
-  pub limits_kept : (h : ℕ)
-      → limit_of (with_weight groups group weight) h ≡ limit_of groups h
-  limits_kept zero = refl
-  limits_kept (suc h) = field_same (λ r. r.limit) groups.rows group
-      (record (row_of groups.rows group) { weight = weight }) (suc h) inside refl
+  pub weight_other : (h : ℕ) → h ≢ group
+      → weight_of (with_row groups group row).rows h ≡ weight_of groups.rows h
+  weight_other h other = ap (λ (r : Row). r.weight) (row_other h other)
 
-  pub weight_here : weight_of (with_weight groups group weight).rows group ≡ weight
-  weight_here = ap (λ (r : Row). r.weight)
-      (get_or-set_same groups.rows group
-      (record (row_of groups.rows group) { weight = weight }) no_row inside)
+  pub as_many : length (with_row groups group row).rows ≡ length groups.rows
+  as_many = length-set groups.rows group row
 
-  pub weights_kept : (h : ℕ) → h ≢ group
-      → weight_of (with_weight groups group weight).rows h ≡ weight_of groups.rows h
-  weights_kept h other = ap (λ (r : Row). r.weight)
-      (get_or-set_other groups.rows group h
-      (record (row_of groups.rows group) { weight = weight }) no_row other)
+  module _ (valid : IsInstance groups) (parent : row.parent ≡ parent_of groups.rows group)
+      (demand : row.demand ≡ demand_of groups.rows group) where
+    parents_kept : (h : ℕ)
+        → parent_of (with_row groups group row).rows h ≡ parent_of groups.rows h
+    parents_kept = field_same (λ r. r.parent) parent
 
-  pub as_many : length (with_weight groups group weight).rows ≡ length groups.rows
-  as_many = length-set groups.rows group
-      (record (row_of groups.rows group) { weight = weight })
+    demands_kept : (h : ℕ)
+        → demand_of (with_row groups group row).rows h ≡ demand_of groups.rows h
+    demands_kept = field_same (λ r. r.demand) demand
 
-  pub weight-IsInstance : MIN_WEIGHT ≤ weight → weight ≤ MAX_WEIGHT
-      → IsInstance (with_weight groups group weight)
-  weight-IsInstance least greatest = record {
-    host = valid.host;
-    tree = record {
-      has_root = omega (arith, as_many, valid.tree.has_root);
-      root_on_top = parents_kept 0 ∙ valid.tree.root_on_top;
-      parent_before = λ g inner below.
-          let known = valid.tree.parent_before g inner (omega (arith, below, as_many)) in
-          (known.0, parents_kept g ∙ known.1, known.2);
-    };
-    few = omega (arith, as_many, valid.few);
-    weights = λ g below. elim (cases_eq g group) [
-      | inl here ↦ rw (here, weight_here) (least, greatest)
-      | inr other ↦ rw (weights_kept g other) (valid.weights g (omega (arith, below, as_many)))
-    ];
-    shallow = λ g below.
-        rw (depth_same groups.rows (with_weight groups group weight).rows parents_kept g)
-        (valid.shallow g (omega (arith, below, as_many)));
-    inner_idle = λ g below inner. demands_kept g
-        ∙ valid.inner_idle g (omega (arith, below, as_many))
-        (inner_same groups.rows (with_weight groups group weight).rows parents_kept as_many g
-        inner);
-    demands = λ g below. rw (demands_kept g) (valid.demands g (omega (arith, below, as_many)));
-    root_unlimited = field_same (λ r. r.limit) groups.rows group
-        (record (row_of groups.rows group) { weight = weight }) 0 inside refl
-        ∙ valid.root_unlimited;
-  }
+    pub row-IsInstance : MIN_WEIGHT ≤ row.weight → row.weight ≤ MAX_WEIGHT
+        → (group ≡ 0 → row.limit ≡ None) → IsInstance (with_row groups group row)
+    row-IsInstance least greatest unlimited = record {
+      host = valid.host;
+      tree = record {
+        has_root = omega (arith, as_many, valid.tree.has_root);
+        root_on_top = parents_kept 0 ∙ valid.tree.root_on_top;
+        parent_before = λ g inner below.
+            let known = valid.tree.parent_before g inner (omega (arith, below, as_many)) in
+            (known.0, parents_kept g ∙ known.1, known.2);
+      };
+      few = omega (arith, as_many, valid.few);
+      weights = λ g below. elim (cases_eq g group) [
+        | inl here ↦ rw (here, weight_here) (least, greatest)
+        | inr other ↦ rw (weight_other g other) (valid.weights g (omega (arith, below, as_many)))
+      ];
+      shallow = λ g below.
+          rw (depth_same groups.rows (with_row groups group row).rows parents_kept g)
+          (valid.shallow g (omega (arith, below, as_many)));
+      inner_idle = λ g below inner. demands_kept g
+          ∙ valid.inner_idle g (omega (arith, below, as_many))
+          (inner_same groups.rows (with_row groups group row).rows parents_kept as_many g inner);
+      demands = λ g below. rw (demands_kept g) (valid.demands g (omega (arith, below, as_many)));
+      root_unlimited = elim (cases_eq 0 group) [
+        | inl here ↦ ap (λ g. (row_of (with_row groups group row).rows g).limit) here
+            ∙ ap (λ (r : Row). r.limit) row_here ∙ unlimited (sym here)
+        | inr other ↦ ap (λ (r : Row). r.limit) (row_other 0 other) ∙ valid.root_unlimited
+      ];
+    }
 
 pub processors-IsInstance : (groups : Groups) → IsInstance groups → (processors : ℕ)
     → 1 ≤ processors → processors ≤ MAX_PROCESSORS → IsInstance (with_processors groups processors)

@@ -1,6 +1,7 @@
 //! An instance with one setting changed.
 ghost use Rattle.std.specs.Prelude.{◌≡◌, ◌<◌, ◌≤◌, length, IfOk};
-ghost use Rattle.bw_least.specs.Change.{with_weight, with_processors, changed, greatest_of};
+ghost use Rattle.bw_least.specs.Change.{with_weight, with_limit, with_processors, changed};
+ghost use Rattle.bw_least.specs.Change.{greatest_of};
 
 use crate::setting::Setting;
 use bw_model::limits::{MAX_PROCESSORS, MAX_WEIGHT, MIN_WEIGHT};
@@ -27,6 +28,26 @@ fn reweighted(
     let row = instance.row(group);
     let mut rows = copied(alloc, instance.rows())?;
     rows[group as usize] = Row { weight, ..row };
+    Instance::of_valid(alloc, rows, instance.shape())
+}
+
+/// The instance with another limit of one group, or none, in slices.
+///
+/// # Errors
+/// `AllocError` if memory was refused.
+pub(crate) fn relimited(
+    alloc: Global,
+    instance: &Instance,
+    group: u32,
+    limit: Option<u64>,
+) -> Result<Instance, AllocError>
+    requires row { group < length instance.now.rows }
+    requires below_root { 0 < group }
+    ensures { IfOk result (λ i. i ≡ with_limit instance.now group limit) }
+{
+    let row = instance.row(group);
+    let mut rows = copied(alloc, instance.rows())?;
+    rows[group as usize] = Row { limit, ..row };
     Instance::of_valid(alloc, rows, instance.shape())
 }
 

@@ -1,15 +1,16 @@
 //! The least values, by halving: what a value reaches, each greater one does.
-ghost use Rattle.std.specs.Prelude.{◌≡◌, ◌<◌, ◌≤◌, ◌↔◌, length, IfOk, IsTrue};
-ghost use Rattle.bw_least.specs.Change.{with_weight, with_processors, changed, greatest_of};
-ghost use Rattle.bw_least.specs.Least.{Reaches, IsLeast, Rises};
+ghost use Rattle.std.specs.Prelude.{◌≡◌, ◌<◌, ◌≤◌, ◌↔◌, None, length, IfOk, IsTrue};
+ghost use Rattle.bw_least.specs.Change.{with_weight, with_limit, with_processors, changed};
+ghost use Rattle.bw_least.specs.Change.{greatest_of};
+ghost use Rattle.bw_least.specs.Least.{Reaches, IsLeast, IsLeastLimit, Rises};
 
-use crate::changed::changed;
+use crate::changed::{changed, relimited};
 use crate::setting::{Setting, greatest};
 use bw_model::Instance;
 use bw_model::limits::{MAX_PROCESSORS, MAX_WEIGHT, MIN_WEIGHT};
 use bw_plan::{plan, there_is_one_plan};
 use bw_plan_laws::{
-    capacity_takes_nothing, raised_limits_serve_no_less, raised_weight_alone_gains,
+    capacity_takes_nothing, limit_only_cuts, raised_limits_serve_no_less, raised_weight_alone_gains,
 };
 use std::alloc::{AllocError, Global};
 
@@ -98,4 +99,45 @@ pub fn least_processors(
     there_is_one_plan();
     capacity_takes_nothing();
     least(alloc, instance, Setting::Processors, group, amount)
+}
+
+// Whether a group without its limit reaches an amount.
+fn reaches_unlimited(
+    alloc: Global,
+    instance: &Instance,
+    group: u32,
+    amount: u64,
+) -> Result<bool, AllocError>
+    requires row { group < length instance.now.rows }
+    requires below_root { 0 < group }
+    ensures { IfOk result (λ enough. IsTrue enough
+        ↔ Reaches (with_limit instance.now group None) group amount) }
+{
+    let unlimited = relimited(alloc, instance, group, None)?;
+    reaches(alloc, &unlimited, group, amount)
+}
+
+/// The least limit of a group, in slices, with which the plan gives it at least so many slices, all
+/// else as it is. None: no limit does, and nor does the group without one.
+///
+/// It makes one plan, of the instance without this limit. A limit only cuts, so the least one is the
+/// amount itself. The root has no limit but the capacity.
+///
+/// # Errors
+/// `AllocError` if memory was refused.
+pub fn least_limit(
+    alloc: Global,
+    instance: &Instance,
+    group: u32,
+    amount: u64,
+) -> Result<Option<u64>, AllocError>
+    requires row { group < length instance.now.rows }
+    requires below_root { 0 < group }
+    ensures { IfOk result (IsLeastLimit instance.now group amount) }
+{
+    let _rows = instance.rows();
+    there_is_one_plan();
+    limit_only_cuts();
+    let enough = reaches_unlimited(alloc, instance, group, amount)?;
+    Ok(if enough { Some(amount) } else { None })
 }

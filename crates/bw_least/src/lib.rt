@@ -6,4 +6,4 @@ mod changed;
 mod least;
 mod setting;
 
-pub use least::{least_processors, least_weight};
+pub use least::{least_limit, least_processors, least_weight};

@@ -24,13 +24,13 @@ use Rattle.bw_plan_laws.proofs.Siblings.{no_less_at}
 use Rattle.bw_plan_laws.proofs.Trees.{want_same, split_beside, weighted_beside, weighted, at_place}
 
 -- What a limit cuts below another want is not cut.
-uncut : (limit : Option ℕ) (want greater : ℕ) → capped limit want < capped limit greater
+pub uncut : (limit : Option ℕ) (want greater : ℕ) → capped limit want < capped limit greater
     → capped limit want ≡ want
 uncut None want greater h = refl
 uncut (Some limit) want greater h = omega (arith, h)
 
 -- Parts within their maxima that make up the sum of these are the maxima.
-all_full : (parts most : List ℕ) → length parts ≡ length most
+pub all_full : (parts most : List ℕ) → length parts ≡ length most
     → ((k : ℕ) → k < length parts → get_or parts k 0 ≤ get_or most k 0) → sum most ≤ sum parts
     → most ≡ parts
 all_full parts most long within whole = elim (find_greater most parts (sym long) whole) [

@@ -156,7 +156,7 @@ capacity_takes_nothing rows shape greater xs ys va vb more is_plan is_other g be
 
 -- Wants are no less where no demand is smaller and no most of a child is.
 module _ (a b : Groups) (va : IsInstance a) (vb : IsInstance b) (roomier : IsRoomier a b) where
-  wants_less : (ma mb : List ℕ) (g : ℕ) → ((c : ℕ) → c < length a.rows
+  pub wants_less : (ma mb : List ℕ) (g : ℕ) → ((c : ℕ) → c < length a.rows
       → parent_of a.rows c ≡ Some g → get_or ma c 0 ≤ get_or mb c 0)
       → want_of a ma g ≤ want_of b mb g
   wants_less ma mb g below = elim (cases_Bool (is_leaf a.rows g)) [

@@ -2,8 +2,11 @@
 mod Above
 mod BusyLaw
 pub mod CallerLemmas
+mod CutLaw
 mod HostLaws
 mod InsideLaw
+mod Lacking
+mod RaisedLimit
 mod RoomLaw
 mod Siblings
 mod Trees

@@ -1,4 +1,5 @@
 -- The files of definitions.
+pub mod Cut
 pub mod Host
 pub mod Inside
 pub mod Room

@@ -1,6 +1,6 @@
 -- The goals of `reweighted` that are answered by hand.
 use Rattle.std.proofs.Common.{◌∙◌}
-use Rattle.bw_least.proofs.StillInstance.{weight-IsInstance}
+use Rattle.bw_least.proofs.Rising.{weight-IsInstance}
 use Rattle.bw_least.proofs.changed.reweighted.Goals as goal
 
 pub of_valid-requires : goal.of_valid-requires

@@ -1,5 +1,5 @@
 -- The goals of `least` that are answered by hand.
-use Rattle.std.proofs.Common.{◌≡◌, ℕ, ◌+◌, ◌-◌, ◌/◌, ◌<◌, ◌≤◌, arith, true≢false, sym, ◌∙◌}
+use Rattle.std.proofs.Common.{ℕ, ◌+◌, ◌-◌, ◌/◌, ◌<◌, ◌≤◌, arith, true≢false, sym, ◌∙◌}
 use Rattle.std.proofs.Common.{subst}
 use Rattle.bw_model.specs.Groups.{Groups}
 use Rattle.bw_least.specs.Change.{changed, greatest_of}

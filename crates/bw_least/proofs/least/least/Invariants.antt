@@ -1,5 +1,5 @@
 -- Lesser values fall short, and the value above the gap reaches the amount.
-use Rattle.std.proofs.Common.{◌≡◌, ℕ, ◌+◌, ◌-◌, ◌<◌, ◌≤◌}
+use Rattle.std.proofs.Common.{ℕ, ◌+◌, ◌-◌, ◌<◌, ◌≤◌}
 use Rattle.bw_least.specs.Change.{changed, greatest_of}
 use Rattle.bw_least.specs.Least.{Reaches}
 use Rattle.bw_least.proofs.least.least.Given as goal
