@@ -2,29 +2,14 @@
 use Rattle.std.proofs.Common.{◌≡◌, ℕ, ◌<◌, ◌≤◌, List, false, Option, None, Some, length, get_or, ap}
 use Rattle.std.proofs.Common.{sym, ◌∙◌, arith}
 use Rattle.std.specs.Prelude.{sum, sum_by, slice_index, map, IfSome, IfNone}
-use Rattle.std.proofs.lemmas.List.{length-map}
 use Rattle.std.proofs.lemmas.List.Sums.{sum-map, get_or-le-sum_by}
-use Rattle.bw_model.specs.declared.row.Row.{Row}
 use Rattle.bw_model.specs.declared.mark.Mark.{Mark}
 use Rattle.bw_model.specs.Groups.{Groups, children_of, is_leaf}
 use Rattle.bw_model.specs.Marks.{price_of}
 use Rattle.bw_model.specs.Split.{IsGreatestLast}
-use Rattle.bw_model.specs.declared.limits.TheConstants.{MAX_CAPACITY}
 use Rattle.bw_model.specs.Plan.{child_weights}
 use Rattle.bw_cert.specs.Levels.{IsLevelAt}
-use Rattle.bw_model.proofs.CallerLemmas.{sum_none, child_at, get_or-map}
-
--- each part is small where each amount is
-pub small_parts : (rows : List Row) (g : ℕ) (amounts parts : List ℕ) → length amounts ≡ length rows
-    → parts ≡ map (slice_index amounts) (children_of rows g) →
-    ((k : ℕ) → k < length amounts → get_or amounts k 0 ≤ MAX_CAPACITY) → (k : ℕ) → k < length parts
-    → get_or parts k 0 ≤ MAX_CAPACITY
-small_parts rows g amounts parts long e small = rw e (λ k below.
-    let inside : k < length (children_of rows g) =
-    omega (arith, below, length-map (children_of rows g) (slice_index amounts)) in
-    let c : get_or (children_of rows g) k 0 < length rows = (child_at rows g k inside).within in
-    rw (get_or-map (slice_index amounts) (children_of rows g) k inside)
-    (small (get_or (children_of rows g) k 0) (omega (arith, c, long))))
+use Rattle.bw_model.proofs.CallerLemmas.{sum_none}
 
 -- the greatest last mark of the children is the level
 pub to_level : (groups : Groups) (amounts : List ℕ) (g : ℕ) (parts ws : List ℕ)

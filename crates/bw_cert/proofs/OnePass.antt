@@ -1,6 +1,6 @@
 -- Numbers and lines that are read in one pass.
-use Rattle.std.proofs.Common.{◌≡◌, ℕ, zero, suc, ◌+◌, ◌-◌, ◌*◌, ◌^◌, ◌<◌, ◌≤◌, ◌&&◌, ◌||◌, Bool, true}
-use Rattle.std.proofs.Common.{false, not, eqb, ltb, List, [], ◌∷◌, ◌++◌, length, get_or, take, drop, Ok}
+use Rattle.std.proofs.Common.{◌≡◌, ℕ, suc, ◌+◌, ◌-◌, ◌*◌, ◌^◌, ◌<◌, ◌≤◌, ◌||◌, true}
+use Rattle.std.proofs.Common.{not, eqb, List, [], ◌∷◌, ◌++◌, length, get_or, take, drop, Ok}
 use Rattle.std.proofs.Common.{refl, sym, ap, ◌∙◌, add-one, append_assoc, arith}
 use Rattle.std.specs.Prelude.{codes}
 use Rattle.std.specs.Char.{is_ascii_digit}
@@ -12,7 +12,7 @@ use Rattle.std.proofs.lemmas.Bool.Decides.{nat_tests}
 use Rattle.std.proofs.lemmas.List.{length-append, length-take-le, take_more, drop_more, get_or-take}
 use Rattle.std.proofs.lemmas.List.{take-append-drop}
 use Rattle.std.proofs.lemmas.List.Folds.{list_all-append}
-use Rattle.bw_text.specs.Number.{is_number, value_of_digits, number_read}
+use Rattle.bw_text.specs.Number.{value_of_digits, number_read}
 use Rattle.bw_text.proofs.CallerLemmas.{digit_range, read_is_decimal}
 use Rattle.bw_cert.specs.Spelling.{line}
 

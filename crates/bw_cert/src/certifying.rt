@@ -1,7 +1,10 @@
 //! The certificate of a plan.
-ghost use Rattle.std.specs.Prelude.{◌≡◌, ◌<◌, ◌≤◌, false, length, slice_index, EachIndex, IfOk};
-ghost use Rattle.bw_model.specs.Groups.{is_leaf, sum_of_children};
-ghost use Rattle.bw_model.specs.Plan.{IsPlan};
+ghost use Rattle.std.specs.Prelude.{◌≡◌, ◌<◌, ◌≤◌, false, length, map, slice_index, EachIndex};
+ghost use Rattle.std.specs.Prelude.{◌⊎◌, IfOk, IfSome, IfNone};
+ghost use Rattle.bw_model.specs.Groups.{is_leaf, sum_of_children, children_of};
+ghost use Rattle.bw_model.specs.Marks.{price_of, last_mark, IsBelow, IsAtMost};
+ghost use Rattle.bw_model.specs.Split.{IsGreatestLast};
+ghost use Rattle.bw_model.specs.Plan.{IsPlan, child_weights};
 ghost use Rattle.bw_demand.specs.Demands.{demands_of, IsGathered};
 ghost use Rattle.bw_model.specs.Certificate.{certified_of, IsAccepted};
 ghost use Rattle.bw_cert.specs.Levels.{IsLevelAt, AreLevels, AreTightFlags};
@@ -9,36 +12,73 @@ ghost use Rattle.bw_cert.specs.Levels.{IsLevelAt, AreLevels, AreTightFlags};
 use bw_demand::{Gathered, gather_rows};
 use bw_model::limits::MAX_CAPACITY;
 use bw_model::{Certificate, Instance, Mark};
-use bw_plan::{Plan, child_values, child_weights};
-use bw_split::level_of;
+use bw_plan::Plan;
 use std::alloc::{AllocError, Global};
 
+// The mark of the last of so many slices, 1 to 64,000.
+fn last_mark(slices: u64, weight: u64, place: u32) -> Mark
+    requires some { 0 < slices }
+    requires small { slices ≤ MAX_CAPACITY }
+    requires weighed { 0 < weight }
+    ensures { price_of result ≡ last_mark slices weight place }
+{
+    Mark {
+        num: 2 * slices - 1,
+        den: weight,
+        place,
+    }
+}
+
+// The greater of two marks. The first may be missing.
+fn greater(best: Option<Mark>, mark: Mark) -> Mark
+    ensures none { IfNone best (result ≡ mark) }
+    ensures some { IfSome best (λ best. ((result ≡ best) × IsBelow (price_of mark) (price_of best))
+        ⊎ ((result ≡ mark) × IsAtMost (price_of best) (price_of mark))) }
+{
+    match best {
+        None => mark,
+        Some(best) => { if mark < best { best } else { mark } }
+    }
+}
+
+// The greatest last mark of the children of a group; None if they have no slice.
+fn greatest_last(instance: &Instance, amounts: &[u64], g: u32) -> Option<Mark>
+    requires row { g < length instance.now.rows }
+    requires amount_each { length amounts.now ≡ length instance.now.rows }
+    requires small { EachIndex amounts.now (λ k. slice_index amounts.now k ≤ MAX_CAPACITY) }
+    ensures greatest { IfSome result (λ mark. IsGreatestLast (child_weights instance.now.rows g)
+        (map (slice_index amounts.now) (children_of instance.now.rows g)) (price_of mark)) }
+    ensures none { IfNone result
+        (EachIndex (map (slice_index amounts.now) (children_of instance.now.rows g))
+        (λ k. slice_index (map (slice_index amounts.now) (children_of instance.now.rows g)) k
+        ≡ 0)) }
+{
+    // its contract says that the weights are in range
+    let _rows = instance.rows();
+    let mut level = None;
+    for (place, child) in instance.children(g).iter().enumerate() {
+        let amount = amounts[*child as usize];
+        if amount > 0 {
+            let mark = last_mark(amount, instance.weight(*child), place as u32);
+            level = Some(greater(level, mark));
+        }
+    }
+    level
+}
+
 // The level of a group, or None if it shares nothing out.
-fn level_at(
-    alloc: Global,
-    instance: &Instance,
-    amounts: &[u64],
-    g: u32,
-) -> Result<Option<Mark>, AllocError>
+fn level_at(instance: &Instance, amounts: &[u64], g: u32) -> Option<Mark>
     requires row { g < length instance.now.rows }
     requires amount_each { length amounts.now ≡ length instance.now.rows }
     requires small { EachIndex amounts.now (λ k. slice_index amounts.now k ≤ MAX_CAPACITY) }
     requires whole { is_leaf instance.now.rows g ≡ false
         → slice_index amounts.now g ≡ sum_of_children instance.now.rows amounts.now g }
-    ensures { IfOk result (IsLevelAt instance.now amounts.now g) }
+    ensures { IsLevelAt instance.now amounts.now g result }
 {
-    if instance.is_leaf(g) {
-        return Ok(None);
+    if instance.is_leaf(g) || amounts[g as usize] == 0 {
+        return None;
     }
-    let amount = amounts[g as usize];
-    if amount == 0 {
-        return Ok(None);
-    }
-    // its contract says that the weights are in range
-    let _rows = instance.rows();
-    let weights = child_weights(alloc, instance, g)?;
-    let parts = child_values(alloc, instance, amounts, g)?;
-    Ok(level_of(parts.as_slice(), weights.as_slice()))
+    greatest_last(instance, amounts, g)
 }
 
 /// The certificate of an instance's own plan.
@@ -79,10 +119,9 @@ pub fn certify_gathered(
         (λ c. AreLevels instance.now plan.now.amounts.items (certified_of c)) }
 {
     let amounts = plan.amounts.as_slice();
-    let mut levels: Vec<Option<Mark>> = Vec::new(alloc);
+    let mut levels: Vec<Option<Mark>> = Vec::with_capacity(alloc, amounts.len())?;
     for g in 0..instance.rows().len() {
-        let level = level_at(alloc, instance, amounts, g as u32)?;
-        levels.push(level)?;
+        levels.push(level_at(instance, amounts, g as u32))?;
     }
     let Gathered {
         want: _,

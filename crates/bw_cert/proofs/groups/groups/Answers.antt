@@ -1,6 +1,5 @@
 -- The goals of `groups` that are answered by hand.
-use Rattle.std.proofs.Common.{◌≡◌, ◌≤◌, map, sym, arith, rules}
-use Rattle.std.specs.Prelude.{vec_len, vec_capacity}
+use Rattle.std.proofs.Common.{map, sym, rules}
 use Rattle.std.specs.Option.{option_map}
 use Rattle.std.proofs.lemmas.Result.{err_from_is_err_and}
 use Rattle.std.proofs.lemmas.List.{map_push}
