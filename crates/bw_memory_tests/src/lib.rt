@@ -9,4 +9,6 @@ mod builder_cases;
 #[cfg(test)]
 mod core_cases;
 #[cfg(test)]
+mod known_keys;
+#[cfg(test)]
 mod split_cases;

@@ -2,6 +2,7 @@
 //! answer to any writer.
 #![tactic(auto)]
 
+mod keys;
 mod laws;
 mod responder;
 mod script;

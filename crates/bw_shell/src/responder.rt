@@ -15,6 +15,7 @@ use bw_model::HostShape;
 use bw_streams::{RunFault, Watched, flush, send};
 use bw_workers::Gate;
 use std::alloc::{AllocError, Global};
+use std::hash::RandomState;
 use std::io::Write;
 use std::rt::Clock;
 use std::sync::Wait;
@@ -99,12 +100,17 @@ impl<'a, G: Gate> Responder<'a, G> {
     /// # Errors
     ///
     /// `AllocError` if an allocation failed.
-    pub fn new(alloc: Global, shape: HostShape, gate: &'a G) -> Result<Responder<'a, G>, AllocError>
+    pub fn new(
+        alloc: Global,
+        keys: RandomState,
+        shape: HostShape,
+        gate: &'a G,
+    ) -> Result<Responder<'a, G>, AllocError>
         ensures { IfOk result (λ r. responder_state G.used r ≡ start shape (G.used gate.now)) }
     {
         let answer = Vec::with_capacity(alloc, REFUSAL_BYTES)?;
         Ok(Responder {
-            script: Script::new(alloc, shape, gate).map_err(|_| AllocError)?,
+            script: Script::new(alloc, keys, shape, gate).map_err(|_| AllocError)?,
             answer,
         })
     }

@@ -10,11 +10,13 @@ ghost use Rattle.bw_streams.specs.Fronts.{AppendsFront};
 ghost use Rattle.bw_streams.specs.Watched.{inner_of, has_failed, has_stalled, read_calls};
 ghost use Rattle.bw_streams.specs.Watched.{is_flushed, IsFresh, HasNoFault};
 
+use crate::keys::hash_keys;
 use crate::session::Session;
 use bw_model::HostShape;
 use bw_streams::{READ_CALLS, RunFault, Watched, piece_room};
 use bw_workers::{Gate, NoGate};
 use std::io::{Read, Write};
+use std::random::RandomSource;
 use std::rt::Clock;
 use std::sync::Wait;
 use std::thread::Threads;
@@ -96,7 +98,12 @@ fn read_script<H: Threads + Wait + Clock + Sync, G: Gate, R: Read, W: Write>(
 /// `Read` after a read that failed or after `READ_CALLS` reads.
 /// `Write` if a write or a flush failed, or a write took no bytes.
 /// `Memory` if an allocation failed before the first read.
-pub fn run_gated<H: AllocGlobal + Threads + Wait + Clock + Sync, G: Gate, R: Read, W: Write>(
+pub fn run_gated<
+    H: AllocGlobal + Threads + Wait + Clock + RandomSource + Sync,
+    G: Gate,
+    R: Read,
+    W: Write,
+>(
     rt: &H,
     reader: &mut Watched<R>,
     writer: &mut Watched<W>,
@@ -109,7 +116,8 @@ pub fn run_gated<H: AllocGlobal + Threads + Wait + Clock + Sync, G: Gate, R: Rea
         (start shape (G.used gate.now)) reader.old reader.new writer.old writer.new result }
 {
     let mut piece = piece_room(rt.alloc())?;
-    let mut session = Session::new(rt.alloc(), shape, gate)?;
+    let keys = hash_keys(rt).map_err(|_| RunFault::Memory)?;
+    let mut session = Session::new(rt.alloc(), keys, shape, gate)?;
     read_script(rt, &mut session, &mut piece, reader, writer)
 }
 
@@ -121,7 +129,7 @@ pub fn run_gated<H: AllocGlobal + Threads + Wait + Clock + Sync, G: Gate, R: Rea
 /// `Read` after a read that failed or after `READ_CALLS` reads.
 /// `Write` if a write or a flush failed, or a write took no bytes.
 /// `Memory` if an allocation failed before the first read.
-pub fn run<H: AllocGlobal + Threads + Wait + Clock + Sync, R: Read, W: Write>(
+pub fn run<H: AllocGlobal + Threads + Wait + Clock + RandomSource + Sync, R: Read, W: Write>(
     rt: &H,
     reader: &mut Watched<R>,
     writer: &mut Watched<W>,

@@ -11,6 +11,7 @@ use bw_streams::{RunFault, Watched, flush};
 use bw_workers::Gate;
 use memchr::memchr;
 use std::alloc::{AllocError, Global};
+use std::hash::RandomState;
 use std::io::Write;
 use std::rt::Clock;
 use std::sync::Wait;
@@ -47,12 +48,17 @@ impl<'a, G: Gate> Session<'a, G> {
     /// # Errors
     ///
     /// `AllocError` if an allocation failed.
-    pub fn new(alloc: Global, shape: HostShape, gate: &'a G) -> Result<Session<'a, G>, AllocError>
+    pub fn new(
+        alloc: Global,
+        keys: RandomState,
+        shape: HostShape,
+        gate: &'a G,
+    ) -> Result<Session<'a, G>, AllocError>
         ensures { IfOk result (λ s. scan_of G.used s ≡ begin (start shape (G.used gate.now))) }
     {
         let line = Vec::with_capacity(alloc, KEPT_BYTES)?;
         Ok(Session {
-            responder: Responder::new(alloc, shape, gate)?,
+            responder: Responder::new(alloc, keys, shape, gate)?,
             line,
         })
     }
