@@ -6,6 +6,7 @@ use std::rt::Clock;
 
 // Random bytes of the system. Where it has none, the time since 1970 in nanoseconds stands in. The
 // time is no secret, but a script that was written before the run cannot know it.
+#[derive(Drop)]
 struct KeySource<'a, H> {
     rt: &'a H,
 }
