@@ -95,7 +95,7 @@ fn assert_builds(rt: &impl Abort, hierarchy: &mut Hierarchy, steps: &[Build]) {
 }
 
 // A static table costs no proof. Each entry of a local table is a step of the proof.
-static BUILDERS: [Build; 25] = [
+static BUILDERS: [Build; 22] = [
     Build::Makes("p/q", Some(300), Some(50_000), Some(100_000), 0),
     Build::Reads("p", "cpu.weight", 0, "100\n"),
     Build::Reads("p", "cpu.max", 0, "max 100000\n"),
@@ -125,21 +125,6 @@ static BUILDERS: [Build; 25] = [
     Build::Makes("p/q", None, Some(-1), None, 0),
     Build::Reads("p/q", "cpu.weight", 0, "300\n"),
     Build::Reads("p/q", "cpu.max", 0, "max 100000\n"),
-    // beside a name of 255 bytes, which a build copies too
-    Build::Makes(
-        "nnnnnnnnnnnnnnnnnnnnnnnnnnnnnnnnnnnnnnnnnnnnnnnnnnnnnnnnnnnnnnnnnnnnnnnnnnnnnnnnnnnnnnnnnnnnnnnnnnnnnnnnnnnnnnnnnnnnnnnnnnnnnnnnnnnnnnnnnnnnnnnnnnnnnnnnnnnnnnnnnnnnnnnnnnnnnnnnnnnnnnnnnnnnnnnnnnnnnnnnnnnnnnnnnnnnnnnnnnnnnnnnnnnnnnnnnnnnnnnnnnnnnnnnnnnnnnn",
-        Some(200),
-        None,
-        None,
-        0,
-    ),
-    Build::Makes("v/w", None, None, None, 0),
-    Build::Reads(
-        "nnnnnnnnnnnnnnnnnnnnnnnnnnnnnnnnnnnnnnnnnnnnnnnnnnnnnnnnnnnnnnnnnnnnnnnnnnnnnnnnnnnnnnnnnnnnnnnnnnnnnnnnnnnnnnnnnnnnnnnnnnnnnnnnnnnnnnnnnnnnnnnnnnnnnnnnnnnnnnnnnnnnnnnnnnnnnnnnnnnnnnnnnnnnnnnnnnnnnnnnnnnnnnnnnnnnnnnnnnnnnnnnnnnnnnnnnnnnnnnnnnnnnnnnnnnnnnn",
-        "cpu.weight",
-        0,
-        "200\n",
-    ),
 ];
 
 #[test]
