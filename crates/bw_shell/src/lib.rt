@@ -8,6 +8,7 @@ mod responder;
 mod script;
 mod session;
 mod status;
+mod waiting;
 
 pub use bw_commands::ScriptFault;
 pub use laws::script_numbers;

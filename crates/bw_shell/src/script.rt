@@ -4,7 +4,7 @@ ghost use Rattle.std.specs.Prelude.{length, true, false, OnOk, IfOk, IfErr, IsEr
 ghost use Rattle.std.specs.Io.KnownBytes.{Appends, Consumes, IsAtEnd, Keeps};
 ghost use Rattle.bw_commands.specs.State.{start};
 ghost use Rattle.bw_shell.specs.Scan.{Scan, TakesBytes};
-ghost use Rattle.bw_shell.specs.Session.{scan_of};
+ghost use Rattle.bw_shell.specs.Session.{scan_of, session_waits};
 ghost use Rattle.bw_shell.specs.Runs.{Runs};
 ghost use Rattle.bw_streams.specs.Fronts.{AppendsFront};
 ghost use Rattle.bw_streams.specs.Watched.{inner_of, has_failed, has_stalled, read_calls};
@@ -33,6 +33,8 @@ fn read_some<H: Threads + Wait + Clock + Sync, G: Gate, R: Read, W: Write>(
     requires reader { HasNoFault reader.old }
     requires writer { HasNoFault writer.old }
     requires flushed { is_flushed writer.old ≡ true }
+    requires none_waits { session_waits session.old ≡ [] }
+    ensures none_waits { OnOk result (session_waits session.new ≡ []) }
     ensures reads { read_calls reader.new ≡ min (read_calls reader.old + 1) (2 ^ 64 - 1) }
     ensures ok { OnOk result ((input text : List ℕ)
         × TakesBytes (scan_of G.used session.old) input text (scan_of G.used session.new)
@@ -74,6 +76,7 @@ fn read_script<H: Threads + Wait + Clock + Sync, G: Gate, R: Read, W: Write>(
     writer: &mut Watched<W>,
 ) -> Result<(), RunFault>
     requires begun { (scan_of G.used session.old).kept ≡ Some [] }
+    requires none_waits { session_waits session.old ≡ [] }
     requires room { 0 < length piece.old }
     requires reader { IsFresh reader.old }
     requires writer { IsFresh writer.old }

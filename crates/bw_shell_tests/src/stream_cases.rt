@@ -174,10 +174,10 @@ fn assert_written<R: AllocGlobal + Threads + Wait + Clock + RandomSource + Abort
 // write all answers.
 static WRITERS: [(usize, bool, usize); 5] = [
     (1, false, 605),
-    (2, true, 308),
-    (5, false, 126),
-    (1000, false, 14),
-    (1000, true, 14),
+    (2, true, 303),
+    (5, false, 122),
+    (1000, false, 2),
+    (1000, true, 2),
 ];
 
 #[test]
