@@ -40,10 +40,12 @@ returns-in-Err g c =
     c.args.self.now.responder.waiting.items c.reply-2.new.self.waiting.items _ c.in-Err.fault
     (λ text p. (
       [],
-      record { state = p.0; kept = Some [] },
-      TakesLine-kept s p.0 whole line [] c.args.front.now (text ++ []) same refl
-          (subst (λ l. IsAnswer s whole l p.0) (sym (append-nil text))
-          (subst (λ r. IsAnswer r whole text p.0) state p.1)),
+      (
+        record { state = p.0; kept = Some [] },
+        TakesLine-kept s p.0 whole line [] c.args.front.now (text ++ []) same refl
+            (subst (λ l. IsAnswer s whole l p.0) (sym (append-nil text))
+            (subst (λ r. IsAnswer r whole text p.0) state p.1)),
+      ),
     ))
     (Gathers-from g.W.Write.contents c.args.writer.now c.reply-2.new.writer
     c.keep.new.self.responder.waiting.items c.args.self.now.responder.waiting.items
