@@ -106,8 +106,9 @@ def function_clauses(text: str, name: str) -> list:
         head = re.match(rf'( *)(?:pub(?:\(\w+\))? )?(?:[\w"]+ )*fn {name}\b', line)
         if head is None:
             continue
-        # The contract is indented. Its end is the brace of the body, or the next item.
-        ends = re.compile(rf" {{0,{len(head[1])}}}[^ )]")
+        # The contract is indented. Its end is the brace of the body, or the next item. Type
+        # parameters and parameters that have lines of their own end by `>` and `)`.
+        ends = re.compile(rf" {{0,{len(head[1])}}}[^ )>]")
         labels = []
         for later in [] if line.endswith("{") else lines[at + 1:]:
             if ends.match(later):

@@ -17,13 +17,14 @@ use failure::{Failure, explained};
 use memory::keep_freed;
 use std::io;
 use std::process::ExitCode;
+use std::random::RandomSource;
 use std::rt::Clock;
 use std::sync::Wait;
 use std::thread::Threads;
 use told::{bad_arguments, check_ended, host_refused, no_job, run_ended};
 
 // Runs the script on standard input, with a thread for each processor at each `period`.
-fn run_script<R: AllocGlobal + Input + Print + Threads + Wait + Clock + Sync>(
+fn run_script<R: AllocGlobal + Input + Print + Threads + Wait + Clock + RandomSource + Sync>(
     rt: &R,
     shape: HostShape,
 ) -> Result<(), Failure> {
@@ -55,7 +56,7 @@ fn check_input(rt: &HostRuntime) -> Result<bool, Failure> {
 }
 
 // `arbiter run`
-fn run_job<R: AllocGlobal + Input + Print + Eprint + Threads + Wait + Clock + Sync>(
+fn run_job<R: AllocGlobal + Input + Print + Eprint + Threads + Wait + Clock + RandomSource + Sync>(
     rt: &R,
     processors: u32,
     period_us: u32,

@@ -22,6 +22,7 @@ use bw_streams::put;
 use bw_text::{NumberFault, read_number};
 use bw_workers::Gate;
 use std::alloc::Global;
+use std::hash::RandomState;
 use std::rt::Clock;
 use std::sync::Wait;
 use std::thread::Threads;
@@ -35,16 +36,22 @@ pub struct Script<'a, G> {
 }
 
 impl<'a, G: Gate> Script<'a, G> {
-    /// Makes the root alone.
+    /// Makes the root alone. `keys` are the keys of the hash by which groups are found. No answer
+    /// depends on them.
     ///
     /// # Errors
     ///
     /// `OutOfMemory` if an allocation failed.
-    pub fn new(alloc: Global, shape: HostShape, gate: &'a G) -> Result<Script<'a, G>, Fault>
+    pub fn new(
+        alloc: Global,
+        keys: RandomState,
+        shape: HostShape,
+        gate: &'a G,
+    ) -> Result<Script<'a, G>, Fault>
         ensures made { IfOk result (λ c. state_of G.used c ≡ start shape (G.used gate.now)) }
         ensures err { IfErr result (λ fault. fault ≡ Tree OutOfMemory) }
     {
-        let hierarchy = Hierarchy::new(alloc, shape)?;
+        let hierarchy = Hierarchy::new(alloc, keys, shape)?;
         Ok(Script {
             alloc,
             hierarchy,

@@ -21,6 +21,7 @@ use bw_model::{HostShape, Instance};
 use bw_stat::Books;
 use bw_tree::{GroupId, Snapshot, Tree, TreeFault};
 use std::alloc::Global;
+use std::hash::RandomState;
 use std::marker::Model;
 
 /// Host, its tree of groups, and their counters.
@@ -41,16 +42,16 @@ impl Model for Hierarchy {
 }
 
 impl Hierarchy {
-    /// Makes a hierarchy of the root alone, without counters.
+    /// Makes a hierarchy of the root alone, without counters. `keys` are as those of [`Tree::new`].
     ///
     /// # Errors
     ///
     /// - [`TreeFault::OutOfMemory`]
-    pub fn new(alloc: Global, shape: HostShape) -> Result<Hierarchy, Fault>
+    pub fn new(alloc: Global, keys: RandomState, shape: HostShape) -> Result<Hierarchy, Fault>
         ensures made { IfOk result (λ h. h ≡ new_hierarchy shape) }
         ensures err { IfErr result (λ e. e ≡ Fault.Tree TreeFault.OutOfMemory) }
     {
-        let tree = Tree::new(alloc)?;
+        let tree = Tree::new(alloc, keys)?;
         Ok(Hierarchy {
             alloc,
             shape,

@@ -1,4 +1,5 @@
 //! The builder, which copies the tree before it changes it.
+use crate::known_keys::known_keys;
 use bw_hierarchy::{CgroupBuilder, Fault, Hierarchy};
 use bw_model::HostShape;
 use bw_tree::TreeFault;
@@ -8,8 +9,9 @@ use std::test::Fail;
 
 fn new_hierarchy(alloc: Global) -> Result<Hierarchy, Fail> {
     let shape = HostShape::new(1, 100_000, 5_000)?;
-    match Hierarchy::new(alloc, shape) {
-        Err(_) => Ok(Hierarchy::new(alloc, shape)?),
+    let keys = known_keys()?;
+    match Hierarchy::new(alloc, keys, shape) {
+        Err(_) => Ok(Hierarchy::new(alloc, keys, shape)?),
         Ok(hierarchy) => Ok(hierarchy),
     }
 }

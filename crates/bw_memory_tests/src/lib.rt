@@ -11,4 +11,6 @@ mod core_cases;
 #[cfg(test)]
 mod guarantee_cases;
 #[cfg(test)]
+mod known_keys;
+#[cfg(test)]
 mod split_cases;

@@ -3,6 +3,7 @@ pub mod Lines
 pub mod Transcript
 pub mod Scan
 pub mod Stream
+pub mod Gathers
 pub mod Responder
 pub mod Session
 pub mod Runs

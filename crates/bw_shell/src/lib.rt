@@ -2,11 +2,13 @@
 //! answer to any writer.
 #![tactic(auto)]
 
+mod keys;
 mod laws;
 mod responder;
 mod script;
 mod session;
 mod status;
+mod waiting;
 
 pub use bw_commands::ScriptFault;
 pub use laws::script_numbers;

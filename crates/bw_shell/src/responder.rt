@@ -6,15 +6,17 @@ ghost use Rattle.bw_commands.specs.Command.{command_of_line};
 ghost use Rattle.bw_commands.specs.Parsed.{request_of};
 ghost use Rattle.bw_commands.specs.Script.{kept_of, request_of_kept};
 ghost use Rattle.bw_streams.specs.Watched.{is_flushed, HasNoFault};
-ghost use Rattle.bw_streams.specs.Writes.{Writes};
+ghost use Rattle.bw_shell.specs.Gathers.{Gathers};
 ghost use Rattle.bw_commands.specs.declared.refusal.TheConstants.{REFUSAL_BYTES};
 
 use crate::session::LINE_BYTES;
+use crate::waiting::{WAITING_BYTES, flush_waiting, gather, send_waiting};
 use bw_commands::{Command, REFUSAL_BYTES, Script, ScriptFault, put_error};
 use bw_model::HostShape;
-use bw_streams::{RunFault, Watched, flush, send};
+use bw_streams::{RunFault, Watched, flush};
 use bw_workers::Gate;
 use std::alloc::{AllocError, Global};
+use std::hash::RandomState;
 use std::io::Write;
 use std::rt::Clock;
 use std::sync::Wait;
@@ -53,18 +55,28 @@ fn takes_long(asked: Result<Command<'_>, ScriptFault>) -> bool
     matches!(asked, Ok(Command::Period))
 }
 
-// Flushes the writer before a request that may take long, so that no earlier answer waits for it.
+// Writes what waits and flushes the writer before a request that may take long, so that no earlier
+// answer waits for it.
 fn flush_before<W: Write>(
     asked: Result<Command<'_>, ScriptFault>,
     writer: &mut Watched<W>,
+    waiting: &mut Vec<u8>,
 ) -> Result<(), RunFault>
     requires { HasNoFault writer.old }
-    ensures writes { Writes W.contents writer.old writer.new result (λ none. none ≡ [])
-        (λ none. none ≡ []) }
+    ensures gathers { Gathers W.contents writer.old writer.new waiting.old.items waiting.new.items
+        result (λ none. none ≡ []) (λ none. none ≡ []) }
+    ensures empty { OnOk result (request_of asked.entry ≡ Ok Period → waiting.new.items ≡ []) }
     ensures flushed { OnOk result (request_of asked.entry ≡ Ok Period → is_flushed writer.new
         ≡ true) }
 {
-    if writer.flushed() || !takes_long(asked) {
+    if !takes_long(asked) {
+        return Ok(());
+    }
+    match send_waiting(writer, waiting) {
+        Ok(()) => {}
+        Err(fault) => return Err(fault),
+    }
+    if writer.flushed() {
         return Ok(());
     }
     flush(writer)
@@ -77,35 +89,47 @@ fn may_begin(long: bool, flushed: bool) -> bool
     !long || flushed
 }
 
-/// The state of a script, and the buffer of the answer to its last line.
+/// The state of a script, the buffer of the answer to its last line, and the answers that wait to
+/// be written.
 #[derive(Drop)]
 pub struct Responder<'a, G> {
     script: Script<'a, G>,
     answer: Vec<u8>,
+    waiting: Vec<u8>,
     ghost answer_room: { REFUSAL_BYTES ≤ vec_capacity answer },
 }
 
 impl<'a, G: Gate> Responder<'a, G> {
-    ghost use Rattle.std.specs.Prelude.{◌≡◌, IfOk};
+    ghost use Rattle.std.specs.Prelude.{◌≡◌, [], IfOk, OnOk, true};
     ghost use Rattle.bw_commands.specs.Parsed.{request_of};
     ghost use Rattle.bw_commands.specs.Script.{outcome_of_request, IsAnswer, IsOutcome};
     ghost use Rattle.bw_commands.specs.State.{State, start};
-    ghost use Rattle.bw_shell.specs.Responder.{responder_state};
-    ghost use Rattle.bw_streams.specs.Watched.{HasNoFault};
+    ghost use Rattle.bw_shell.specs.Gathers.{Gathers};
+    ghost use Rattle.bw_shell.specs.Responder.{responder_state, responder_waits};
+    ghost use Rattle.bw_streams.specs.Watched.{is_flushed, HasNoFault};
     ghost use Rattle.bw_streams.specs.Writes.{Writes};
 
-    /// Allocates all the space that refusals need.
+    /// Allocates all the space that refusals need, and the space of the answers that wait.
     ///
     /// # Errors
     ///
     /// `AllocError` if an allocation failed.
-    pub fn new(alloc: Global, shape: HostShape, gate: &'a G) -> Result<Responder<'a, G>, AllocError>
-        ensures { IfOk result (λ r. responder_state G.used r ≡ start shape (G.used gate.now)) }
+    pub fn new(
+        alloc: Global,
+        keys: RandomState,
+        shape: HostShape,
+        gate: &'a G,
+    ) -> Result<Responder<'a, G>, AllocError>
+        ensures state { IfOk result (λ r. responder_state G.used r
+            ≡ start shape (G.used gate.now)) }
+        ensures waits { IfOk result (λ r. responder_waits r ≡ []) }
     {
         let answer = Vec::with_capacity(alloc, REFUSAL_BYTES)?;
+        let waiting = Vec::with_capacity(alloc, WAITING_BYTES)?;
         Ok(Responder {
-            script: Script::new(alloc, shape, gate).map_err(|_| AllocError)?,
+            script: Script::new(alloc, keys, shape, gate).map_err(|_| AllocError)?,
             answer,
+            waiting,
         })
     }
 
@@ -115,9 +139,10 @@ impl<'a, G: Gate> Responder<'a, G> {
         rt: &H,
         asked: Result<Command<'_>, ScriptFault>,
     )
-        ensures { IsOutcome (responder_state G.used self.old)
+        ensures outcome { IsOutcome (responder_state G.used self.old)
             (outcome_of_request (responder_state G.used self.old) (request_of asked.entry))
             self.new.answer.items (responder_state G.used self.new) }
+        ensures waits { responder_waits self.new ≡ responder_waits self.old }
     {
         self.answer.clear();
         let performed = match asked {
@@ -130,7 +155,8 @@ impl<'a, G: Gate> Responder<'a, G> {
         }
     }
 
-    /// Writes the answer to a line. Before a line that may take long the writer is flushed.
+    /// Puts the answer to a line behind those that wait. Before a line that may take long, these are
+    /// written and the writer is flushed.
     ///
     /// # Errors
     ///
@@ -142,21 +168,41 @@ impl<'a, G: Gate> Responder<'a, G> {
         writer: &mut Watched<W>,
     ) -> Result<(), RunFault>
         requires { HasNoFault writer.old }
-        ensures { Writes W.contents writer.old writer.new result
+        ensures { Gathers W.contents writer.old writer.new (responder_waits self.old)
+            (responder_waits self.new) result
             (λ answer. IsAnswer (responder_state G.used self.old) line.now answer
             (responder_state G.used self.new))
             (λ answer. (t : State)
             × IsAnswer (responder_state G.used self.old) line.now answer t) }
     {
         let asked = command_of(line);
-        match flush_before(asked, writer) {
+        match flush_before(asked, writer, &mut self.waiting) {
             Ok(()) => {}
             Err(fault) => return Err(fault),
         }
-        // no answer waits in the writer while a period is served
-        let ready = may_begin(takes_long(asked), writer.flushed());
+        // no answer waits while a period is served
+        let ready = may_begin(
+            takes_long(asked),
+            self.waiting.is_empty() && writer.flushed(),
+        );
         prove!(ready);
         self.perform(rt, asked);
-        send(writer, self.answer.as_slice())
+        gather(writer, &mut self.waiting, self.answer.as_slice())
+    }
+
+    /// Writes the answers that wait, and flushes the writer.
+    ///
+    /// # Errors
+    ///
+    /// `Write` if a write or a flush failed, or a write took no bytes.
+    pub fn flush<W: Write>(&mut self, writer: &mut Watched<W>) -> Result<(), RunFault>
+        requires { HasNoFault writer.old }
+        ensures writes { Writes W.contents writer.old writer.new result
+            (λ sent. sent ≡ responder_waits self.old) (λ sent. sent ≡ responder_waits self.old) }
+        ensures empty { OnOk result (responder_waits self.new ≡ []) }
+        ensures flushed { OnOk result (is_flushed writer.new ≡ true) }
+        ensures state { responder_state G.used self.new ≡ responder_state G.used self.old }
+    {
+        flush_waiting(writer, &mut self.waiting)
     }
 }

@@ -4,17 +4,19 @@ ghost use Rattle.std.specs.Prelude.{length, true, false, OnOk, IfOk, IfErr, IsEr
 ghost use Rattle.std.specs.Io.KnownBytes.{Appends, Consumes, IsAtEnd, Keeps};
 ghost use Rattle.bw_commands.specs.State.{start};
 ghost use Rattle.bw_shell.specs.Scan.{Scan, TakesBytes};
-ghost use Rattle.bw_shell.specs.Session.{scan_of};
+ghost use Rattle.bw_shell.specs.Session.{scan_of, session_waits};
 ghost use Rattle.bw_shell.specs.Runs.{Runs};
 ghost use Rattle.bw_streams.specs.Fronts.{AppendsFront};
 ghost use Rattle.bw_streams.specs.Watched.{inner_of, has_failed, has_stalled, read_calls};
 ghost use Rattle.bw_streams.specs.Watched.{is_flushed, IsFresh, HasNoFault};
 
+use crate::keys::hash_keys;
 use crate::session::Session;
 use bw_model::HostShape;
 use bw_streams::{READ_CALLS, RunFault, Watched, piece_room};
 use bw_workers::{Gate, NoGate};
 use std::io::{Read, Write};
+use std::random::RandomSource;
 use std::rt::Clock;
 use std::sync::Wait;
 use std::thread::Threads;
@@ -31,6 +33,8 @@ fn read_some<H: Threads + Wait + Clock + Sync, G: Gate, R: Read, W: Write>(
     requires reader { HasNoFault reader.old }
     requires writer { HasNoFault writer.old }
     requires flushed { is_flushed writer.old ≡ true }
+    requires none_waits { session_waits session.old ≡ [] }
+    ensures none_waits { OnOk result (session_waits session.new ≡ []) }
     ensures reads { read_calls reader.new ≡ min (read_calls reader.old + 1) (2 ^ 64 - 1) }
     ensures ok { OnOk result ((input text : List ℕ)
         × TakesBytes (scan_of G.used session.old) input text (scan_of G.used session.new)
@@ -72,6 +76,7 @@ fn read_script<H: Threads + Wait + Clock + Sync, G: Gate, R: Read, W: Write>(
     writer: &mut Watched<W>,
 ) -> Result<(), RunFault>
     requires begun { (scan_of G.used session.old).kept ≡ Some [] }
+    requires none_waits { session_waits session.old ≡ [] }
     requires room { 0 < length piece.old }
     requires reader { IsFresh reader.old }
     requires writer { IsFresh writer.old }
@@ -96,7 +101,12 @@ fn read_script<H: Threads + Wait + Clock + Sync, G: Gate, R: Read, W: Write>(
 /// `Read` after a read that failed or after `READ_CALLS` reads.
 /// `Write` if a write or a flush failed, or a write took no bytes.
 /// `Memory` if an allocation failed before the first read.
-pub fn run_gated<H: AllocGlobal + Threads + Wait + Clock + Sync, G: Gate, R: Read, W: Write>(
+pub fn run_gated<
+    H: AllocGlobal + Threads + Wait + Clock + RandomSource + Sync,
+    G: Gate,
+    R: Read,
+    W: Write,
+>(
     rt: &H,
     reader: &mut Watched<R>,
     writer: &mut Watched<W>,
@@ -109,7 +119,8 @@ pub fn run_gated<H: AllocGlobal + Threads + Wait + Clock + Sync, G: Gate, R: Rea
         (start shape (G.used gate.now)) reader.old reader.new writer.old writer.new result }
 {
     let mut piece = piece_room(rt.alloc())?;
-    let mut session = Session::new(rt.alloc(), shape, gate)?;
+    let keys = hash_keys(rt).map_err(|_| RunFault::Memory)?;
+    let mut session = Session::new(rt.alloc(), keys, shape, gate)?;
     read_script(rt, &mut session, &mut piece, reader, writer)
 }
 
@@ -121,7 +132,7 @@ pub fn run_gated<H: AllocGlobal + Threads + Wait + Clock + Sync, G: Gate, R: Rea
 /// `Read` after a read that failed or after `READ_CALLS` reads.
 /// `Write` if a write or a flush failed, or a write took no bytes.
 /// `Memory` if an allocation failed before the first read.
-pub fn run<H: AllocGlobal + Threads + Wait + Clock + Sync, R: Read, W: Write>(
+pub fn run<H: AllocGlobal + Threads + Wait + Clock + RandomSource + Sync, R: Read, W: Write>(
     rt: &H,
     reader: &mut Watched<R>,
     writer: &mut Watched<W>,

@@ -7,10 +7,11 @@ ghost use Rattle.bw_streams.specs.Writes.{Writes};
 
 use crate::responder::Responder;
 use bw_model::HostShape;
-use bw_streams::{RunFault, Watched, flush};
+use bw_streams::{RunFault, Watched};
 use bw_workers::Gate;
 use memchr::memchr;
 use std::alloc::{AllocError, Global};
+use std::hash::RandomState;
 use std::io::Write;
 use std::rt::Clock;
 use std::sync::Wait;
@@ -35,10 +36,11 @@ pub struct Session<'a, G> {
 }
 
 impl<'a, G: Gate> Session<'a, G> {
-    ghost use Rattle.std.specs.Prelude.{◌≡◌, List, ℕ, true, IfOk, OnOk};
+    ghost use Rattle.std.specs.Prelude.{◌≡◌, List, ℕ, [], true, IfOk, OnOk};
     ghost use Rattle.bw_commands.specs.State.{start};
     ghost use Rattle.bw_shell.specs.Scan.{Scan, begin, kept_after, TakesLine, TakesBytes, Finishes};
-    ghost use Rattle.bw_shell.specs.Session.{scan_of};
+    ghost use Rattle.bw_shell.specs.Gathers.{Gathers};
+    ghost use Rattle.bw_shell.specs.Session.{scan_of, session_waits};
     ghost use Rattle.bw_streams.specs.Watched.{is_flushed, HasNoFault};
     ghost use Rattle.bw_streams.specs.Writes.{Writes};
 
@@ -47,23 +49,30 @@ impl<'a, G: Gate> Session<'a, G> {
     /// # Errors
     ///
     /// `AllocError` if an allocation failed.
-    pub fn new(alloc: Global, shape: HostShape, gate: &'a G) -> Result<Session<'a, G>, AllocError>
-        ensures { IfOk result (λ s. scan_of G.used s ≡ begin (start shape (G.used gate.now))) }
+    pub fn new(
+        alloc: Global,
+        keys: RandomState,
+        shape: HostShape,
+        gate: &'a G,
+    ) -> Result<Session<'a, G>, AllocError>
+        ensures scan { IfOk result (λ s. scan_of G.used s ≡ begin (start shape (G.used gate.now))) }
+        ensures waits { IfOk result (λ s. session_waits s ≡ []) }
     {
         let line = Vec::with_capacity(alloc, KEPT_BYTES)?;
         Ok(Session {
-            responder: Responder::new(alloc, shape, gate)?,
+            responder: Responder::new(alloc, keys, shape, gate)?,
             line,
         })
     }
 
     // Appends bytes to the incomplete line, up to `KEPT_BYTES`.
     fn keep(&mut self, bytes: &[u8])
-        ensures { scan_of G.used self.new
+        ensures scan { scan_of G.used self.new
             ≡ record (scan_of G.used self.old) {
               kept = kept_after
                   (scan_of G.used self.old).kept bytes.now;
             } }
+        ensures waits { session_waits self.new ≡ session_waits self.old }
     {
         let count = bytes.len().min(KEPT_BYTES - self.line.len());
         let _ = self.line.extend_from_slice(bytes.split_at(count).0);
@@ -77,7 +86,8 @@ impl<'a, G: Gate> Session<'a, G> {
         writer: &mut Watched<W>,
     ) -> Result<(), RunFault>
         requires { HasNoFault writer.old }
-        ensures { Writes W.contents writer.old writer.new result
+        ensures { Gathers W.contents writer.old writer.new (session_waits self.old)
+            (session_waits self.new) result
             (λ text. TakesLine (scan_of G.used self.old) front.now text (scan_of G.used self.new))
             (λ text. (t : Scan) × TakesLine (scan_of G.used self.old) front.now text t) }
     {
@@ -102,7 +112,8 @@ impl<'a, G: Gate> Session<'a, G> {
         writer: &mut Watched<W>,
     ) -> Result<(), RunFault>
         requires { HasNoFault writer.old }
-        ensures { Writes W.contents writer.old writer.new result
+        ensures { Gathers W.contents writer.old writer.new (session_waits self.old)
+            (session_waits self.new) result
             (λ text. TakesBytes (scan_of G.used self.old) piece.now text (scan_of G.used self.new))
             (λ text. (t : Scan) × TakesBytes (scan_of G.used self.old) piece.now text t) }
     {
@@ -119,7 +130,8 @@ impl<'a, G: Gate> Session<'a, G> {
         Ok(())
     }
 
-    /// Answers each line that ends in a chunk of the script, and flushes the writer.
+    /// Answers each line that ends in a chunk of the script, writes the answers and flushes the
+    /// writer. A `period` is served with no answer waiting. More than 64 KiB of answers do not wait.
     ///
     /// # Errors
     ///
@@ -130,14 +142,18 @@ impl<'a, G: Gate> Session<'a, G> {
         piece: &[u8],
         writer: &mut Watched<W>,
     ) -> Result<(), RunFault>
-        requires { HasNoFault writer.old }
+        requires quiet { HasNoFault writer.old }
+        requires none_waits { session_waits self.old ≡ [] }
         ensures writes { Writes W.contents writer.old writer.new result
             (λ text. TakesBytes (scan_of G.used self.old) piece.now text (scan_of G.used self.new))
             (λ text. (t : Scan) × TakesBytes (scan_of G.used self.old) piece.now text t) }
         ensures flushed { OnOk result (is_flushed writer.new ≡ true) }
+        ensures none_waits { OnOk result (session_waits self.new ≡ []) }
     {
-        self.take_bytes(rt, piece, writer)?;
-        flush(writer)
+        match self.take_bytes(rt, piece, writer) {
+            Ok(()) => self.responder.flush(writer),
+            Err(fault) => Err(fault),
+        }
     }
 
     // Answers a last line without a newline.
@@ -147,7 +163,8 @@ impl<'a, G: Gate> Session<'a, G> {
         writer: &mut Watched<W>,
     ) -> Result<(), RunFault>
         requires { HasNoFault writer.old }
-        ensures { Writes W.contents writer.old writer.new result
+        ensures { Gathers W.contents writer.old writer.new (session_waits self.old)
+            (session_waits self.new) result
             (Finishes (scan_of G.used self.old)) (Finishes (scan_of G.used self.old)) }
     {
         if self.line.is_empty() {
@@ -166,12 +183,15 @@ impl<'a, G: Gate> Session<'a, G> {
         rt: &H,
         writer: &mut Watched<W>,
     ) -> Result<(), RunFault>
-        requires { HasNoFault writer.old }
+        requires quiet { HasNoFault writer.old }
+        requires none_waits { session_waits self.old ≡ [] }
         ensures writes { Writes W.contents writer.old writer.new result
             (Finishes (scan_of G.used self.old)) (Finishes (scan_of G.used self.old)) }
         ensures flushed { OnOk result (is_flushed writer.new ≡ true) }
     {
-        self.answer_last(rt, writer)?;
-        flush(writer)
+        match self.answer_last(rt, writer) {
+            Ok(()) => self.responder.flush(writer),
+            Err(fault) => Err(fault),
+        }
     }
 }

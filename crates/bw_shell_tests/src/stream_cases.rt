@@ -11,6 +11,7 @@ use bw_streams::{RunFault, Watched};
 use std::alloc::{AllocError, Global};
 use std::io;
 use std::process::Abort;
+use std::random::RandomSource;
 use std::rt::Clock;
 use std::sync::Wait;
 use std::test::Fail;
@@ -91,7 +92,7 @@ fn assert_fault(rt: &impl Abort, ran: &Result<(), RunFault>, fault: RunFault) {
 }
 
 // A run over a reader that gives at most so many bytes a call, and fails after so many in all.
-fn assert_read<R: AllocGlobal + Threads + Wait + Clock + Abort + Sync>(
+fn assert_read<R: AllocGlobal + Threads + Wait + Clock + RandomSource + Abort + Sync>(
     rt: &R,
     script: &str,
     most: usize,
@@ -142,7 +143,7 @@ fn a_reader_that_fails(rt: HostRuntime) -> Result<(), Fail> {
 
 // A run over a writer that takes at most so many bytes a call. It fails, or takes none, after so
 // many calls.
-fn assert_written<R: AllocGlobal + Threads + Wait + Clock + Abort + Sync>(
+fn assert_written<R: AllocGlobal + Threads + Wait + Clock + RandomSource + Abort + Sync>(
     rt: &R,
     script: &str,
     answers: &str,
@@ -173,10 +174,10 @@ fn assert_written<R: AllocGlobal + Threads + Wait + Clock + Abort + Sync>(
 // write all answers.
 static WRITERS: [(usize, bool, usize); 5] = [
     (1, false, 605),
-    (2, true, 308),
-    (5, false, 126),
-    (1000, false, 14),
-    (1000, true, 14),
+    (2, true, 303),
+    (5, false, 122),
+    (1000, false, 2),
+    (1000, true, 2),
 ];
 
 #[test]

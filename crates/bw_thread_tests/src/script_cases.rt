@@ -7,6 +7,7 @@ use bw_streams::{RunFault, Watched};
 use bw_workers::Gate;
 use std::alloc::{AllocError, Global};
 use std::process::Abort;
+use std::random::RandomSource;
 use std::rt::Clock;
 use std::sync::Wait;
 use std::test::Fail;
@@ -32,7 +33,7 @@ fn is_refused(said: &[u8]) -> bool {
 }
 
 // Runs a script on four processors of 20 slices each, and asserts its output if nothing failed.
-fn ran<G: Gate, R: AllocGlobal + Threads + Wait + Clock + Abort + Sync>(
+fn ran<G: Gate, R: AllocGlobal + Threads + Wait + Clock + RandomSource + Abort + Sync>(
     rt: &R,
     script: &str,
     gate: &G,
@@ -84,7 +85,7 @@ const UNUSED_JOB_SAID: &str = "30 .
 ";
 
 // A gate that does not use job: the plan is as ever, and what is drawn of job is given back.
-fn unused_job<R: AllocGlobal + Threads + Wait + Clock + Abort + Sync>(
+fn unused_job<R: AllocGlobal + Threads + Wait + Clock + RandomSource + Abort + Sync>(
     rt: &R,
 ) -> Result<(), AllocError> {
     let after = "plan\nreport\n";
@@ -124,7 +125,7 @@ burst_usec 0
 ";
 
 // Fifty periods of the script of pod and job, and the counters after them.
-fn fifty_periods<G: Gate, R: AllocGlobal + Threads + Wait + Clock + Abort + Sync>(
+fn fifty_periods<G: Gate, R: AllocGlobal + Threads + Wait + Clock + RandomSource + Abort + Sync>(
     rt: &R,
     gate: &G,
 ) -> Result<(), AllocError> {
@@ -135,7 +136,7 @@ fn fifty_periods<G: Gate, R: AllocGlobal + Threads + Wait + Clock + Abort + Sync
 }
 
 // Fifty periods of that script in which a worker's first draw waits for one of another.
-fn held_periods<R: AllocGlobal + Threads + Wait + Clock + Abort + Sync>(
+fn held_periods<R: AllocGlobal + Threads + Wait + Clock + RandomSource + Abort + Sync>(
     rt: &R,
     held: u32,
     other: u32,
@@ -162,7 +163,7 @@ fn fifty_periods_where_one_waits(rt: HostRuntime) -> Result<(), Fail> {
 
 // As above, but all four workers wait for one another in the first period. Later periods do not
 // wait.
-fn met_periods<R: AllocGlobal + Threads + Wait + Clock + Abort + Sync>(
+fn met_periods<R: AllocGlobal + Threads + Wait + Clock + RandomSource + Abort + Sync>(
     rt: &R,
 ) -> Result<(), AllocError> {
     let gate = meeting();

@@ -3,18 +3,20 @@ use Rattle.std.specs.Prelude.{ℕ, zero, suc, ◌+◌, ◌-◌, ◌%◌, ◌^◌
 use Rattle.std.specs.Prelude.{Option, Some, None, IfSome}
 use Rattle.std.specs.List.{fold}
 use Rattle.std.specs.Hash as hash
-use Rattle.std.specs.Hash.FoldHasher as folding
+use Rattle.std.specs.Hash.DefaultHasher as hashing
+use Rattle.std.specs.RandomState.{initial_hasher}
 use Rattle.std.specs.HashMap.{HashMap, get}
 use Rattle.std.specs.BTreeMap.{BTreeMap, get_by_text, btree_map_len}
 use Rattle.std.specs.declared.string.String.{String}
 use Rattle.std.specs.declared.alloc.Global.{Global}
 use Rattle.std.specs.declared.hash.FoldHasher.{FoldHasher}
 use Rattle.std.specs.declared.hash.BuildHasherDefault.{BuildHasherDefault}
+use Rattle.std.specs.declared.random_state.RandomState.{RandomState}
 
--- the library's hash of a name, moved on by the parent's id: few children share a key
-unfoldable pub key : ℕ → List ℕ → ℕ
-key parent name =
-    (folding.finish (fold folding.write folding.initial (hash.str name)) + parent) % 2 ^ 64
+-- the library's keyed hash of a name, moved on by the parent's id: few children share a key
+unfoldable pub key : RandomState → ℕ → List ℕ → ℕ
+key keys parent name =
+    (hashing.finish (fold hashing.write (initial_hasher keys) (hash.str name)) + parent) % 2 ^ 64
 
 -- the child with this name, among children whose keys others had before them
 abbrev pub text_in : Option (BTreeMap (String Global) ℕ) → List ℕ → Option ℕ

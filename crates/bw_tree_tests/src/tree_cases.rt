@@ -1,8 +1,10 @@
 //! Trees of groups by ids, which no script line names, against worked values. Assertions stand in
 //! functions that borrow a tree. A test owns it, and would have to drop it at each assertion.
+use crate::known_keys::known_keys;
 use bw_model::{HostShape, Quota};
 use bw_tree::{GroupId, Snapshot, Tree, TreeFault, is_drawn_within};
 use std::alloc::Global;
+use std::hash::BuildHasher;
 use std::process::Abort;
 use std::test::Fail;
 
@@ -40,9 +42,10 @@ fn put_groups(tree: &mut Tree) -> Result<(), TreeFault> {
 }
 
 // A tree of `a` and `a/b`.
-fn small_tree(alloc: Global) -> Result<Tree, TreeFault> {
-    let mut tree = match Tree::new(alloc) {
-        Err(_) => Tree::new(alloc)?,
+fn small_tree(alloc: Global) -> Result<Tree, Fail> {
+    let keys = known_keys()?;
+    let mut tree = match Tree::new(alloc, keys) {
+        Err(_) => Tree::new(alloc, keys)?,
         Ok(tree) => tree,
     };
     put_groups(&mut tree)?;
@@ -51,8 +54,9 @@ fn small_tree(alloc: Global) -> Result<Tree, TreeFault> {
 
 #[test]
 fn ids_that_are_spent(rt: HostRuntime) -> Result<(), Fail> {
-    let mut last = match Tree::with_next_id(rt.alloc(), u64::MAX) {
-        Err(_) => Tree::with_next_id(rt.alloc(), u64::MAX)?,
+    let keys = known_keys()?;
+    let mut last = match Tree::with_next_id(rt.alloc(), keys, u64::MAX) {
+        Err(_) => Tree::with_next_id(rt.alloc(), keys, u64::MAX)?,
         Ok(tree) => tree,
     };
     assert_makes(&rt, &mut last, 0, "a", Err(TreeFault::IdsSpent));
@@ -166,5 +170,38 @@ fn slices_within_limits(rt: HostRuntime) -> Result<(), Fail> {
     let shape = HostShape::new(1, 100_000, 5_000)?;
     let mut tree = small_tree(rt.alloc())?;
     assert_within(&rt, &mut tree, shape)?;
+    Ok(())
+}
+
+fn assert_finds(rt: &impl Abort, tree: &Tree, path: &str, id: GroupId) {
+    assert!(rt; tree.find(path) == Ok(id), "{path}");
+}
+
+// Makes `p`, whose id is `id`, then `a` and `p/b`, and removes and makes `p/b` once more.
+fn assert_shared_key(rt: &impl Abort, tree: &mut Tree, id: GroupId) {
+    assert_makes(rt, tree, 0, "p", Ok(id));
+    assert_makes(rt, tree, 0, "a", Ok(id.wrapping_add(1)));
+    assert_makes(rt, tree, id, "b", Ok(id.wrapping_add(2)));
+    assert_finds(rt, tree, "a", id.wrapping_add(1));
+    assert_finds(rt, tree, "p/b", id.wrapping_add(2));
+    assert_makes(rt, tree, id, "b", Err(TreeFault::Exists));
+    assert!(rt; tree.rmdir(id.wrapping_add(2)) == Ok(()));
+    assert_has_no(rt, tree, "p/b");
+    assert_finds(rt, tree, "a", id.wrapping_add(1));
+    assert_makes(rt, tree, id, "b", Ok(id.wrapping_add(3)));
+    assert_finds(rt, tree, "p/b", id.wrapping_add(3));
+}
+
+// Two children whose keys are one: the second stands among the others of the key. The id of `p` is
+// what the hash of `a` is above that of `b`, so `a` and `p/b` share a key.
+#[test]
+fn names_that_share_a_key(rt: HostRuntime) -> Result<(), Fail> {
+    let keys = known_keys()?;
+    let id = keys.hash_one("a").wrapping_sub(keys.hash_one("b")).max(1);
+    let mut tree = match Tree::with_next_id(rt.alloc(), keys, id) {
+        Err(_) => Tree::with_next_id(rt.alloc(), keys, id)?,
+        Ok(tree) => tree,
+    };
+    assert_shared_key(&rt, &mut tree, id);
     Ok(())
 }

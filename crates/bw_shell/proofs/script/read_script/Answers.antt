@@ -33,6 +33,7 @@ loop-turn-init g c = record {
         not_stalled = c.requires.writer.not_stalled;
       };
   writer_flushed = c.requires.writer.flushed;
+  none_waits = c.requires.none_waits;
   calls = c.requires.reader.no_reads;
 }
 
@@ -42,6 +43,7 @@ loop-turn-preserved g c = record {
   reader_quiet = c.in-Ok-true.ensures.reader_quiet;
   writer_quiet = c.in-Ok-true.ensures.writer_quiet;
   writer_flushed = c.in-Ok-true.ensures.writer_flushed;
+  none_waits = c.in-Ok-true.ensures.none_waits;
   calls = omega (arith, c.in-Ok-true.ensures.reads);
 }
 

@@ -1,7 +1,7 @@
 -- What stands at each turn of the loop in `read_script`.
-use Rattle.std.proofs.Common.{◌≡◌, ℕ, List, true}
+use Rattle.std.proofs.Common.{◌≡◌, ℕ, List, [], true}
 use Rattle.std.specs.Io.KnownBytes.{Appends, Consumes}
-use Rattle.bw_shell.specs.Session.{scan_of}
+use Rattle.bw_shell.specs.Session.{scan_of, session_waits}
 use Rattle.bw_shell.specs.Scan.{TakesBytes, begin}
 use Rattle.bw_streams.specs.Watched.{inner_of, read_calls, is_flushed, HasNoFault}
 use Rattle.bw_shell.proofs.script.read_script.Given as goal
@@ -17,5 +17,6 @@ invariant-loop-turn g l = record {
   reader_quiet : HasNoFault l.reader;
   writer_quiet : HasNoFault l.writer;
   writer_flushed : is_flushed l.writer ≡ true;
+  none_waits : session_waits l.session ≡ [];
   calls : read_calls l.reader ≡ l.turn;
 }

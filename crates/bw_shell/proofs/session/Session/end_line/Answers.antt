@@ -1,11 +1,12 @@
 -- The goals of `Session::end_line` that are answered by hand.
-use Rattle.std.proofs.Common.{rules, ◌≡◌, ◌∙◌, [], Some, ap, sym, subst, refl, length}
+use Rattle.std.proofs.Common.{rules, ◌≡◌, ◌∙◌, ◌++◌, [], Some, Err, ap, sym, subst, refl, length}
+use Rattle.std.proofs.Common.{append-nil}
 use Rattle.std.proofs.lemmas.List.{nil_from_length}
 use Rattle.bw_commands.specs.Script.{kept_of, IsAnswer}
 use Rattle.bw_shell.specs.Responder.{responder_state}
 use Rattle.bw_shell.specs.Scan.{Scan, kept_after}
 use Rattle.bw_shell.proofs.Scanning.{TakesLine-kept, kept_after-kept_of}
-use Rattle.bw_streams.proofs.CallerLemmas.{Writes-err, Writes-map}
+use Rattle.bw_shell.proofs.Gathered.{Gathers-err, Gathers-from, Gathers-map}
 use Rattle.bw_shell.proofs.session.Session.end_line.Goals as goal
 
 pub returns-then-is_empty : goal.returns-then-is_empty
@@ -17,7 +18,8 @@ returns-then-is_empty g c =
     let empty = nil_from_length line zero in
     let same : kept_of c.args.front.now ≡ kept_after (kept_of line) c.args.front.now =
     rw empty (sym (kept_after-kept_of [] c.args.front.now)) in
-    Writes-map g.W.Write.contents c.args.writer.now c.reply.new.writer c.reply.result
+    Gathers-map g.W.Write.contents c.args.writer.now c.reply.new.writer
+    c.args.self.now.responder.waiting.items c.reply.new.self.waiting.items c.reply.result
     (λ text p. TakesLine-kept s t c.args.front.now line line c.args.front.now text same empty p)
     (λ text p. (
       record { state = p.0; kept = Some [] },
@@ -31,13 +33,20 @@ returns-in-Err g c =
     let line = c.args.self.now.line.items in
     let whole = c.as_slice.result.now in
     let state : responder_state g.G.Gate.used c.keep.new.self.responder ≡ s =
-    ap (λ (m : Scan). m.state) c.keep.ensures in
+    ap (λ (m : Scan). m.state) c.keep.ensures.scan in
     let same : kept_of whole ≡ kept_after (kept_of line) c.args.front.now =
-    ap kept_of c.as_slice.ensures.value ∙ ap (λ (m : Scan). m.kept) c.keep.ensures in
-    Writes-err g.W.Write.contents c.args.writer.now _ c.in-Err.fault
+    ap kept_of c.as_slice.ensures.value ∙ ap (λ (m : Scan). m.kept) c.keep.ensures.scan in
+    Gathers-err g.W.Write.contents c.args.writer.now c.reply-2.new.writer
+    c.args.self.now.responder.waiting.items c.reply-2.new.self.waiting.items _ c.in-Err.fault
     (λ text p. (
-      record { state = p.0; kept = Some [] },
-      TakesLine-kept s p.0 whole line [] c.args.front.now text same refl
-          (subst (λ r. IsAnswer r whole text p.0) state p.1),
+      [],
+      (
+        record { state = p.0; kept = Some [] },
+        TakesLine-kept s p.0 whole line [] c.args.front.now (text ++ []) same refl
+            (subst (λ l. IsAnswer s whole l p.0) (sym (append-nil text))
+            (subst (λ r. IsAnswer r whole text p.0) state p.1)),
+      ),
     ))
-    c.in-Err.ensures
+    (Gathers-from g.W.Write.contents c.args.writer.now c.reply-2.new.writer
+    c.keep.new.self.responder.waiting.items c.args.self.now.responder.waiting.items
+    c.reply-2.new.self.waiting.items (Err c.in-Err.fault) c.keep.ensures.waits c.in-Err.ensures)

@@ -5,8 +5,8 @@ use Rattle.bw_shell.specs.Responder.{responder_state}
 use Rattle.bw_shell.proofs.Scanning.{kept_of-cut}
 use Rattle.bw_shell.proofs.session.Session.keep.Goals as goal
 
-pub returns : goal.returns
-returns g c =
+pub returns-clause-scan : goal.returns-clause-scan
+returns-clause-scan g c =
     let old = c.args.self.now.line in
     let n = c.min-count.result in
     let items : c.extend_from_slice.new.self.items ≡ old.items ++ take n c.args.bytes.now =

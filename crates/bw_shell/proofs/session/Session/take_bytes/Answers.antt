@@ -3,12 +3,12 @@ use Rattle.std.proofs.Common.{◌≡◌, ◌++◌, ◌∙◌, ℕ, List, [], ◌
 use Rattle.std.proofs.Common.{append_assoc, append-nil, refl, rules}
 use Rattle.std.proofs.lemmas.List.{take-append-drop}
 use Rattle.bw_shell.specs.Scan.{Scan, TakesBytes, TakesLine}
-use Rattle.bw_shell.specs.Session.{scan_of}
+use Rattle.bw_shell.specs.Session.{scan_of, session_waits}
 use Rattle.bw_streams.proofs.CallerLemmas.{Appends-nil, Appends-trans}
 use Rattle.bw_shell.proofs.LineLemmas.{first_newline-front, first_newline-rest, no_newline}
 use Rattle.bw_shell.proofs.Scanning.{TakesBytes-nil, TakesBytes-append, TakesBytes-clean}
 use Rattle.bw_shell.proofs.Scanning.{TakesBytes-line, TakesBytes-total}
-use Rattle.bw_streams.proofs.CallerLemmas.{Writes-fails}
+use Rattle.bw_shell.proofs.Gathered.{Gathers-fails, two_texts}
 use Rattle.bw_shell.proofs.session.Session.take_bytes.Goals as goal
 
 -- input and a line with its newline, and what stands behind them
@@ -22,7 +22,10 @@ parted piece input rest front behind p r b =
 
 pub loop-end-init : goal.loop-end-init
 loop-end-init g c =
-    record { taken = ([], [], TakesBytes-nil _, Appends-nil _, refl); quiet = c.requires }
+    record {
+      taken = ([], [], [], TakesBytes-nil _, Appends-nil _, append-nil _, refl);
+      quiet = c.requires;
+    }
 
 pub loop-end-preserved : goal.loop-end-preserved
 loop-end-preserved g c =
@@ -38,16 +41,18 @@ loop-end-preserved g c =
     let takes : TakesLine (scan_of g.G.Gate.used c.loop-end.self) front line.0
     (scan_of g.G.Gate.used c.end_line.new.self) =
     subst (λ l. TakesLine (scan_of g.G.Gate.used c.loop-end.self) l line.0
-    (scan_of g.G.Gate.used c.end_line.new.self)) front_is line.1 in
+    (scan_of g.G.Gate.used c.end_line.new.self)) front_is line.2 in
     let rest_is : c.split_at-in-Some.result.1.now ≡ drop 1 behind = search rules in
     record {
       taken = (
         t.0 ++ (front ++ 10 ∷ []),
         t.1 ++ line.0,
-        TakesBytes-append t.0 (front ++ 10 ∷ []) t.1 line.0 _ _ _ t.2
+        t.2 ++ line.1,
+        TakesBytes-append t.0 (front ++ 10 ∷ []) t.1 line.0 _ _ _ t.3
             (TakesBytes-line front line.0 _ _ clean takes),
-        Appends-trans _ _ _ t.1 line.0 t.3 line.2,
-        rw rest_is (parted c.args.piece.now t.0 xs front behind t.4 (sym (take-append-drop n xs))
+        Appends-trans _ _ _ t.2 line.1 t.4 line.3,
+        two_texts _ _ _ t.1 line.0 t.2 line.1 t.5 line.4,
+        rw rest_is (parted c.args.piece.now t.0 xs front behind t.6 (sym (take-append-drop n xs))
             newline),
       );
       quiet = c.in-Ok.ensures.quiet;
@@ -63,15 +68,17 @@ returns-in-Err g c =
     let clean = first_newline-front xs n c.in-Some.ensures.0 in
     let newline = first_newline-rest xs n c.in-Some.ensures.0 c.in-Some.ensures.1 in
     let front_is : c.split_at.result.0.now ≡ front = c.split_at.ensures.front in
-    let whole = parted c.args.piece.now t.0 xs front behind t.4 (sym (take-append-drop n xs))
+    let whole = parted c.args.piece.now t.0 xs front behind t.6 (sym (take-append-drop n xs))
     newline in
-    Writes-fails g.W.Write.contents c.args.writer.now c.loop-end.writer c.end_line.new.writer
-    c.in-Err.fault t.1 {Q' =
-    λ l. (u : Scan) × TakesBytes (scan_of g.G.Gate.used c.args.self.now) c.args.piece.now l u} t.3
+    Gathers-fails g.W.Write.contents c.args.writer.now c.loop-end.writer c.end_line.new.writer
+    (session_waits c.args.self.now) (session_waits c.loop-end.self)
+    (session_waits c.end_line.new.self) _ c.in-Err.fault t.1 t.2 {Q' =
+    λ l. (u : Scan) × TakesBytes (scan_of g.G.Gate.used c.args.self.now) c.args.piece.now l u} t.4
+    t.5
     (λ text p.
     let takes : TakesLine (scan_of g.G.Gate.used c.loop-end.self) front text p.0 =
     subst (λ l. TakesLine (scan_of g.G.Gate.used c.loop-end.self) l text p.0) front_is p.1 in
-    let so_far = TakesBytes-append t.0 (front ++ 10 ∷ []) t.1 text _ _ _ t.2
+    let so_far = TakesBytes-append t.0 (front ++ 10 ∷ []) t.1 text _ _ _ t.3
     (TakesBytes-line front text _ _ clean takes) in
     let more = TakesBytes-total (drop 1 behind) p.0 in (
       more.0,
@@ -94,12 +101,18 @@ returns g c =
     let d = scan_of g.G.Gate.used c.keep.new.self in
     let clean = no_newline rest (λ k low high. c.in_default.ensures k low high) in
     let kept : TakesBytes b rest [] d =
-    subst (λ m. TakesBytes b rest [] m) (sym c.keep.ensures) (TakesBytes-clean rest b clean) in
+    subst (λ m. TakesBytes b rest [] m) (sym c.keep.ensures.scan) (TakesBytes-clean rest b clean) in
     let all : TakesBytes a c.args.piece.now (t.1 ++ []) d =
-    subst (λ l. TakesBytes a l (t.1 ++ []) d) (sym t.4)
-    (TakesBytes-append t.0 rest t.1 [] a b d t.2 kept) in
+    subst (λ l. TakesBytes a l (t.1 ++ []) d) (sym t.6)
+    (TakesBytes-append t.0 rest t.1 [] a b d t.3 kept) in
     record {
-      ok = (t.1, subst (λ l. TakesBytes a c.args.piece.now l d) (append-nil t.1) all, t.3);
+      ok = (
+        t.1,
+        t.2,
+        subst (λ l. TakesBytes a c.args.piece.now l d) (append-nil t.1) all,
+        t.4,
+        t.5 ∙ ap (λ l. t.2 ++ l) (sym c.keep.ensures.waits),
+      );
       quiet = c.loop-end.invariant.quiet;
       err = tt;
       blame = tt;
