@@ -1,0 +1,16 @@
+-- Logarithms to the base 2, between fractions of one scale.
+use Rattle.std.specs.Prelude.{ℕ, ◌^◌, ◌≤◌}
+use Rattle.bw_units.specs.declared.logarithm.TheConstants.{SCALE_DIGITS}
+
+-- The power of a number whose logarithm is a whole number of units, up to one of them: a unit is
+-- 2^-36.
+unfoldable pub at_scale : ℕ → ℕ
+at_scale x = x ^ (2 ^ SCALE_DIGITS)
+
+-- so many units are at most the logarithm of x
+abbrev pub IsLogarithmBelow : ℕ → ℕ → Type 0
+IsLogarithmBelow units x = 2 ^ units ≤ at_scale x
+
+-- so many units are at least the logarithm of x
+abbrev pub IsLogarithmAbove : ℕ → ℕ → Type 0
+IsLogarithmAbove units x = at_scale x ≤ 2 ^ units
