@@ -116,13 +116,29 @@ def current(root: Root, folder: str) -> Settings:
     return Settings(number(weight), quota, number(words[1]), number(burst))
 
 
+def standing(root: Root, folder: str) -> Settings | None:
+    """What the files of a group hold now; None if the group is gone."""
+    try:
+        return current(root, folder)
+    except Gone:
+        return None
+
+
+def unlike(root: Root, wanted: Sequence[tuple[str, Settings]]) -> list[str]:
+    """The groups that do not hold these settings, in words."""
+    found = []
+    for folder, settings in wanted:
+        now = standing(root, folder)
+        if now is None:
+            found.append(f"{shown(folder)}: is gone")
+        elif now != settings:
+            found.append(f"{shown(folder)}: holds {told(now)}, not {told(settings)}")
+    return found
+
+
 def check_host(root: Root, found: Sequence[Change]) -> None:
     """A fault that names each group whose files do not hold what they held before."""
-    wrong = []
-    for change in found:
-        now = current(root, change.folder)
-        if now != change.before:
-            wrong.append(f"{shown(change.folder)}: holds {told(now)}, not {told(change.before)}")
+    wrong = unlike(root, [(change.folder, change.before) for change in found])
     if wrong:
         raise HostFault("\n".join(["the host is not what BEFORE says, so nothing is changed:",
                                    *wrong]))
@@ -219,11 +235,7 @@ def write_synced(path: str, text: str) -> None:
 
 def check_after(root: Root, found: Sequence[Change]) -> None:
     """A fault where a file does not hold what was written."""
-    wrong = []
-    for change in found:
-        now = current(root, change.folder)
-        if now != change.after:
-            wrong.append(f"{shown(change.folder)}: holds {told(now)}, not {told(change.after)}")
+    wrong = unlike(root, [(change.folder, change.after) for change in found])
     if wrong:
         raise HostFault("\n".join(["read back, the host is not what was written:", *wrong]))
 
@@ -274,14 +286,6 @@ def read_undo(content: bytes, name: str) -> tuple[Root, list[Change], list[str],
     if gone and len(gone) == len(entries):
         raise HostFault(f"{shown(root.path)}: none of the groups of {name} is there")
     return root, back, gone, found.get("systemd") is True
-
-
-def standing(root: Root, folder: str) -> Settings | None:
-    """What the files of a group hold now; None if the group is gone."""
-    try:
-        return current(root, folder)
-    except Gone:
-        return None
 
 
 def undo(root: Root, back: Sequence[Change], is_systemd: bool) -> list[str]:

@@ -89,6 +89,10 @@ def test_refuses_another_host(ctl, tree):
     _, err = ctl.run(*words, status=1)
     assert "box: holds weight 50" in err and "nothing is changed" in err
     assert holds(tree, "web.service") == OLD and not undo.exists()
+    shutil.rmtree(tree / "box")
+    _, err = ctl.run(*words, status=1)
+    assert "box: is gone" in err and "nothing is changed" in err
+    assert holds(tree, "web.service") == OLD and not undo.exists()
 
 
 def test_undo_file_must_be_new(ctl, tree):
