@@ -78,8 +78,8 @@ def test_few_tasks_are_told(program_engine, tasks, limit, wanted):
     for name, count in zip("ab", tasks):
         model.add(Group(name, quota=limit, demand=Fraction(2000), tasks=count))
     found = plan(program_engine, model)
-    told = [each for each, _ in explain.table(found, explain.View()) if each.startswith("groups that"
-            " share") or each.startswith("  their shares")]
+    told = [each for each, _ in explain.table(found, explain.View())
+            if each.startswith(("groups that share", "  their shares"))]
     assert told == ([f"{FEW}{wanted}",
                      "  their shares depend on which CPUs the tasks run on; limits do not"]
                     if wanted else [])

@@ -129,7 +129,8 @@ def work(words: list[str]) -> int:
     for name in options.kernels.split(","):
         kernel = packages.kernel(name)
         print(f"Linux {kernel.release}, {kernel.ticks} ticks a second; {setting.told}")
-        for runs in batches(found, options.repeats):
+        fit = [each for each in found if each.kernel in ("", name)]
+        for runs in batches(fit, options.repeats):
             for outcome in measured(kernel, setting, options, runs):
                 outcomes.append(outcome)
                 saved(options, kernel, setting, outcome)

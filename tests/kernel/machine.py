@@ -69,13 +69,13 @@ def padded(data: bytes) -> bytes:
 
 def archive(files: dict[str, tuple[int, bytes]]) -> bytes:
     """A cpio archive in the form that the kernel unpacks: mode and content by name."""
-    made = b""
+    made = bytearray()
     for number, (name, (mode, data)) in enumerate([*files.items(), ("TRAILER!!!", (0, b""))], 1):
         raw = name.encode() + b"\0"
         fields = (number, mode, 0, 0, 1, 0, len(data), 0, 0, 0, 0, len(raw), 0)
         head = b"070701" + b"".join(b"%08x" % each for each in fields)
         made += padded(head + raw) + padded(data)
-    return made
+    return bytes(made)
 
 
 def initramfs(work: str, program: Path, more: dict[str, tuple[int, bytes]]) -> bytes:

@@ -1,9 +1,10 @@
 """The parts of the comparison that need no guest: exact shares, bounds, scripts and faults."""
+import json
 from fractions import Fraction
 
 import pytest
 
-from kernel import compare, deliberate, exact, layout, planned, readings, scenario
+from kernel import compare, deliberate, exact, layout, page, planned, readings, scenario
 from kernel.__main__ import SCENARIOS
 from kernel.faults import KernelFault
 
@@ -111,6 +112,45 @@ def test_scenario_has_loads(name):
     text = layout.script(found, layout.Span())
     assert found.about and text.count("/guest load") >= 1
     assert text.count("mkdir ") == len(found.paths) + 1
+
+
+def test_spread_tasks_keep_to_one_processor_each():
+    """Three tasks on two processors: the first, the second, the first; pinned ones stay within."""
+    text = "mkdir a\nmkdir b\ndemand a 300\ndemand b 300\n"
+    spread = of(f"#: --processors 2 --tasks 3 --spread --pin b=2\n{text}").leaves
+    assert [spread["a"].mask(number) for number in range(3)] == [1, 2, 1]
+    assert [spread["b"].mask(number) for number in range(3)] == [2, 2, 2]
+    free = of(f"#: --processors 2 --tasks 3\n{text}")
+    assert [free.leaves["a"].mask(number) for number in range(3)] == [3, 3, 3]
+    assert compare.is_even(free)
+    assert not compare.is_even(of(f"#: --processors 2 --tasks 3 --spread\n{text}"))
+
+
+def test_features_are_set_and_set_back():
+    """The scheduler has its own features again when the run is over."""
+    found = of("#: --features HRTICK,NO_PLACE_LAG\nmkdir a\ndemand a 100\n")
+    lines = layout.script(found, layout.Span()).splitlines()
+    kept = lines.index(f"features=$(cat {layout.FEATURES})")
+    assert lines[kept + 1].startswith(f"echo HRTICK > {layout.FEATURES} ||")
+    assert lines[kept + 2].startswith(f"echo NO_PLACE_LAG > {layout.FEATURES} ||")
+    assert lines[-1] == f"for word in $features; do echo $word > {layout.FEATURES}; done"
+    assert layout.FEATURES not in layout.script(of("mkdir a\ndemand a 100\n"), layout.Span())
+
+
+def test_page_of_saved_runs(tmp_path):
+    """The furthest group, its range over repeats, and how often it was out of bounds."""
+    def saved(release, had, least):
+        line = {"path": "p/a", "share": 20, "had": had, "least": least, "most": 20.2}
+        top = {"path": ".", "share": 20, "had": 99, "least": None, "most": None}
+        return json.dumps({"release": release, "scenario": "s", "refusal": "", "others": 0.001,
+                           "lines": [top, line], "tasks": [{"path": "p/a"}]}) + "\n"
+    file = tmp_path / "saved"
+    file.write_text(saved("6.1.0-9", 20.1, 19.8) + saved("6.12.1", 20.5, 19.8)
+                    + saved("6.12.1", 19.9, 19.8))
+    found = page.read([str(file)])
+    assert list(page.rows(found))[2:] == [
+        "| `s` | a +0.10 (1) | within: a | a -0.10 to +0.50 (2) | out: a 1 |"]
+    assert page.totals(found).startswith("3 runs, 3 groups judged, 1 out of bounds, 0 runs refused")
 
 
 @pytest.mark.parametrize("line", ["rmdir a", "demand a", "nonsense", "period\nmkdir b"])
