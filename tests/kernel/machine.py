@@ -11,6 +11,8 @@ from pathlib import Path
 from kernel import packages
 from kernel.faults import KernelFault
 
+# The variable that has ./test run guests which take minutes without KVM.
+ALL = "ARBITER_GUESTS"
 FOLDERS = ("bin", "proc", "sys", "dev", "tmp", "root")
 # No chance enters the guest: no host clock, no random number, no address layout of its own.
 FIXED = ("-rtc", "base=2026-01-01T00:00:00,clock=vm", "-seed", "1")
@@ -60,6 +62,11 @@ class Setting:
         if self.shift is None:
             return "TCG in the host's time"
         return f"TCG, time counted in instructions of {1 << self.shift} ns"
+
+
+def is_quick() -> bool:
+    """Whether a guest takes seconds here, by KVM."""
+    return os.access("/dev/kvm", os.R_OK | os.W_OK)
 
 
 def padded(data: bytes) -> bytes:

@@ -1,13 +1,15 @@
-"""The real files in a guest: texts that are written, what they show, and the tree's import.
+"""The real files in a guest: texts that are written, what they show, import, apply and undo.
 
-Skipped where the packages or a kernel are not there.
+Skipped where the packages or a kernel are not there; apply and undo also without KVM.
 """
+import os
+
 import pytest
 
 from kernel import machine, packages, planned, real_apply, real_files
 from kernel.scenario import parse
 
-SETTING = machine.Setting(shift=5, seconds=900)
+SETTING = machine.Setting(shift=5, seconds=1800)
 # The program takes any quota up to 10^15, the kernel up to 2^44 - 1 microseconds.
 ONLY_HERE = {("cpu.max", f"{real_files.GREATEST + 1} 100000"),
              ("cpu.max", "1000000000000000 1000000")}
@@ -33,7 +35,10 @@ def found_in_a_guest(program):
 @pytest.fixture(scope="module", name="phases")
 def phases_in_a_guest():
     """What `apply` and `undo` did to the real files of a guest."""
-    return real_apply.shown_by(kernel_of_guests(), SETTING)
+    if not machine.is_quick() and machine.ALL not in os.environ:
+        pytest.skip("no /dev/kvm, so it takes minutes: ./test --kernel --files runs it")
+    setting = machine.Setting(is_kvm=True, seconds=900) if machine.is_quick() else SETTING
+    return real_apply.shown_by(kernel_of_guests(), setting)
 
 
 def test_kernel_takes_what_the_program_takes(found):
