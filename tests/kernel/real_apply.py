@@ -97,7 +97,8 @@ def read(lines: list[str]) -> dict[str, Phase]:
         if line.startswith("{"):
             shown = json.loads(line)
             groups = {path: tuple(texts) for path, texts in shown.pop("groups").items()}
-            found[shown.pop("phase")] = Phase(groups=groups, **shown)
+            name = shown.pop("phase")
+            found[name] = Phase(groups=groups, **shown)
     if len(found) != 1 + len(list(steps())):
         raise KernelFault(f"the guest did not make all steps: {lines[-5:]}")
     return found

@@ -98,4 +98,4 @@ def test_groups_come_and_go_meanwhile(phases):
     assert (undone.status, undone.groups) == (0, left)
     assert "arbiterctl: warning: a05: the group is gone, nothing of it is undone" in undone.said
     assert (refused.status, refused.groups) == (1, left)
-    assert "a05: is gone" in refused.said
+    assert "arbiterctl: a05: is gone" in refused.said

@@ -5,7 +5,7 @@ from fractions import Fraction
 import pytest
 
 from kernel import (compare, deliberate, exact, layout, page, placed, planned, readings,
-                    scenario)
+                    real_apply, scenario)
 from kernel.__main__ import SCENARIOS
 from kernel.faults import KernelFault
 
@@ -238,6 +238,18 @@ def test_run_is_refused(program, late, others, why):
     outcome = compare.Outcome(found, run, kernel_counters=run.rose())
     compare.spent(outcome, 1000000)
     assert outcome.refusal == why
+
+
+def test_steps_of_apply_are_read():
+    """What each step showed, by name; a guest that made fewer steps is refused."""
+    names = ["made", *(step["name"] for step in real_apply.steps())]
+    lines = [json.dumps({"phase": name, "status": 1, "said": ["x"], "groups": {"a": ["1", "2", "3"]}})
+             for name in names]
+    found = real_apply.read(["kernel 6.12", *lines])
+    assert list(found) == names
+    assert found["undo"] == real_apply.Phase(1, ["x"], {"a": ("1", "2", "3")})
+    with pytest.raises(KernelFault, match="did not make all steps"):
+        real_apply.read(lines[:-1])
 
 
 def test_unfinished_guest_is_refused():
