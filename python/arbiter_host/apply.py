@@ -16,7 +16,7 @@ from fractions import Fraction
 from typing import Any
 
 from arbiter_host import units
-from arbiter_host.beneath import Root
+from arbiter_host.beneath import Gone, Root
 from arbiter_host.faults import HostFault, strerror
 from arbiter_host.model import Group, Model, check_settings
 from arbiter_host.names import shown
@@ -116,13 +116,29 @@ def current(root: Root, folder: str) -> Settings:
     return Settings(number(weight), quota, number(words[1]), number(burst))
 
 
+def standing(root: Root, folder: str) -> Settings | None:
+    """What the files of a group hold now; None if the group is gone."""
+    try:
+        return current(root, folder)
+    except Gone:
+        return None
+
+
+def unlike(root: Root, wanted: Sequence[tuple[str, Settings]]) -> list[str]:
+    """The groups that do not hold these settings, in words."""
+    found = []
+    for folder, settings in wanted:
+        now = standing(root, folder)
+        if now is None:
+            found.append(f"{shown(folder)}: is gone")
+        elif now != settings:
+            found.append(f"{shown(folder)}: holds {told(now)}, not {told(settings)}")
+    return found
+
+
 def check_host(root: Root, found: Sequence[Change]) -> None:
     """A fault that names each group whose files do not hold what they held before."""
-    wrong = []
-    for change in found:
-        now = current(root, change.folder)
-        if now != change.before:
-            wrong.append(f"{shown(change.folder)}: holds {told(now)}, not {told(change.before)}")
+    wrong = unlike(root, [(change.folder, change.before) for change in found])
     if wrong:
         raise HostFault("\n".join(["the host is not what BEFORE says, so nothing is changed:",
                                    *wrong]))
@@ -219,11 +235,7 @@ def write_synced(path: str, text: str) -> None:
 
 def check_after(root: Root, found: Sequence[Change]) -> None:
     """A fault where a file does not hold what was written."""
-    wrong = []
-    for change in found:
-        now = current(root, change.folder)
-        if now != change.after:
-            wrong.append(f"{shown(change.folder)}: holds {told(now)}, not {told(change.after)}")
+    wrong = unlike(root, [(change.folder, change.after) for change in found])
     if wrong:
         raise HostFault("\n".join(["read back, the host is not what was written:", *wrong]))
 
@@ -256,22 +268,33 @@ def settings_from(entry: dict[str, Any]) -> Settings:
     return settings_of(group)
 
 
-def read_undo(content: bytes, name: str) -> tuple[Root, list[Change], bool]:
-    """The root and the changes that bring the old settings back from what holds now."""
+def read_undo(content: bytes, name: str) -> tuple[Root, list[Change], list[str], bool]:
+    """The root, the changes that bring the old settings back from what holds now, and the groups
+    that are gone."""
     found = data.loads(content, name)
     if data.number(found, "arbiter_undo") != VERSION or not data.text(found, "root"):
         raise HostFault(f"{name}: no undo file of `arbiterctl apply`")
-    root, back = Root(found["root"]), []
-    for entry in data.tables(found, "groups"):
+    root, back, gone = Root(found["root"]), [], []
+    entries = data.tables(found, "groups")
+    for entry in entries:
         folder, old = str(entry.get("folder", "")), settings_from(entry)
-        now = current(root, folder)
-        if now != old:
+        now = standing(root, folder)
+        if now is None:
+            gone.append(folder)
+        elif now != old:
             back.append(Change(folder, now, old))
-    return root, back, found.get("systemd") is True
+    if gone and len(gone) == len(entries):
+        raise HostFault(f"{shown(root.path)}: none of the groups of {name} is there")
+    return root, back, gone, found.get("systemd") is True
 
 
-def undo(root: Root, back: Sequence[Change], is_systemd: bool) -> None:
-    """Brings the old settings back, and reads them."""
+def undo(root: Root, back: Sequence[Change], is_systemd: bool) -> list[str]:
+    """Brings the old settings back, and reads them. Returns the groups that went meanwhile."""
     for step in planned_steps(back, is_systemd):
-        do(step, root)
-    check_after(root, back)
+        try:
+            do(step, root)
+        except Gone:
+            continue
+    gone = [change.folder for change in back if standing(root, change.folder) is None]
+    check_after(root, [change for change in back if change.folder not in gone])
+    return gone

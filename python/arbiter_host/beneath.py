@@ -1,6 +1,7 @@
 """Reads and writes files below one folder. No symbolic link is followed, and no file is made."""
 from __future__ import annotations
 
+import errno
 import os
 import stat
 from collections.abc import Iterator
@@ -12,6 +13,12 @@ from arbiter_host.names import shown
 MAX_TEXT = 4096
 FOLDER = os.O_RDONLY | os.O_DIRECTORY | os.O_NOFOLLOW | os.O_CLOEXEC
 FILE = os.O_NOFOLLOW | os.O_CLOEXEC | os.O_NONBLOCK
+# What a file of a removed group answers: by its name, and where it was open before.
+REMOVED = (errno.ENOENT, errno.ENODEV)
+
+
+class Gone(HostFault):
+    """A file that is not there, or whose group was removed while it was open."""
 
 
 class Root:
@@ -38,7 +45,8 @@ class Root:
                 raise HostFault(f"{shown(self.name(folder, file))}: no plain file")
             yield descriptors[-1]
         except OSError as error:
-            raise HostFault(f"{shown(self.name(folder, file))}: {strerror(error)}") from error
+            kind = Gone if error.errno in REMOVED else HostFault
+            raise kind(f"{shown(self.name(folder, file))}: {strerror(error)}") from error
         finally:
             for each in reversed(descriptors):
                 os.close(each)
@@ -49,10 +57,17 @@ class Root:
             return os.read(descriptor, MAX_TEXT).decode(errors="replace").strip()
 
     def write(self, folder: str, file: str, text: str) -> None:
-        """Replaces the text of a file that is there, in one write."""
+        """Replaces the text of a file that is there, in one write.
+
+        A plain file has a size: newlines cover a longer text before the file is cut. So a process
+        that is killed leaves the old text or the new one. Files of the kernel have size 0.
+        """
+        line = f"{text}\n".encode()
         with self.opened(folder, file, os.O_WRONLY) as descriptor:
-            os.ftruncate(descriptor, 0)
-            os.write(descriptor, f"{text}\n".encode())
+            size = os.fstat(descriptor).st_size
+            os.write(descriptor, line.ljust(size, b"\n"))
+            if size > len(line):
+                os.ftruncate(descriptor, len(line))
 
 
 def parts_of(folder: str) -> list[str]:

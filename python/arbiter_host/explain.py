@@ -186,12 +186,23 @@ def limiting(plan: Plan, unit: str) -> str:
     return ", ".join(found[:8]) + more if found else "the demands alone"
 
 
+def task_counts(plan: Plan) -> list[int | None]:
+    """The tasks of each group with those below it, by row; None where a number is not known."""
+    found = [group.group.tasks if group.group else None for group in plan.groups]
+    for group in reversed(plan.groups):
+        if group.children:
+            below = [found[child.row] for child in group.children if child.want > 0]
+            known = [each for each in below if each is not None]
+            found[group.row] = sum(known) if len(known) == len(below) else None
+    return found
+
+
 def few_tasks(plan: Plan) -> int:
-    """The number of groups that share by weight and have fewer tasks than there are CPUs."""
-    cpus = plan.model.host.cpus
-    return sum(1 for group in plan.groups[1:] if group.group is not None and group.want > 0
-               and group.group.tasks is not None and group.group.tasks < cpus
-               and group.gets < group.want)
+    """The number of groups with fewer tasks than there are CPUs, where weights decide."""
+    shared = {group.parent for group in plan.groups[1:] if plan.reason(group).active_weight}
+    counts = task_counts(plan)
+    return sum(1 for group in plan.groups[1:] if group.want > 0 and group.parent in shared
+               and (count := counts[group.row]) is not None and count < plan.model.host.cpus)
 
 
 def foot(plan: Plan, view: View, lines: Sequence[str]) -> Iterator[str]:
@@ -203,7 +214,7 @@ def foot(plan: Plan, view: View, lines: Sequence[str]) -> Iterator[str]:
         yield f"groups that ask for nothing and are left out (--all shows them): {idle}"
     count = few_tasks(plan)
     if count:
-        yield f"groups that lack something and have fewer tasks than the host has CPUs: {count}"
+        yield f"groups that share by weight and have fewer tasks than the host has CPUs: {count}"
         yield "  their shares depend on which CPUs the tasks run on; limits do not"
 
 

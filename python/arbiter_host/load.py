@@ -8,6 +8,7 @@ import sys
 from collections.abc import Sequence
 from dataclasses import replace
 from fractions import Fraction
+from typing import BinaryIO
 
 from arbiter_host import demands, names, units
 from arbiter_host.engine import Engine
@@ -18,6 +19,7 @@ from arbiter_host.sources import (cgroup2, cgroups, containers, hostfile, kubern
 
 KINDS = ("script", "toml", "yaml", "json", "cgroup", "kubernetes", "systemd", "docker")
 MAX_FILE = 512 << 20
+PIECE = 1 << 20
 MAX_SECONDS = 86400
 
 
@@ -111,15 +113,27 @@ def is_chosen(options: argparse.Namespace) -> bool:
     return any(each is not None for each in (options.cpus, options.period, options.slice))
 
 
+def bounded(file: BinaryIO) -> bytes:
+    """The bytes of a file, at most one more than `MAX_FILE`. A `read` takes the memory that it may
+    need first, so pieces are read."""
+    data = bytearray()
+    while len(data) <= MAX_FILE:
+        piece = file.read(min(PIECE, MAX_FILE + 1 - len(data)))
+        if not piece:
+            break
+        data += piece
+    return bytes(data)
+
+
 def file_bytes(path: str) -> bytes:
     """The bytes of a file; `-` is standard input."""
     shown = names.shown(path)
     try:
         if path == "-":
-            data = sys.stdin.buffer.read(MAX_FILE + 1) if sys.stdin else b""
+            data = bounded(sys.stdin.buffer) if sys.stdin else b""
         else:
             with open(path, "rb") as file:
-                data = file.read(MAX_FILE + 1)
+                data = bounded(file)
     except OSError as error:
         raise HostFault(f"{shown}: {strerror(error)}") from error
     except ValueError as error:

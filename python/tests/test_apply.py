@@ -1,6 +1,8 @@
 """Apply and undo: what is printed, what is written, in which order, and what is refused."""
+import fcntl
 import json
 import os
+import shutil
 import signal
 from fractions import Fraction
 
@@ -86,6 +88,10 @@ def test_refuses_another_host(ctl, tree):
              "--set", "web.service.weight=9", "--yes", "--undo", undo]
     _, err = ctl.run(*words, status=1)
     assert "box: holds weight 50" in err and "nothing is changed" in err
+    assert holds(tree, "web.service") == OLD and not undo.exists()
+    shutil.rmtree(tree / "box")
+    _, err = ctl.run(*words, status=1)
+    assert "box: is gone" in err and "nothing is changed" in err
     assert holds(tree, "web.service") == OLD and not undo.exists()
 
 
@@ -192,10 +198,83 @@ def test_interrupted_anywhere_and_undone(tmp_path_factory, pairs, stop, late):
             change.after for change in found]
     except Stop:
         pass
-    _, back, _ = apply.read_undo((folder / "undo").read_bytes(), "undo")
-    apply.undo(Kernel(str(folder / "t")), back, False)
+    _, back, gone, _ = apply.read_undo((folder / "undo").read_bytes(), "undo")
+    assert gone == [] and apply.undo(Kernel(str(folder / "t")), back, False) == []
     assert [holds(folder / "t", change.folder) for change in found] == [
         change.before for change in found]
+
+
+@pytest.mark.parametrize("call, late, wanted", [
+    ("fstat", False, 10000), ("write", False, 10000), ("write", True, 7), ("ftruncate", False, 7),
+    ("ftruncate", True, 7)])
+def test_stopped_inside_a_write_and_undone(folder, monkeypatch, call, late, wanted):
+    """Between any two calls of a write a plain file holds the old number or the new one."""
+    old, new = Settings(10000, None, 100000, 0), Settings(7, None, 100000, 0)
+    host(folder, [("a", old)])
+    real = getattr(os, call)
+
+    def stop(descriptor, *words):
+        is_written = fcntl.fcntl(descriptor, fcntl.F_GETFL) & os.O_ACCMODE == os.O_WRONLY
+        if not (is_written and os.readlink(f"/proc/self/fd/{descriptor}").endswith("cpu.weight")):
+            return real(descriptor, *words)
+        if late:
+            real(descriptor, *words)
+        raise Stop
+
+    with monkeypatch.context() as patched:
+        patched.setattr(os, call, stop)
+        with pytest.raises(Stop):
+            apply.make(beneath.Root(str(folder)), [Change("a", old, new)], False,
+                       str(folder / "undo"))
+    assert holds(folder, "a").weight == wanted
+    root, back, _, _ = apply.read_undo((folder / "undo").read_bytes(), "undo")
+    apply.undo(root, back, False)
+    assert holds(folder, "a") == old
+    assert (folder / "a/cpu.weight").read_text() == "10000\n"
+
+
+@pytest.mark.parametrize("old, new", [("10000", "7"), ("7", "10000"), ("7", "8"), ("", "5")])
+def test_write_leaves_one_line(folder, old, new):
+    trees.root2(folder)
+    trees.group2(folder / "a", 1)
+    (folder / "a/cpu.weight").write_text(f"{old}\n")
+    beneath.Root(str(folder)).write("a", "cpu.weight", new)
+    assert (folder / "a/cpu.weight").read_text() == f"{new}\n"
+
+
+def test_undo_without_a_group_that_went(ctl, tree):
+    """What is there gets its settings back; a group that is gone is told."""
+    before, undo = imported(ctl, tree), tree.parent / "undo.json"
+    ctl.run("apply", before, "--root", tree, "--by", "files", "--set", "web.service.weight=9",
+            "--set", "box/in.weight=7", "--yes", "--undo", undo)
+    shutil.rmtree(tree / "box/in")
+    _, err = ctl.run("undo", undo, "--yes")
+    assert err == "arbiterctl: warning: box/in: the group is gone, nothing of it is undone\n"
+    assert holds(tree, "web.service") == OLD
+    shutil.rmtree(tree)
+    _, err = ctl.run("undo", undo, "--yes", status=1)
+    assert "none of the groups of" in err
+
+
+def test_group_that_goes_while_others_are_undone(folder):
+    """Its files are gone from the first write on, and the others are restored."""
+    host(folder / "t", [("a", OLD), ("b", OLD)])
+    new = Settings(7, 50000, 100000, 20000)
+    found = [Change(name, OLD, new) for name in "ab"]
+    apply.make(beneath.Root(str(folder / "t")), found, False, str(folder / "undo"))
+    _, back, gone, _ = apply.read_undo((folder / "undo").read_bytes(), "undo")
+    assert gone == []
+
+    class Going(beneath.Root):
+        """A tree from which the first group goes when it is written."""
+
+        def write(self, folder, file, text):
+            if folder == "a" and os.path.exists(f"{self.path}/a"):
+                shutil.rmtree(f"{self.path}/a")
+            super().write(folder, file, text)
+
+    assert apply.undo(Going(str(folder / "t")), back, False) == ["a"]
+    assert holds(folder / "t", "b") == OLD
 
 
 @settings(max_examples=100, deadline=None, suppress_health_check=list(HealthCheck))

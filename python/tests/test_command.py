@@ -1,6 +1,8 @@
 """The command: what each answer says, and how it ends when something is wrong."""
+import io
 import json
 import os
+import resource
 import signal
 import subprocess
 import sys
@@ -9,6 +11,7 @@ from pathlib import Path
 
 import pytest
 import trees
+from arbiter_host import load
 from places import PACKAGE
 
 ROOT = PACKAGE.parent
@@ -260,6 +263,25 @@ def test_files_that_cannot_be_read(ctl, folder):
     (folder / "shut").chmod(0)
     if os.getuid() != 0:
         assert "Permission denied" in ctl.run("explain", folder / "shut", status=1)[1]
+
+
+@pytest.mark.parametrize("from_input", [False, True])
+def test_small_memory(ctl, folder, from_input):
+    """A source takes memory for what it holds, and not for the greatest file."""
+    script = folder / "s"
+    script.write_text("mkdir a\n")
+    words = ["import", "script", "-" if from_input else script]
+    ended = ctl.ended(*words, given=script.read_bytes(), preexec_fn=lambda: resource.setrlimit(
+        resource.RLIMIT_AS, (400 << 20, 400 << 20)))
+    assert ended.returncode == 0 and ended.stderr.startswith(b"arbiterctl: groups: 1")
+
+
+def test_largest_file(monkeypatch):
+    """A file of `MAX_FILE` bytes is read whole; one byte more shows that it is longer."""
+    monkeypatch.setattr(load, "MAX_FILE", 5)
+    monkeypatch.setattr(load, "PIECE", 2)
+    read = [load.bounded(io.BytesIO(b"x" * length)) for length in (0, 4, 5, 6, 9)]
+    assert [len(each) for each in read] == [0, 4, 5, 6, 6]
 
 
 def test_engine_that_is_not_there(ctl):

@@ -3,17 +3,20 @@ from __future__ import annotations
 
 import argparse
 import json
+import os
 import subprocess
 import sys
 from collections.abc import Iterator
 from pathlib import Path
 from typing import Any
 
-from kernel import compare, deliberate, faults, layout, machine, packages, readings, scenario, table
+from kernel import (compare, deliberate, faults, layout, machine, packages, planned, readings,
+                    scenario, table)
 from kernel.scenario import Scenario
 
 SCENARIOS = Path(__file__).with_name("scenarios")
 ARBITERCTL = Path(__file__).resolve().parents[2] / "python/arbiterctl"
+FILES = Path(__file__).with_name("test_real_files.py")
 # By how much each repeat begins later, in microseconds: another place in a quota period and in
 # a tick.
 LATER = 21300
@@ -95,6 +98,9 @@ def arguments(words: list[str]) -> argparse.Namespace:
     parser.add_argument("--save", metavar="FILE", help="add each outcome to a file, as JSON lines")
     parser.add_argument("--fault", choices=tuple(deliberate.FAULTS),
                         help="give the guest something else than the plan, which has to be seen")
+    parser.add_argument("--files", action="store_true",
+                        help="test the real files instead: what the kernel takes and shows, and"
+                        " arbiterctl import, apply and undo")
     parser.add_argument("--list", action="store_true", help="print the scenarios and end")
     return parser.parse_args(words)
 
@@ -115,9 +121,18 @@ def saved(options: argparse.Namespace, kernel: packages.Kernel, setting: machine
             file.write(json.dumps(data) + "\n")
 
 
+def tested_files() -> int:
+    """Runs the tests of the real files, those too that ./test leaves out without KVM."""
+    words = [sys.executable, "-m", "pytest", "-q", str(FILES), "--program",
+             str(planned.program())]
+    return subprocess.run(words, env={**os.environ, machine.ALL: "1"}, check=False).returncode
+
+
 def work(words: list[str]) -> int:
     """Runs all, and returns the exit status."""
     options = arguments(words)
+    if options.files:
+        return tested_files()
     found = sources(options.sources)
     if options.list:
         print("\n".join(f"{each.name}: {each.about}" for each in found))
@@ -129,7 +144,8 @@ def work(words: list[str]) -> int:
     for name in options.kernels.split(","):
         kernel = packages.kernel(name)
         print(f"Linux {kernel.release}, {kernel.ticks} ticks a second; {setting.told}")
-        for runs in batches(found, options.repeats):
+        fit = [each for each in found if each.kernel in ("", name)]
+        for runs in batches(fit, options.repeats):
             for outcome in measured(kernel, setting, options, runs):
                 outcomes.append(outcome)
                 saved(options, kernel, setting, outcome)

@@ -107,7 +107,7 @@ def is_even(scenario: Scenario) -> bool:
     """Whether all groups have equally many tasks, as many as there are processors or more."""
     numbers = {leaf.tasks for leaf in scenario.leaves.values()}
     every = (1 << scenario.processors) - 1
-    pinned = any(leaf.cpus != every for leaf in scenario.leaves.values())
+    pinned = any(leaf.cpus != every or leaf.is_spread for leaf in scenario.leaves.values())
     return len(numbers) == 1 and min(numbers) >= scenario.processors and not pinned
 
 

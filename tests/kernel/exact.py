@@ -18,7 +18,7 @@ class Node:
     """A group: its weight, its limit of one period (None is none), its demand and children."""
 
     path: str
-    weight: int = 100
+    weight: int | Fraction = 100
     quota: Fraction | None = None
     burst: Fraction = Fraction(0)
     saved: Fraction = Fraction(0)
@@ -49,7 +49,7 @@ def share(amount: Fraction, children: list[Node]) -> dict[str, Fraction]:
     """Splits an amount by weight. Who needs less than that leaves the rest to the others."""
     given, asking = {child.path: Fraction(0) for child in children}, list(children)
     while asking:
-        weights = sum(child.weight for child in asking)
+        weights = sum((child.weight for child in asking), Fraction(0))
         met = [child for child in asking if child.bounded * weights <= amount * child.weight]
         if not met:
             given |= {child.path: amount * child.weight / weights for child in asking}

@@ -39,6 +39,8 @@
 #define MICRO 1000LL
 #define MILLI 1000000LL
 #define SECOND 1000000000LL
+/* For so long after a time its counters are read: by then each processor has had a turn.  */
+#define COUNTED (300 * MICRO)
 
 static char text[1 << 20];
 static int64_t seen[MOST_PROCESSORS];
@@ -177,6 +179,20 @@ static int64_t others(void) {
     return sum;
 }
 
+/* A task's time is counted when it stops running, or else at a tick. So a task of the first class
+   wakes on each processor at both times, and what runs there stops.  */
+static void count_at(int64_t one, int64_t two) {
+    long processors = sysconf(_SC_NPROCESSORS_ONLN);
+    for (int at = 0; at < processors && at < MOST_PROCESSORS; at++)
+        if (fork() == 0) {
+            keep_to(1ULL << at);
+            go_first();
+            sleep_until(one);
+            sleep_until(two);
+            _exit(0);
+        }
+}
+
 static size_t add_files(char *to, size_t size, int count, char **files) {
     size_t length = snprintf(to, size, "at %lld\n", (long long)read_clock(CLOCK_MONOTONIC));
     for (int at = 0; at < count; at++)
@@ -189,13 +205,14 @@ static int watch(int count, char **words) {
     static char one[1 << 21], two[1 << 21];
     if (count < 4)
         return 2;
-    int64_t begin = atoll(words[0]);
+    int64_t begin = atoll(words[0]), end = atoll(words[1]);
     go_first();
-    sleep_until(begin - 500 * MILLI);
+    sleep_until(begin - 450 * MILLI);
     others();
-    sleep_until(begin);
+    count_at(begin, end);
+    sleep_until(begin + COUNTED);
     add_files(one, sizeof one, count - 3, words + 3);
-    sleep_until(atoll(words[1]));
+    sleep_until(end + COUNTED);
     add_files(two, sizeof two, count - 3, words + 3);
     return printf("%s%sothers %lld\n", one, two, (long long)others()) < 0;
 }

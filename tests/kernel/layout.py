@@ -10,6 +10,7 @@ from kernel.scenario import Leaf, Scenario
 TOP = "/sys/fs/cgroup"
 # All groups of a scenario are below this one, so that its root has counters of its own.
 HOME = f"{TOP}/host"
+FEATURES = "/sys/kernel/debug/sched/features"
 GRID = 100000000
 # The board's clock without its driver, so that nobody takes its interrupt.
 BEAT = """\
@@ -74,7 +75,16 @@ def set_offsets(scenario: Scenario) -> Iterator[str]:
         yield from [write(path, "cpu.max.burst", bursts[path])] if path in bursts else []
 
 
-def task(scenario: Scenario, path: str, leaf: Leaf) -> str:
+def features(words: tuple[str, ...]) -> Iterator[str]:
+    """Sets features of the scheduler, and keeps what they were."""
+    if words:
+        yield f"[ -e {FEATURES} ] || mount -t debugfs none /sys/kernel/debug"
+        yield f"features=$(cat {FEATURES})"
+        for word in words:
+            yield f"echo {shlex.quote(word)} > {FEATURES} || echo refused features {word}"
+
+
+def task(scenario: Scenario, path: str, leaf: Leaf, number: int) -> str:
     """Starts one task of a group."""
     works = [min(slices * scenario.slice // leaf.tasks, scenario.period)
              for slices in leaf.demands]
@@ -82,8 +92,8 @@ def task(scenario: Scenario, path: str, leaf: Leaf) -> str:
         # the work between two naps is that of the demand, as a part of all time
         part = works[0] / scenario.period
         works = [round(leaf.nap * part / (1 - part))]
-    words = [path, "$first", "$((last + 500000000))", str(scenario.period), str(leaf.nap),
-             f"{leaf.cpus:x}", *map(str, works)]
+    words = [path, "$first", "$((last + 100000000))", str(scenario.period), str(leaf.nap),
+             f"{leaf.mask(number):x}", *map(str, works)]
     return (f"(echo 0 > {shlex.quote(place(path, 'cgroup.procs'))};"
             f" exec /guest load {' '.join(words)}) &")
 
@@ -94,10 +104,11 @@ def script(scenario: Scenario, span: Span) -> str:
     limited = [place(path, "cpu.stat") for path in scenario.files("cpu.max")]
     files = " ".join([place(".", "cpu.stat"), *(place(path, "cpu.stat") for path in
                                                  scenario.paths), "/proc/stat"])
-    tasks = [task(scenario, path, leaf) for path, leaf in scenario.leaves.items()
-             if any(leaf.demands) for _ in range(leaf.tasks)]
-    lead = 4 + len(tasks) // 8
+    tasks = [task(scenario, path, leaf, number) for path, leaf in scenario.leaves.items()
+             if any(leaf.demands) for number in range(leaf.tasks)]
+    lead = 2 + len(tasks) // 8
     lines = [
+        *features(scenario.features),
         *groups(scenario),
         f"first=$((($(/guest now) / {GRID} + {lead}) * {GRID} + {span.late} * 1000))",
         f"begin=$((first + {settle * scenario.round} * 1000))",
@@ -110,6 +121,8 @@ def script(scenario: Scenario, span: Span) -> str:
         "echo ready $(/guest now)",
         "wait",
         f"find {HOME} -depth -type d -exec rmdir {{}} ';'",
+        *([f"for word in $features; do echo $word > {FEATURES}; done"] if scenario.features
+          else []),
     ]
     return "\n".join(lines) + "\n"
 

@@ -11,6 +11,8 @@ from pathlib import Path
 from kernel import packages
 from kernel.faults import KernelFault
 
+# The variable that has ./test run guests which take minutes without KVM.
+ALL = "ARBITER_GUESTS"
 FOLDERS = ("bin", "proc", "sys", "dev", "tmp", "root")
 # No chance enters the guest: no host clock, no random number, no address layout of its own.
 FIXED = ("-rtc", "base=2026-01-01T00:00:00,clock=vm", "-seed", "1")
@@ -62,6 +64,11 @@ class Setting:
         return f"TCG, time counted in instructions of {1 << self.shift} ns"
 
 
+def is_quick() -> bool:
+    """Whether a guest takes seconds here, by KVM."""
+    return os.access("/dev/kvm", os.R_OK | os.W_OK)
+
+
 def padded(data: bytes) -> bytes:
     """Data up to a multiple of four bytes."""
     return data + b"\0" * (-len(data) % 4)
@@ -69,13 +76,13 @@ def padded(data: bytes) -> bytes:
 
 def archive(files: dict[str, tuple[int, bytes]]) -> bytes:
     """A cpio archive in the form that the kernel unpacks: mode and content by name."""
-    made = b""
+    made = bytearray()
     for number, (name, (mode, data)) in enumerate([*files.items(), ("TRAILER!!!", (0, b""))], 1):
         raw = name.encode() + b"\0"
         fields = (number, mode, 0, 0, 1, 0, len(data), 0, 0, 0, 0, len(raw), 0)
         head = b"070701" + b"".join(b"%08x" % each for each in fields)
         made += padded(head + raw) + padded(data)
-    return made
+    return bytes(made)
 
 
 def initramfs(work: str, program: Path, more: dict[str, tuple[int, bytes]]) -> bytes:

@@ -1,6 +1,7 @@
 """What `period` of the program counts over the periods of a run."""
 from __future__ import annotations
 
+import functools
 import os
 import subprocess
 from pathlib import Path
@@ -29,15 +30,24 @@ def program() -> Path:
 
 def answers(scenario: Scenario, lines: list[str]) -> list[str]:
     """The program's answers to a script."""
-    words = [str(program()), "run", "--processors", str(scenario.processors), "--period",
-             str(scenario.period), "--slice", str(scenario.slice)]
-    ended = subprocess.run(words, input="\n".join(lines) + "\n", capture_output=True, text=True,
-                           check=False, timeout=SECONDS)
+    words = (str(program()), "run", "--processors", str(scenario.processors), "--period",
+             str(scenario.period), "--slice", str(scenario.slice))
+    try:
+        return list(ran(words, "\n".join(lines) + "\n"))
+    except KernelFault as fault:
+        raise KernelFault(f"{scenario.name}: {fault}") from fault
+
+
+@functools.lru_cache(maxsize=512)
+def ran(words: tuple[str, ...], text: str) -> tuple[str, ...]:
+    """The answers to a script, which repeats of a scenario ask for again."""
+    ended = subprocess.run(words, input=text, capture_output=True, text=True, check=False,
+                           timeout=SECONDS)
     found = ended.stdout.splitlines()
     refused = [line for line in found if line.startswith("error ")]
     if ended.returncode or refused:
-        raise KernelFault(f"{scenario.name}: {ended.stderr.strip()} {refused[:1]}")
-    return found
+        raise KernelFault(f"{ended.stderr.strip()} {refused[:1]}")
+    return tuple(found)
 
 
 def rounds_of(scenario: Scenario, rounds: int) -> list[str]:

@@ -19,13 +19,22 @@ class Leaf:
     """A group with a demand: slices in each period of a round, and the tasks that work for it.
 
     `nap` is microseconds that a task sleeps after its work; 0 is a task that goes by periods.
-    `cpus` is the mask of the processors that its tasks may use.
+    `cpus` is the mask of the processors that its tasks may use. With `is_spread` each task keeps
+    to one of them, in turn.
     """
 
     demands: tuple[int, ...]
     tasks: int
     nap: int
     cpus: int
+    is_spread: bool = False
+
+    def mask(self, number: int) -> int:
+        """The processors that a task may use; tasks are numbered from 0."""
+        if not self.is_spread:
+            return self.cpus
+        found = [1 << at for at in range(self.cpus.bit_length()) if self.cpus >> at & 1]
+        return found[number % len(found)]
 
 
 @dataclass
@@ -41,6 +50,10 @@ class Scenario:
     offset: int | None = None
     # Why its shares are printed and not judged, in words.
     unjudged: str = ""
+    # Features of the kernel's scheduler that are set for it, such as NO_PLACE_LAG.
+    features: tuple[str, ...] = ()
+    # The only kernel that it is for; empty: all.
+    kernel: str = ""
     settings: list[tuple[str, ...]] = field(default_factory=list)
     paths: list[str] = field(default_factory=list)
     leaves: dict[str, Leaf] = field(default_factory=dict)
@@ -88,6 +101,9 @@ def options_parser() -> argparse.ArgumentParser:
     parser.add_argument("--tasks", type=pair, action="append", default=[])
     parser.add_argument("--nap", type=pair, action="append", default=[])
     parser.add_argument("--pin", type=pair, action="append", default=[])
+    parser.add_argument("--spread", action="store_true")
+    parser.add_argument("--features", type=lambda text: tuple(text.split(",")), default=())
+    parser.add_argument("--kernel", default="")
     parser.add_argument("--offset", type=int)
     parser.add_argument("--unjudged", default="")
     return parser
@@ -106,7 +122,8 @@ def leaf_of(path: str, demands: tuple[int, ...], options: argparse.Namespace) ->
     if not 1 <= tasks <= MOST_TASKS:
         raise KernelFault(f"{path}: not 1 to {MOST_TASKS} tasks")
     every = (1 << options.processors) - 1
-    return Leaf(demands, tasks, of_group(options.nap, path, 0), of_group(options.pin, path, every))
+    return Leaf(demands, tasks, of_group(options.nap, path, 0), of_group(options.pin, path, every),
+                options.spread)
 
 
 def parse(name: str, text: str) -> Scenario:
@@ -130,7 +147,7 @@ def parse(name: str, text: str) -> Scenario:
         elif words[0] not in QUESTIONS:
             raise KernelFault(f"{name}: {line!r} has no place in a scenario")
     found.steps = found.steps or [now]
-    for key in ("processors", "period", "slice", "offset", "unjudged"):
+    for key in ("processors", "period", "slice", "offset", "unjudged", "features", "kernel"):
         setattr(found, key, getattr(options, key))
     for path in now:
         demands = tuple(step.get(path, 0) for step in found.steps)

@@ -1,9 +1,11 @@
 """The parts of the comparison that need no guest: exact shares, bounds, scripts and faults."""
+import json
 from fractions import Fraction
 
 import pytest
 
-from kernel import compare, deliberate, exact, layout, planned, readings, scenario
+from kernel import (compare, deliberate, exact, layout, page, placed, planned, readings,
+                    real_apply, scenario)
 from kernel.__main__ import SCENARIOS
 from kernel.faults import KernelFault
 
@@ -113,6 +115,75 @@ def test_scenario_has_loads(name):
     assert text.count("mkdir ") == len(found.paths) + 1
 
 
+def test_spread_tasks_keep_to_one_processor_each():
+    """Three tasks on two processors: the first, the second, the first; pinned ones stay within."""
+    text = "mkdir a\nmkdir b\ndemand a 300\ndemand b 300\n"
+    spread = of(f"#: --processors 2 --tasks 3 --spread --pin b=2\n{text}").leaves
+    assert [spread["a"].mask(number) for number in range(3)] == [1, 2, 1]
+    assert [spread["b"].mask(number) for number in range(3)] == [2, 2, 2]
+    free = of(f"#: --processors 2 --tasks 3\n{text}")
+    assert [free.leaves["a"].mask(number) for number in range(3)] == [3, 3, 3]
+    assert compare.is_even(free)
+    assert not compare.is_even(of(f"#: --processors 2 --tasks 3 --spread\n{text}"))
+
+
+def test_features_are_set_and_set_back():
+    """The scheduler has its own features again when the run is over."""
+    found = of("#: --features HRTICK,NO_PLACE_LAG\nmkdir a\ndemand a 100\n")
+    lines = layout.script(found, layout.Span()).splitlines()
+    kept = lines.index(f"features=$(cat {layout.FEATURES})")
+    assert lines[kept + 1].startswith(f"echo HRTICK > {layout.FEATURES} ||")
+    assert lines[kept + 2].startswith(f"echo NO_PLACE_LAG > {layout.FEATURES} ||")
+    assert lines[-1] == f"for word in $features; do echo $word > {layout.FEATURES}; done"
+    assert layout.FEATURES not in layout.script(of("mkdir a\ndemand a 100\n"), layout.Span())
+
+
+def test_page_of_saved_runs(tmp_path):
+    """The furthest group, its range over repeats, and how often it was out of bounds."""
+    def saved(release, had, least):
+        line = {"path": "g/a", "share": 20, "had": had, "least": least, "most": 20.2}
+        top = {"path": ".", "share": 20, "had": 99, "least": None, "most": None}
+        return json.dumps({"release": release, "scenario": "one-weights", "refusal": "",
+                           "others": 0.001, "lines": [top, line],
+                           "tasks": [{"path": "g/a"}]}) + "\n"
+    file = tmp_path / "saved"
+    file.write_text(saved("6.1.0-9", 20.1, 19.8) + saved("6.12.1", 20.5, 19.8)
+                    + saved("6.12.1", 19.9, 19.8))
+    found = page.read([str(file)])
+    assert list(page.rows(found))[2:] == [
+        "| `one-weights` | a +0.10 (1) |  | within: a | a -0.10 to +0.50 (2) |  | out: a 1 |"]
+    assert page.totals(found).startswith("3 runs, 3 groups judged, 1 out of bounds, 0 runs refused")
+
+
+LEFT, RIGHT, BOTH = (9, 0), (0, 9), (5, 5)
+
+
+@pytest.mark.parametrize("name, tasks, wanted", [
+    # on the second processor weights 300 and 500, on the first 100, 200 and 400
+    ("two-five", {"g1": [LEFT], "g2": [LEFT], "g3": [RIGHT], "g4": [LEFT], "g5": [RIGHT]},
+     {"g1": Fraction(100, 7), "g2": Fraction(200, 7), "g3": 37.5, "g4": Fraction(400, 7),
+      "g5": 62.5}),
+    # 100 against a third of 100, and two thirds alone
+    ("two-one-three", {"a": [LEFT], "b": [LEFT, RIGHT, RIGHT]}, {"a": 75, "b": 125}),
+    # beside half of 300 all of 100, both for 60 of 100; the other half of 300 alone for 60
+    ("two-pod", {"pod/x": [LEFT, LEFT], "pod/y": [LEFT, RIGHT]},
+     {"pod": 120, "pod/x": 24, "pod/y": 96}),
+    ("two-pod", {"pod/x": [LEFT, RIGHT], "pod/y": [LEFT, RIGHT]}, {"pod/x": 30, "pod/y": 90}),
+    # a demand of 30 beside 200, and 150 alone on a processor
+    ("two-demands", {"a": [LEFT, LEFT], "b": [RIGHT], "c": [RIGHT, RIGHT]},
+     {"a": 100, "b": 30, "c": 70}),
+    # half the time on each processor: still no more than one processor for each task
+    ("two-one-task", {"a": [BOTH], "b": [BOTH]}, {"a": 100, "b": 100}),
+])
+def test_shares_of_a_placement(name, tasks, wanted):
+    """Shares of a placement that were worked by hand."""
+    found = scenario.read(SCENARIOS / f"{name}.script")
+    flat = [(path, seen) for path, each in tasks.items() for seen in each]
+    shares_there = placed.calculated(found, flat, Fraction(1))
+    assert {path: float(shares_there[path]) for path in wanted} == pytest.approx(
+        {path: float(amount) for path, amount in wanted.items()}, abs=0.001)
+
+
 @pytest.mark.parametrize("line", ["rmdir a", "demand a", "nonsense", "period\nmkdir b"])
 def test_what_is_no_scenario(line):
     """Lines that a guest cannot follow are refused by name."""
@@ -167,6 +238,18 @@ def test_run_is_refused(program, late, others, why):
     outcome = compare.Outcome(found, run, kernel_counters=run.rose())
     compare.spent(outcome, 1000000)
     assert outcome.refusal == why
+
+
+def test_steps_of_apply_are_read():
+    """What each step showed, by name; a guest that made fewer steps is refused."""
+    names = ["made", *(step["name"] for step in real_apply.steps())]
+    lines = [json.dumps({"phase": name, "status": 1, "said": ["x"], "groups": {"a": ["1", "2", "3"]}})
+             for name in names]
+    found = real_apply.read(["kernel 6.12", *lines])
+    assert list(found) == names
+    assert found["undo"] == real_apply.Phase(1, ["x"], {"a": ("1", "2", "3")})
+    with pytest.raises(KernelFault, match="did not make all steps"):
+        real_apply.read(lines[:-1])
 
 
 def test_unfinished_guest_is_refused():

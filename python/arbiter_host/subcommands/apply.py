@@ -4,7 +4,7 @@ from __future__ import annotations
 import argparse
 import sys
 import time
-from collections.abc import Sequence
+from collections.abc import Iterable, Sequence
 
 from arbiter_host import apply, beneath, change, engine, load, names
 from arbiter_host.faults import UsageFault
@@ -17,6 +17,12 @@ def print_steps(root: beneath.Root, steps: Sequence[apply.Step]) -> None:
     emit("".join(f"{names.shown(step.words(root))}\n" for step in steps) or "# no change\n")
 
 
+def warn(found: Iterable[str]) -> None:
+    """Tells what is left alone."""
+    for words in found:
+        print(f"arbiterctl: warning: {names.shown(words)}", file=sys.stderr)
+
+
 def run_apply(options: argparse.Namespace) -> None:
     """Prints the steps from one source to another; with --yes makes them."""
     if len(options.source) > 2 or (len(options.source) == 1) != bool(options.set):
@@ -26,8 +32,7 @@ def run_apply(options: argparse.Namespace) -> None:
     after = change.changed(models[-1], options.set)
     root, is_systemd = beneath.Root(options.root), options.by == "systemd"
     found, left = apply.changes(models[0], after, root)
-    for words in left:
-        print(f"arbiterctl: warning: {names.shown(words)}", file=sys.stderr)
+    warn(left)
     print_steps(root, apply.planned_steps(found, is_systemd))
     if options.yes and found:
         undo = options.undo or f"arbiter-undo-{time.strftime('%Y%m%d-%H%M%S')}.json"
@@ -39,10 +44,11 @@ def run_apply(options: argparse.Namespace) -> None:
 def run_undo(options: argparse.Namespace) -> None:
     """Prints the steps back; with --yes makes them."""
     name = names.shown(options.file)
-    root, back, is_systemd = apply.read_undo(load.file_bytes(options.file), name)
+    root, back, gone, is_systemd = apply.read_undo(load.file_bytes(options.file), name)
     print_steps(root, apply.planned_steps(back, is_systemd))
     if options.yes:
-        apply.undo(root, back, is_systemd)
+        gone += apply.undo(root, back, is_systemd)
+    warn(f"{folder}: the group is gone, nothing of it is undone" for folder in gone)
 
 
 def add_apply_words(parser: argparse.ArgumentParser) -> None:

@@ -1,0 +1,131 @@
+"""Tables of docs/KERNEL.md from the files of `--save`.
+
+    PYTHONPATH=tests /usr/bin/python3 -m kernel.page FILE..
+"""
+from __future__ import annotations
+
+import json
+import sys
+from collections import defaultdict
+from collections.abc import Iterable, Iterator
+from fractions import Fraction
+from pathlib import Path
+from typing import Any
+
+from kernel import placed, scenario
+from kernel.__main__ import SCENARIOS
+
+Saved = dict[str, Any]
+
+
+def read(paths: Iterable[str]) -> list[Saved]:
+    """The outcomes of some files."""
+    return [json.loads(line) for path in paths
+            for line in Path(path).read_text(encoding="utf-8").splitlines()]
+
+
+def kernel_of(saved: Saved) -> str:
+    """The kernel's version of two numbers."""
+    return ".".join(str(saved["release"]).split(".")[:2])
+
+
+def off(line: Saved) -> float:
+    """How much more than its exact share a group had."""
+    return float(line["had"] - line["share"])
+
+
+def offs(repeats: list[Saved]) -> dict[str, list[float]]:
+    """Each group with tasks, and how far it was off in each repeat."""
+    found: dict[str, list[float]] = defaultdict(list)
+    for saved in repeats:
+        leaves = {task["path"] for task in saved["tasks"]}
+        for line in saved["lines"]:
+            if line["path"] in leaves:
+                found[line["path"]].append(off(line))
+    return found
+
+
+def spread(least: float, most: float) -> str:
+    """A range of differences."""
+    one, two = f"{least:+.2f}", f"{most:+.2f}"
+    return one if one == two else f"{one} to {two}"
+
+
+def worst(repeats: list[Saved]) -> str:
+    """The group with tasks that was furthest off in any repeat, with its least and greatest."""
+    found = offs(repeats)
+    path = max(found, key=lambda each: max(abs(amount) for amount in found[each]))
+    return f"{path.rpartition('/')[2]} {spread(min(found[path]), max(found[path]))}"
+
+
+def from_placement(repeats: list[Saved]) -> str:
+    """How far the groups of each repeat were from the shares of the placement that was seen: the
+    least and the greatest of the repeats."""
+    found = scenario.read(SCENARIOS / f"{repeats[0]['scenario']}.script")
+    if found.is_series or found.processors == 1:
+        return ""
+    furthest = []
+    for saved in repeats:
+        supply = Fraction(1 - saved["others"] - saved["stolen"]).limit_denominator(10**6)
+        tasks = [(task["path"], task["seen"]) for task in saved["tasks"]]
+        had = {line["path"]: line["had"] for line in saved["lines"]}
+        wanted = placed.calculated(found, tasks, supply)
+        furthest.append(placed.furthest(had, wanted, found.leaves))
+    one, two = f"{min(furthest):.2f}", f"{max(furthest):.2f}"
+    return one if one == two else f"{one} to {two}"
+
+
+def is_wrong(line: Saved) -> bool:
+    """Whether a group is judged and out of its bounds."""
+    return line["least"] is not None and not line["least"] <= line["had"] <= line["most"]
+
+
+def verdict(repeats: list[Saved]) -> str:
+    """How often groups were out of their bounds."""
+    refused = sum(1 for saved in repeats if saved["refusal"])
+    lines = [line for saved in repeats for line in saved["lines"] if line["least"] is not None]
+    names = {line["path"].rpartition("/")[2] for line in lines}
+    out: dict[str, int] = defaultdict(int)
+    for line in lines:
+        if is_wrong(line):
+            out[line["path"].rpartition("/")[2]] += 1
+    words = [f"out: {', '.join(f'{name} {count}' for name, count in out.items())}"
+             if out else f"within: {', '.join(sorted(names))}" if lines else "not judged"]
+    return "; ".join(words + ([f"refused: {refused}"] if refused else []))
+
+
+def cells(repeats: list[Saved]) -> str:
+    """The cells of a scenario on a kernel."""
+    if not repeats:
+        return " | | |"
+    return f" {worst(repeats)} ({len(repeats)}) | {from_placement(repeats)} | {verdict(repeats)} |"
+
+
+def rows(found: list[Saved]) -> Iterator[str]:
+    """The rows of a table: for each scenario each kernel's worst group and its verdict."""
+    kernels = sorted({kernel_of(saved) for saved in found}, key=lambda each: int(each[2:]))
+    yield "| Scenario |" + "".join(f" {name}: group, off | placed | |" for name in kernels)
+    yield "|---|" + "---|---|---|" * len(kernels)
+    for name in sorted({str(saved["scenario"]) for saved in found}):
+        of = [[saved for saved in found if saved["scenario"] == name and kernel_of(saved) == kernel]
+              for kernel in kernels]
+        yield f"| `{name}` |" + "".join(map(cells, of))
+
+
+def totals(found: list[Saved]) -> str:
+    """How many runs there were, what was judged, and what was out of its bounds."""
+    lines = [line for saved in found for line in saved["lines"] if line["least"] is not None]
+    wrong = sum(1 for line in lines if is_wrong(line))
+    refused = sum(1 for saved in found if saved["refusal"])
+    return (f"{len(found)} runs, {len(lines)} groups judged, {wrong} out of bounds,"
+            f" {refused} runs refused; others at most {max(s['others'] for s in found):.1%}")
+
+
+def main() -> None:
+    """Prints the table."""
+    found = read(sys.argv[1:])
+    print("\n".join([totals(found), "", *rows(found)]))
+
+
+if __name__ == "__main__":
+    main()
