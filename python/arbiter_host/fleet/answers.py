@@ -123,7 +123,8 @@ def pod_of(job: Job, place: int, model: Model, engine: Engine) -> Model:
 
 def placed(job: Job, model: Model, engine: Engine) -> dict[str, Any]:
     """The answer to `place`: each pod by itself beside what is there."""
-    before, found = plan(engine, model), []
+    before = plan(engine, model)
+    found: list[dict[str, Any]] = []
     for place, (name, _) in enumerate(job.pods):
         try:
             after_model, asking = with_pod(model, pod_of(job, place, model, engine))

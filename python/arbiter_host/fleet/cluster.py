@@ -5,6 +5,7 @@ Dask schedules, carries bytes and notices workers that die. A lost batch is give
 """
 from __future__ import annotations
 
+import importlib
 import logging
 import queue
 import tempfile
@@ -12,6 +13,7 @@ import threading
 import time
 import uuid
 from collections.abc import Callable, Sequence
+from concurrent.futures import CancelledError
 from concurrent.futures import TimeoutError as FutureTimeout
 from contextlib import suppress
 from typing import Any
@@ -45,14 +47,21 @@ def quiet() -> None:
         logging.getLogger(name).setLevel(logging.CRITICAL + 1)
 
 
+def failure(future: Any) -> str:
+    """The error of a worker that could not run a batch; empty where the worker died."""
+    with suppress(Exception):
+        error = future.exception(timeout=ASK_SECONDS)
+        if type(error).__name__ != "KilledWorker":
+            return f"{type(error).__name__}: {names.cut(str(error), 200)}"
+    return ""
+
+
 class Cluster:
     """Workers that a scheduler knows. Without an address it is a cluster of this machine."""
 
-    is_own = False
-
     def __init__(self, workers: int, address: str | None) -> None:
-        import dask
-        import distributed
+        dask: Any = importlib.import_module("dask")
+        distributed: Any = importlib.import_module("distributed")
         quiet()
         dask.config.set(SETTINGS)
         self.folder = tempfile.TemporaryDirectory(prefix="arbiter-fleet-")
@@ -73,11 +82,17 @@ class Cluster:
             raise HostFault(f"{where}: {names.shown(str(error))}") from error
         self.run = uuid.uuid4().hex
         self.done: queue.Queue[int] = queue.Queue()
+        # The batches under way, and the worker of each.
         self.futures: dict[int, Any] = {}
+        self.given: dict[int, str] = {}
         self.shunned: set[str] = set()
         self.workers: dict[str, int] = {}
         self.looked, self.heard = 0.0, time.monotonic()
         self.look()
+
+    @property
+    def is_own(self) -> bool:
+        return False
 
     @property
     def words(self) -> str:
@@ -111,17 +126,28 @@ class Cluster:
         if found is not None:
             self.workers = {address: max(int(each.get("nthreads", 1)), 1)
                             for address, each in found["workers"].items()}
+            for key, worker in self.given.items():
+                if worker not in self.workers:
+                    self.done.put(key)
         elif self.client.status == "closed" or now - self.heard > GONE_SECONDS:
             raise PoolGone("the scheduler went away")
 
-    def submit(self, key: int, job_text: str, items: Sequence[Item]) -> None:
-        only = self.trusted() if self.shunned else None
+    def least_busy(self, but: str) -> str:
+        """The worker that the next batch is given to: another one than `but`, if there is one."""
+        def load(worker: str) -> tuple[bool, float]:
+            return worker == but, list(self.given.values()).count(worker) / self.workers[worker]
+
+        return min(self.trusted(), key=load)
+
+    def submit(self, key: int, job_text: str, items: Sequence[Item], but: str) -> None:
+        # Each batch is given to one worker by name, so that it is known whose answer it is.
+        worker = self.least_busy(but)
         try:
             future = self.client.submit(work.answered, job_text, list(items), pure=False,
-                                        key=f"arbiter-{self.run}-{key}", workers=only)
+                                        key=f"arbiter-{self.run}-{key}", workers=[worker])
         except (OSError, RuntimeError) as error:
             raise PoolGone(f"the scheduler went away: {names.shown(str(error))}") from error
-        self.futures[key] = future
+        self.futures[key], self.given[key] = future, worker
         future.add_done_callback(lambda _: self.done.put(key))
 
     def replies(self, seconds: float) -> list[Reply]:
@@ -130,35 +156,35 @@ class Cluster:
         with suppress(queue.Empty):
             key = self.done.get(timeout=seconds)
             while True:
-                reply = self.reply(key)
-                found += [reply] if reply else []
+                if key in self.futures:
+                    found.append(self.reply(key, self.futures.pop(key), self.given.pop(key)))
                 key = self.done.get_nowait()
         return found
 
-    def reply(self, key: int) -> Reply | None:
-        """What a future that has ended brings. Its worker is the one that the scheduler names."""
-        future = self.futures.pop(key, None)
-        if future is None:
-            return None
+    def reply(self, key: int, future: Any, worker: str) -> Reply:
+        """What a future that has ended brings, or that of a worker that is gone."""
+        if future.status == "error":
+            why = failure(future)
+            return Reply(key, worker, b"" if why else None, why or f"{worker} died")
         if future.status != "finished":
-            why = "a worker died" if future.status == "error" else "a batch was lost"
-            return Reply(key, "", None, why)
-        where = self.ask(self.client.scheduler.who_has, keys=[future.key]) or {}
-        worker = next(iter(where.get(future.key, ())), "")
+            with suppress(Exception):
+                future.cancel(force=True)
+            return Reply(key, worker, None, f"{worker} is gone")
         try:
             data = future.result(timeout=ASK_SECONDS)
-        except Exception as error:  # whatever a worker makes of it, a batch is lost
-            return Reply(key, worker, None, f"a batch was lost: {type(error).__name__}")
+        except (OSError, TimeoutError, FutureTimeout, CancelledError) as error:
+            return Reply(key, worker, None, f"{worker}: no result: {type(error).__name__}")
+        except Exception as error:  # whatever a worker makes of it is not what was asked
+            return Reply(key, worker, b"", f"no bytes: {type(error).__name__}")
         future.release()
-        return Reply(key, worker, data if isinstance(data, bytes) else b"")
+        is_bytes = isinstance(data, bytes)
+        return Reply(key, worker, data if is_bytes else b"", "" if is_bytes else "no bytes")
 
     def drop(self, key: int) -> str:
-        future = self.futures.pop(key)
-        running = self.ask(self.client.scheduler.processing, workers=None) or {}
-        worker = next((each for each, keys in running.items() if future.key in keys), "")
+        future, worker = self.futures.pop(key), self.given.pop(key)
         with suppress(Exception):
             future.cancel(force=True)
-        if worker:
+        if worker not in self.shunned:
             self.shun(worker)
             threading.Thread(target=self.restart, args=(worker,), daemon=True).start()
         return worker

@@ -2,7 +2,7 @@
 from __future__ import annotations
 
 import math
-from collections.abc import Callable, Iterable, Sequence
+from collections.abc import Iterable, Sequence
 from dataclasses import dataclass
 from fractions import Fraction
 from typing import Any
@@ -35,9 +35,9 @@ def number(value: Fraction) -> float:
     return round(float(value), 6)
 
 
-def total(hosts: Iterable[Host], amount: Callable[[Host], Fraction | int]) -> Fraction:
-    """The sum of an amount over hosts."""
-    return sum((Fraction(amount(host)) for host in hosts), Fraction(0))
+def total(hosts: Iterable[Host], *keys: str) -> Fraction:
+    """The sum of an amount over hosts, in CPUs."""
+    return sum((host.of(*keys) for host in hosts), Fraction(0))
 
 
 def quantiles(weighted: Iterable[tuple[Fraction, int]]) -> list[Fraction]:

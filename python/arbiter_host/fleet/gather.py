@@ -29,7 +29,7 @@ from arbiter_host.fleet.pool import Pool, PoolGone, Reply
 from arbiter_host.fleet.store import Row, Store
 from arbiter_host.fleet.work import Item
 
-# Seconds of work that a batch should hold: what a batch costs beside it is some milliseconds.
+# Seconds of a processor that a batch should hold: what a batch costs beside it is some milliseconds.
 TARGET_SECONDS = 1.0
 # Hosts, or samples, of the batches before the first reply, and of any batch.
 FIRST_UNITS, MOST_UNITS = 4, 2000
@@ -73,6 +73,8 @@ class Batch:
 
     tasks: list[Task]
     tries: int = 0
+    # The worker that lost it, if one did.
+    lost_by: str = ""
     began: float = 0.0
 
 
@@ -92,6 +94,10 @@ class Refused(Exception):
     """A reply that is not what was asked, or an answer that the check does not accept."""
 
 
+class Lost(Exception):
+    """A batch that a worker could not answer, through no fault of the worker."""
+
+
 def digest_of(item: Item) -> str:
     """The digest of what an item is answered from, but the state before it."""
     found = hashlib.sha256()
@@ -108,10 +114,11 @@ def parsed(batch: Batch, data: bytes) -> tuple[list[list[Any]], dict[str, Any]]:
         raise Refused("no JSON") from error
     if isinstance(reply, dict) and isinstance(reply.get("unable"), str):
         raise Refused(reply["unable"])
-    form = {"results": [(str, int, str, [str])], "seconds": float, "processor": float}
-    if not (isinstance(reply, dict) and reply.keys() == form.keys()
-            and forms.fits(reply["results"], form["results"])
-            and all(isinstance(reply[key], float) for key in ("seconds", "processor"))):
+    if isinstance(reply, dict) and isinstance(reply.get("lost"), str):
+        raise Lost(reply["lost"])
+    if not (isinstance(reply, dict) and reply.keys() == {"results", "processor"}
+            and forms.fits(reply["results"], [(str, int, str, [str])])
+            and isinstance(reply["processor"], float)):
         raise Refused("not of the form of a reply")
     asked = [(task.item.host, task.item.part) for task in batch.tasks]
     if asked != [(host, part) for host, part, *_ in reply["results"]]:
@@ -239,7 +246,8 @@ class Gatherer:
             if batch.tasks:
                 batch.began, key = time.monotonic(), next(self.keys)
                 self.under[key] = batch
-                self.pool.submit(key, self.job_text, [task.item for task in batch.tasks])
+                items = [task.item for task in batch.tasks]
+                self.pool.submit(key, self.job_text, items, batch.lost_by)
 
     def is_open(self, task: Task) -> bool:
         """Whether the answer of a task is still wanted."""
@@ -278,13 +286,17 @@ class Gatherer:
         if batch is None:
             return
         if reply.data is None or reply.worker in self.shunned:
-            self.lose(batch, reply.why or f"{reply.worker} is not believed")
+            self.lose(batch, reply.why or f"{reply.worker} is not believed",
+                      reply.worker)
             return
         try:
             rows, failures = self.accepted(batch, reply)
         except Refused as refused:
-            self.distrust(reply.worker, str(refused))
-            self.lose(batch, str(refused))
+            self.distrust(reply.worker, reply.why or str(refused))
+            self.lose(batch, f"{reply.worker} is not believed", reply.worker)
+            return
+        except Lost as lost:
+            self.lose(batch, f"{reply.worker}: {lost}", reply.worker)
             return
         self.keep(rows, failures)
         self.barren = 0
@@ -335,14 +347,13 @@ class Gatherer:
             raise Refused(f"the answer is refused: {why}")
 
     def learn(self, batch: Batch, said: dict[str, Any]) -> None:
-        """Learns how long a host, or a sample, takes."""
-        elapsed = time.monotonic() - batch.began
-        seconds = min(max(said["seconds"], 0.0), elapsed)
+        """Learns how long a host, or a sample, takes on a processor."""
+        seconds = min(max(said["processor"], 0.0), time.monotonic() - batch.began)
         each = seconds / max(sum(task.parts for task in batch.tasks), 1)
         before = self.unit_seconds
         self.unit_seconds = each if before is None else 0.7 * before + 0.3 * each
         self.counts.batches += 1
-        self.counts.processor += min(max(said["processor"], 0.0), elapsed)
+        self.counts.processor += seconds
 
     def keep(self, rows: list[Row], failures: dict[str, str]) -> None:
         """Writes a batch in one transaction, and goes on with each host that has more pieces."""
@@ -365,7 +376,7 @@ class Gatherer:
 
     # What goes wrong
 
-    def lose(self, batch: Batch, why: str) -> None:
+    def lose(self, batch: Batch, why: str, worker: str) -> None:
         """Gives a batch again: once whole, then in halves, and a host alone at most three times."""
         batch.tasks = [task for task in batch.tasks if self.is_open(task)]
         if not batch.tasks:
@@ -375,9 +386,10 @@ class Gatherer:
         self.warn(f"{why}: a batch of {len(batch.tasks)} is given again")
         if len(batch.tasks) > 1 and batch.tries:
             middle = len(batch.tasks) // 2
-            self.again += [Batch(batch.tasks[:middle], 1), Batch(batch.tasks[middle:], 1)]
+            self.again += [Batch(batch.tasks[:middle], 1, worker),
+                           Batch(batch.tasks[middle:], 1, worker)]
         elif batch.tries + 1 < MOST_TRIES:
-            self.again.append(Batch(batch.tasks, batch.tries + 1))
+            self.again.append(Batch(batch.tasks, batch.tries + 1, worker))
         else:
             self.fail({task.item.host: f"given out {MOST_TRIES} times: {why}"
                        for task in batch.tasks})
@@ -391,7 +403,7 @@ class Gatherer:
                     if now - batch.began > self.asked.deadline]:
             worker = self.pool.drop(key)
             self.lose(self.under.pop(key), f"no answer of {worker or 'any worker'} in"
-                      f" {self.asked.deadline:g} seconds")
+                      f" {self.asked.deadline:g} seconds", worker)
 
     def distrust(self, worker: str, why: str) -> None:
         """Believes a worker in nothing: what it sent and was not checked is asked again."""

@@ -1,4 +1,4 @@
-"""A series in pieces: some samples of one host, from the state that the samples before them left."""
+"""A series in pieces: some samples of one host, from the state after the samples before them."""
 from __future__ import annotations
 
 from dataclasses import dataclass

@@ -41,8 +41,8 @@ class Pool(Protocol):
     def is_own(self) -> bool:
         """Whether answers come from this process itself."""
 
-    def submit(self, key: int, job_text: str, items: Sequence[Item]) -> None:
-        """Sets a batch under way."""
+    def submit(self, key: int, job_text: str, items: Sequence[Item], but: str) -> None:
+        """Sets a batch under way, on another worker than `but` if there is one."""
 
     def replies(self, seconds: float) -> list[Reply]:
         """The replies that are there, after at most so many seconds. `PoolGone` ends it all."""
@@ -60,12 +60,22 @@ class Pool(Protocol):
 class Here:
     """This process."""
 
-    size, words, is_own = 1, "this process", True
-
     def __init__(self) -> None:
         self.waiting: deque[tuple[int, str, Sequence[Item]]] = deque()
 
-    def submit(self, key: int, job_text: str, items: Sequence[Item]) -> None:
+    @property
+    def size(self) -> int:
+        return 1
+
+    @property
+    def words(self) -> str:
+        return "this process"
+
+    @property
+    def is_own(self) -> bool:
+        return True
+
+    def submit(self, key: int, job_text: str, items: Sequence[Item], but: str) -> None:
         self.waiting.append((key, job_text, items))
 
     def replies(self, seconds: float) -> list[Reply]:

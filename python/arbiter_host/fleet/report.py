@@ -6,7 +6,7 @@ from dataclasses import dataclass
 from fractions import Fraction
 from typing import Any
 
-from arbiter_host.fleet import figures
+from arbiter_host.fleet import figures, overtime
 from arbiter_host.fleet.figures import Host, number, total
 from arbiter_host.names import padded, short, shown, width
 
@@ -66,8 +66,7 @@ def part(one: Fraction, all_: Fraction) -> str:
 
 def plan_lines(hosts: Sequence[Host]) -> Iterator[str]:
     """What `plan` says of the whole fleet."""
-    served, wanted, capacity = (total(hosts, lambda host, key=key: host.of(key))  # type: ignore
-                                for key in ("served", "wanted", "capacity"))
+    served, wanted, capacity = (total(hosts, key) for key in ("served", "wanted", "capacity"))
     groups = sum(host.answer["groups"] for host in hosts)
     yield (f"{cpu(served)} of {cpu(capacity)} CPUs served, {cpu(wanted)} wanted, groups: {groups};"
            " the proved check accepted each plan")
@@ -99,9 +98,8 @@ def of_plan(hosts: Sequence[Host], _: str) -> tuple[list[str], list[Table], dict
     ordered = sorted(hosts, key=lambda host: (-lack(host), host.name))
     heads = ["host", "cpus", "served", "wanted", "lack", "use", "groups", "lacking", "starved",
              "throttled", "what limits the total"]
-    keys = ("served", "wanted", "capacity")
-    sums: dict[str, Any] = {f"{key}_cpus": number(total(hosts, lambda host, key=key: host.of(key)))
-                            for key in keys}  # type: ignore
+    sums: dict[str, Any] = {f"{key}_cpus": number(total(hosts, key))
+                            for key in ("served", "wanted", "capacity")}
     sums |= {key: sum(host.answer[key] for host in hosts)
              for key in ("groups", "lacking", "starved", "throttled")}
     sums["lack_cpus"] = figures.quantile_data(lacks(hosts))
@@ -140,8 +138,7 @@ def change_row(host: Host) -> list[str]:
 
 def of_changes(hosts: Sequence[Host], _: str) -> tuple[list[str], list[Table], dict[str, Any]]:
     """The report of `what-if`: the hosts whose groups lose most first."""
-    before, after = (total(hosts, lambda host, key=key: host.of(key, "served"))  # type: ignore
-                     for key in ("before", "after"))
+    before, after = (total(hosts, key, "served") for key in ("before", "after"))
     found = list(changes(hosts))
     gain, lose = (sum(count for rise, count in found if sign * rise > 0) for sign in (1, -1))
     among = figures.quantiles((rise, count) for rise, count in found if rise)
@@ -159,7 +156,8 @@ def of_changes(hosts: Sequence[Host], _: str) -> tuple[list[str], list[Table], d
              "gain most", "lose most"]
     ordered = sorted(hosts, key=lambda host: (-lost(host), host.name))
     tables = [Table("Groups that gain and lose most", ["host", "group", "change"], rows),
-              Table("Hosts, the greatest loss first", heads, [change_row(each) for each in ordered])]
+              Table("Hosts, the greatest loss first", heads,
+                    [change_row(host) for host in ordered])]
     data = {"before_cpus": number(before), "after_cpus": number(after), "gain": gain, "lose": lose,
             "hosts_with_such_a_group": with_group, "change_cpus": figures.quantile_data(among)}
     return lines, tables, data
@@ -205,9 +203,36 @@ def of_places(hosts: Sequence[Host], rule: str) -> tuple[list[str], list[Table],
     return lines, tables, {"by": rule, "rule": RULES[rule], "best": best}
 
 
+def series_row(host: Host) -> list[str]:
+    """The row of a host in `series`."""
+    wanted, got = overtime.mean(host, "wanted"), overtime.mean(host, "got")
+    row = max((group["samples_starved_in_a_row"] for group in host.answer["groups_of_columns"]),
+              default=0)
+    return [host.name, str(host.answer["samples"]), cpu(wanted), cpu(got), part(got, wanted),
+            *(str(overtime.count(host, key)) for key in ("throttled", "bursts", "starved")),
+            str(row)]
+
+
+def of_series(hosts: Sequence[Host], _: str) -> tuple[list[str], list[Table], dict[str, Any]]:
+    """The report of `series`: the hosts that lack most as a mean first."""
+    def key(host: Host) -> tuple[Fraction, str]:
+        return overtime.mean(host, "got") - overtime.mean(host, "wanted"), host.name
+
+    sums = overtime.data(hosts)
+    lines = [f"{sums['mean_got_cpus']:.2f} CPUs got of {sums['mean_wanted_cpus']:.2f} wanted, as"
+             " means; the proved check accepted each plan",
+             f"periods of groups: throttled {sums['throttled']}, with a burst {sums['bursts']},"
+             f" starved {sums['starved']}"]
+    heads = ["host", "samples", "wanted", "got", "of it", "throttled", "bursts", "starved",
+             "samples in a row"]
+    rows = [series_row(host) for host in sorted(hosts, key=key)]
+    return lines, [Table("Hosts, the greatest lack first", heads, rows)], sums
+
+
 ACTIONS: dict[str, Callable[[Sequence[Host], str],
                             tuple[list[str], list[Table], dict[str, Any]]]] = {
     "plan": of_plan, "what-if": of_changes, "place": of_places,
+    "series": of_series,
 }
 
 

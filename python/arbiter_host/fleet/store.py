@@ -184,9 +184,12 @@ class Store:
             raise self.fault(error) from error
 
     def whole(self) -> Iterator[tuple[str, dict[str, Any]]]:
-        """The answers of one piece, in order of the hosts' names."""
+        """The answers of the hosts that are answered to the end, in order of their names, and the
+        pieces of each in order."""
+        left = {host for host, _ in self.unfinished()}
         for host, data in self.answers():
-            yield host, json.loads(data)
+            if host not in left:
+                yield host, json.loads(data)
 
     def unfinished(self) -> list[tuple[str, str | None]]:
         """The hosts that are not answered to the end, and why where that is known."""

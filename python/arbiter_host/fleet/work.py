@@ -52,22 +52,24 @@ def result(job: Job, item: Item, by: Engine) -> str:
         return canonical({"answer": answer_of(job, item, by)})
     except HostFault as fault:
         return canonical({"why": fault.message})
-    except MemoryError:
-        raise
+    except (MemoryError, ImportError):
+        raise  # faults of this worker, and not of the host
     except Exception as error:  # a file that no reader foresaw is one host's fault
         return canonical({"why": f"{type(error).__name__}: {error}"})
 
 
 def answered(job_text: str, items: Sequence[Item]) -> bytes:
-    """The results of a batch, each with its certificates, and the seconds that they took."""
-    job, found = jobs.of_text(job_text), []
-    began, used = time.perf_counter(), time.thread_time()
+    """The results of a batch, each with its certificates, and the seconds of a processor that
+    they took."""
+    job, found, used = jobs.of_text(job_text), [], time.thread_time()
     try:
         by = library(job.library)
-    except HostFault as fault:
-        return json.dumps({"unable": fault.message}).encode()
-    for item in items:
-        recording = Recording(by)
-        found.append([item.host, item.part, result(job, item, recording), recording.certificates])
-    return json.dumps({"results": found, "seconds": time.perf_counter() - began,
-                       "processor": time.thread_time() - used}).encode()
+        for item in items:
+            recording = Recording(by)
+            said = result(job, item, recording)
+            found.append([item.host, item.part, said, recording.certificates])
+    except (HostFault, ImportError) as fault:
+        return json.dumps({"unable": str(fault)}).encode()
+    except MemoryError:
+        return json.dumps({"lost": "out of memory"}).encode()
+    return json.dumps({"results": found, "processor": time.thread_time() - used}).encode()

@@ -6,19 +6,22 @@ import base64
 import os
 import sys
 import time
+from collections.abc import Callable
 
-from arbiter_host import change, load, names, progress
+from arbiter_host import change, load, names, progress, text
 from arbiter_host.faults import HostFault, UsageFault
-from arbiter_host.fleet import hosts, page, report, work
+from arbiter_host.fleet import demands, hosts, overtime, page, report, work
 from arbiter_host.fleet.cluster import Cluster
 from arbiter_host.fleet.figures import Host
 from arbiter_host.fleet.gather import Asked, Gatherer
 from arbiter_host.fleet.job import Job, reading
+from arbiter_host.fleet.pieces import Lines
 from arbiter_host.fleet.pool import Here, Pool
 from arbiter_host.fleet.store import Store
 from arbiter_host.model import Group, Model
 from arbiter_host.output import emit_json, write_file
 from arbiter_host.subcommands.base import Subcommand, add_reading_options
+from arbiter_host.subcommands.series import add_prometheus_options, mapped
 
 ACTIONS = ("plan", "series", "place", "what-if")
 MOST_WORKERS = 1024
@@ -68,7 +71,23 @@ def job_of(options: argparse.Namespace) -> Job:
     library = options.library
     if library and "/" in library:
         library = os.path.abspath(library)
-    return Job(options.action, reading(options), list(options.set), pods, library=library)
+    sample = load.time_option(options.sample, "--sample") if options.sample else 0
+    return Job(options.action, reading(options), list(options.set), pods, options.unit, sample,
+               mapped(options.map), library)
+
+
+def demands_of(options: argparse.Namespace) -> Callable[[str], Lines]:
+    """The samples of each host of a series."""
+    if options.prometheus:
+        words = {key: getattr(options, key) for key in ("query", "start", "end", "step")}
+        if not all(words.values()) or len(options.source) > 1:
+            raise UsageFault("--prometheus takes --query, --start, --end and --step, and no file")
+        return demands.prometheus(options.prometheus, words, options.host_label, options.label)
+    if len(options.source) != 2:
+        raise UsageFault("series takes the hosts, and a folder or a table of demands or"
+                         " --prometheus")
+    path = options.source[1]
+    return demands.folder(path) if os.path.isdir(path) else demands.table(path)
 
 
 def asked_of(options: argparse.Namespace) -> Asked:
@@ -80,7 +99,8 @@ def asked_of(options: argparse.Namespace) -> Asked:
         raise UsageFault("--deadline: above 0")
     word = options.hosts if options.action == "place" else options.source[0]
     found = {host.name: host for host in hosts.of_word(word)}
-    return Asked(job_of(options), found, None, recheck, deadline)
+    over = demands_of(options) if options.action == "series" else None
+    return Asked(job_of(options), found, over, recheck, deadline)
 
 
 def pool_of(options: argparse.Namespace) -> Pool:
@@ -88,7 +108,9 @@ def pool_of(options: argparse.Namespace) -> Pool:
     if options.scheduler is not None:
         return Cluster(0, options.scheduler)
     workers = os.cpu_count() or 1 if options.workers is None else options.workers
-    return Cluster(workers, None) if workers else Here()
+    if workers:
+        return Cluster(workers, None)
+    return Here()
 
 
 def gathered(options: argparse.Namespace, asked: Asked, store: Store) -> Gatherer:
@@ -131,7 +153,9 @@ def run(options: argparse.Namespace) -> None:
     store = Store(options.db)
     try:
         trouble = gathered(options, asked, store).trouble
-        answers = [Host(name, answer) for name, answer in store.whole()]
+        whole = store.whole()
+        pairs = overtime.joined(whole) if options.action == "series" else whole
+        answers = [Host(name, answer) for name, answer in pairs]
         missing = [(name, why or trouble) for name, why in store.unfinished()]
     finally:
         store.close()
@@ -146,7 +170,8 @@ def add_words(parser: argparse.ArgumentParser) -> None:
     parser.add_argument("action", choices=ACTIONS, metavar="ACTION",
                         help="what is asked: " + ", ".join(ACTIONS))
     parser.add_argument("source", nargs="+", metavar="SOURCE",
-                        help="a folder of hosts or a list of their files; for place the pods")
+                        help="a folder of hosts or a list of their files, then for series a"
+                        " folder or a table of demands; for place the pods")
     parser.add_argument("--hosts", metavar="DIR|FILE", help="the hosts of place")
     parser.add_argument("--by", choices=tuple(report.RULES), default="least-loss",
                         help="the rule of place by which hosts are ordered (default least-loss)")
@@ -158,6 +183,27 @@ def add_words(parser: argparse.ArgumentParser) -> None:
                         " come; a second run does what is left")
     parser.add_argument("--rows", type=int, default=20, metavar="N",
                         help="rows of each table (default 20, 0 for all)")
+    add_series_options(parser)
+    add_worker_options(parser)
+    add_reading_options(parser)
+
+
+def add_series_options(parser: argparse.ArgumentParser) -> None:
+    """The options of `series`."""
+    group = parser.add_argument_group("series")
+    group.add_argument("--unit", choices=text.UNITS, default="cpu",
+                       help="unit of the demands (default cpu)")
+    group.add_argument("--sample", metavar="TIME", help="how long a sample lasts, such as 5m"
+                       " (default: one period)")
+    group.add_argument("--map", action="append", default=[], metavar="COLUMN=GROUP",
+                       help="the group of a column whose name is not the group's")
+    group.add_argument("--host-label", default="node", metavar="LABEL",
+                       help="the label of Prometheus that names hosts (default node)")
+    add_prometheus_options(parser)
+
+
+def add_worker_options(parser: argparse.ArgumentParser) -> None:
+    """The options that say who plans, and how far that is believed."""
     group = parser.add_argument_group("workers")
     group.add_argument("--workers", type=int, metavar="N", help="processes of this machine"
                        " (default: one for each processor; 0 for this process alone)")
@@ -169,7 +215,6 @@ def add_words(parser: argparse.ArgumentParser) -> None:
     group.add_argument("--deadline", default="5min", metavar="TIME",
                        help="time after which a batch without an answer is given to another worker"
                        " (default 5min)")
-    add_reading_options(parser)
 
 
 DETAILS = (
@@ -178,6 +223,9 @@ DETAILS = (
     "plan says what each host serves and lacks. what-if makes the changes of --set on each host and"
     " says who gains and loses. place puts each pod into each host, says what it would get and who"
     " would lose, and orders the hosts by the rule of --by.",
+    "series plans samples of demands: HOST.csv of a folder for each host, as of series, or one CSV"
+    " with the columns time, host, group and demand. Samples of a host are planned in order, with"
+    " what was saved up.",
     "Hosts are planned in batches by Dask's workers, and each plan is accepted by the proved check"
     " there. A sample or all of them are checked again where they are gathered. A batch that is"
     " lost is given again, a host alone at most three times. A worker whose answer is refused gets"
@@ -190,8 +238,11 @@ EXAMPLES = (
      "arbiterctl fleet plan hosts --recheck all --html fleet.html"),
     ("a greater weight on every host that has the group",
      "arbiterctl fleet what-if hosts --set web.weight=400"),
+    ("a day of each host, with what is done kept for a second run",
+     "arbiterctl fleet series hosts demands --sample 30m --db day.sqlite"),
     ("where a pod would go", "arbiterctl fleet place pod.toml --hosts hosts --by most-left"),
 )
 FLEET = Subcommand("fleet", "ask many hosts at once, on Dask's workers",
                    "Plans many hosts at once and reports what the fleet serves and lacks, what a"
-                   " change does to it, or where a pod would go.", add_words, run, DETAILS, EXAMPLES)
+                   " change does to it, how it fares over time, or where a pod would go.",
+                   add_words, run, DETAILS, EXAMPLES)
