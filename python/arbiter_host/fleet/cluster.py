@@ -25,7 +25,7 @@ from arbiter_host.fleet.pool import PoolGone, Reply
 from arbiter_host.fleet.work import Item
 
 # Seconds that one question to the scheduler may take, and that it may be out of reach.
-ASK_SECONDS, GONE_SECONDS = 30.0, 20.0
+ASK_SECONDS, GONE_SECONDS = 15.0, 15.0
 # Seconds from one look at the workers to the next.
 LOOK_SECONDS = 1.0
 CLOSE_SECONDS = 10.0

@@ -31,6 +31,9 @@ CREATE TRIGGER not_both BEFORE INSERT ON answer
 CREATE TRIGGER in_order BEFORE INSERT ON answer
     WHEN NEW.part <> (SELECT coalesce(sum(parts), 0) FROM answer WHERE host = NEW.host)
     BEGIN SELECT RAISE(ABORT, 'a piece that is not the next one'); END;
+CREATE TRIGGER not_more BEFORE INSERT ON answer
+    WHEN NEW.part + NEW.parts > (SELECT parts FROM host WHERE name = NEW.host)
+    BEGIN SELECT RAISE(ABORT, 'more pieces than were asked'); END;
 CREATE TRIGGER not_answered BEFORE INSERT ON failure
     WHEN (SELECT coalesce(sum(parts), 0) FROM answer WHERE host = NEW.host)
         >= (SELECT parts FROM host WHERE name = NEW.host)
