@@ -27,7 +27,7 @@ def begun(ctl, *words):
 def ended(run):
     """Status, output and messages of a run that has ended."""
     out, err = run.communicate(timeout=300)
-    assert b"Traceback" not in err, err.decode()
+    assert b"Traceback" not in err, err.decode()[:2000]
     return run.returncode, out.decode(), err.decode()
 
 

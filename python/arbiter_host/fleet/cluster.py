@@ -29,7 +29,7 @@ ASK_SECONDS, GONE_SECONDS = 15.0, 15.0
 # Seconds from one look at the workers to the next.
 LOOK_SECONDS = 1.0
 CLOSE_SECONDS = 10.0
-QUIET = ("distributed", "tornado", "asyncio", "bokeh")
+GONE = "the scheduler went away"
 SETTINGS = {
     # A lost batch is reported at once: it is given again here.
     "distributed.scheduler.allowed-failures": 0,
@@ -39,12 +39,6 @@ SETTINGS = {
     "distributed.worker.profile.interval": "1s",
     "distributed.worker.profile.cycle": "60s",
 }
-
-
-def quiet() -> None:
-    """Leaves what happens to workers to the gatherer's own messages."""
-    for name in QUIET:
-        logging.getLogger(name).setLevel(logging.CRITICAL + 1)
 
 
 def failure(future: Any) -> str:
@@ -62,7 +56,8 @@ class Cluster:
     def __init__(self, workers: int, address: str | None) -> None:
         dask: Any = importlib.import_module("dask")
         distributed: Any = importlib.import_module("distributed")
-        quiet()
+        # What happens to workers is told by the gatherer.
+        logging.disable(logging.CRITICAL)
         dask.config.set(SETTINGS)
         self.folder = tempfile.TemporaryDirectory(prefix="arbiter-fleet-")
         self.local: Any = None
@@ -130,7 +125,7 @@ class Cluster:
                 if worker not in self.workers:
                     self.done.put(key)
         elif self.client.status == "closed" or now - self.heard > GONE_SECONDS:
-            raise PoolGone("the scheduler went away")
+            raise PoolGone(GONE)
 
     def least_busy(self, but: str) -> str:
         """The worker that the next batch is given to: another one than `but`, if there is one."""
@@ -145,8 +140,8 @@ class Cluster:
         try:
             future = self.client.submit(work.answered, job_text, list(items), pure=False,
                                         key=f"arbiter-{self.run}-{key}", workers=[worker])
-        except (OSError, RuntimeError) as error:
-            raise PoolGone(f"the scheduler went away: {names.shown(str(error))}") from error
+        except Exception as error:  # Dask has no class of its own for a closed client
+            raise PoolGone(GONE) from error
         self.futures[key], self.given[key] = future, worker
         future.add_done_callback(lambda _: self.done.put(key))
 
@@ -209,3 +204,4 @@ class Cluster:
                 self.local.close(timeout=CLOSE_SECONDS)
         with suppress(OSError):
             self.folder.cleanup()
+        logging.disable(logging.NOTSET)
