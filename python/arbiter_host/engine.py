@@ -22,6 +22,10 @@ from arbiter_host.units import MAX_QUOTA
 SONAME = "libarbiter.so.1"
 NO_PARENT, NO_LIMIT = 2**32 - 1, 2**64 - 1
 U8, U32, U64 = ctypes.c_uint8, ctypes.c_uint32, ctypes.c_uint64
+# The columns of a certificate: amounts, flags, and the levels' numerators, denominators and places.
+COLUMNS = (U64, U8, U64, U64, U32)
+# Arrays of C of these types, one entry for each row.
+Certificate = list[Any]
 NAME_ROOM = 17
 PACKAGE = Path(__file__).resolve().parent
 CLONE = PACKAGE.parent.parent
@@ -89,13 +93,21 @@ class LibraryEngine:
                 *column(U64, limits), *column(U64, [row.demand for row in rows])]
 
     def plan(self, host: Host, rows: Sequence[Row]) -> Answer:
-        asked, count = self.asked(host.planned(), rows), len(rows)
-        claimed = [word for kind in (U64, U8, U64, U64, U32) for word in column(kind, [0] * count)]
-        number = self.calls.arbiter_certify(*asked, *claimed)
+        return self.accepted(host, rows, self.certified(host, rows))
+
+    def certified(self, host: Host, rows: Sequence[Row]) -> Certificate:
+        """A plan with its certificate, which no check has read."""
+        written = [word for kind in COLUMNS for word in column(kind, [0] * len(rows))]
+        number = self.calls.arbiter_certify(*self.asked(host.planned(), rows), *written)
         if number:
             raise HostFault(f"no plan: error {number} {self.name(number)}")
-        # The check reads the same memory, after the call that wrote it has ended.
-        row = U32(NO_PARENT)
+        return written[::2]
+
+    def accepted(self, host: Host, rows: Sequence[Row], certificate: Certificate) -> Answer:
+        """The answer of a certificate that the proved check accepts for these rows."""
+        asked, count, row = self.asked(host.planned(), rows), len(rows), U32(NO_PARENT)
+        # The check reads the memory that is answered, after whatever wrote it has ended.
+        claimed = [word for each in certificate for word in (each, ctypes.c_size_t(len(each)))]
         number = self.calls.arbiter_check(*asked, *claimed, ctypes.byref(row))
         if number:
             raise HostFault(f"the check refused the plan: {number} {self.name(number)} {row.value}")
@@ -104,7 +116,7 @@ class LibraryEngine:
                                              ctypes.byref(found), ctypes.byref(rest))
         if number:
             raise HostFault(f"what limits the total: error {number} {self.name(number)}")
-        return Answer(list(claimed[0]), list(groups[:found.value]), rest.value)
+        return Answer(list(certificate[0]), list(groups[:found.value]), rest.value)
 
 
 def group_paths(rows: Sequence[Row]) -> list[str]:

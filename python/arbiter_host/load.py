@@ -236,10 +236,27 @@ def load(options: argparse.Namespace, paths: Sequence[str], engine: Engine) -> M
         raise HostFault(f"{names.shown(paths[0])}: Is a directory")
     else:
         model = read_files(options, kind, found, engine)
+    return finished(options, model)
+
+
+def finished(options: argparse.Namespace, model: Model) -> Model:
+    """A model that was read, with the options that hold for every kind of source."""
     demands.scale(model, options.scale)
     if options.strict and model.refused:
         raise RefusedLines(model.refused)
     return model
+
+
+def of_bytes(options: argparse.Namespace, path: str, data: bytes, engine: Engine) -> Model:
+    """The model of one file whose bytes were read before. Nothing of this machine is asked."""
+    check_options(options)
+    kind = options.kind or kind_of(path, data)
+    if kind == "cgroup":
+        raise HostFault(f"{names.shown(path)}: a file is no tree of cgroups: `import cgroup` writes"
+                        " one")
+    if kind in ("docker", "systemd") and options.cpus is None:
+        raise HostFault(f"{names.shown(path)}: the number of CPUs is not told: --cpus")
+    return finished(options, read_files(options, kind, [(names.shown(path), data)], engine))
 
 
 def warn(model: Model, source: str) -> None:

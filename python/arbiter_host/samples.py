@@ -94,21 +94,34 @@ def rows_of(text: str, name: str) -> list[tuple[int, list[str]]]:
     return found
 
 
-def read_csv(data: bytes, name: str, unit: str, host: Host) -> list[Sample]:
-    """The samples of a CSV: groups in the first row, a number for each in every other."""
+def is_timed(head: Sequence[str]) -> bool:
+    """Whether the first column of a CSV has times and no demands."""
+    return head[0].lower() in ("", *TIMES) or head[0].lower().endswith("time")
+
+
+def csv_groups(head: Sequence[str]) -> list[str]:
+    """The columns of a CSV that are groups."""
+    return list(head[1 if is_timed(head) else 0:])
+
+
+def read_csv(data: bytes, name: str, unit: str, host: Host, first: int = 0) -> list[Sample]:
+    """The samples of a CSV: groups in the first row, a number for each in every other.
+
+    Samples without a time are numbered from `first + 1` on.
+    """
     rows = rows_of(decoded(data, name), name)
     if not rows:
         return []
     head = rows[0][1]
     found: list[Sample] = []
-    is_timed = head[0].lower() in ("", *TIMES) or head[0].lower().endswith("time")
+    groups = csv_groups(head)
     for number, row in rows[1:]:
         if len(row) != len(head):
             raise HostFault(f"{name}:{number}: {len(row)} cells and not {len(head)}")
-        pairs = list(zip(head, row))[1 if is_timed else 0:]
         demands = {column: demand_of(cell, unit, host, f"{name}:{number}")
-                   for column, cell in pairs if cell.lower() not in EMPTY}
-        title = time_name(row[0]) if is_timed else str(len(found) + 1)
+                   for column, cell in zip(groups, row[len(head) - len(groups):])
+                   if cell.lower() not in EMPTY}
+        title = time_name(row[0]) if is_timed(head) else str(first + len(found) + 1)
         found.append(Sample(title, demands))
     return found
 

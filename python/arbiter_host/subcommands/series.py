@@ -38,8 +38,9 @@ def read_samples(options: argparse.Namespace, host: Host) -> list[samples.Sample
         raise UsageFault("a file of demands, or --prometheus")
     data, name = load.file_bytes(options.demands), names.shown(options.demands)
     is_csv = options.csv or options.demands.lower().endswith((".csv", ".tsv"))
-    read = samples.read_csv if is_csv else samples.read_pairs
-    return read(data, name, options.unit, host)
+    if is_csv:
+        return samples.read_csv(data, name, options.unit, host)
+    return samples.read_pairs(data, name, options.unit, host)
 
 
 def mapped(words: Sequence[str]) -> dict[str, str]:

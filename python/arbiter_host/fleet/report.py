@@ -1,0 +1,273 @@
+"""The report of a fleet: what each question's answers come to, as lines, rows and data."""
+from __future__ import annotations
+
+from collections.abc import Callable, Iterator, Sequence
+from dataclasses import dataclass
+from fractions import Fraction
+from typing import Any
+
+from arbiter_host.fleet import figures, overtime
+from arbiter_host.fleet.figures import Host, number, total
+from arbiter_host.names import padded, short, shown, width
+
+# The rules of `--by`, told in the report.
+RULES = {
+    "least-loss": "the least that others lose and the pod lacks, then the most CPU left",
+    "most-left": "the most CPU left, then the least that others lose and the pod lacks",
+}
+MOST_MOVED = 10
+
+
+@dataclass(frozen=True)
+class Table:
+    """Rows of one shape, in the order in which they are told."""
+
+    title: str
+    heads: list[str]
+    rows: list[list[str]]
+
+
+@dataclass(frozen=True)
+class Report:
+    """All that is told of a run: lines, tables, hosts without an answer, and the same as data."""
+
+    action: str
+    lines: list[str]
+    tables: list[Table]
+    missing: list[tuple[str, str]]
+    data: dict[str, Any]
+
+
+def cpu(value: Fraction, places: int = 2) -> str:
+    """CPUs."""
+    return f"{float(value):.{places}f}"
+
+
+def signed(value: Fraction) -> str:
+    """A change in CPUs; `0` for none."""
+    return f"{float(value):+.2f}" if value else "0"
+
+
+def group_words(found: Sequence[Sequence[Any]], host: Host) -> str:
+    """The first groups of a list with their amounts."""
+    return ", ".join(f"{'the host' if path == '.' else short(shown(path))}"
+                     f" ({cpu(host.cpus(amount))})" for path, amount in found[:2])
+
+
+def lack(host: Host) -> Fraction:
+    """CPUs that a host's groups want through their limits and do not get."""
+    return host.of("wanted") - host.of("served")
+
+
+def part(one: Fraction, all_: Fraction) -> str:
+    """A part in percent."""
+    return f"{float(100 * one / all_):.0f}%" if all_ else "-"
+
+
+def plan_lines(hosts: Sequence[Host]) -> Iterator[str]:
+    """What `plan` says of the whole fleet."""
+    served, wanted, capacity = (total(hosts, key) for key in ("served", "wanted", "capacity"))
+    groups = sum(host.answer["groups"] for host in hosts)
+    yield (f"{cpu(served)} of {cpu(capacity)} CPUs served, {cpu(wanted)} wanted, groups: {groups};"
+           " the proved check accepted each plan")
+    counts = {key: sum(host.answer[key] for host in hosts)
+              for key in ("lacking", "starved", "throttled")}
+    yield (f"groups without all that they want: {counts['lacking']}, of these starved:"
+           f" {counts['starved']}; throttled: {counts['throttled']}")
+    use = figures.quantiles((100 * host.of("served") / host.of("capacity"), 1) for host in hosts)
+    yield f"use of a host in percent: {figures.quantile_words(use, 0)}"
+    yield f"lack of a host in CPUs: {figures.quantile_words(lacks(hosts))}"
+
+
+def lacks(hosts: Sequence[Host]) -> list[Fraction]:
+    """The quantiles of what hosts lack."""
+    return figures.quantiles((lack(host), 1) for host in hosts)
+
+
+def plan_row(host: Host) -> list[str]:
+    """The row of a host in `plan`."""
+    answer = host.answer
+    return [host.name, str(answer["cpus"]), cpu(host.of("served")), cpu(host.of("wanted")),
+            cpu(lack(host)), part(host.of("served"), host.of("capacity")),
+            *(str(answer[key]) for key in ("groups", "lacking", "starved", "throttled")),
+            group_words(answer["limiting"], host) or "the demands alone"]
+
+
+def of_plan(hosts: Sequence[Host], _: str) -> tuple[list[str], list[Table], dict[str, Any]]:
+    """The report of `plan`: the hosts that lack most first."""
+    ordered = sorted(hosts, key=lambda host: (-lack(host), host.name))
+    heads = ["host", "cpus", "served", "wanted", "lack", "use", "groups", "lacking", "starved",
+             "throttled", "what limits the total"]
+    sums: dict[str, Any] = {f"{key}_cpus": number(total(hosts, key))
+                            for key in ("served", "wanted", "capacity")}
+    sums |= {key: sum(host.answer[key] for host in hosts)
+             for key in ("groups", "lacking", "starved", "throttled")}
+    sums["lack_cpus"] = figures.quantile_data(lacks(hosts))
+    return list(plan_lines(hosts)), [Table("Hosts, the greatest lack first", heads,
+                                           [plan_row(host) for host in ordered])], sums
+
+
+def changes(hosts: Sequence[Host]) -> Iterator[tuple[Fraction, int]]:
+    """The changes of all groups, each with its number."""
+    for host in hosts:
+        for rise, count in host.answer["changes"]:
+            yield host.cpus(rise), count
+
+
+def moved(hosts: Sequence[Host], key: str) -> list[tuple[Fraction, str, str]]:
+    """The groups of the fleet that gain or lose most."""
+    found = [(host.cpus(rise), host.name, path) for host in hosts
+             for path, rise in host.answer[key]]
+    return sorted(found, key=lambda each: (-abs(each[0]), *each[1:]))[:MOST_MOVED]
+
+
+def lost(host: Host) -> Fraction:
+    """What the groups of a host lose, in CPUs."""
+    return host.cpus(-sum(rise * count for rise, count in host.answer["changes"] if rise < 0))
+
+
+def change_row(host: Host) -> list[str]:
+    """The row of a host in `what-if`."""
+    answer = host.answer
+    before, after = host.of("before", "served"), host.of("after", "served")
+    starved = f"{answer['before']['starved']} to {answer['after']['starved']}"
+    return [host.name, str(answer["matched"]), cpu(before), cpu(after),
+            signed(host.of("changed_groups")), signed(host.of("others")), cpu(lost(host)), starved,
+            group_words(answer["gains"], host) or "-", group_words(answer["losses"], host) or "-"]
+
+
+def of_changes(hosts: Sequence[Host], _: str) -> tuple[list[str], list[Table], dict[str, Any]]:
+    """The report of `what-if`: the hosts whose groups lose most first."""
+    before, after = (total(hosts, key, "served") for key in ("before", "after"))
+    found = list(changes(hosts))
+    gain, lose = (sum(count for rise, count in found if sign * rise > 0) for sign in (1, -1))
+    among = figures.quantiles((rise, count) for rise, count in found if rise)
+    with_group = sum(host.answer["matched"] > 0 for host in hosts)
+    lines = [f"{cpu(before)} CPUs served before, {cpu(after)} after; the proved check accepted"
+             " each plan",
+             f"hosts with such a group: {with_group} of {len(hosts)}",
+             f"groups that gain: {gain}, that lose: {lose}, of"
+             f" {sum(count for _, count in found)} without children",
+             f"change of a group that gains or loses, in CPUs: {figures.quantile_words(among)}"
+             if among else "no group gains or loses"]
+    rows = [[name, shown(path), signed(rise)] for key in ("gains", "losses")
+            for rise, name, path in moved(hosts, key)]
+    heads = ["host", "matched", "served", "then", "changed groups", "others", "lost", "starved",
+             "gain most", "lose most"]
+    ordered = sorted(hosts, key=lambda host: (-lost(host), host.name))
+    tables = [Table("Groups that gain and lose most", ["host", "group", "change"], rows),
+              Table("Hosts, the greatest loss first", heads,
+                    [change_row(host) for host in ordered])]
+    data = {"before_cpus": number(before), "after_cpus": number(after), "gain": gain, "lose": lose,
+            "hosts_with_such_a_group": with_group, "change_cpus": figures.quantile_data(among)}
+    return lines, tables, data
+
+
+def place_keys(host: Host, pod: dict[str, Any]) -> tuple[Fraction, Fraction]:
+    """What others lose and the pod lacks, and what is left after it, in CPUs."""
+    return host.cpus(pod["lost"] + pod["wants"] - pod["gets"]), host.cpus(pod["left"])
+
+
+def ranked(hosts: Sequence[Host], place: int, rule: str) -> list[Host]:
+    """The hosts that can take a pod, the best first."""
+    def key(host: Host) -> tuple[Fraction, Fraction, str]:
+        harm, left = place_keys(host, host.answer["pods"][place])
+        return (harm, -left, host.name) if rule == "least-loss" else (-left, harm, host.name)
+
+    return sorted((host for host in hosts if "why" not in host.answer["pods"][place]), key=key)
+
+
+def place_row(host: Host, place: int) -> list[str]:
+    """The row of a host for one pod."""
+    pod = host.answer["pods"][place]
+    return [host.name, cpu(host.cpus(pod["gets"])), cpu(host.cpus(pod["wants"])),
+            cpu(host.cpus(pod["lost"])), str(pod["losing"]), cpu(host.cpus(pod["left"])),
+            group_words(pod["losers"], host) or "-"]
+
+
+def of_places(hosts: Sequence[Host], rule: str) -> tuple[list[str], list[Table], dict[str, Any]]:
+    """The report of `place`: for each pod the best hosts first."""
+    heads = ["host", "gets", "wants", "others lose", "losing", "left", "lose most"]
+    lines, tables, best = [f"by {rule}: {RULES[rule]}; amounts are CPUs"], [], {}
+    names = [pod["pod"] for pod in hosts[0].answer["pods"]] if hosts else []
+    for place, name in enumerate(names):
+        order = ranked(hosts, place, rule)
+        cannot = len(hosts) - len(order)
+        whole = sum(host.answer["pods"][place]["gets"] == host.answer["pods"][place]["wants"]
+                    and not host.answer["pods"][place]["lost"] for host in order)
+        lines.append(f"{shown(name)}: hosts that give it all without a loss to others: {whole} of"
+                     f" {len(hosts)}" + (f"; that cannot take it: {cannot}" if cannot else ""))
+        tables.append(Table(f"Where {shown(name)} would go, the best first", heads,
+                            [place_row(host, place) for host in order]))
+        best[name] = [host.name for host in order]
+    return lines, tables, {"by": rule, "rule": RULES[rule], "best": best}
+
+
+def series_row(host: Host) -> list[str]:
+    """The row of a host in `series`."""
+    wanted, got = overtime.mean(host, "wanted"), overtime.mean(host, "got")
+    row = max((group["samples_starved_in_a_row"] for group in host.answer["groups_of_columns"]),
+              default=0)
+    return [host.name, str(host.answer["samples"]), cpu(wanted), cpu(got), part(got, wanted),
+            *(str(overtime.count(host, key)) for key in ("throttled", "bursts", "starved")),
+            str(row)]
+
+
+def of_series(hosts: Sequence[Host], _: str) -> tuple[list[str], list[Table], dict[str, Any]]:
+    """The report of `series`: the hosts that lack most as a mean first."""
+    def key(host: Host) -> tuple[Fraction, str]:
+        return overtime.mean(host, "got") - overtime.mean(host, "wanted"), host.name
+
+    sums = overtime.data(hosts)
+    lines = [f"{sums['mean_got_cpus']:.2f} CPUs got of {sums['mean_wanted_cpus']:.2f} wanted, as"
+             " means; the proved check accepted each plan",
+             f"periods of groups: throttled {sums['throttled']}, with a burst {sums['bursts']},"
+             f" starved {sums['starved']}"]
+    heads = ["host", "samples", "wanted", "got", "of it", "throttled", "bursts", "starved",
+             "samples in a row"]
+    rows = [series_row(host) for host in sorted(hosts, key=key)]
+    return lines, [Table("Hosts, the greatest lack first", heads, rows)], sums
+
+
+ACTIONS: dict[str, Callable[[Sequence[Host], str],
+                            tuple[list[str], list[Table], dict[str, Any]]]] = {
+    "plan": of_plan, "what-if": of_changes, "place": of_places,
+    "series": of_series,
+}
+
+
+def built(action: str, hosts: Sequence[Host], missing: Sequence[tuple[str, str]],
+          rule: str) -> Report:
+    """The report of a run. It depends on the answers alone, and not on who gave them when."""
+    lines, tables, sums = ACTIONS[action](hosts, rule)
+    first = f"hosts: {len(hosts) + len(missing)}, answered: {len(hosts)}, not answered:" \
+            f" {len(missing)}"
+    data = {"action": action, "answered": len(hosts), "not_answered": [
+                {"host": name, "why": why} for name, why in missing],
+            "fleet": sums, "hosts": [{"host": host.name, **host.answer} for host in hosts]}
+    return Report(action, [first, *(lines if hosts else [])], tables if hosts else [],
+                  list(missing), data)
+
+
+def table_lines(table: Table, most: int) -> Iterator[str]:
+    """A table as text, of at most so many rows; 0 for all."""
+    rows = table.rows[:most] if most else table.rows
+    widths = [max(map(width, column)) for column in zip(table.heads, *rows)]
+    last = len(table.heads) - 1
+    for row in [table.heads, *rows]:
+        yield "  ".join(padded(each, widths[at]) if at in (0, last) else
+                        " " * (widths[at] - width(each)) + each
+                        for at, each in enumerate(row)).rstrip()
+    if len(rows) < len(table.rows):
+        yield f"and {len(table.rows) - len(rows)} more (--rows {len(table.rows)})"
+
+
+def text(report: Report, most: int) -> str:
+    """The report as text. Each host without an answer is named."""
+    lines = list(report.lines)
+    for table in report.tables:
+        if table.rows:
+            lines += ["", f"{table.title}:", *table_lines(table, most)]
+    if report.missing:
+        lines += ["", "Not answered:", *(f"{name}: {shown(why)}" for name, why in report.missing)]
+    return "".join(f"{line}\n" for line in lines)

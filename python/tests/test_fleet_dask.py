@@ -1,0 +1,140 @@
+"""Fleets on Dask: workers that die, lie or hang, and a scheduler that goes away."""
+import json
+import os
+import signal
+import subprocess
+import sys
+import time
+from pathlib import Path
+
+import pytest
+from places import PACKAGE
+
+import fleets
+
+pytest.importorskip("distributed")
+WORKER = PACKAGE / "tests/fleet_worker.py"
+WORDS = ("--json", "--rows", "0")
+
+
+def begun(ctl, *words):
+    """A run of `fleet` that goes on."""
+    return subprocess.Popen([sys.executable, str(PACKAGE / "arbiterctl"), "fleet",
+                             *map(str, words)], env=ctl.environment, stdout=subprocess.PIPE,
+                            stderr=subprocess.PIPE)
+
+
+def ended(run):
+    """Status, output and messages of a run that has ended."""
+    out, err = run.communicate(timeout=300)
+    assert b"Traceback" not in err, err.decode()[:2000]
+    return run.returncode, out.decode(), err.decode()
+
+
+def workers_of(run):
+    """The ids of the worker processes, whichever thread began them."""
+    found = []
+    for path in Path(f"/proc/{run.pid}/task").glob("*/children"):
+        for child in path.read_text().split():
+            if b"spawn_main" in Path(f"/proc/{child}/cmdline").read_bytes():
+                found.append(int(child))
+    return sorted(found)
+
+
+@pytest.mark.parametrize("count", [2, 4])
+def test_a_killed_worker_changes_nothing(ctl, folder, count):
+    """A worker that is killed in mid-run costs no host its answer: the bytes are the same."""
+    hosts = fleets.make(folder / "hosts", 240, 100)
+    alone = ctl.run("fleet", "plan", hosts, "--workers", "0", *WORDS)[0]
+    base = folder / "run.sqlite"
+    run = begun(ctl, "plan", hosts, "--workers", count, "--db", base, *WORDS)
+    fleets.wait_for_rows(base, 1, run)
+    found = workers_of(run)
+    assert len(found) == count
+    os.kill(found[0], signal.SIGKILL)
+    status, out, err = ended(run)
+    assert (status, out == alone) == (0, True), err
+    assert "lost: 0" not in err and "given again" in err
+    assert fleets.rows(base) == 240
+
+
+class Site:
+    """A scheduler and workers, as others would run them."""
+
+    def __init__(self, environment):
+        self.environment = {**environment, "PYTHONPATH": str(PACKAGE)}
+        self.processes = {}
+        self.address = self.begin("scheduler")
+
+    def begin(self, name, *words):
+        """Begins a process, and waits for its address."""
+        process = subprocess.Popen([sys.executable, str(WORKER), *(words or (name,))],
+                                   env=self.environment, stdout=subprocess.PIPE,
+                                   stderr=subprocess.DEVNULL, text=True)
+        self.processes[name] = process
+        address = process.stdout.readline().strip()
+        assert address.startswith("tcp://"), name
+        return address
+
+    def add(self, *modes):
+        """Adds workers; the value is their addresses by mode."""
+        return {mode: self.begin(mode, self.address, mode) for mode in modes}
+
+    def close(self):
+        """Ends all that was begun here."""
+        for process in self.processes.values():
+            process.kill()
+            process.communicate()
+
+
+@pytest.fixture
+def site(ctl):
+    """A scheduler without workers."""
+    found = Site(ctl.environment)
+    yield found
+    found.close()
+
+
+def test_workers_that_lie_hang_or_die(ctl, folder, site):
+    """Each forged answer is refused, and one right worker is enough for the bytes of one process."""
+    hosts = fleets.make(folder / "hosts", 60, 12)
+    alone = ctl.run("fleet", "plan", hosts, "--workers", "0", *WORDS)[0]
+    at = site.add("forged", "garbage", "pickled", "dying", "hung", "honest")
+    base = folder / "run.sqlite"
+    status, out, err = ended(begun(ctl, "plan", hosts, "--scheduler", site.address, "--db", base,
+                                   "--recheck", "all", "--deadline", "15s", *WORDS))
+    assert (status, out == alone) == (0, True), err
+    for mode in ("forged", "garbage", "pickled"):
+        assert f"{at[mode]} is given nothing more" in err, err
+    assert "its numbers are not those of its certificate" in err
+    assert at["dying"] in err and f"no answer of {at['hung']}" in err
+    with fleets.sqlite3.connect(base) as read:
+        assert read.execute("SELECT DISTINCT worker, checked FROM answer").fetchall() == [
+            (at["honest"], 1)]
+
+
+def test_a_scheduler_that_goes_away(ctl, folder, site):
+    """Each host is answered or named, and a second run elsewhere does what is left."""
+    hosts = fleets.make(folder / "hosts", 300, 100)
+    site.add("honest")
+    base = folder / "run.sqlite"
+    run = begun(ctl, "plan", hosts, "--scheduler", site.address, "--db", base, *WORDS)
+    fleets.wait_for_rows(base, 1, run)
+    site.processes["scheduler"].kill()
+    began = time.monotonic()
+    status, out, err = ended(run)
+    assert status == 1 and time.monotonic() - began < 120
+    found = json.loads(out)
+    kept = {host["host"] for host in found["hosts"]}
+    named = {each["host"] for each in found["not_answered"]}
+    assert kept and named and not kept & named and len(kept | named) == 300
+    assert {each["why"] for each in found["not_answered"]} == {"the scheduler went away"}
+    again = ctl.run("fleet", "plan", hosts, "--workers", "0", "--db", base, *WORDS)
+    assert again[0] == ctl.run("fleet", "plan", hosts, "--workers", "0", *WORDS)[0]
+
+
+def test_an_address_of_no_scheduler(ctl, folder):
+    """One line, status 1."""
+    hosts = fleets.make(folder / "hosts", 1, 4)
+    out, err = ctl.run("fleet", "plan", hosts, "--scheduler", "tcp://127.0.0.1:1", status=1)
+    assert out == "" and err.startswith("arbiterctl: tcp://127.0.0.1:1: ")
