@@ -69,7 +69,13 @@ word_read : (word : List ℕ) (n : ℕ) → 0 < length word
     → value_of_digits word ≡ n → n < 2 ^ 64 → word ≡ decimal n
 word_read word n some leading digits value small =
     let read : number_read word ≡ Ok n =
-    rw (lt-ltb 0 (length word) some, digits, leads word leading some, value, lt-ltb n (2 ^ 64) small)
+    rw (
+      lt-ltb 0 (length word) some,
+      digits,
+      leads word leading some,
+      value,
+      lt-ltb n (2 ^ 64) small,
+    )
     refl in
     (read_is_decimal word n read).0
 
@@ -84,7 +90,8 @@ read_ends text i n e within some short leading is r =
     let small : n < 2 ^ 64 = omega (arith, read_small text i n short r) in
     let spelled : take i text ≡ decimal n =
     word_read (take i text) n (omega (arith, long, some))
-    (λ more zero'. leading (omega (arith, long, more)) (sym first ∙ zero')) r.digits r.value small in
+    (λ more zero'. leading (omega (arith, long, more)) (sym first ∙ zero'))
+    r.digits r.value small in
     let rest : drop i text ≡ e ∷ drop (i + 1) text = rw is (drop_more text i 0 within) in
     sym (take-append-drop i text) ∙ rw (spelled, rest) refl
 

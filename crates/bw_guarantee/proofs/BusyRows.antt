@@ -79,7 +79,8 @@ module _ (rows others : List Row) (tree : AreTreeRows rows) (other_tree : AreTre
 
   pub depth_same : (h : ℕ) → depth_of others h ≡ depth_of rows h
   depth_same = strong (λ h. depth_of others h ≡ depth_of rows h) (λ h before.
-      (elim (parent_of rows h) as (λ o. parent_of rows h ≡ o → depth_of others h ≡ depth_of rows h) [
+      (elim (parent_of rows h) as
+      (λ o. parent_of rows h ≡ o → depth_of others h ≡ depth_of rows h) [
         | None ↦ λ none.
             depth_of-top others other_tree h (same.parents h ∙ none)
             ∙ sym (depth_of-top rows tree h none)

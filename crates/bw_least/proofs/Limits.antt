@@ -36,7 +36,8 @@ limit_there groups (suc group) deeper = refl
 -- The limits of two instances that differ at one row.
 other_limit : (one two : Groups) (h : ℕ) → one.shape ≡ two.shape
     → row_of one.rows h ≡ row_of two.rows h → limit_of one h ≡ limit_of two h
-other_limit one two zero shape row = ap (λ s. limit_of (record { shape = s; rows = one.rows }) 0) shape
+other_limit one two zero shape row =
+    ap (λ s. limit_of (record { shape = s; rows = one.rows }) 0) shape
 other_limit one two (suc h) shape row = ap (λ (r : Row). r.limit) row
 
 module _ (groups : Groups) (valid : IsInstance groups) (group : ℕ)

@@ -17,8 +17,8 @@ IsLeast Holds first last None = (n : ℕ) → first ≤ n → n ≤ last → ¬ 
 IsLeast Holds first last (Some n) = (first ≤ n) × (n ≤ last) × Holds n
     × ((m : ℕ) → first ≤ m → m < n → ¬ Holds m)
 
--- the least limit of a group that reaches an amount, or None where no limit reaches it, and nor does
--- the group without one
+-- the least limit of a group that reaches an amount, or None where no limit reaches it, and nor
+-- does the group without one
 abbrev pub IsLeastLimit : Groups → ℕ → ℕ → Option ℕ → Type 0
 IsLeastLimit groups group amount None =
     (limit : Option ℕ) → ¬ Reaches (with_limit groups group limit) group amount

@@ -35,7 +35,8 @@ fn least(
 ) -> Result<Option<u64>, AllocError>
     requires row { group < length instance.now.rows }
     requires rises { Rises instance.now setting group amount }
-    ensures { IfOk result (IsLeast (λ v. Reaches (changed instance.now setting group v) group amount)
+    ensures { IfOk result (IsLeast
+        (λ v. Reaches (changed instance.now setting group v) group amount)
         1 (greatest_of setting)) }
 {
     let greatest = greatest(setting);
@@ -120,8 +121,8 @@ fn reaches_unlimited(
 /// The least limit of a group, in slices, with which the plan gives it at least so many slices, all
 /// else as it is. None: no limit does, and nor does the group without one.
 ///
-/// It makes one plan, of the instance without this limit. A limit only cuts, so the least one is the
-/// amount itself. The root has no limit but the capacity.
+/// It makes one plan, of the instance without this limit. A limit only cuts, so the least one is
+/// the amount itself. The root has no limit but the capacity.
 ///
 /// # Errors
 /// `AllocError` if memory was refused.

@@ -37,7 +37,8 @@ NoMoreBelow = (groups roomier : Groups) (top group : ℕ) (most amounts others :
 -- A group that gets its limit and wants more, and whose limit is raised by a slice: it gets a slice
 -- more, or it gets as much and could then be given more.
 abbrev pub LimitGivesOrLetsGo : Type 0
-LimitGivesOrLetsGo = (groups raised : Groups) (group limit : ℕ) (most other_most amounts others : List ℕ)
+LimitGivesOrLetsGo = (groups raised : Groups) (group limit : ℕ)
+    (most other_most amounts others : List ℕ)
     → IsInstance groups → IsInstance raised → IsRoomierAt groups raised group
     → limit_of groups group ≡ Some limit → limit_of raised group ≡ Some (limit + 1)
     → AreMaxTotals groups most → AreMaxTotals raised other_most

@@ -71,7 +71,8 @@ pub Gathers-first : {W T : Type 0} (contents : W → Option (List ℕ)) (a b c :
     → Appends (contents (inner_of a)) (contents (inner_of b)) sent → u ++ nothing ≡ sent ++ v
     → nothing ≡ [] → Gathers contents b c v w r P Q → Gathers contents a c u w r P Q
 Gathers-first contents a b c u v w r nothing sent written e none x =
-    Gathers-after contents a b c u v w r nothing sent written e (λ t p. rw none p) (λ t q. rw none q)
+    Gathers-after contents a b c u v w r nothing sent written e
+    (λ t p. rw none p) (λ t q. rw none q)
     x
 
 -- what failed might have gathered a text of another kind

@@ -155,8 +155,8 @@ impl<'a, G: Gate> Responder<'a, G> {
         }
     }
 
-    /// Puts the answer to a line behind those that wait. Before a line that may take long, these are
-    /// written and the writer is flushed.
+    /// Puts the answer to a line behind those that wait. Before a line that may take long, these
+    /// are written and the writer is flushed.
     ///
     /// # Errors
     ///

@@ -131,7 +131,7 @@ impl<'a, G: Gate> Session<'a, G> {
     }
 
     /// Answers each line that ends in a chunk of the script, writes the answers and flushes the
-    /// writer. A `period` is served with no answer waiting. More than 64 KiB of answers do not wait.
+    /// writer. A `period` is served with no answer waiting. At most 64 KiB of answers wait.
     ///
     /// # Errors
     ///

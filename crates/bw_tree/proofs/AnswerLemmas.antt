@@ -33,7 +33,8 @@ alike gs old new same p n =
     ∙ ap (λ o. child_among gs (get eqb old.first (key old.keys p n)) o p n) (same.others p n)
 
 -- the key of a parent and a name is one
-key_apart : (keys : RandomState) (parent p : ℕ) (name n : List ℕ) → (eqb parent p && bytes_eq name n) ≡ true
+key_apart : (keys : RandomState) (parent p : ℕ) (name n : List ℕ)
+    → (eqb parent p && bytes_eq name n) ≡ true
     → eqb (key keys parent name) (key keys p n) ≡ true
 key_apart keys parent p name n same =
     let both = and_parts (eqb parent p) (bytes_eq name n) same in
@@ -54,11 +55,13 @@ said_of gs q parent p name n same =
 pub added_at : (gs : List (ℕ × GroupFields)) (old new : ChildIndex) (parent id : ℕ) (name : List ℕ)
     → IsAdded old new parent name id
     → (p : ℕ) (n : List ℕ) → is_child_at gs id p n ≡ (eqb parent p && bytes_eq name n)
-    → ((q : ℕ) → get eqb old.first (key old.keys parent name) ≡ Some q → is_child_at gs q parent name ≡ true
+    → ((q : ℕ) → get eqb old.first (key old.keys parent name) ≡ Some q
+    → is_child_at gs q parent name ≡ true
     → q ≡ id)
     → child_at gs new p n ≡ cond (eqb parent p && bytes_eq name n) (Some id) (child_at gs old p n)
 added_at gs old new parent id name added p n mine only =
-    by (eqb (key old.keys parent name) (key old.keys p n)) refl (get eqb old.first (key old.keys p n)) refl
+    by (eqb (key old.keys parent name) (key old.keys p n))
+    refl (get eqb old.first (key old.keys p n)) refl
     (eqb parent p && bytes_eq name n) refl
   where
     moved : (b : Bool) → eqb (key old.keys parent name) (key old.keys p n) ≡ b → (o : Option ℕ)
@@ -73,24 +76,30 @@ added_at gs old new parent id name added p n mine only =
         added.keys
         ∙ ap (λ k. child_among gs k (text_at new.others p n) p n) (added.first (key old.keys p n))
         ∙ ap (λ k. child_among gs
-        (cond (eqb (key old.keys parent name) (key old.keys p n)) (first_of (get eqb old.first (key old.keys p n)) id)
+        (cond (eqb (key old.keys parent name) (key old.keys p n))
+        (first_of (get eqb old.first (key old.keys p n)) id)
         (get eqb old.first (key old.keys p n))) k p n)
         (added.others p n)
         ∙ ap (λ c. child_among gs
-        (cond c (first_of (get eqb old.first (key old.keys p n)) id) (get eqb old.first (key old.keys p n)))
-        (cond (is_some (get eqb old.first (key old.keys parent name)) && (eqb parent p && bytes_eq name n))
+        (cond c (first_of (get eqb old.first (key old.keys p n)) id)
+        (get eqb old.first (key old.keys p n)))
+        (cond (is_some (get eqb old.first (key old.keys parent name))
+        && (eqb parent p && bytes_eq name n))
         (Some id) (text_at old.others p n)) p n) is_b
         ∙ ap (λ k. child_among gs (cond b (first_of k id) k)
-        (cond (is_some (get eqb old.first (key old.keys parent name)) && (eqb parent p && bytes_eq name n))
+        (cond (is_some (get eqb old.first (key old.keys parent name))
+        && (eqb parent p && bytes_eq name n))
         (Some id) (text_at old.others p n)) p n) is_o
         ∙ ap (λ c. child_among gs (cond b (first_of o id) o)
         (cond (is_some (get eqb old.first (key old.keys parent name)) && c) (Some id)
         (text_at old.others p n)) p n) is_h
 
     -- the slot of the name's own key
-    slot : eqb (key old.keys parent name) (key old.keys p n) ≡ true → (o : Option ℕ) → get eqb old.first (key old.keys p n) ≡ o
+    slot : eqb (key old.keys parent name) (key old.keys p n) ≡ true → (o : Option ℕ)
+        → get eqb old.first (key old.keys p n) ≡ o
         → get eqb old.first (key old.keys parent name) ≡ o
-    slot is_b o is_o = ap (get eqb old.first) (eqb-true (key old.keys parent name) (key old.keys p n) is_b) ∙ is_o
+    slot is_b o is_o = ap (get eqb old.first)
+        (eqb-true (key old.keys parent name) (key old.keys p n) is_b) ∙ is_o
 
     first_or : (q : ℕ) → get eqb old.first (key old.keys parent name) ≡ Some q
         → (eqb parent p && bytes_eq name n) ≡ true
@@ -124,7 +133,8 @@ added_at gs old new parent id name added p n mine only =
         ∙ ap (λ k. child_among gs k (text_at old.others p n) p n) (sym is_o)
         ∙ ap (λ c. cond c (Some id) (child_at gs old p n)) (sym is_h)
     by false is_b o is_o true is_h =
-        let wrong : true ≡ false = sym (key_apart old.keys parent p name n is_h) ∙ is_b in absurd (cc)
+        let wrong : true ≡ false = sym (key_apart old.keys parent p name n is_h) ∙ is_b
+        in absurd (cc)
     by false is_b o is_o false is_h =
         moved false is_b o is_o false is_h
         ∙ ap (λ c. child_among gs o (cond c (Some id) (text_at old.others p n)) p n)
@@ -141,7 +151,8 @@ pub taken_at : (gs hs : List (ℕ × GroupFields)) (old new : ChildIndex) (paren
     → ((q : ℕ) → is_child_at hs q parent name ≡ false)
     → child_at hs new p n ≡ cond (eqb parent p && bytes_eq name n) None (child_at gs old p n)
 taken_at gs hs old new parent id name taken p n mine gone there alone =
-    by (eqb (key old.keys parent name) (key old.keys p n)) refl (get eqb old.first (key old.keys p n)) refl
+    by (eqb (key old.keys parent name) (key old.keys p n))
+    refl (get eqb old.first (key old.keys p n)) refl
     (eqb parent p && bytes_eq name n) refl
   where
     moved : (b : Bool) → eqb (key old.keys parent name) (key old.keys p n) ≡ b → (o : Option ℕ)
@@ -154,11 +165,13 @@ taken_at gs hs old new parent id name taken p n mine gone there alone =
         taken.keys
         ∙ ap (λ k. child_among hs k (text_at new.others p n) p n) (taken.first (key old.keys p n))
         ∙ ap (λ k. child_among hs
-        (cond (eqb (key old.keys parent name) (key old.keys p n)) (without id (get eqb old.first (key old.keys p n)))
+        (cond (eqb (key old.keys parent name) (key old.keys p n))
+        (without id (get eqb old.first (key old.keys p n)))
         (get eqb old.first (key old.keys p n))) k p n)
         (taken.others p n)
         ∙ ap (λ c. child_among hs
-        (cond c (without id (get eqb old.first (key old.keys p n))) (get eqb old.first (key old.keys p n)))
+        (cond c (without id (get eqb old.first (key old.keys p n)))
+        (get eqb old.first (key old.keys p n)))
         (cond (eqb parent p && bytes_eq name n) None (text_at old.others p n)) p n) is_b
         ∙ ap (λ k. child_among hs (cond b (without id k) k)
         (cond (eqb parent p && bytes_eq name n) None (text_at old.others p n)) p n) is_o
@@ -210,7 +223,8 @@ taken_at gs hs old new parent id name taken p n mine gone there alone =
     by true is_b (Some q) is_o h is_h = moved true is_b (Some q) is_o h is_h
         ∙ slot_of q (eqb q id) refl h is_h ∙ was (Some q) is_o h is_h
     by false is_b o is_o true is_h =
-        let wrong : true ≡ false = sym (key_apart old.keys parent p name n is_h) ∙ is_b in absurd (cc)
+        let wrong : true ≡ false = sym (key_apart old.keys parent p name n is_h) ∙ is_b
+        in absurd (cc)
     by false is_b None is_o false is_h =
         moved false is_b None is_o false is_h ∙ was None is_o false is_h
     by false is_b (Some q) is_o false is_h =

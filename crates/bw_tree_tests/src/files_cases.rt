@@ -48,8 +48,9 @@ static GREATEST: Stat = Stat {
 
 static OF_THE_ROOT: &str = "usage_usec 18446744073709551615\n";
 
-static OF_A_GROUP: &str =
-    "usage_usec 18446744073709551615\nnr_periods 18446744073709551615\nnr_throttled 18446744073709551615\nthrottled_usec 18446744073709551615\nnr_bursts 18446744073709551615\nburst_usec 18446744073709551615\n";
+static OF_A_GROUP: &str = "usage_usec 18446744073709551615\nnr_periods 18446744073709551615\n\
+     nr_throttled 18446744073709551615\nthrottled_usec 18446744073709551615\n\
+     nr_bursts 18446744073709551615\nburst_usec 18446744073709551615\n";
 
 fn assert_writes(rt: &impl Abort, alloc: Global, root: bool, wanted: &str) -> Result<(), Fail> {
     let text = match write_stat(alloc, &GREATEST, root) {

@@ -17,7 +17,8 @@ bounds-amounts-child c =
     let rows = c.args.instance.now.rows in
     let all = ap (length {A = ℕ}) c.children-child-items.ensures in
     let within : get_or (children_of rows c.args.g) c.loop-place.place 0 < length rows =
-    (child_at rows c.args.g c.loop-place.place (omega (arith, c.loop-place-test.true, all))).within in
+    (child_at rows c.args.g c.loop-place.place
+    (omega (arith, c.loop-place-test.true, all))).within in
     rw c.children-child-items.ensures (omega (arith, within, c.requires.amount_each))
 
 pub overflow_cast-place : goal.overflow_cast-place
