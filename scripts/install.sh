@@ -3,6 +3,8 @@
 
 # The Python package, and its place below DIR.
 package=python/arbiter_host package_place=lib/arbiter/arbiter_host
+# The man pages of arbiterctl, whose names stay, and their place below DIR.
+pages=(share/man/*.1) pages_place=share/man/man1
 
 # What is installed: a file of the clone or the target of a link, its place below DIR, and its mode
 # or the word link.
@@ -25,8 +27,6 @@ find_installed() {
     share/completions/_arbiterctl share/zsh/site-functions/_arbiterctl 644
     share/completions/arbiterctl.fish share/fish/vendor_completions.d/arbiterctl.fish 644
   )
-  local file
-  for file in share/man/*.1; do installed+=("$file" "share/man/man1/${file##*/}" 644); done
 }
 
 # Sets `modules` to the files of the package, relative to its folder.
@@ -40,6 +40,7 @@ places() {
   local at
   find_installed
   for ((at = 0; at < ${#installed[@]}; at += 3)); do echo "  ${installed[at + 1]}"; done
+  printf "  $pages_place/%s\n" "${pages[@]##*/}"
   echo "  $package_place/"
 }
 
@@ -58,8 +59,22 @@ copy_beside() { # FILE PLACE MODE
   if [ "$3" = link ]; then
     ln -sfT -- "$1" "$copy"
   else
-    cp -- "$1" "$copy" && chmod "$3" "$copy"
+    install -m "$3" -T -- "$1" "$copy"
   fi
+}
+
+# Copies the man pages into a folder beside their places.
+copy_pages() { # DIR
+  local place=$1/$pages_place
+  mkdir -p -- "$place" && pages_copy=$(mktemp -d "$place/.arbiter.XXXXXX") || return 1
+  beside+=("$pages_copy")
+  install -m 644 -t "$pages_copy" -- "${pages[@]}"
+}
+
+# Gives the copied man pages their names.
+name_pages() { # DIR
+  mv -f -t "$1/$pages_place" -- "${pages[@]/#*\//"$pages_copy/"}" || return 1
+  printf "build: installed %s\n" "${pages[@]/#*\//"$1/$pages_place/"}"
 }
 
 # Copies the package into a folder beside its place.
@@ -105,11 +120,12 @@ install_below() ( # DIR
     refuse_folder "$place" && copy_beside "${installed[at]}" "$place" "${installed[at + 2]}" ||
       exit 1
   done
-  copy_package "$1" || exit 1
+  for page in "${pages[@]##*/}"; do refuse_folder "$1/$pages_place/$page" || exit 1; done
+  copy_pages "$1" && copy_package "$1" || exit 1
   for ((at = 0; at < ${#installed[@]}; at += 3)); do
     place=$1/${installed[at + 1]}
     mv -fT -- "${beside[at / 3]}" "$place" || exit 1
     echo "build: installed $place"
   done
-  name_package "$1"
+  name_pages "$1" && name_package "$1"
 )

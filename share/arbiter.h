@@ -17,9 +17,10 @@
  * processors * (period_us / slice_us). These four columns, and each column of an answer, are of one length; each answers 50
  * where they are not.
  *
- * Answers of all calls but arbiter_name: 0, or
+ * Answers of all calls but arbiter_name, arbiter_version and arbiter_weight_of_shares: 0, or
  *   1 to 3    the host is refused (BadProcessors, BadPeriod, BadSlice)
  *   4 to 10   the rows are (TooMany, BadParent, BadWeight, TooDeep, InnerDemand, DemandTooLarge, RootLimited)
+ *   14, 15    the quota or burst is, or its own period (QuotaTooLarge, PeriodOutOfRange)
  *   40 to 43  the text is (BadLine, BadField, CutShort, Trailing)
  *   50        not one entry for each row (WrongLength)
  *   51 to 58  the amounts are not the plan by this certificate
@@ -34,7 +35,10 @@
  * a bad host with amounts of another length than the rows answers 1 to 3, and one with uneven nums, dens and places 50. Of
  * arbiter_check_text 71 can stand in place of any answer.
  * arbiter_name gives the name of each, and docs/NUMBERS.md says what to do about it. Where a call does not answer 0, all that
- * it may write is as it was, but for `row` in step 4.
+ * it may write is as it was, but for `row` in step 4 and in arbiter_refused_row.
+ *
+ * arbiter_slices, arbiter_demand, arbiter_weight_of_shares, arbiter_refused_row, arbiter_name and arbiter_version ask for no
+ * memory: their answers are exact.
  */
 #ifndef ARBITER_H
 #define ARBITER_H
@@ -49,7 +53,7 @@ extern "C" {
 #define ARBITER_VERSION "1.0.0"
 #define ARBITER_NO_PARENT UINT32_MAX
 #define ARBITER_NO_LIMIT UINT64_MAX
-/* Room for each name and the 0 behind it. */
+/* Room for each name, and for the version, and the 0 behind it. */
 #define ARBITER_NAME_ROOM 17
 
 /* Writes the plan to `amounts`. */
@@ -86,6 +90,36 @@ uint32_t arbiter_limiting(uint64_t processors, uint64_t period_us, uint64_t slic
                           const uint32_t *parents, size_t parents_length, const uint64_t *weights, size_t weights_length,
                           const uint64_t *limits, size_t limits_length, const uint64_t *demands, size_t demands_length,
                           uint32_t *groups, size_t groups_length, uint32_t *count, uint64_t *rest);
+
+/* The number with which each call refuses these rows: 0, 4 to 10, or 50. For 4 to 10 `row` is written: the first row that is too
+ * many, or has a bad parent, weight, depth, demand or limit; for 8 the parent of the first row whose parent has a demand. For 0
+ * and 50, and where there is no row at all (5), `row` is as it was. */
+uint32_t arbiter_refused_row(const uint32_t *parents, size_t parents_length, const uint64_t *weights, size_t weights_length,
+                             const uint64_t *limits, size_t limits_length, const uint64_t *demands, size_t demands_length,
+                             uint32_t *row);
+
+/* Writes to `slices` how many whole slices of one period of the host a quota or burst allows, rounded down: a limit of a row. It
+ * is 0 to 10^15 microseconds of each own period of 1000 to 1000000; below one slice it allows none. Answers 1 to 3, then 14,
+ * then 15. */
+uint32_t arbiter_slices(uint64_t processors, uint64_t period_us, uint64_t slice_us, uint64_t us, uint64_t own_period_us,
+                        uint64_t *slices);
+
+/* Writes to `slices` how many slices of one period of the host a demand takes, rounded up: a demand of a row. The demand is in
+ * thousandths of a processor. Answers 1 to 3, then 9 where it takes more than 1000000 slices. */
+uint32_t arbiter_demand(uint64_t processors, uint64_t period_us, uint64_t slice_us, uint64_t thousandths, uint64_t *slices);
+
+/* The cpu.weight, 1 to 10000, that container runtimes write for cpu.shares; 0 for another conversion than the two. Shares below
+ * 2 count as 2, above 262144 as 262144. */
+uint64_t arbiter_weight_of_shares(uint64_t shares, uint32_t conversion);
+
+/* runc before 1.3.2, crun before 1.23: 1 + (shares - 2) * 9999 / 262142, rounded down. */
+#define ARBITER_SHARES_LINEAR 1
+/* Later ones: 10 to the power of (l^2 + 125 l) / 612 - 7 / 34, rounded up, where l is the logarithm of the shares to the base 2. */
+#define ARBITER_SHARES_LOGARITHMIC 2
+
+/* How many characters the version of the library has. It is written to the beginning of `version`, as arbiter_name writes a
+ * name: the text of ARBITER_VERSION in the header of that library. */
+uint32_t arbiter_version(char *version, size_t version_length);
 
 /* How many characters the name of a fault's number has, 0 where the number is no fault's. The name is written to the beginning of
  * `name` with a 0 behind it where there is room for both; else, and where the answer is 0, `name` is as it was. */

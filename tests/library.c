@@ -17,7 +17,8 @@ int main(void)
     uint64_t amounts[3] = {1, 1, 1}, nums[3], dens[3], rest = 1;
     uint8_t flags[3];
     uint32_t places[3], groups[3], count = 9, row = 9;
-    char name[ARBITER_NAME_ROOM] = "as it was";
+    uint64_t slices = 9;
+    char name[ARBITER_NAME_ROOM] = "as it was", version[ARBITER_NAME_ROOM] = "1";
 
     if (arbiter_plan(0, 100000, 5000, parents, 3, weights, 3, limits, 3, demands, 3, amounts, 3) != 1 || amounts[0] != 1)
         return 1;
@@ -48,5 +49,23 @@ int main(void)
         return 12;
     if (arbiter_name(58, name, sizeof name) != 16 || !is_same(name, "NextMarkNotAbove"))
         return 13;
+    if (arbiter_version(version, 5) != 5 || !is_same(version, "1"))
+        return 14;
+    if (arbiter_version(version, 6) != 5 || !is_same(version, ARBITER_VERSION))
+        return 15;
+    if (arbiter_slices(1, 100000, 5000, 1000000000000001, 0, &slices) != 14 || arbiter_slices(1, 100000, 5000, 0, 999, &slices) != 15 || slices != 9)
+        return 16;
+    if (arbiter_slices(1, 100000, 5000, 50000, 200000, &slices) != 0 || slices != 5)
+        return 17;
+    if (arbiter_demand(1, 100000, 5000, 50000001, &slices) != 9 || slices != 5 || arbiter_demand(1, 100000, 5000, 51, &slices) != 0 || slices != 2)
+        return 18;
+    if (arbiter_weight_of_shares(1024, ARBITER_SHARES_LINEAR) != 39 || arbiter_weight_of_shares(1024, ARBITER_SHARES_LOGARITHMIC) != 100
+            || arbiter_weight_of_shares(1024, 0) != 0)
+        return 19;
+    row = 9;
+    if (arbiter_refused_row(parents, 3, weights, 3, limits, 3, demands, 3, &row) != 0 || arbiter_refused_row(parents, 3, weights, 2, limits, 3, demands, 3, &row) != 50 || row != 9)
+        return 20;
+    if (arbiter_refused_row(parents, 3, weights, 3, limits, 3, weights, 3, &row) != 8 || row != 0)
+        return 21;
     return 0;
 }

@@ -4,6 +4,7 @@ What the machine cannot try (a compiler, cargo, pkg-config) is skipped, with its
 """
 import ctypes
 import functools
+import math
 import os
 import random
 import re
@@ -18,6 +19,7 @@ import pytest
 
 import arbiter
 import pages
+from stand_in import version
 from support import ROOT, Program, Talk, kit_folder, run, same
 from worked_scripts import all_scripts
 
@@ -31,7 +33,7 @@ ASKING = {line.encode() for line in ASKED.split("\n") if line}
 HOST_OF_ONE = arbiter.Host(1, 100000, 5000)
 LEVEL = re.compile(r"(\d+)/(\d+)@(\d+)\Z")
 # The numbers that share/arbiter.h lists.
-NUMBERS = {*range(1, 11), *range(40, 44), *range(50, 59), 71}
+NUMBERS = {*range(1, 18), *range(40, 44), *range(50, 59), 71}
 # Worked trees: host; rows of parent, weight, limit and demand; amounts.
 WORKED = {
     "the root alone": (HOST_OF_ONE, [(None, 100, None, 0)], [0]),
@@ -41,24 +43,33 @@ WORKED = {
     "two processors": (arbiter.Host(2, 100000, 5000), [(None, 100, None, 0), (0, 100, 20, 0), (1, 100, 15, 30), (1, 100, 15, 30)], [20, 20, 10, 10]),
     "a limit of 0": (HOST_OF_ONE, [(None, 100, None, 0), (0, 100, 0, 20), (0, 100, None, 5)], [5, 0, 5]),
 }
-# Refusals: number, host, rows.
+# Refusals: number, the row that it speaks of, host, rows.
 REFUSED = [
-    (1, arbiter.Host(0, 100000, 5000), [(None, 100, None, 0)]),
-    (1, arbiter.Host(65, 0, 0), [(None, 100, None, 0)]),
-    (2, arbiter.Host(1, 999, 1000), [(None, 100, None, 0)]),
-    (3, arbiter.Host(1, 100000, 3000), [(None, 100, None, 0)]),
-    (3, arbiter.Host(1, 100000, 0), [(None, 100, None, 0)]),
-    (4, HOST_OF_ONE, [(None, 100, None, 0)] + [(0, 100, None, 0)] * 16384),
-    (5, HOST_OF_ONE, []),
-    (5, HOST_OF_ONE, [(0, 100, None, 0)]),
-    (5, HOST_OF_ONE, [(None, 100, None, 0), (1, 100, None, 0)]),
-    (5, HOST_OF_ONE, [(None, 100, None, 0), (None, 100, None, 0)]),
-    (6, HOST_OF_ONE, [(None, 100, None, 0), (0, 0, None, 0)]),
-    (6, HOST_OF_ONE, [(None, 100, None, 0), (0, 10001, None, 0)]),
-    (7, HOST_OF_ONE, [(None, 100, None, 0)] + [(g, 100, None, 0) for g in range(65)]),
-    (8, HOST_OF_ONE, [(None, 100, None, 1), (0, 100, None, 0)]),
-    (9, HOST_OF_ONE, [(None, 100, None, 1000001)]),
-    (10, HOST_OF_ONE, [(None, 100, 5, 0)]),
+    (1, None, arbiter.Host(0, 100000, 5000), [(None, 100, None, 0)]),
+    (1, None, arbiter.Host(65, 0, 0), [(None, 100, None, 0)]),
+    (2, None, arbiter.Host(1, 999, 1000), [(None, 100, None, 0)]),
+    (3, None, arbiter.Host(1, 100000, 3000), [(None, 100, None, 0)]),
+    (3, None, arbiter.Host(1, 100000, 0), [(None, 0, None, 0)]),
+    (4, 16384, HOST_OF_ONE, [(None, 100, None, 0)] + [(0, 100, None, 0)] * 16384),
+    (4, 16384, HOST_OF_ONE, [(None, 100, None, 0)] + [(0, 0, None, 0)] * 16400),
+    (5, None, HOST_OF_ONE, []),
+    (5, 0, HOST_OF_ONE, [(0, 100, None, 0)]),
+    (5, 1, HOST_OF_ONE, [(None, 100, None, 0), (1, 100, None, 0)]),
+    (5, 2, HOST_OF_ONE, [(None, 0, None, 0), (0, 100, None, 0), (None, 100, None, 0)]),
+    (5, 1, HOST_OF_ONE, [(None, 100, None, 0), (2**32 - 2, 100, None, 0), (3, 100, None, 0)]),
+    (6, 1, HOST_OF_ONE, [(None, 100, None, 0), (0, 0, None, 0)]),
+    (6, 2, HOST_OF_ONE, [(None, 100, None, 0), (0, 10000, None, 0), (0, 10001, None, 0)]),
+    (6, 0, HOST_OF_ONE, [(None, 2**64 - 1, 5, 2**64 - 1)]),
+    (7, 65, HOST_OF_ONE, [(None, 100, None, 0)] + [(g, 100, None, 0) for g in range(70)]),
+    (7, 66, HOST_OF_ONE, [(None, 100, None, 1), (0, 100, None, 0), (0, 100, None, 0)]
+     + [(g, 100, None, 0) for g in range(2, 70)]),
+    (8, 0, HOST_OF_ONE, [(None, 100, None, 1), (0, 100, None, 0)]),
+    (8, 2, HOST_OF_ONE, [(None, 100, None, 0), (0, 100, None, 9), (0, 100, None, 1),
+                         (2, 100, None, 0)]),
+    (9, 0, HOST_OF_ONE, [(None, 100, None, 1000001)]),
+    (9, 2, HOST_OF_ONE, [(None, 100, 5, 0), (0, 100, None, 1000000), (0, 100, None, 1000001)]),
+    (10, 0, HOST_OF_ONE, [(None, 100, 5, 0)]),
+    (10, 0, HOST_OF_ONE, [(None, 100, 0, 0), (0, 100, 0, 1000000)]),
 ]
 
 
@@ -240,15 +251,136 @@ def test_worked_script(calls, program, script):
     same(lines, [""], "what is left")
 
 
-@pytest.mark.parametrize("number, host, tuples", REFUSED,
+@pytest.mark.parametrize("number, row, host, tuples", REFUSED,
                          ids=[f"{row[0]}, {at}" for at, row in enumerate(REFUSED)])
-def test_refused(calls, number, host, tuples):
-    """Each call that has a host and rows refuses them with the same number."""
+def test_refused(calls, number, row, host, tuples):
+    """Each call that has a host and rows refuses them with the same number and row."""
     rows = rows_of(tuples)
     nothing = arbiter.Certificate([False] * len(rows), [None] * len(rows))
     for call in (calls.plan, calls.certify, calls.limiting):
-        same(number_of(call, host, rows), (number, None), call.__name__)
-    same(number_of(calls.check, host, rows, [0] * len(rows), nothing), (number, None), "check")
+        same(number_of(call, host, rows), (number, row), call.__name__)
+    same(number_of(calls.check, host, rows, [0] * len(rows), nothing), (number, row), "check")
+    found = arbiter.U32(7)
+    words = with_lengths(raw_columns(rows), [len(rows)] * 4)
+    if number > 3:
+        same(calls.calls.arbiter_refused_row(*words, ctypes.byref(found)), number, "by itself")
+        same(found.value, 7 if row is None else row, "the row by itself")
+
+
+def test_refused_row_of_none(calls, random_trees):
+    """Rows that are not refused, and columns of several lengths: the row is as it was."""
+    found = arbiter.U32(7)
+    for _, rows in random_trees:
+        words = with_lengths(raw_columns(rows), [len(rows)] * 4)
+        same(calls.calls.arbiter_refused_row(*words, ctypes.byref(found)), 0, "no refusal")
+    columns = raw_columns(rows_of([(None, 0, None, 0), (0, 0, None, 0)]))
+    for at in range(4):
+        lengths = [1 if place == at else 2 for place in range(4)]
+        number = calls.calls.arbiter_refused_row(*with_lengths(columns, lengths),
+                                                 ctypes.byref(found))
+        same(number, 50, f"column {at}")
+    same(found.value, 7)
+
+
+# Conversions
+
+
+@pytest.mark.parametrize("usec, own_period, host, slices", [
+    (0, 1000, HOST_OF_ONE, 0), (4999, 100000, HOST_OF_ONE, 0), (5000, 100000, HOST_OF_ONE, 1),
+    (9999, 100000, HOST_OF_ONE, 1), (50000, 200000, HOST_OF_ONE, 5),
+    (50000, 50000, HOST_OF_ONE, 20), (1000, 1000000, HOST_OF_ONE, 0), (1000, 1000, HOST_OF_ONE, 20),
+    (10**15, 1000, HOST_OF_ONE, 2 * 10**13), (10**15, 1000, arbiter.Host(64, 10**6, 1000), 10**15),
+    (10**15, 10**6, arbiter.Host(1, 1000, 1000), 10**9),
+    (999999, 10**6, arbiter.Host(1, 10**6, 10**6), 0),
+    (10**6, 10**6, arbiter.Host(1, 10**6, 10**6), 1),
+])
+def test_slices(calls, usec, own_period, host, slices):
+    """Quotas and bursts at the ends of their ranges, by values that were worked by hand."""
+    same(calls.slices(host, usec, own_period), slices)
+
+
+@pytest.mark.parametrize("number, host, usec, own_period", [
+    (1, arbiter.Host(0, 0, 0), 2**64 - 1, 0), (1, arbiter.Host(65, 100000, 5000), 0, 100000),
+    (2, arbiter.Host(1, 1000001, 0), 2**64 - 1, 0), (3, arbiter.Host(1, 100000, 999), 2**64 - 1, 0),
+    (14, HOST_OF_ONE, 10**15 + 1, 0), (14, HOST_OF_ONE, 2**64 - 1, 100000),
+    (15, HOST_OF_ONE, 10**15, 999), (15, HOST_OF_ONE, 0, 0), (15, HOST_OF_ONE, 0, 1000001),
+    (15, HOST_OF_ONE, 0, 2**64 - 1),
+])
+def test_refused_slices(calls, number, host, usec, own_period):
+    """The first refusal is answered, and nothing is written."""
+    same(number_of(calls.slices, host, usec, own_period), (number, None))
+    slices = arbiter.U64(7)
+    words = [*calls.host(host), arbiter.U64(usec), arbiter.U64(own_period)]
+    same(calls.calls.arbiter_slices(*words, ctypes.byref(slices)), number)
+    same(slices.value, 7)
+
+
+@pytest.mark.parametrize("thousandths, host, slices", [
+    (0, HOST_OF_ONE, 0), (1, HOST_OF_ONE, 1), (50, HOST_OF_ONE, 1), (51, HOST_OF_ONE, 2),
+    (1000, HOST_OF_ONE, 20), (1001, HOST_OF_ONE, 21), (50000000, HOST_OF_ONE, 1000000),
+    (333, arbiter.Host(1, 3000, 1000), 1), (334, arbiter.Host(1, 3000, 1000), 2),
+    (1000000, arbiter.Host(64, 10**6, 1000), 10**6), (10**9, arbiter.Host(1, 10**6, 10**6), 10**6),
+])
+def test_demand(calls, thousandths, host, slices):
+    """Demands at the ends of their range, by values that were worked by hand."""
+    same(calls.demand(host, thousandths), slices)
+
+
+@pytest.mark.parametrize("number, host, thousandths", [
+    (1, arbiter.Host(0, 0, 0), 2**64 - 1), (2, arbiter.Host(64, 999, 1000), 2**64 - 1),
+    (3, arbiter.Host(64, 1000, 1001), 2**64 - 1), (9, HOST_OF_ONE, 50000001),
+    (9, HOST_OF_ONE, 2**64 - 1), (9, arbiter.Host(64, 10**6, 1000), 1000001),
+    (9, arbiter.Host(1, 10**6, 10**6), 10**9 + 1),
+])
+def test_refused_demand(calls, number, host, thousandths):
+    """The first refusal is answered, and nothing is written."""
+    same(number_of(calls.demand, host, thousandths), (number, None))
+    slices = arbiter.U64(7)
+    words = [*calls.host(host), arbiter.U64(thousandths)]
+    same(calls.calls.arbiter_demand(*words, ctypes.byref(slices)), number)
+    same(slices.value, 7)
+
+
+@pytest.mark.parametrize("shares, linear, logarithmic", [
+    (0, 1, 1), (1, 1, 1), (2, 1, 1), (3, 1, 2), (28, 1, 7), (29, 2, 7), (102, 4, 17), (256, 10, 35),
+    (512, 20, 59), (1023, 39, 100), (1024, 39, 100), (1025, 40, 101), (2048, 79, 174),
+    (262143, 9999, 10000), (262144, 10000, 10000),
+    (262145, 10000, 10000), (2**64 - 1, 10000, 10000),
+])
+def test_weights_of_shares(calls, shares, linear, logarithmic):
+    """Weights at the ends of the range and at the points that the conversions are made for."""
+    same(calls.weight_of_shares(shares), linear)
+    same(calls.weight_of_shares(shares, "logarithmic"), logarithmic)
+
+
+def test_all_weights_of_shares(calls):
+    """Each number of shares has a weight, which is that of the formulas in floating point."""
+    call = calls.calls.arbiter_weight_of_shares
+    for shares in range(3, 262144):
+        linear = 1 + (shares - 2) * 9999 // 262142
+        same(call(arbiter.U64(shares), arbiter.U32(1)), linear, f"{shares}")
+        if shares != 1024:
+            logarithm = math.log2(shares)
+            exact = 10 ** ((logarithm * logarithm + 125 * logarithm) / 612 - 7 / 34)
+            # so far from a whole number that floating point rounds as the formula does
+            assert abs(exact - round(exact)) > 1e-8, shares
+            same(call(arbiter.U64(shares), arbiter.U32(2)), math.ceil(exact), f"{shares}")
+
+
+@pytest.mark.parametrize("conversion", [0, 3, 2**32 - 1])
+def test_no_conversion(calls, conversion):
+    same(calls.calls.arbiter_weight_of_shares(arbiter.U64(1024), arbiter.U32(conversion)), 0)
+
+
+def test_version(calls):
+    """The version is that of the program, and is written if there is room for it."""
+    text = version().encode()
+    same(calls.version(), text.decode())
+    for length in range(arbiter.NAME_ROOM):
+        room = ctypes.create_string_buffer(b"~" * 32, 32)
+        same(calls.calls.arbiter_version(room, arbiter.SIZE(length)), len(text), f"{length} bytes")
+        front = text + b"\0" if len(text) < length else b""
+        same(room.raw, front + b"~" * (32 - len(front)), f"{length} bytes")
 
 
 # The host of raw calls: one processor of 20 slices.
@@ -628,7 +760,7 @@ def soname_and_names(path):
 def test_soname_and_names(library):
     """The shared library has its soname, and shows the names that the header declares alone."""
     header = (ROOT / "share/arbiter.h").read_text(encoding="utf-8")
-    declared = sorted(re.findall(r"^uint32_t (\w+)\(", header, re.M))
+    declared = sorted(re.findall(r"^uint(?:32|64)_t (\w+)\(", header, re.M))
     first = re.search(r'^#define ARBITER_VERSION "(\d+)\.', header, re.M).group(1)
     same(soname_and_names(library), ([f"libarbiter.so.{first}"], declared))
 
@@ -650,31 +782,31 @@ def installed():
         yield Path(folder)
 
 
-def embedded(language):
-    """The files, the command and the answer of docs/EMBEDDING.md for a language."""
+def embedded(name):
+    """The files, the command and the answer of the example in docs/EMBEDDING.md with a file."""
     files, command = {}, None
     for _, kind, words, text, _ in pages.fences(pages.EMBEDDING):
         if kind == "command":
             command = text
-        elif kind == "answer" and language in {kind for kind, _ in files.values()}:
-            return {name: text for name, (_, text) in files.items()}, command, text
+        elif kind == "answer" and name in files:
+            return files, command, text
         elif kind == "answer":
             files, command = {}, None
         elif kind:
-            files[words] = (kind, text)
-    raise ValueError(f"docs/{pages.EMBEDDING} has no example in {language}")
+            files[words] = text
+    raise ValueError(f"docs/{pages.EMBEDDING} has no example with {name}")
 
 
-EXAMPLES = {"c": ["cc", "pkg-config"], "python": ["python3"],
-            "rust": ["cargo", "rustc", "pkg-config"]}
+EXAMPLES = {"two-groups.c": ["cc", "pkg-config"], "two_groups.py": ["python3"],
+            "Cargo.toml": ["cargo", "rustc", "pkg-config"], "units.py": ["python3"]}
 
 
-@pytest.mark.parametrize("language", EXAMPLES)
-def test_example(request, scratch, language):
+@pytest.mark.parametrize("name", EXAMPLES)
+def test_example(request, scratch, name):
     """An example of docs/EMBEDDING.md prints what stands below it."""
-    need(*EXAMPLES[language])
+    need(*EXAMPLES[name])
     installed = request.getfixturevalue("installed")
-    files, command, answer = embedded(language)
+    files, command, answer = embedded(name)
     for name, text in files.items():
         path = scratch / name
         path.parent.mkdir(parents=True, exist_ok=True)

@@ -169,6 +169,8 @@ def test_one_version(path):
                           ("arbiter.1", r"^\.Ql arbiter (\S*) ,$"),
                           ("debian/changelog", r"\Aarbiter \((.*)\) ")):
         same(re.findall(spelled, share(name), re.M), [wanted], f"version in {name}")
+    exported = (ROOT / "crates/bw_exports/src/version_call.rt").read_text()
+    same(re.findall('^const VERSION: &str = "(.*)";$', exported, re.M), [wanted], "arbiter_version")
     first = wanted.partition(".")[0]
     same(re.findall(r"^LIBARBITER_(\w+) {$", share("arbiter.map"), re.M), [first], "exported names")
     tool = (ROOT / "tools/arbiter.py").read_text()
@@ -188,10 +190,10 @@ def test_one_licence():
 
 def test_library_shows_its_header():
     """The names that the shared library exports are those that the header declares."""
-    declared = re.findall(r"^uint32_t (\w+)\(", share("arbiter.h"), re.M)
+    declared = re.findall(r"^uint(?:32|64)_t (\w+)\(", share("arbiter.h"), re.M)
     listed = r"^  global:\n((?: {4}\w+;\n)*)  local:\n    \*;\n"
     shown = re.search(listed, share("arbiter.map"), re.M).group(1)
-    same((len(declared), re.findall(r"\w+", shown)), (6, declared), "names in arbiter.map")
+    same((len(declared), re.findall(r"\w+", shown)), (11, declared), "names in arbiter.map")
 
 
 # Completions

@@ -20,10 +20,11 @@ SONAME = "libarbiter.so.1"
 NO_PARENT, NO_LIMIT = 2**32 - 1, 2**64 - 1
 U8, U32, U64, SIZE = ctypes.c_uint8, ctypes.c_uint32, ctypes.c_uint64, ctypes.c_size_t
 NAME_ROOM = 17
+CONVERSIONS = {"linear": 1, "logarithmic": 2}
 
 
 class Refused(Exception):
-    """What the library answers in place of 0: `number`, `name`, and `row` where a group has the fault."""
+    """What the library answers in place of 0: `number`, `name`, and `row` where the number speaks of one."""
 
     def __init__(self, number, name, row=None):
         self.number, self.name, self.row = number, name, row
@@ -87,8 +88,9 @@ class Library:
     def __init__(self, path=None):
         path = path or os.environ.get("ARBITER_LIBRARY") or (BUILT if os.path.exists(BUILT) else SONAME)
         self.calls = ctypes.CDLL(os.path.abspath(path) if "/" in path else path)
-        for name in ("plan", "certify", "check", "check_text", "limiting", "name"):
+        for name in ("plan", "certify", "check", "check_text", "limiting", "refused_row", "slices", "demand", "name", "version"):
             getattr(self.calls, f"arbiter_{name}").restype = U32
+        self.calls.arbiter_weight_of_shares.restype = U64
 
     def name(self, number):
         """The name of a number that a call answered, None where it is no fault's."""
@@ -96,13 +98,30 @@ class Library:
         count = self.calls.arbiter_name(U32(in_range(number, 32, "number")), name, SIZE(len(name)))
         return name.value.decode() if count else None
 
+    def version(self):
+        """The version of the library."""
+        version = ctypes.create_string_buffer(NAME_ROOM)
+        self.calls.arbiter_version(version, SIZE(len(version)))
+        return version.value.decode()
+
     def refused(self, number, row=None):
         return Refused(number, self.name(number), row)
 
+    def of_rows(self, number, rows):
+        """The refusal of an instance, with the row that it speaks of."""
+        row = U32(NO_PARENT)
+        self.calls.arbiter_refused_row(*self.columns(rows), ctypes.byref(row))
+        return self.refused(number, row.value if 4 <= number <= 10 and row.value != NO_PARENT else None)
+
+    def host(self, host):
+        return [U64(in_range(n, 64, "host")) for n in (host.processors, host.period_us, host.slice_us)]
+
     def asked(self, host, rows):
         """The words with which each call begins."""
-        numbers = [U64(in_range(n, 64, "host")) for n in (host.processors, host.period_us, host.slice_us)]
-        return numbers + given(
+        return self.host(host) + self.columns(rows)
+
+    def columns(self, rows):
+        return given(
             column(U32, [or_none(row.parent, NO_PARENT, "parent") for row in rows], "parent"),
             column(U64, [row.weight for row in rows], "weight"),
             column(U64, [or_none(row.limit, NO_LIMIT, "limit") for row in rows], "limit"),
@@ -113,7 +132,7 @@ class Library:
         amounts = (U64 * len(rows))()
         number = self.calls.arbiter_plan(*self.asked(host, rows), *given(amounts))
         if number:
-            raise self.refused(number)
+            raise self.of_rows(number, rows)
         return list(amounts)
 
     def certify(self, host, rows):
@@ -122,7 +141,7 @@ class Library:
         amounts, flags, nums, dens, places = (U64 * count)(), (U8 * count)(), (U64 * count)(), (U64 * count)(), (U32 * count)()
         number = self.calls.arbiter_certify(*self.asked(host, rows), *given(amounts, flags, nums, dens, places))
         if number:
-            raise self.refused(number)
+            raise self.of_rows(number, rows)
         levels = [level if level[0] else None for level in zip(nums, dens, places)]
         return list(amounts), Certificate([bool(flag) for flag in flags], levels)
 
@@ -136,7 +155,7 @@ class Library:
         row = U32(NO_PARENT)
         number = self.calls.arbiter_check(*self.asked(host, rows), *claimed, ctypes.byref(row))
         if number:
-            raise self.refused(number, None if row.value == NO_PARENT else row.value)
+            raise self.of_rows(number, rows) if number <= 10 else self.refused(number, None if row.value == NO_PARENT else row.value)
 
     def check_text(self, text):
         """Returns where a certified text, as bytes, holds together; else Refused, with the row of a fault."""
@@ -150,5 +169,26 @@ class Library:
         groups, count, rest = (U32 * len(rows))(), U32(), U64()
         number = self.calls.arbiter_limiting(*self.asked(host, rows), *given(groups), ctypes.byref(count), ctypes.byref(rest))
         if number:
-            raise self.refused(number)
+            raise self.of_rows(number, rows)
         return list(groups[:count.value]), rest.value
+
+    def slices(self, host, usec, own_period_us=100000):
+        """The whole slices of one period that a quota or burst allows, rounded down: microseconds of its own period."""
+        slices = U64()
+        number = self.calls.arbiter_slices(*self.host(host), U64(in_range(usec, 64, "quota or burst")),
+                                           U64(in_range(own_period_us, 64, "period")), ctypes.byref(slices))
+        if number:
+            raise self.refused(number)
+        return slices.value
+
+    def demand(self, host, thousandths):
+        """The slices of one period that thousandths of a CPU take, rounded up."""
+        slices = U64()
+        number = self.calls.arbiter_demand(*self.host(host), U64(in_range(thousandths, 64, "demand")), ctypes.byref(slices))
+        if number:
+            raise self.refused(number)
+        return slices.value
+
+    def weight_of_shares(self, shares, conversion="linear"):
+        """The `cpu.weight` that container runtimes write for `cpu.shares`: `linear` before runc 1.3.2, `logarithmic` from it on."""
+        return self.calls.arbiter_weight_of_shares(U64(in_range(shares, 64, "shares")), U32(CONVERSIONS[conversion]))

@@ -15,9 +15,9 @@ from dataclasses import dataclass
 from pathlib import Path
 from typing import Any, Protocol
 
+from arbiter_host import units
 from arbiter_host.faults import HostFault, strerror
 from arbiter_host.model import Host, Row
-from arbiter_host.units import MAX_QUOTA
 
 SONAME = "libarbiter.so.1"
 NO_PARENT, NO_LIMIT = 2**32 - 1, 2**64 - 1
@@ -27,6 +27,9 @@ COLUMNS = (U64, U8, U64, U64, U32)
 # Arrays of C of these types, one entry for each row.
 Certificate = list[Any]
 NAME_ROOM = 17
+# Number of a demand that is too large.
+TOO_LARGE = 9
+CONVERSIONS = {"linear": 1, "log": 2}
 PACKAGE = Path(__file__).resolve().parent
 CLONE = PACKAGE.parent.parent
 SECONDS = 300
@@ -68,15 +71,53 @@ class LibraryEngine:
     def __init__(self, path: str) -> None:
         try:
             self.calls = ctypes.CDLL(path)
-            for name in ("certify", "check", "limiting", "name"):
+            for name in ("certify", "check", "limiting", "refused_row", "name"):
                 getattr(self.calls, f"arbiter_{name}").restype = U32
+            self.slices_of = self.calls.arbiter_slices
+            self.demand_of = self.calls.arbiter_demand
+            self.weight_of = self.calls.arbiter_weight_of_shares
         except (OSError, AttributeError, ValueError) as error:
             raise HostFault(f"the C library: {error}") from error
+        one = ctypes.POINTER(U64)
+        self.slices_of.argtypes, self.slices_of.restype = [U64, U64, U64, U64, U64, one], U32
+        self.demand_of.argtypes, self.demand_of.restype = [U64, U64, U64, U64, one], U32
+        self.weight_of.argtypes, self.weight_of.restype = [U64, U32], U64
         self.path = path
 
     @property
     def words(self) -> str:
         return f"library {self.path}"
+
+    def slices(self, usec: int, own_period: int, period: int, slice_usec: int) -> int | None:
+        """Slices of one period of the host that a quota or burst allows, rounded down."""
+        asked = (usec, own_period, period, slice_usec)
+        if not all(0 <= number < 2**64 for number in asked):
+            return None
+        slices = U64()
+        number = self.slices_of(1, period, slice_usec, usec, own_period, slices)
+        return None if number else slices.value
+
+    def demand(self, thousandths: int, period: int, slice_usec: int) -> int | None:
+        """Slices of one period that thousandths of a CPU take, rounded up, at most 1000000."""
+        if not all(0 <= number < 2**64 for number in (thousandths, period, slice_usec)):
+            return None
+        slices = U64()
+        number = self.demand_of(1, period, slice_usec, thousandths, slices)
+        if number == TOO_LARGE:
+            return units.MAX_DEMAND
+        return None if number else slices.value
+
+    def weight(self, shares: int, conversion: str) -> int | None:
+        """`cpu.weight` of `cpu.shares`."""
+        if not 0 <= shares < 2**64:
+            return None
+        return int(self.weight_of(shares, CONVERSIONS[conversion])) or None
+
+    def row_of_refusal(self, number: int, asked: list[Any]) -> int | None:
+        """The row that a refusal of rows speaks of, None where it speaks of none."""
+        row = U32(NO_PARENT)
+        self.calls.arbiter_refused_row(*asked[3:], ctypes.byref(row))
+        return row.value if 4 <= number <= 10 and row.value != NO_PARENT else None
 
     def name(self, number: int) -> str:
         """The name of a number that a call answered."""
@@ -97,10 +138,13 @@ class LibraryEngine:
 
     def certified(self, host: Host, rows: Sequence[Row]) -> Certificate:
         """A plan with its certificate, which no check has read."""
+        asked = self.asked(host.planned(), rows)
         written = [word for kind in COLUMNS for word in column(kind, [0] * len(rows))]
-        number = self.calls.arbiter_certify(*self.asked(host.planned(), rows), *written)
+        number = self.calls.arbiter_certify(*asked, *written)
         if number:
-            raise HostFault(f"no plan: error {number} {self.name(number)}")
+            place = self.row_of_refusal(number, asked)
+            where = "" if place is None else f" (row {place})"
+            raise HostFault(f"no plan: error {number} {self.name(number)}{where}")
         return written[::2]
 
     def accepted(self, host: Host, rows: Sequence[Row], certificate: Certificate) -> Answer:
@@ -142,7 +186,7 @@ def script_of_rows(host: Host, rows: Sequence[Row], paths: Sequence[str]) -> lis
 
 def written_slices(host: Host, slices: int) -> int:
     """A limit that a quota of the kernel's range can hold. No want of a host is above it."""
-    return min(slices, MAX_QUOTA // host.slice_usec)
+    return min(slices, units.MAX_QUOTA // host.slice_usec)
 
 
 def max_of_slices(host: Host, slices: int) -> str:
@@ -285,8 +329,8 @@ def found_program() -> ProgramEngine:
                     " --library PATH or --program PATH")
 
 
-def find(library: str | None = None, program: str | None = None) -> Engine:
-    """The engine: what is named first, `$ARBITER_LIBRARY`, a library, `$ARBITER`, a program."""
+def found(library: str | None = None, program: str | None = None) -> Engine:
+    """The engine that is named, or the first that is found."""
     if library and library != "none":
         return LibraryEngine(os.path.abspath(library) if "/" in library else library)
     if program:
@@ -300,6 +344,16 @@ def find(library: str | None = None, program: str | None = None) -> Engine:
             return engine
     given = os.environ.get("ARBITER")
     return ProgramEngine(given) if given else found_program()
+
+
+def find(library: str | None = None, program: str | None = None) -> Engine:
+    """The engine: what is named first, `$ARBITER_LIBRARY`, a library, `$ARBITER`, a program.
+
+    A library converts from now on, too.
+    """
+    engine = found(library, program)
+    units.convert_by(engine if isinstance(engine, LibraryEngine) else None)
+    return engine
 
 
 class Late:

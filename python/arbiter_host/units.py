@@ -1,13 +1,15 @@
 """Conversions between what people write, what the kernel holds, and the planner's slices.
 
 CPU amounts are thousandths of a CPU, as fractions, so that slices convert back exactly. Times are
-whole microseconds. Each conversion to slices is in this module alone.
+whole microseconds. Each conversion to slices is in this module alone. Where the C library is the
+engine, its calls convert: they are proved, and the arithmetic here answers the same.
 """
 from __future__ import annotations
 
 import math
 import re
 from fractions import Fraction
+from typing import Protocol
 
 from arbiter_host.faults import HostFault
 
@@ -34,6 +36,28 @@ TIME_UNITS = {
     "w": Fraction(7 * 86400 * 10**6), "month": Fraction(2629800 * 10**6),
     "y": Fraction(31557600 * 10**6),
 }
+
+
+class Conversions(Protocol):
+    """Conversions of the C library. None is for numbers that a call does not take or refuses."""
+
+    def slices(self, usec: int, own_period: int, period: int, slice_usec: int) -> int | None:
+        """Slices of one period of the host that a quota or burst allows, rounded down."""
+
+    def demand(self, thousandths: int, period: int, slice_usec: int) -> int | None:
+        """Slices of one period that a demand takes, rounded up."""
+
+    def weight(self, shares: int, conversion: str) -> int | None:
+        """`cpu.weight` of `cpu.shares`, by a name of WEIGHT_OF_SHARES."""
+
+
+_library: Conversions | None = None
+
+
+def convert_by(library: Conversions | None) -> None:
+    """Has the calls of a library convert from now on; None: the arithmetic of this module."""
+    global _library
+    _library = library
 
 
 def number_and_unit(text: str) -> tuple[Fraction, str] | None:
@@ -76,11 +100,19 @@ def parse_time(text: str) -> int:
 
 def limit_slices(usec: int, own_period: int, period: int, slice_usec: int) -> int:
     """Slices of one period of the host that a quota or burst allows, rounded down."""
-    return usec * period // (own_period * slice_usec)
+    found = _library.slices(usec, own_period, period, slice_usec) if _library else None
+    return usec * period // (own_period * slice_usec) if found is None else found
 
 
 def demand_slices(thousandths: Fraction, period: int, slice_usec: int) -> int:
-    """Slices of one period that a demand takes, rounded up, at most 1000000."""
+    """Slices of one period that a demand takes, rounded up, at most 1000000.
+
+    The library takes whole thousandths. A part of one is converted here.
+    """
+    if _library and thousandths.denominator == 1:
+        found = _library.demand(int(thousandths), period, slice_usec)
+        if found is not None:
+            return found
     return min(math.ceil(thousandths * period / (1000 * slice_usec)), MAX_DEMAND)
 
 
@@ -106,12 +138,18 @@ def quota_of_thousandths(thousandths: int, period: int = DEFAULT_PERIOD) -> int 
 
 def weight_of_shares_linear(shares: int) -> int:
     """`cpu.weight` of `cpu.shares` as runc before 1.3.2 and crun before 1.23 write it."""
+    found = _library.weight(shares, "linear") if _library else None
+    if found is not None:
+        return found
     bounded = min(max(shares, MIN_SHARES), MAX_SHARES)
     return 1 + (bounded - MIN_SHARES) * 9999 // 262142
 
 
 def weight_of_shares_log(shares: int) -> int:
     """`cpu.weight` of `cpu.shares` as runc from 1.3.2 on and crun from 1.23 on write it."""
+    found = _library.weight(shares, "log") if _library else None
+    if found is not None:
+        return found
     if shares <= MIN_SHARES:
         return MIN_WEIGHT
     if shares >= MAX_SHARES:

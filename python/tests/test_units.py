@@ -4,7 +4,7 @@ from fractions import Fraction
 import pytest
 from arbiter_host import units
 from arbiter_host.faults import HostFault
-from hypothesis import given
+from hypothesis import HealthCheck, given, settings
 from hypothesis import strategies as st
 
 
@@ -90,3 +90,95 @@ def test_cpu_text_is_read_back(thousandths):
     assert 0 <= read - thousandths < Fraction(1, 10**6)
     if thousandths.denominator == 1:
         assert read == thousandths
+
+
+# The C library's conversions, and the arithmetic of this package
+
+
+USECS = st.one_of(st.sampled_from([0, 1, 999, 1000, 4999, 5000, 10**15]), st.integers(0, 10**15))
+PERIODS = st.one_of(st.sampled_from([1000, 100000, 10**6]), st.integers(1000, 10**6))
+HOSTS = st.tuples(st.integers(1, 1000), st.integers(1, 1000)).map(
+    lambda drawn: (1000 * drawn[0], 1000 * drawn[0] * min(drawn[1], 1000 // drawn[0])))
+
+
+@pytest.fixture
+def by_library(library_engine):
+    """A conversion by the library, beside one by the arithmetic of `units`."""
+    def both(convert, *words):
+        units.convert_by(library_engine)
+        try:
+            found = convert(*words)
+        finally:
+            units.convert_by(None)
+        return found, convert(*words)
+    return both
+
+
+@settings(suppress_health_check=[HealthCheck.function_scoped_fixture])
+@given(usec=USECS, own=PERIODS, host=HOSTS)
+def test_library_limits(by_library, library_engine, usec, own, host):
+    """Quotas and bursts of every range are the same slices by both."""
+    slice_usec, period = host
+    found, known = by_library(units.limit_slices, usec, own, period, slice_usec)
+    assert found == known == library_engine.slices(usec, own, period, slice_usec)
+
+
+@settings(suppress_health_check=[HealthCheck.function_scoped_fixture])
+@given(thousandths=st.one_of(st.integers(0, 2000), st.integers(0, 10**12), st.integers(0, 2**64)),
+       host=HOSTS)
+def test_library_demands(by_library, library_engine, thousandths, host):
+    """Whole thousandths are the same slices by both. Those of 2^64 are no number of the library."""
+    slice_usec, period = host
+    found, known = by_library(units.demand_slices, Fraction(thousandths), period, slice_usec)
+    assert found == known
+    taken = library_engine.demand(thousandths, period, slice_usec)
+    assert taken == (known if thousandths < 2**64 else None)
+
+
+@given(host=HOSTS, part=st.fractions(0, 10**6, max_denominator=10**6))
+def test_parts_of_thousandths(host, part):
+    """A part of a thousandth is asked of no library."""
+    class Asked:
+        """A library that is never asked."""
+
+        def demand(self, thousandths, period, slice_usec):
+            """One thousandth and up are whole here."""
+            assert part.denominator == 1
+            return 7
+
+    units.convert_by(Asked())
+    try:
+        found = units.demand_slices(part, host[1], host[0])
+    finally:
+        units.convert_by(None)
+    assert (found == 7) if part.denominator == 1 else found <= part * host[1] / (1000 * host[0]) + 1
+
+
+@pytest.mark.parametrize("conversion", units.WEIGHT_OF_SHARES)
+def test_library_weights(by_library, library_engine, conversion):
+    """Each number of shares has the same weight by both."""
+    convert = units.WEIGHT_OF_SHARES[conversion]
+    for shares in [*range(262147), 10**9, 2**64 - 1]:
+        assert library_engine.weight(shares, conversion) == convert(shares), shares
+    for shares in (0, 1, 2, 3, 1024, 262144, 2**64):
+        found, known = by_library(convert, shares)
+        assert found == known, shares
+
+
+@pytest.mark.parametrize("words", [(10**15 + 1, 100000, 100000, 5000), (1000, 999, 100000, 5000),
+                                   (2**64, 100000, 100000, 5000), (1000, 100000, 100000, 3000)])
+def test_refused_by_the_library(by_library, library_engine, words):
+    """Numbers that the library refuses are converted here."""
+    assert library_engine.slices(*words) is None
+    found, known = by_library(units.limit_slices, *words)
+    assert found == known == words[0] * words[2] // (words[1] * words[3])
+
+
+def test_the_engine_converts(library_engine, program_engine, monkeypatch):
+    """A library that is the engine converts, and a program does not."""
+    from arbiter_host import engine
+    monkeypatch.setattr(units, "_library", None)
+    found = engine.find(library_engine.path)
+    assert units._library is found
+    engine.find("none", program_engine.path)
+    assert units._library is None

@@ -3,3 +3,4 @@ mod Asked
 mod Claimed
 mod Spelling
 mod Fit
+mod RefusedRow

@@ -6,3 +6,5 @@ pub mod Checked
 pub mod Limited
 pub mod Certified
 pub mod Texts
+pub mod Units
+pub mod RefusedRow

@@ -71,8 +71,15 @@ impl<'a> Columns<'a> {
         self.weights.len() == count && self.limits.len() == count && self.demands.len() == count
     }
 
-    // Row g of the columns.
-    fn row(&self, g: usize) -> Row
+    /// The number of entries of the first column.
+    pub(crate) fn len(&self) -> usize
+        ensures { result ≡ length self.now.parents.now }
+    {
+        self.parents.len()
+    }
+
+    /// Row g of the columns.
+    pub(crate) fn row(&self, g: usize) -> Row
         requires even { are_even (table_of self.now) ≡ true }
         requires within { g < length self.now.parents.now }
         ensures { result ≡ row_in (table_of self.now) g }

@@ -4,13 +4,16 @@ ghost use Rattle.bw_exports.specs.Names.{number_of_fault, name_of_fault, IsNoFau
 
 use bw_cert::CertFault;
 use bw_check::CheckFault;
+use bw_files::FileFault;
 use bw_model::{HostFault, InstanceFault};
 
-/// A fault of an instance or a certified text, or of claimed amounts.
+/// A fault of an instance or a certified text, of a value of a file, or of claimed amounts.
 #[derive(Clone, Copy, Debug, PartialEq, Eq)]
 pub(crate) enum Fault {
     /// 1 to 10, 40 to 43 and 71.
     Asked(CertFault),
+    /// 11 to 17.
+    Written(FileFault),
     /// 50 to 58.
     Claimed(CheckFault),
 }
@@ -22,6 +25,7 @@ impl Fault {
     {
         match self {
             Fault::Asked(fault) => fault.name(),
+            Fault::Written(fault) => fault.name(),
             Fault::Claimed(fault) => fault.name(),
         }
     }
@@ -43,6 +47,13 @@ pub(crate) fn fault_of(number: u32) -> Option<Fault>
         8 => Some(Fault::Asked(CertFault::Instance(InstanceFault::InnerDemand))),
         9 => Some(Fault::Asked(CertFault::Instance(InstanceFault::DemandTooLarge))),
         10 => Some(Fault::Asked(CertFault::Instance(InstanceFault::RootLimited))),
+        11 => Some(Fault::Written(FileFault::BadNumber)),
+        12 => Some(Fault::Written(FileFault::WeightOutOfRange)),
+        13 => Some(Fault::Written(FileFault::QuotaTooSmall)),
+        14 => Some(Fault::Written(FileFault::QuotaTooLarge)),
+        15 => Some(Fault::Written(FileFault::PeriodOutOfRange)),
+        16 => Some(Fault::Written(FileFault::TooManyWords)),
+        17 => Some(Fault::Written(FileFault::Empty)),
         40 => Some(Fault::Asked(CertFault::BadLine)),
         41 => Some(Fault::Asked(CertFault::BadField)),
         42 => Some(Fault::Asked(CertFault::CutShort)),

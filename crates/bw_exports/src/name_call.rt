@@ -1,20 +1,9 @@
 //! `arbiter_name`: the name of an answered number, called from C.
 ghost use Rattle.std.specs.Prelude.{◌≡◌, ◌≤◌};
-ghost use Rattle.bw_exports.specs.Names.{with_name, IsNameTold};
+ghost use Rattle.bw_exports.specs.Names.{IsNameTold};
 
 use crate::fault::fault_of;
-use crate::front::write_front;
-
-// Writes a name and a 0 to the beginning, if there is room for both.
-#[tactic(auto, unfolding(crate::specs::Names::with_name))]
-fn write_name(into: &mut [u8], name: &[u8])
-    ensures { into.new ≡ with_name name.now into.old }
-{
-    if name.len() < into.len() {
-        write_front(into, name);
-        into[name.len()] = 0;
-    }
-}
+use crate::front::write_name;
 
 /// The name of a number that another call answered, as `arbiter check` prints it.
 ///

@@ -1,5 +1,5 @@
 -- Weights of `cpu.shares`, as container runtimes convert them.
-use Rattle.std.specs.Prelude.{◌≡◌, ◌⊎◌, ℕ, ◌+◌, ◌-◌, ◌*◌, ◌/◌, ◌<◌, ◌≤◌, min, max}
+use Rattle.std.specs.Prelude.{◌≡◌, ℕ, ◌+◌, ◌-◌, ◌*◌, ◌/◌, ◌<◌, ◌≤◌, min, max}
 use Rattle.bw_model.specs.declared.limits.TheConstants.{MIN_WEIGHT, MAX_WEIGHT}
 use Rattle.bw_units.specs.declared.logarithm.TheConstants.{UNIT}
 use Rattle.bw_units.specs.declared.shares.TheConstants.{MIN_SHARES, MAX_SHARES, DEFAULT_SHARES}

@@ -112,6 +112,24 @@ impl fmt::Display for Fault {
 
 impl std::error::Error for Fault {}
 
+/// How container runtimes convert `cpu.shares`.
+#[derive(Clone, Copy, Debug, PartialEq, Eq)]
+pub enum Conversion {
+    /// As runc before 1.3.2 and crun before 1.23.
+    Linear = 1,
+    /// As runc from 1.3.2 on and crun from 1.23 on.
+    Logarithmic = 2,
+}
+
+/// A refusal of rows, with the row that it speaks of.
+fn of_rows(number: u32, columns: &Columns) -> Result<(), Fault> {
+    let mut row = u32::MAX;
+    if (4..=10).contains(&number) {
+        columns.refused_row(&mut row);
+    }
+    answered(number, Some(row).filter(|row| *row != u32::MAX))
+}
+
 fn answered(number: u32, row: Option<u32>) -> Result<(), Fault> {
     match number {
         0 => Ok(()),
@@ -122,10 +140,10 @@ fn answered(number: u32, row: Option<u32>) -> Result<(), Fault> {
 /// The plan: the slices that each row gets in one period.
 ///
 /// # Errors
-/// The host or the rows are refused (1 to 10), or memory is (71).
+/// The host is refused (1 to 3), the rows are (4 to 10, with the row that the number speaks of), or memory is (71).
 pub fn plan(host: Host, rows: &[Row]) -> Result<Vec<u64>, Fault> {
-    let mut amounts = vec![0; rows.len()];
-    answered(Columns::of(rows).plan(host, &mut amounts), None)?;
+    let (columns, mut amounts) = (Columns::of(rows), vec![0; rows.len()]);
+    of_rows(columns.plan(host, &mut amounts), &columns)?;
     Ok(amounts)
 }
 
@@ -134,12 +152,9 @@ pub fn plan(host: Host, rows: &[Row]) -> Result<Vec<u64>, Fault> {
 /// # Errors
 /// As of [`plan`].
 pub fn certify(host: Host, rows: &[Row]) -> Result<(Vec<u64>, Certificate), Fault> {
-    let mut amounts = vec![0; rows.len()];
+    let (columns, mut amounts) = (Columns::of(rows), vec![0; rows.len()]);
     let mut claim = raw::Claim::zeros(rows.len());
-    answered(
-        Columns::of(rows).certify(host, &mut amounts, &mut claim),
-        None,
-    )?;
+    of_rows(columns.certify(host, &mut amounts, &mut claim), &columns)?;
     Ok((amounts, claim.certificate()))
 }
 
@@ -153,8 +168,11 @@ pub fn check(
     amounts: &[u64],
     certificate: &Certificate,
 ) -> Result<(), Fault> {
-    let mut row = u32::MAX;
-    let number = Columns::of(rows).check(host, amounts, &raw::Claim::of(certificate), &mut row);
+    let (columns, mut row) = (Columns::of(rows), u32::MAX);
+    let number = columns.check(host, amounts, &raw::Claim::of(certificate), &mut row);
+    if number <= 10 {
+        return of_rows(number, &columns);
+    }
     answered(number, Some(row).filter(|row| *row != u32::MAX))
 }
 
@@ -173,13 +191,48 @@ pub fn check_text(text: &[u8]) -> Result<(), Fault> {
 /// # Errors
 /// As of [`plan`].
 pub fn limiting(host: Host, rows: &[Row]) -> Result<(Vec<u32>, u64), Fault> {
-    let (mut groups, mut count, mut rest) = (vec![0; rows.len()], 0, 0);
-    answered(
-        Columns::of(rows).limiting(host, &mut groups, &mut count, &mut rest),
-        None,
+    let (columns, mut groups) = (Columns::of(rows), vec![0; rows.len()]);
+    let (mut count, mut rest) = (0, 0);
+    of_rows(
+        columns.limiting(host, &mut groups, &mut count, &mut rest),
+        &columns,
     )?;
     groups.truncate(count as usize);
     Ok((groups, rest))
+}
+
+/// The whole slices of one period that a quota or burst allows, rounded down: a limit of a row.
+///
+/// `us` is 0 to 10^15 microseconds of each own period of 1000 to 1000000. Below one slice it allows none.
+///
+/// # Errors
+/// The host is refused (1 to 3), `us` is (14), or `own_period_us` is (15).
+pub fn slices(host: Host, us: u64, own_period_us: u64) -> Result<u64, Fault> {
+    let mut slices = 0;
+    answered(raw::slices(host, us, own_period_us, &mut slices), None)?;
+    Ok(slices)
+}
+
+/// The slices of one period that thousandths of a processor take, rounded up: a demand of a row.
+///
+/// # Errors
+/// The host is refused (1 to 3), or the demand takes more than 1000000 slices (9).
+pub fn demand(host: Host, thousandths: u64) -> Result<u64, Fault> {
+    let mut slices = 0;
+    answered(raw::demand(host, thousandths, &mut slices), None)?;
+    Ok(slices)
+}
+
+/// The `cpu.weight`, 1 to 10000, that container runtimes write for `cpu.shares`.
+pub fn weight_of_shares(shares: u64, conversion: Conversion) -> u64 {
+    raw::weight_of_shares(shares, conversion as u32)
+}
+
+/// The version of the library.
+pub fn version() -> String {
+    let mut room = [0; raw::NAME_ROOM];
+    let count = raw::version(&mut room) as usize;
+    String::from_utf8_lossy(&room[..count]).into_owned()
 }
 
 /// The name of a fault's number.
@@ -301,7 +354,15 @@ mod tests {
         assert_eq!(plan(Host::default(), &[]), Err(fault(5, None)));
         assert_eq!(
             plan(Host::default(), &[Row::under(u32::MAX)]),
-            Err(fault(5, None))
+            Err(fault(5, Some(0)))
+        );
+        let heavy = Row {
+            weight: 10_001,
+            ..Row::under(0)
+        };
+        assert_eq!(
+            certify(Host::default(), &[Row::ROOT, Row::under(0), heavy]).unwrap_err(),
+            fault(6, Some(2))
         );
         assert_eq!(
             plan(
@@ -311,10 +372,27 @@ mod tests {
                     ..Row::ROOT
                 }]
             ),
-            Err(fault(10, None))
+            Err(fault(10, Some(0)))
         );
         assert_eq!(name(0), None);
         assert_eq!(name(71).as_deref(), Some("OutOfMemory"));
         assert_eq!(name(58).as_deref(), Some("NextMarkNotAbove"));
+    }
+
+    #[test]
+    fn converts() {
+        let host = Host::default();
+        assert_eq!(slices(host, 12_000, 100_000), Ok(2));
+        assert_eq!(slices(host, 4999, 100_000), Ok(0));
+        assert_eq!(
+            slices(host, 1_000_000_000_000_001, 0),
+            Err(fault(14, None))
+        );
+        assert_eq!(slices(host, 0, 999), Err(fault(15, None)));
+        assert_eq!(demand(host, 51), Ok(2));
+        assert_eq!(demand(host, 50_000_001), Err(fault(9, None)));
+        assert_eq!(weight_of_shares(1024, Conversion::Linear), 39);
+        assert_eq!(weight_of_shares(1024, Conversion::Logarithmic), 100);
+        assert_eq!(version(), env!("CARGO_PKG_VERSION"));
     }
 }

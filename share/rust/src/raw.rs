@@ -29,7 +29,14 @@ extern "C" {
                         parents: *const u32, parents_length: usize, weights: *const u64, weights_length: usize,
                         limits: *const u64, limits_length: usize, demands: *const u64, demands_length: usize,
                         groups: *mut u32, groups_length: usize, count: *mut u32, rest: *mut u64) -> u32;
+    fn arbiter_refused_row(parents: *const u32, parents_length: usize, weights: *const u64, weights_length: usize,
+                           limits: *const u64, limits_length: usize, demands: *const u64, demands_length: usize,
+                           row: *mut u32) -> u32;
+    fn arbiter_slices(processors: u64, period_us: u64, slice_us: u64, us: u64, own_period_us: u64, slices: *mut u64) -> u32;
+    fn arbiter_demand(processors: u64, period_us: u64, slice_us: u64, thousandths: u64, slices: *mut u64) -> u32;
+    fn arbiter_weight_of_shares(shares: u64, conversion: u32) -> u64;
     fn arbiter_name(number: u32, name: *mut u8, name_length: usize) -> u32;
+    fn arbiter_version(version: *mut u8, version_length: usize) -> u32;
 }
 
 /// The rows, by column.
@@ -115,6 +122,15 @@ impl Columns {
                              groups.as_mut_ptr(), groups.len(), count, rest)
         }
     }
+
+    #[rustfmt::skip]
+    pub(crate) fn refused_row(&self, row: &mut u32) -> u32 {
+        // SAFETY: as above
+        unsafe {
+            arbiter_refused_row(self.parents.as_ptr(), self.parents.len(), self.weights.as_ptr(), self.weights.len(),
+                                self.limits.as_ptr(), self.limits.len(), self.demands.as_ptr(), self.demands.len(), row)
+        }
+    }
 }
 
 impl Claim {
@@ -173,4 +189,26 @@ pub(crate) fn check_text(text: &[u8], row: &mut u32) -> u32 {
 pub(crate) fn name(number: u32, room: &mut [u8]) -> u32 {
     // SAFETY: as above
     unsafe { arbiter_name(number, room.as_mut_ptr(), room.len()) }
+}
+
+pub(crate) fn version(room: &mut [u8]) -> u32 {
+    // SAFETY: as above
+    unsafe { arbiter_version(room.as_mut_ptr(), room.len()) }
+}
+
+#[rustfmt::skip]
+pub(crate) fn slices(host: Host, us: u64, own_period_us: u64, slices: &mut u64) -> u32 {
+    // SAFETY: as above
+    unsafe { arbiter_slices(host.processors, host.period_us, host.slice_us, us, own_period_us, slices) }
+}
+
+#[rustfmt::skip]
+pub(crate) fn demand(host: Host, thousandths: u64, slices: &mut u64) -> u32 {
+    // SAFETY: as above
+    unsafe { arbiter_demand(host.processors, host.period_us, host.slice_us, thousandths, slices) }
+}
+
+pub(crate) fn weight_of_shares(shares: u64, conversion: u32) -> u64 {
+    // SAFETY: numbers alone
+    unsafe { arbiter_weight_of_shares(shares, conversion) }
 }

@@ -1,5 +1,5 @@
 -- The goals of `logarithm_below` that are answered by hand.
-use Rattle.std.proofs.Common.{ℕ, ◌+◌, ◌*◌, ◌^◌, ◌<◌, ◌≤◌, ◌≡◌, arith, subst, sym}
+use Rattle.std.proofs.Common.{ℕ, ◌+◌, ◌*◌, ◌^◌, ◌≤◌, ◌≡◌, arith, subst, sym}
 use Rattle.bw_units.specs.declared.logarithm.TheConstants.{ONE}
 use Rattle.bw_units.specs.Logarithm.{at_scale}
 use Rattle.bw_units.proofs.Squares.{squared, powers_few, next_power, least_power, pow_one}

@@ -1,5 +1,5 @@
 -- The goals of `square_below` that are answered by hand.
-use Rattle.std.proofs.Common.{◌+◌, ◌*◌, ◌/◌, ◌^◌, ◌≤◌, arith}
+use Rattle.std.proofs.Common.{◌*◌, ◌/◌, ◌^◌, arith}
 use Rattle.std.proofs.Math.Nat.{mul-div-le}
 use Rattle.bw_units.specs.declared.logarithm.TheConstants.{ONE}
 use Rattle.bw_units.proofs.Squares.{square-le, double, half-le}
