@@ -1,0 +1,3 @@
+-- The files of lemmas.
+mod IdleLaw
+mod Last

@@ -1,0 +1,9 @@
+//! Laws of a change of the tree itself.
+//!
+//! Each law is the contract of a function that does nothing. The plans are those of bw_model, of
+//! any two instances.
+#![tactic(auto)]
+
+mod idle;
+
+pub use idle::idle_group_changes_nothing;
