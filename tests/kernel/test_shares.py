@@ -243,8 +243,8 @@ def test_run_is_refused(program, late, others, why):
 def test_steps_of_apply_are_read():
     """What each step showed, by name; a guest that made fewer steps is refused."""
     names = ["made", *(step["name"] for step in real_apply.steps())]
-    lines = [json.dumps({"phase": name, "status": 1, "said": ["x"], "groups": {"a": ["1", "2", "3"]}})
-             for name in names]
+    shown = {"status": 1, "said": ["x"], "groups": {"a": ["1", "2", "3"]}}
+    lines = [json.dumps({"phase": name, **shown}) for name in names]
     found = real_apply.read(["kernel 6.12", *lines])
     assert list(found) == names
     assert found["undo"] == real_apply.Phase(1, ["x"], {"a": ("1", "2", "3")})
