@@ -56,7 +56,7 @@ class Engine(Protocol):
 def column(kind: Any, numbers: Sequence[int]) -> list[Any]:
     """A column as C takes it: where it begins, and its length. Numbers that do not fit fault."""
     bits = 8 * ctypes.sizeof(kind)
-    for number in numbers:
+    for number in (min(numbers, default=0), max(numbers, default=0)):
         if not 0 <= number < 2**bits:
             raise HostFault(f"{number} is no number of {bits} bits")
     return [(kind * len(numbers))(*numbers), ctypes.c_size_t(len(numbers))]
@@ -97,7 +97,8 @@ class LibraryEngine:
 
     def certified(self, host: Host, rows: Sequence[Row]) -> Certificate:
         """A plan with its certificate, which no check has read."""
-        written = [word for kind in COLUMNS for word in column(kind, [0] * len(rows))]
+        count = len(rows)
+        written = [word for kind in COLUMNS for word in ((kind * count)(), ctypes.c_size_t(count))]
         number = self.calls.arbiter_certify(*self.asked(host.planned(), rows), *written)
         if number:
             raise HostFault(f"no plan: error {number} {self.name(number)}")

@@ -81,7 +81,9 @@ def limit_slices(usec: int, own_period: int, period: int, slice_usec: int) -> in
 
 def demand_slices(thousandths: Fraction, period: int, slice_usec: int) -> int:
     """Slices of one period that a demand takes, rounded up, at most 1000000."""
-    return min(math.ceil(thousandths * period / (1000 * slice_usec)), MAX_DEMAND)
+    # In whole numbers: fractions would be reduced at each step.
+    whole = 1000 * slice_usec * thousandths.denominator
+    return min(-(-thousandths.numerator * period // whole), MAX_DEMAND)
 
 
 def thousandths_of_slices(slices: int, period: int, slice_usec: int) -> Fraction:
