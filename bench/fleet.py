@@ -5,7 +5,8 @@ usage: bench/fleet.py [--hosts N] [--groups N] [--library PATH] [--parts WORD,..
 Makes a fleet of scripts, by default 10,000 hosts of 500 groups, and runs `arbiterctl fleet plan`
 over it: in one process, on four and on two workers of which one is killed in mid-run, and over a
 fifth of it on one, two and four workers. It fails if the bytes of any run over the whole fleet
-differ from those of one process. Parts: one, killed4, killed2, growth. One process takes some 30 ms a host.
+differ from those of one process. Parts: one, killed4, killed2, growth. One process takes some
+30 ms a host.
 """
 import argparse
 import hashlib
@@ -110,7 +111,8 @@ def main():
         room, digests = pathlib.Path(folder), set()
         hosts = make(room / "hosts", options.hosts, options.groups)
         print("| Run | Hosts | Wall s | Processor s | of it planning | hosts a second and core |"
-              " the rest | batches lost | sha256 |\n|---|---|---|---|---|---|---|---|---|", flush=True)
+              " the rest | batches lost | sha256 |")
+        print("|---|---|---|---|---|---|---|---|---|", flush=True)
         for part, workers, is_killed in [("killed4", 4, True), ("killed2", 2, True),
                                          ("one", 0, False)]:
             if part in parts:

@@ -96,7 +96,7 @@ def site(ctl):
 
 
 def test_workers_that_lie_hang_or_die(ctl, folder, site):
-    """Each forged answer is refused, and one right worker is enough for the bytes of one process."""
+    """Each forged answer is refused, and one right worker is enough for the same bytes."""
     hosts = fleets.make(folder / "hosts", 60, 12)
     alone = ctl.run("fleet", "plan", hosts, "--workers", "0", *WORDS)[0]
     at = site.add("forged", "garbage", "pickled", "dying", "hung", "honest")
