@@ -19,7 +19,7 @@ DOCS = ROOT / "docs"
 FENCE = re.compile(r"^```(\S*) ?(.*)$")
 KINDS = ("script", "certified", "command", "python")
 # Pages that have to have something to run.
-PAGES = ("USING.md", "CERTIFIED.md", "DRIVING.md", "NODE.md", "TOOLS.md", "LAWS.md")
+PAGES = ("USING.md", "CERTIFIED.md", "DRIVING.md", "NODE.md", "TOOLS.md", "FLEET.md", "LAWS.md")
 # test_library.py runs its examples.
 EMBEDDING = "EMBEDDING.md"
 

@@ -48,7 +48,7 @@ def top(scratch, program):
     return folder
 
 
-def output_of(block, program, top):
+def output_of(block, program, top, library):
     """What the program prints for a block, in an environment of PATH and HOME."""
     environment = {"PATH": os.environ["PATH"], "HOME": str(top.parent)}
     if block.kind == "script":
@@ -59,6 +59,8 @@ def output_of(block, program, top):
         assert not BARE_TMPDIR.search(block.text), "TMPDIR is not set on ordinary hosts"
         # the tools take the program under test from this variable
         environment["ARBITER"] = program.path
+        if block.page == "FLEET.md":
+            environment["ARBITER_LIBRARY"] = str(library)
         interpreter = ["bash"] if block.kind == "command" else [sys.executable]
         words, given = [*interpreter, "-c", block.text], b""
     ended = run(words, given, cwd=top, env=environment)
@@ -76,8 +78,8 @@ def written(request):
         pages.write_answers(results)
 
 
-def test_block(block, program, top, written):
-    printed = output_of(block, program, top)
+def test_block(block, program, top, library, written):
+    printed = output_of(block, program, top, library)
     if printed != block.answer:
         written.append((block, printed))
     same(printed.split("\n"), block.answer.split("\n"))

@@ -59,7 +59,7 @@ class Engine(Protocol):
 def column(kind: Any, numbers: Sequence[int]) -> list[Any]:
     """A column as C takes it: where it begins, and its length. Numbers that do not fit fault."""
     bits = 8 * ctypes.sizeof(kind)
-    for number in numbers:
+    for number in (min(numbers, default=0), max(numbers, default=0)):
         if not 0 <= number < 2**bits:
             raise HostFault(f"{number} is no number of {bits} bits")
     return [(kind * len(numbers))(*numbers), ctypes.c_size_t(len(numbers))]
@@ -141,6 +141,9 @@ class LibraryEngine:
         asked = self.asked(host.planned(), rows)
         written = [word for kind in COLUMNS for word in column(kind, [0] * len(rows))]
         number = self.calls.arbiter_certify(*asked, *written)
+        count = len(rows)
+        written = [word for kind in COLUMNS for word in ((kind * count)(), ctypes.c_size_t(count))]
+        number = self.calls.arbiter_certify(*self.asked(host.planned(), rows), *written)
         if number:
             place = self.row_of_refusal(number, asked)
             where = "" if place is None else f" (row {place})"

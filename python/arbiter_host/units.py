@@ -114,6 +114,10 @@ def demand_slices(thousandths: Fraction, period: int, slice_usec: int) -> int:
         if found is not None:
             return found
     return min(math.ceil(thousandths * period / (1000 * slice_usec)), MAX_DEMAND)
+    """Slices of one period that a demand takes, rounded up, at most 1000000."""
+    # In whole numbers: fractions would be reduced at each step.
+    whole = 1000 * slice_usec * thousandths.denominator
+    return min(-(-thousandths.numerator * period // whole), MAX_DEMAND)
 
 
 def thousandths_of_slices(slices: int, period: int, slice_usec: int) -> Fraction:

@@ -164,12 +164,12 @@ def fish() -> str:
     for each in words.subcommands():
         condition = f" -n '__fish_seen_subcommand_from {each.name}'"
         lines += ["", *(fish_option(word, condition) for word in words.options(each))]
-        kinds = next((word.values for word in words.arguments(each) if word.values), ())
-        if kinds:
-            listed = " ".join(kinds)
+        kind = next((word for word in words.arguments(each) if word.values), None)
+        if kind:
+            listed, what = " ".join(kind.values), kind.help.partition(":")[0]
             none = f"__fish_seen_subcommand_from {each.name}; and not __fish_seen_subcommand_from"
             lines.append(f"complete -c arbiterctl -n '{none} {listed}' -f -a '{listed}'"
-                         " -d 'what the source is'")
+                         f" -d {fish_text(what)}")
     return "\n".join(lines) + "\n"
 
 

@@ -96,7 +96,7 @@ def site(ctl):
 
 
 def test_workers_that_lie_hang_or_die(ctl, folder, site):
-    """Each forged answer is refused, and one right worker is enough for the bytes of one process."""
+    """Each forged answer is refused, and one right worker is enough for the same bytes."""
     hosts = fleets.make(folder / "hosts", 60, 12)
     alone = ctl.run("fleet", "plan", hosts, "--workers", "0", *WORDS)[0]
     at = site.add("forged", "garbage", "pickled", "dying", "hung", "honest")
@@ -115,7 +115,7 @@ def test_workers_that_lie_hang_or_die(ctl, folder, site):
 
 def test_a_scheduler_that_goes_away(ctl, folder, site):
     """Each host is answered or named, and a second run elsewhere does what is left."""
-    hosts = fleets.make(folder / "hosts", 300, 100)
+    hosts = fleets.make(folder / "hosts", 160, 100)
     site.add("honest")
     base = folder / "run.sqlite"
     run = begun(ctl, "plan", hosts, "--scheduler", site.address, "--db", base, *WORDS)
@@ -127,7 +127,7 @@ def test_a_scheduler_that_goes_away(ctl, folder, site):
     found = json.loads(out)
     kept = {host["host"] for host in found["hosts"]}
     named = {each["host"] for each in found["not_answered"]}
-    assert kept and named and not kept & named and len(kept | named) == 300
+    assert kept and named and not kept & named and len(kept | named) == 160
     assert {each["why"] for each in found["not_answered"]} == {"the scheduler went away"}
     again = ctl.run("fleet", "plan", hosts, "--workers", "0", "--db", base, *WORDS)
     assert again[0] == ctl.run("fleet", "plan", hosts, "--workers", "0", *WORDS)[0]

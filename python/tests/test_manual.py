@@ -98,6 +98,10 @@ def examples(ctl, folder):
             "demand = \"3cpu\"\n[groups.batch]\ndemand = \"20cpu\"\n")
     (folder / "host.toml").write_text(host)
     (folder / "day.csv").write_text("Time,web\n10:00,0.5\n10:30,3\n")
+    (folder / "pod.toml").write_text("[groups.pod]\ndemand = \"2cpu\"\n")
+    for name, text in (("hosts/one.toml", host), ("demands/one.csv", "Time,web\n10:00,0.5\n")):
+        (folder / name).parent.mkdir()
+        (folder / name).write_text(text)
     for name in ("before", "after"):
         (folder / f"{name}.script").write_text("# arbiter run --processors 2\nmkdir a\n")
     trees.root2(folder / "cgroup", usage=5)
@@ -121,6 +125,8 @@ def example_command(command, folder):
     command = command.replace("/sys/fs/cgroup", f"{folder}/cgroup").replace("10s", "10ms")
     if command.startswith("arbiterctl top") and "--count" not in command:
         command += f" --count 1 {folder}/cgroup"
+    if "fleet" in command:
+        command += " --workers 0"
     if "apply" in command:
         command += f" --root {folder}/cgroup"
     return command

@@ -12,6 +12,7 @@ import tempfile
 import threading
 import time
 import uuid
+import warnings
 from collections.abc import Callable, Sequence
 from concurrent.futures import CancelledError
 from concurrent.futures import TimeoutError as FutureTimeout
@@ -58,6 +59,7 @@ class Cluster:
         distributed: Any = importlib.import_module("distributed")
         # What happens to workers is told by the gatherer.
         logging.disable(logging.CRITICAL)
+        warnings.filterwarnings("ignore", module="distributed")
         dask.config.set(SETTINGS)
         self.folder = tempfile.TemporaryDirectory(prefix="arbiter-fleet-")
         self.local: Any = None
@@ -65,7 +67,7 @@ class Cluster:
             if address is None:
                 self.local = distributed.LocalCluster(
                     n_workers=workers, threads_per_worker=1, processes=True, host="127.0.0.1",
-                    dashboard_address=None, silence_logs=logging.CRITICAL,
+                    dashboard_address="127.0.0.1:0", silence_logs=logging.CRITICAL,
                     local_directory=self.folder.name, extensions={})
             # What workers answer is bytes, and never a pickled object.
             self.client: Any = distributed.Client(

@@ -29,7 +29,7 @@ from arbiter_host.fleet.pool import Pool, PoolGone, Reply
 from arbiter_host.fleet.store import Row, Store
 from arbiter_host.fleet.work import Item
 
-# Seconds of a processor that a batch should hold: what a batch costs beside it is some milliseconds.
+# Seconds of a processor that a batch should hold. A batch costs some milliseconds beside it.
 TARGET_SECONDS = 1.0
 # Hosts, or samples, of the batches before the first reply, and of any batch.
 FIRST_UNITS, MOST_UNITS = 4, 2000

@@ -249,13 +249,18 @@ def built(action: str, hosts: Sequence[Host], missing: Sequence[tuple[str, str]]
                   list(missing), data)
 
 
+def is_number(cell: str) -> bool:
+    """Whether a cell of a table is a number, or stands for none."""
+    return cell == "-" or cell.lstrip("+-")[:1].isdigit()
+
+
 def table_lines(table: Table, most: int) -> Iterator[str]:
     """A table as text, of at most so many rows; 0 for all."""
     rows = table.rows[:most] if most else table.rows
     widths = [max(map(width, column)) for column in zip(table.heads, *rows)]
-    last = len(table.heads) - 1
+    left = [at == 0 or not all(map(is_number, column)) for at, column in enumerate(zip(*rows))]
     for row in [table.heads, *rows]:
-        yield "  ".join(padded(each, widths[at]) if at in (0, last) else
+        yield "  ".join(padded(each, widths[at]) if left[at] else
                         " " * (widths[at] - width(each)) + each
                         for at, each in enumerate(row)).rstrip()
     if len(rows) < len(table.rows):

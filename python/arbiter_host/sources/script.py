@@ -233,6 +233,8 @@ def take_line(reader: Reader, line: bytes) -> None:
 
 def take_tasks(model: Model, before: bytes, line: bytes) -> None:
     """Takes what the comment above a `demand` says of tasks, unless it is of another demand."""
+    if not before.startswith(b"# tasks"):
+        return
     found = TASKS.fullmatch(before.decode(errors="replace"))
     if not found or not line.lstrip(b" \t").startswith(b"demand"):
         return

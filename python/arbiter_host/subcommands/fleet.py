@@ -35,7 +35,7 @@ def part_of(text: str) -> float:
     except ValueError:
         found = -1.0
     if not 0 <= found <= 1:
-        raise UsageFault("--recheck: all, none, or a percentage such as 5%")
+        raise UsageFault("--recheck: all, none, or a percentage such as 5")
     return found
 
 
@@ -209,9 +209,10 @@ def add_worker_options(parser: argparse.ArgumentParser) -> None:
                        " (default: one for each processor; 0 for this process alone)")
     group.add_argument("--scheduler", metavar="ADDRESS",
                        help="a running scheduler of Dask, such as tcp://host:8786")
-    group.add_argument("--recheck", default="1%", metavar="PART",
+    group.add_argument("--recheck", default="1", metavar="PART",
                        help="the part of the answers whose certificates are checked again here:"
-                       " all, none or a percentage (default 1%%, and the first of each worker)")
+                       " all, none or a percentage such as 5 (default 1, and the first of each"
+                       " worker)")
     group.add_argument("--deadline", default="5min", metavar="TIME",
                        help="time after which a batch without an answer is given to another worker"
                        " (default 5min)")
