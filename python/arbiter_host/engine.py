@@ -138,12 +138,9 @@ class LibraryEngine:
 
     def certified(self, host: Host, rows: Sequence[Row]) -> Certificate:
         """A plan with its certificate, which no check has read."""
-        asked = self.asked(host.planned(), rows)
-        written = [word for kind in COLUMNS for word in column(kind, [0] * len(rows))]
-        number = self.calls.arbiter_certify(*asked, *written)
-        count = len(rows)
+        asked, count = self.asked(host.planned(), rows), len(rows)
         written = [word for kind in COLUMNS for word in ((kind * count)(), ctypes.c_size_t(count))]
-        number = self.calls.arbiter_certify(*self.asked(host.planned(), rows), *written)
+        number = self.calls.arbiter_certify(*asked, *written)
         if number:
             place = self.row_of_refusal(number, asked)
             where = "" if place is None else f" (row {place})"

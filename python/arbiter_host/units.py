@@ -113,8 +113,6 @@ def demand_slices(thousandths: Fraction, period: int, slice_usec: int) -> int:
         found = _library.demand(int(thousandths), period, slice_usec)
         if found is not None:
             return found
-    return min(math.ceil(thousandths * period / (1000 * slice_usec)), MAX_DEMAND)
-    """Slices of one period that a demand takes, rounded up, at most 1000000."""
     # In whole numbers: fractions would be reduced at each step.
     whole = 1000 * slice_usec * thousandths.denominator
     return min(-(-thousandths.numerator * period // whole), MAX_DEMAND)
