@@ -11,10 +11,10 @@ use Rattle.bw_model.specs.declared.limits.TheConstants.{MAX_PER_PROCESSOR}
 use Rattle.bw_model.specs.Allocation.{total, IsMost, IsGreatestTotal}
 use Rattle.bw_model.specs.Demand.{AreMaxTotals}
 use Rattle.bw_model.specs.Groups.{Groups, IsInstance}
-use Rattle.bw_machine.specs.History.{IsLegal, replay, own, own_from, entry_of, StandIn}
+use Rattle.bw_machine.specs.History.{IsLegal, replay, own, own_from, entry_of}
 use Rattle.bw_model.specs.Host.{slices_per_processor}
 use Rattle.bw_model.specs.Plan.{child_weights, IsPlan}
-use Rattle.bw_machine.proofs.CallerLemmas.{own_entries, own_places}
+use Rattle.bw_machine.proofs.CallerLemmas.{own_entries}
 use Rattle.bw_model.proofs.CallerLemmas.{limited_total-is, mosts, mosts-capped, AreMaxTotals-capped}
 use Rattle.bw_model.proofs.CallerLemmas.{capped-IsMost}
 use Rattle.bw_split.proofs.CallerLemmas.{best_is_unmoved}
@@ -107,17 +107,12 @@ module _ (uses : ℕ → Bool) (groups : Groups) (lock_id : TableId) (seats : Li
   unfolding seat_of
   back_of caller below = back caller some_seat (omega (arith, long, below))
 
-  made_is : (caller : ℕ) → caller < groups.shape.processors
+  pub made_is : (caller : ℕ) → caller < groups.shape.processors
       → calls_by seats caller ≡ own_from 0 caller history
   unfolding seat_of
   made_is caller below = own_at seats caller some_seat (omega (arith, long, below))
       ∙ owns caller some_seat (omega (arith, long, below))
       ∙ ap (λ (n : ℕ). own_from 0 n history) (back_of caller below).number
-
-  pub in_order : (caller : ℕ) → caller < groups.shape.processors
-      → StandIn history caller (calls_by seats caller)
-  in_order caller below =
-      subst (StandIn history caller) (sym (made_is caller below)) (own_places caller history)
 
   pub once : (caller : ℕ) → caller < groups.shape.processors
       → map (entry_of caller) (calls_by seats caller) ≡ own caller history
@@ -169,7 +164,7 @@ carried uses groups amounts lock_id seats history drawn valid is_plan long back 
           (of_children groups.rows most g) (of_children groups.rows amounts g)
           (down.splits g below refl inner);
       one_thread = legal;
-      ticket_order = in_order uses groups lock_id seats history long back owns;
+      ticket_order = made_is uses groups lock_id seats history long back owns;
       calls_once = once uses groups lock_id seats history long back owns;
       callers = callers;
       never_past = λ draws g. stays_within groups amounts valid is_plan (take draws history) g;

@@ -7,7 +7,7 @@ use Rattle.bw_model.specs.declared.row.Row.{Row}
 use Rattle.bw_model.specs.Allocation.{IsWithin, IsGreatestTotal}
 use Rattle.bw_model.specs.Demand.{AreMaxTotals, limited_total}
 use Rattle.bw_model.specs.Groups.{Groups, children_of, is_leaf}
-use Rattle.bw_machine.specs.History.{IsLegal, replay, own, entry_of, StandIn}
+use Rattle.bw_machine.specs.History.{IsLegal, replay, own, own_from, entry_of}
 use Rattle.bw_model.specs.Host.{slices_per_processor}
 use Rattle.bw_model.specs.Plan.{child_weights, totals}
 use Rattle.bw_model.specs.Split.{IsBestSplit}
@@ -52,9 +52,9 @@ pub record Headline (uses : ℕ → Bool) (groups : Groups) (amounts : List ℕ)
       (of_children groups.rows most g) (of_children groups.rows amounts g)
   -- and in every interleaving of draws the history is one thread's,
   pub one_thread : IsLegal after answer (opening groups amounts) history
-  -- in ticket order: each call of a caller is in the history at the ticket that the caller drew,
+  -- in ticket order: the calls of a caller are its entries, each at the ticket that it drew,
   pub ticket_order : (caller : ℕ) → caller < groups.shape.processors
-      → StandIn history caller (calls caller)
+      → calls caller ≡ own_from 0 caller history
   -- with each caller's calls once: its entries are its calls, in order, and no entry is without a
   -- caller,
   pub calls_once : (caller : ℕ) → caller < groups.shape.processors
