@@ -4,6 +4,7 @@ use Rattle.std.proofs.Common.{refl, ap, sym, ◌∙◌, arith, inl, inr, eqb, �
 use Rattle.std.proofs.Common.{get_or}
 use Rattle.std.specs.Prelude.{◌&&◌, not, map}
 use Rattle.std.specs.List.{range_with_len}
+use Rattle.std.proofs.Math.Bool.{or-false}
 use Rattle.std.proofs.lemmas.Bool.{cases_lt, cases_Bool}
 use Rattle.std.proofs.lemmas.List.{get_or_past}
 use Rattle.std.proofs.lemmas.List.FromFn.{get_or-map-range_with_len, length-map-range_with_len}
@@ -17,16 +18,12 @@ use Rattle.bw_plan_laws.specs.Tree.{IsSameTree}
 use Rattle.bw_plan_laws.proofs.CallerLemmas.{leaf_same}
 use Rattle.bw_guarantee.specs.Busy.{flag_of, busy_row, busy_rows}
 
-or_false : (b : Bool) → (b || false) ≡ b
-or_false true = refl
-or_false false = refl
-
 -- The next row's flag, by those before it.
 pub next_flag : (rows : List Row) → AreTreeRows rows → (group g : ℕ) (flags : List Bool)
     → flags ≡ map (is_under rows group) (range_with_len 0 g) → (parent : Option ℕ)
     → parent_of rows g ≡ parent → (eqb g group || flag_of flags parent) ≡ is_under rows group g
 next_flag rows tree group g flags done None up =
-    or_false (eqb g group) ∙ sym (is_under-top rows tree group g up)
+    or-false (eqb g group) ∙ sym (is_under-top rows tree group g up)
 next_flag rows tree group g flags done (Some p) up =
     ap (λ flag. eqb g group || flag)
     (ap (λ xs. get_or xs p false) done

@@ -3,23 +3,16 @@ use Rattle.std.proofs.Common.{◌≡◌, ℕ, ◌<◌, ◌≤◌, List, true, le
 use Rattle.std.proofs.Common.{◌∙◌, arith, inl, inr}
 use Rattle.std.proofs.lemmas.Bool.{cases_lt, cases_Bool}
 use Rattle.std.proofs.lemmas.List.{get_or_past}
-use Rattle.std.proofs.lemmas.List.FromFn.{length-map-range_with_len}
 use Rattle.bw_model.specs.declared.row.Row.{Row}
 use Rattle.bw_model.specs.Groups.{Groups, IsInstance, no_row, demand_of, is_leaf, is_under}
-use Rattle.bw_model.specs.Allocation.{total}
 use Rattle.bw_model.specs.Plan.{IsPlan}
+use Rattle.bw_model.proofs.CallerLemmas.{mosts, mosts-capped}
+use Rattle.bw_plan.proofs.CallerLemmas.{plan-IsPlanning}
 use Rattle.bw_plan_laws.specs.Room.{IsBusierAround}
 use Rattle.bw_plan_laws.proofs.CallerLemmas.{leaf_same, others_demands_give}
 use Rattle.bw_guarantee.specs.Guarantee.{IsAskedOtherwise, IsGuaranteed}
 use Rattle.bw_guarantee.proofs.BusyRows.{AreBusy, under_same, same_tree, demand_leaf}
 use Rattle.bw_guarantee.proofs.BusyRows.{busy-IsInstance, weights_same, limits_same, demands_under}
-
--- A plan has an amount for each row.
-pub plan-length : (groups : Groups) (amounts : List ℕ) → IsPlan groups amounts
-    → length amounts ≡ length groups.rows
-plan-length groups amounts plan =
-    ap (length {A = ℕ}) plan.amounts_are
-    ∙ length-map-range_with_len (total groups.rows plan.allocation) 0 (length groups.rows)
 
 module _ (groups : Groups) (valid : IsInstance groups) (group : ℕ) (busy : List Row)
     (are : AreBusy groups.rows group busy) where
@@ -78,6 +71,16 @@ module _ (groups : Groups) (valid : IsInstance groups) (group : ℕ) (busy : Lis
           ∙ under in
           demands_under groups valid group busy are h high ∙ sym (asked.inside h high);
     }
+
+  pub as_many : (amounts : List ℕ) → IsPlan (record { shape = groups.shape; rows = busy }) amounts
+      → length amounts ≡ length groups.rows
+  as_many amounts is_plan =
+      let valid_busy : IsInstance (record { shape = groups.shape; rows = busy }) =
+      busy-IsInstance groups valid group busy are in
+      let most : List ℕ = mosts (record { shape = groups.shape; rows = busy }) valid_busy.tree in
+      (plan-IsPlanning (record { shape = groups.shape; rows = busy }) valid_busy most
+      (mosts-capped (record { shape = groups.shape; rows = busy }) valid_busy.tree) amounts
+      is_plan).one_each ∙ are.one_each
 
   pub least : group < length groups.rows → (amounts : List ℕ)
       → IsPlan (record { shape = groups.shape; rows = busy }) amounts

@@ -1,9 +1,9 @@
 -- The goals of `guarantee` that are answered by hand.
-use Rattle.std.proofs.Common.{◌≡◌, ◌<◌, length, ap, ◌∙◌, arith}
+use Rattle.std.proofs.Common.{◌≡◌, ◌<◌, length, ap, arith}
 use Rattle.bw_model.specs.declared.row.Row.{Row}
 use Rattle.bw_guarantee.specs.Busy.{busy_rows}
 use Rattle.bw_guarantee.proofs.BusyRows.{are_busy, busy-IsInstance}
-use Rattle.bw_guarantee.proofs.Least.{plan-length, least}
+use Rattle.bw_guarantee.proofs.Least.{as_many, least}
 use Rattle.bw_guarantee.proofs.guaranteed.guarantee.Goals as goal
 
 pub of_valid-requires : goal.of_valid-requires
@@ -21,9 +21,8 @@ bounds-amounts-group c =
     let below : c.args.group < length groups.rows =
     omega (arith, c.if-group-rows.false, ap (length {A = Row}) c.rows.ensures.rows) in
     let long : length c.in_ok-planned.planned.amounts.items ≡ length groups.rows =
-    plan-length (record { shape = groups.shape; rows = busy_rows groups.rows c.args.group })
-    c.in_ok-planned.planned.amounts.items planned
-    ∙ (are_busy groups.rows c.args.group).one_each in
+    as_many groups c.rows.ensures.valid c.args.group (busy_rows groups.rows c.args.group)
+    (are_busy groups.rows c.args.group) c.in_ok-planned.planned.amounts.items planned in
     rw c.as_slice-amounts.ensures.value (omega (arith, long, below))
 
 pub returns-clause-ok : goal.returns-clause-ok
