@@ -1,11 +1,11 @@
 -- Rows that have a fault, and the refusal.
-use Rattle.std.proofs.Common.{◌≡◌, ℕ, zero, suc, ◌+◌, ◌<◌, ◌≤◌, ◌==◌, List, [], ◌∷◌, Bool, true}
-use Rattle.std.proofs.Common.{false, ◌||◌, ◌&&◌, not, Option, None, Some, length, get_or, refl, ap}
-use Rattle.std.proofs.Common.{sym, ◌∙◌, arith, cond, zero-add, true≢false}
+use Rattle.std.proofs.Common.{◌≡◌, ℕ, suc, ◌+◌, ◌<◌, ◌≤◌, ◌==◌, List, [], ◌∷◌, Bool, true}
+use Rattle.std.proofs.Common.{false, ◌||◌, not, Option, None, Some, length, get_or, refl, ap}
+use Rattle.std.proofs.Common.{sym, ◌∙◌, arith, cond, zero-add}
 use Rattle.std.specs.Prelude.{nat_lt, is_some, if◌then◌else◌}
-use Rattle.std.specs.List.{list_any, list_all, enumerate_from, range_with_len}
-use Rattle.std.proofs.lemmas.Bool.{and_parts, and_from, eqb-true, ltb-true, not-false, not-true}
-use Rattle.std.proofs.lemmas.Bool.{ne_eqb, le-ltb, lt-ltb, false_from_ne_true}
+use Rattle.std.specs.List.{list_any, list_all, enumerate_from}
+use Rattle.std.proofs.lemmas.Bool.{and_parts, and_from, eqb-true, not-false, not-true}
+use Rattle.std.proofs.lemmas.Bool.{ne_eqb, le-ltb, lt-ltb}
 use Rattle.std.proofs.lemmas.List.Folds.{list_any_at, list_any_none, list_all_at}
 use Rattle.std.proofs.lemmas.List.FromFn.{get_or-map-range_with_len, length-map-range_with_len}
 use Rattle.std.proofs.lemmas.List.FromFn.{get_or-enumerate_from, length-enumerate_from}
@@ -19,14 +19,14 @@ use Rattle.bw_model.specs.declared.instance_fault.InstanceFault.TheVariants.{Bad
 use Rattle.bw_model.specs.declared.instance_fault.InstanceFault.TheVariants.{InnerDemand}
 use Rattle.bw_model.specs.declared.instance_fault.InstanceFault.TheVariants.{DemandTooLarge}
 use Rattle.bw_model.specs.declared.instance_fault.InstanceFault.TheVariants.{RootLimited}
-use Rattle.bw_model.specs.Groups.{AreTreeRows, no_row, row_of, parent_of, weight_of, demand_of}
+use Rattle.bw_model.specs.Groups.{AreTreeRows, no_row, row_of, parent_of, demand_of}
 use Rattle.bw_model.specs.Groups.{depth_of}
 use Rattle.bw_model.specs.Refusal.{is_earlier, are_earlier, depths_of, demand_above}
 use Rattle.bw_model.specs.Refusal.{is_root_limited, refusal}
-use Rattle.bw_model.proofs.CallerLemmas.{earlier-AreTreeRows, depth_of-top, depth_of-step, parent_lt}
+use Rattle.bw_model.proofs.CallerLemmas.{earlier-AreTreeRows, depth_of-top, depth_of-step}
 use Rattle.bw_model.specs.Faults.{instance_fault_number}
 use Rattle.bw_exports.specs.Asked.{Table, row_in, rows_in, are_even}
-use Rattle.bw_exports.specs.RefusedRow.{has_fault, IsFirstRow, IsNoRow, rows_number}
+use Rattle.bw_exports.specs.RefusedRow.{IsFirstRow, IsNoRow, rows_number}
 use Rattle.bw_exports.proofs.Asked.{rows_length}
 use Rattle.std.specs.Option.{option_map_or}
 

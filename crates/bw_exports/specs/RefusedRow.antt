@@ -1,6 +1,6 @@
 -- The row that a refusal of rows speaks of.
-use Rattle.std.specs.Prelude.{◌≡◌, ℕ, ◌<◌, Bool, true, false, ◌||◌, ◌&&◌, ◌==◌, not, nat_lt, List, Option}
-use Rattle.std.specs.Prelude.{Some, None, is_some, length, unwrap_or, if◌then◌else◌}
+use Rattle.std.specs.Prelude.{◌≡◌, ℕ, ◌<◌, Bool, true, false, ◌||◌, ◌&&◌, ◌==◌, not, nat_lt, List}
+use Rattle.std.specs.Prelude.{is_some, length, unwrap_or, if◌then◌else◌}
 use Rattle.std.specs.Option.{option_map_or}
 use Rattle.bw_model.specs.declared.limits.TheConstants.{MAX_GROUPS, MIN_WEIGHT, MAX_WEIGHT}
 use Rattle.bw_model.specs.declared.limits.TheConstants.{MAX_DEPTH, MAX_DEMAND}

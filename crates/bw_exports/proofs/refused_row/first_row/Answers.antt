@@ -1,5 +1,5 @@
 -- The goals of `first_row` that are answered by hand.
-use Rattle.std.proofs.Common.{◌≡◌, ◌<◌, arith, sym, ◌∙◌, length}
+use Rattle.std.proofs.Common.{◌≡◌, arith, sym, ◌∙◌, length}
 use Rattle.bw_exports.specs.Asked.{table_of, rows_in}
 use Rattle.bw_exports.proofs.Asked.{rows_length}
 use Rattle.bw_exports.proofs.refused_row.first_row.Goals as goal

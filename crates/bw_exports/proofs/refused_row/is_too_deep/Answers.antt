@@ -1,5 +1,5 @@
 -- The goals of `is_too_deep` that are answered by hand.
-use Rattle.std.proofs.Common.{◌≡◌, ◌+◌, ◌<◌, Option, Some, None, ℕ, sym, ap, ◌∙◌, subst, arith, refl, length}
+use Rattle.std.proofs.Common.{◌≡◌, ◌+◌, ◌<◌, Some, None, ℕ, sym, ap, ◌∙◌, subst, arith, refl}
 use Rattle.std.specs.Prelude.{is_some}
 use Rattle.bw_model.specs.declared.limits.TheConstants.{MAX_DEPTH}
 use Rattle.bw_model.specs.declared.row.Row.{Row}

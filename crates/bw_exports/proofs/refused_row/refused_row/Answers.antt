@@ -3,7 +3,7 @@ use Rattle.std.proofs.Common.{◌≡◌, ◌<◌, ◌≤◌, arith, length, refl
 use Rattle.bw_model.specs.declared.limits.TheConstants.{MAX_GROUPS}
 use Rattle.bw_exports.specs.Asked.{table_of, rows_in}
 use Rattle.bw_exports.proofs.Asked.{rows_length}
-use Rattle.bw_exports.proofs.RefusedRow.{AreSome, ArePlaced, some_of, first_many, tree_of}
+use Rattle.bw_exports.proofs.RefusedRow.{ArePlaced, some_of, first_many, tree_of}
 use Rattle.bw_exports.proofs.RefusedRow.{refused_many, refused_parent, refused_weight, refused_deep}
 use Rattle.bw_exports.proofs.RefusedRow.{refused_demand, refused_large, refused_root, refused_none}
 use Rattle.bw_exports.proofs.refused_row.refused_row.Goals as goal
