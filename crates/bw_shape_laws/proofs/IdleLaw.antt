@@ -150,7 +150,8 @@ module _ (shape : Shape) (rows : List Row) (idle : Row)
       → want_of (record { shape = shape; rows = rows ++ idle ∷ [] }) mb g
       ≡ want_of (record { shape = shape; rows = rows }) ma g
   want_same g below same = elim (cases_Bool (is_leaf (rows ++ idle ∷ []) g)) [
-    | inl leaf ↦ rw (leaf, leaf_before g leaf) (ap (λ (r : Row). r.demand) (row_before rows idle g below))
+    | inl leaf ↦ rw (leaf, leaf_before g leaf)
+        (ap (λ (r : Row). r.demand) (row_before rows idle g below))
     | inr inner ↦ elim (cases_Bool (is_leaf rows g)) [
       | inr also ↦ rw (inner, also) (sum_same g same)
       | inl leaf ↦

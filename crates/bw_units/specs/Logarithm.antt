@@ -7,10 +7,10 @@ use Rattle.bw_units.specs.declared.logarithm.TheConstants.{SCALE_DIGITS}
 unfoldable pub at_scale : ℕ → ℕ
 at_scale x = x ^ (2 ^ SCALE_DIGITS)
 
--- so many units are at most the logarithm of x
+-- units that are at most the logarithm of x
 abbrev pub IsLogarithmBelow : ℕ → ℕ → Type 0
 IsLogarithmBelow units x = 2 ^ units ≤ at_scale x
 
--- so many units are at least the logarithm of x
+-- units that are at least the logarithm of x
 abbrev pub IsLogarithmAbove : ℕ → ℕ → Type 0
 IsLogarithmAbove units x = at_scale x ≤ 2 ^ units

@@ -13,10 +13,11 @@ bounded shares = min (max shares MIN_SHARES) MAX_SHARES
 -- the weight on the line from 2 shares and weight 1 to 262144 shares and weight 10000, rounded down
 abbrev pub linear_weight : ℕ → ℕ
 linear_weight shares =
-    MIN_WEIGHT + (bounded shares - MIN_SHARES) * (MAX_WEIGHT - MIN_WEIGHT) / (MAX_SHARES - MIN_SHARES)
+    MIN_WEIGHT
+    + (bounded shares - MIN_SHARES) * (MAX_WEIGHT - MIN_WEIGHT) / (MAX_SHARES - MIN_SHARES)
 
 -- the logarithm of a weight on the curve, times 612 units² and the logarithm of 10: with l for the
--- logarithm of the shares it is l² + 125 l - 126, from which the last term is taken to the other side
+-- logarithm of the shares it is l² + 125 l - 126, of which the last term is on the other side
 abbrev pub curve : ℕ → ℕ → ℕ
 curve ten shares = ten * (shares * shares + 125 * UNIT * shares)
 
@@ -42,8 +43,9 @@ pub record IsLeastAbove (shares weight : ℕ) : Type 0 where
   pub on_or_above : curve ten_most shares_most ≤ height ten_most weight_least
   pub before_under : height ten_least before_most < curve ten_least shares_least
 
--- The weight on the curve through 2 shares and weight 1, 1024 and 100, 262144 and 10000, rounded up:
--- 10 to the power of (l² + 125 l) / 612 - 7 / 34, where l is the logarithm of the shares to the base 2.
+-- The weight on the curve through 2 shares and weight 1, 1024 and 100, 262144 and 10000, rounded
+-- up: 10 to the power of (l² + 125 l) / 612 - 7 / 34, where l is the logarithm of the shares to
+-- the base 2.
 pub data IsLogarithmicWeight : ℕ → ℕ → Type 0 where
   least : (shares : ℕ) → shares ≤ MIN_SHARES → IsLogarithmicWeight shares MIN_WEIGHT
   default : (shares : ℕ) → shares ≡ DEFAULT_SHARES → IsLogarithmicWeight shares DEFAULT_WEIGHT

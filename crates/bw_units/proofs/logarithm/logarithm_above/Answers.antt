@@ -9,7 +9,8 @@ pub loop-i-init : goal.loop-i-init
 loop-i-init c = record {
   most = omega arith;
   exponent = omega arith;
-  above = subst (λ (v : ℕ). ONE * v ≤ (c.power_of-below.result.mantissa + 1) * 2 ^ c.power_of-below.result.exponent)
+  above = subst (λ (v : ℕ). ONE * v
+      ≤ (c.power_of-below.result.mantissa + 1) * 2 ^ c.power_of-below.result.exponent)
       (sym (pow_one c.args.x)) c.power_of-below.ensures.above;
 }
 
