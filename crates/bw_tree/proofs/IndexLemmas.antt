@@ -96,7 +96,7 @@ mine_at gs id parent name is p n = by (group_at gs id) is
 
 -- the first of a key is found where it has the parent and the name
 first_found : (gs : List (ℕ × GroupFields)) (index : ChildIndex) (p q : ℕ) (n : List ℕ)
-    → get eqb index.first (key index.keys p n) ≡ Some q
+    → get eqb index.first (key index.seed p n) ≡ Some q
     → is_child_at gs q p n ≡ true → child_at gs index p n ≡ Some q
 first_found gs index p q n at is =
     ap (λ o. child_among gs o (text_at index.others p n) p n) at
@@ -138,7 +138,7 @@ module _ (gs : List (ℕ × GroupFields)) (k parent : ℕ) (g : GroupFields) (ol
       ≡ (eqb parent p && bytes_eq g.name n)
   mine p n = ap (λ o. is_child_of o p n) (look_push_same gs k g absent) ∙ named_so p n
 
-  only : (q : ℕ) → get eqb old.first (key old.keys parent g.name) ≡ Some q
+  only : (q : ℕ) → get eqb old.first (key old.seed parent g.name) ≡ Some q
       → is_child_at (gs ++ (k, g) ∷ []) q parent g.name ≡ true → q ≡ k
   only q at there = by (eqb_tells q k)
     where
@@ -332,7 +332,7 @@ pub part_start : (groups : List (ℕ × GroupFields)) (index : ChildIndex)
 part_start groups index first others counts none_empty left = record {
   children =
       λ p n. ap (λ o. either o (child_of groups p n))
-      (ap (λ o. child_among groups o (text_at index.others p n) p n) (first (key index.keys p n))
+      (ap (λ o. child_among groups o (text_at index.others p n) p n) (first (key index.seed p n))
       ∙ others p n);
   counts = λ p. (0, counts p, omega arith);
   none_empty = none_empty;
@@ -398,7 +398,7 @@ part_step groups e es parent old new up is added = record {
     sum true done rest = omega arith
     sum false done rest = refl
 
-    only : (q : ℕ) → get eqb old.first (key old.keys parent e.1.name) ≡ Some q
+    only : (q : ℕ) → get eqb old.first (key old.seed parent e.1.name) ≡ Some q
         → is_child_at groups q parent e.1.name ≡ true → q ≡ e.0
     only q at there =
         inside (sym (ap (λ o. either o (child_of (e ∷ es) parent e.1.name))

@@ -1,22 +1,23 @@
 -- Where the children of all groups are found: by a key that is made of the parent and the name.
-use Rattle.std.specs.Prelude.{ℕ, zero, suc, ◌+◌, ◌-◌, ◌%◌, ◌^◌, ◌<◌, nat_eq, ◌==◌, cond, List}
+use Rattle.std.specs.Prelude.{ℕ, zero, suc, ◌+◌, ◌-◌, ◌*◌, ◌%◌, ◌^◌, ◌<◌, nat_eq, ◌==◌, cond, List}
 use Rattle.std.specs.Prelude.{Option, Some, None, IfSome}
 use Rattle.std.specs.List.{fold}
-use Rattle.std.specs.Hash as hash
-use Rattle.std.specs.Hash.DefaultHasher as hashing
-use Rattle.std.specs.RandomState.{initial_hasher}
 use Rattle.std.specs.HashMap.{HashMap, get}
 use Rattle.std.specs.BTreeMap.{BTreeMap, get_by_text, btree_map_len}
 use Rattle.std.specs.declared.string.String.{String}
 use Rattle.std.specs.declared.alloc.Global.{Global}
 use Rattle.std.specs.declared.hash.FoldHasher.{FoldHasher}
 use Rattle.std.specs.declared.hash.BuildHasherDefault.{BuildHasherDefault}
-use Rattle.std.specs.declared.random_state.RandomState.{RandomState}
+use Rattle.bw_tree.specs.declared.child_index.TheConstants.{PRIME}
 
--- the library's keyed hash of a name, moved on by the parent's id: few children share a key
-unfoldable pub key : RandomState → ℕ → List ℕ → ℕ
-key keys parent name =
-    (hashing.finish (fold hashing.write (initial_hasher keys) (hash.str name)) + parent) % 2 ^ 64
+-- the value of a polynomial at a seed, with one more coefficient, modulo a prime in words of 64
+-- bits
+abbrev pub value_with : ℕ → ℕ → ℕ → ℕ
+value_with seed value byte = (value * seed % 2 ^ 64 + byte) % 2 ^ 64 % PRIME
+
+-- the hash of a name at a secret seed, moved on by the parent's id: few children share a key
+unfoldable pub key : ℕ → ℕ → List ℕ → ℕ
+key seed parent name = (fold (value_with seed) 1 name * seed % 2 ^ 64 + parent) % 2 ^ 64
 
 -- the child with this name, among children whose keys others had before them
 abbrev pub text_in : Option (BTreeMap (String Global) ℕ) → List ℕ → Option ℕ

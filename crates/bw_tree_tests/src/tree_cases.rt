@@ -177,27 +177,29 @@ fn assert_finds(rt: &impl Abort, tree: &Tree, path: &str, id: GroupId) {
     assert!(rt; tree.find(path) == Ok(id), "{path}");
 }
 
-// Makes `p`, whose id is `id`, then `a` and `p/b`, and removes and makes `p/b` once more.
+// Makes `p`, whose id is `id`, then `b` and `p/a`, and removes and makes `p/a` once more.
 fn assert_shared_key(rt: &impl Abort, tree: &mut Tree, id: GroupId) {
     assert_makes(rt, tree, 0, "p", Ok(id));
-    assert_makes(rt, tree, 0, "a", Ok(id.wrapping_add(1)));
-    assert_makes(rt, tree, id, "b", Ok(id.wrapping_add(2)));
-    assert_finds(rt, tree, "a", id.wrapping_add(1));
-    assert_finds(rt, tree, "p/b", id.wrapping_add(2));
-    assert_makes(rt, tree, id, "b", Err(TreeFault::Exists));
+    assert_makes(rt, tree, 0, "b", Ok(id.wrapping_add(1)));
+    assert_makes(rt, tree, id, "a", Ok(id.wrapping_add(2)));
+    assert_finds(rt, tree, "b", id.wrapping_add(1));
+    assert_finds(rt, tree, "p/a", id.wrapping_add(2));
+    assert_makes(rt, tree, id, "a", Err(TreeFault::Exists));
     assert!(rt; tree.rmdir(id.wrapping_add(2)) == Ok(()));
-    assert_has_no(rt, tree, "p/b");
-    assert_finds(rt, tree, "a", id.wrapping_add(1));
-    assert_makes(rt, tree, id, "b", Ok(id.wrapping_add(3)));
-    assert_finds(rt, tree, "p/b", id.wrapping_add(3));
+    assert_has_no(rt, tree, "p/a");
+    assert_finds(rt, tree, "b", id.wrapping_add(1));
+    assert_makes(rt, tree, id, "a", Ok(id.wrapping_add(3)));
+    assert_finds(rt, tree, "p/a", id.wrapping_add(3));
 }
 
-// Two children whose keys are one: the second stands among the others of the key. The id of `p` is
-// what the hash of `a` is above that of `b`, so `a` and `p/b` share a key.
+// Two children whose keys are one: the second stands among the others of the key. A key is the
+// hash of the name, times the point, plus the parent's id. The hash of `b` is one more than that of
+// `a`. So `b` shares its key with `p/a` if the id of `p` is the point.
 #[test]
 fn names_that_share_a_key(rt: HostRuntime) -> Result<(), Fail> {
     let keys = known_keys()?;
-    let id = keys.hash_one("a").wrapping_sub(keys.hash_one("b")).max(1);
+    let id = keys.hash_one("") % 4_294_967_291;
+    assert!(rt; 0 < id && id < 4_294_967_190);
     let mut tree = match Tree::with_next_id(rt.alloc(), keys, id) {
         Err(_) => Tree::with_next_id(rt.alloc(), keys, id)?,
         Ok(tree) => tree,
