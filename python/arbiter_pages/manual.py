@@ -13,7 +13,8 @@ from arbiter_pages.words import Section, Word
 DATE = "November 25, 2026"
 HEAD = '.\\" Made from the help of arbiterctl by python/arbiter_pages; a test compares them.'
 TITLES = {"view": "View", "host": "Host", "engine": "Engine", "source": "Source",
-          "prometheus": "Prometheus", "series": "Series", "workers": "Workers", "options": "Options", "positional arguments": "Arguments"}
+          "prometheus": "Prometheus", "series": "Series", "workers": "Workers",
+          "options": "Options", "positional arguments": "Arguments"}
 
 
 def quoted(text: str) -> str:

@@ -7,6 +7,7 @@ from fractions import Fraction
 
 import pytest
 from arbiter_host import command
+from arbiter_host.engine import LibraryEngine
 from arbiter_host.faults import HostFault, UsageFault
 from arbiter_host.fleet import demands, evidence, figures, forms, gather, hosts, pieces
 from arbiter_host.fleet.pool import Here
@@ -254,6 +255,23 @@ def test_garbage_is_no_answer(fleet, alone, library_engine, way):
     recheck = 0.01 if "broken" in way else 0.0
     assert outcome(gathered(fleet, pool, library_engine, recheck=recheck)[1]) == alone
     assert pool.shunned == ["wrong"]
+
+
+def test_a_plan_that_the_library_refuses_is_named(fleet, library_engine, monkeypatch):
+    """A claim of an honest worker is found to be so, and costs it nothing."""
+    certified = LibraryEngine.certified
+
+    def refusing(self, host, rows):
+        if len(rows) < 5:
+            raise HostFault("no plan: error 9 DemandTooLarge")
+        return certified(self, host, rows)
+
+    monkeypatch.setattr(LibraryEngine, "certified", refusing)
+    (fleet / "small.script").write_text("# arbiter run --processors 2\nmkdir a\n")
+    pool = Workers({"one": honest, "two": honest})
+    answers, missing = outcome(gathered(fleet, pool, library_engine, recheck=1.0)[1])
+    assert missing == [("small", "no plan: error 9 DemandTooLarge")]
+    assert len(answers) == HOSTS and pool.shunned == []
 
 
 def test_without_a_believed_worker_all_hosts_are_named(fleet, library_engine, monkeypatch):

@@ -19,7 +19,7 @@ from dataclasses import dataclass, field
 from typing import Any
 
 from arbiter_host import load, names
-from arbiter_host.engine import LibraryEngine
+from arbiter_host.engine import Engine, LibraryEngine
 from arbiter_host.faults import HostFault
 from arbiter_host.fleet import forms, pieces, work
 from arbiter_host.fleet.evidence import Replaying
@@ -312,7 +312,7 @@ class Gatherer:
                 found = of_form(self.asked.job.action, text)
                 is_checked = self.is_chosen(first or "why" in found)
                 if is_checked:
-                    self.check(task, text, certificates)
+                    self.check(task, text, None if "why" in found else certificates)
             except Refused as refused:
                 wrong.append(f"{host}: {refused}")
                 continue
@@ -337,14 +337,19 @@ class Gatherer:
             return False
         return must or self.random.random() < self.asked.recheck
 
-    def check(self, task: Task, text: str, certificates: Sequence[str]) -> None:
-        """Makes the answer again from the file and the certificates, and compares."""
+    def check(self, task: Task, text: str, certificates: Sequence[str] | None) -> None:
+        """Makes the answer again from the file and the certificates, and compares.
+
+        Without certificates it is a claim that there is no answer: then the host is planned here.
+        """
         self.counts.checked += 1
-        by = Replaying(self.library, certificates)
+        by: Engine = (self.library if certificates is None
+                      else Replaying(self.library, certificates))
         own = work.result(self.asked.job, task.item, by)
         if own != text:
-            why = json.loads(own).get("why", "its numbers are not those of its certificate")
-            raise Refused(f"the answer is refused: {why}")
+            other = ("it is not so here" if certificates is None
+                     else "its numbers are not those of its certificate")
+            raise Refused(f"the answer is refused: {json.loads(own).get('why', other)}")
 
     def learn(self, batch: Batch, said: dict[str, Any]) -> None:
         """Learns how long a host, or a sample, takes on a processor."""
