@@ -106,7 +106,8 @@ def script(scenario: Scenario, span: Span) -> str:
                                                  scenario.paths), "/proc/stat"])
     tasks = [task(scenario, path, leaf, number) for path, leaf in scenario.leaves.items()
              if any(leaf.demands) for number in range(leaf.tasks)]
-    lead = 2 + len(tasks) // 8
+    # offsets are set from three periods before the tasks begin
+    lead = (2 if scenario.offset is None else 4) + len(tasks) // 8
     lines = [
         *features(scenario.features),
         *groups(scenario),
