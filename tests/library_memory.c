@@ -103,5 +103,19 @@ int main(void)
         if (held != 0 || row != 7 || (number != 0 && number != 71))
             return 41;
     } while (turn >= refused_turn);
-    return refused_turn > 3 ? 0 : 42;
+    if (refused_turn <= 3)
+        return 42;
+    /* the other calls ask for no memory */
+    turn = 0;
+    refused_turn = 1;
+    char words[ARBITER_NAME_ROOM];
+    if (arbiter_refused_row(parents, 5, weights, 5, limits, 5, weights, 5, &row) != 8 || row != 0)
+        return 50;
+    if (arbiter_slices(1, 100000, 5000, 5000, 100000, &rest) != 0 || arbiter_demand(1, 100000, 5000, 50, &rest) != 0)
+        return 51;
+    if (arbiter_weight_of_shares(3, ARBITER_SHARES_LOGARITHMIC) != 2 || arbiter_weight_of_shares(3, ARBITER_SHARES_LINEAR) != 1)
+        return 52;
+    if (arbiter_version(words, sizeof words) != 5 || arbiter_name(71, words, sizeof words) != 11)
+        return 53;
+    return turn == 0 ? 0 : 54;
 }
