@@ -66,9 +66,11 @@ class Cluster:
         try:
             if address is None:
                 self.local = distributed.LocalCluster(
-                    n_workers=workers, threads_per_worker=1, processes=True, host="127.0.0.1",
+                    n_workers=0, threads_per_worker=1, processes=True, host="127.0.0.1",
                     dashboard_address="127.0.0.1:0", silence_logs=logging.CRITICAL,
                     local_directory=self.folder.name, extensions={})
+                # (not awaited: a worker that dies while it begins would hold up all others)
+                self.local.scale(workers)
             # What workers answer is bytes, and never a pickled object.
             self.client: Any = distributed.Client(
                 self.local or address, set_as_default=False, timeout=ASK_SECONDS,

@@ -40,7 +40,7 @@ MOST_TRIES = 3
 # Batches lost in a row, for each worker, after which nothing more is given out.
 MOST_BARREN = 12
 # Seconds without any worker after which nothing more is given out.
-NO_WORKER_SECONDS = 30.0
+NO_WORKER_SECONDS = 120.0
 WAIT_SECONDS = 0.2
 
 
