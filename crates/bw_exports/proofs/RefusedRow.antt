@@ -154,7 +154,8 @@ first_two : (rows : List Row) → AreSome rows → (are_placed : Bool) → are_e
     × ((length rows == 0 || not (are_earlier rows)) ≡ not are_placed)
 first_two rows held are_placed is = (
   le-ltb MAX_GROUPS (length rows) held.few,
-  ap (λ (b : Bool). b || not (are_earlier rows)) (ne_eqb (length rows) 0 (λ e. omega (arith, e, held.some)))
+  ap (λ (b : Bool). b || not (are_earlier rows))
+      (ne_eqb (length rows) 0 (λ e. omega (arith, e, held.some)))
       ∙ ap not is,
 )
 

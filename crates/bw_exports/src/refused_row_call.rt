@@ -12,8 +12,8 @@ use bw_model::InstanceFault;
 
 /// The number with which every call refuses these rows, and the row that the number speaks of.
 ///
-/// The answer is 0 if the rows are refused by none of 4 to 10. Otherwise `row` is the first row with
-/// the fault:
+/// The answer is 0 if the rows are refused by none of 4 to 10. Otherwise `row` is the first row
+/// with the fault:
 ///
 /// - 4: row 16384, the first that is too many.
 /// - 5: the first row with a parent where it may have none, or with none before it.
@@ -37,7 +37,8 @@ pub extern "C" fn arbiter_refused_row(
         rows_number (asked_table parents.now weights.now limits.now demands.now) }
     ensures row { (fault : InstanceFault)
         → are_even (asked_table parents.now weights.now limits.now demands.now) ≡ true
-        → refusal (rows_in (asked_table parents.now weights.now limits.now demands.now)) ≡ Some fault
+        → refusal (rows_in (asked_table parents.now weights.now limits.now demands.now))
+        ≡ Some fault
         → 0 < length parents.now
         → IsRefusedRow (rows_in (asked_table parents.now weights.now limits.now demands.now)) fault
         row.new }

@@ -13,9 +13,9 @@ pub(crate) const SHARES_LOGARITHMIC: u32 = 2;
 
 /// The `cpu.weight` of 1 to 10000 that a container runtime writes for `cpu.shares`.
 ///
-/// Shares below 2 count as 2, and shares above 262144 as 262144. Conversion 1 is that of runc before
-/// 1.3.2 and crun before 1.23, a line that is rounded down. Conversion 2 is that of later ones, a
-/// curve through shares 2, 1024 and 262144 with weights 1, 100 and 10000, rounded up.
+/// Shares below 2 count as 2, and shares above 262144 as 262144. Conversion 1 is that of runc
+/// before 1.3.2 and crun before 1.23, a line that is rounded down. Conversion 2 is that of later
+/// ones, a curve through shares 2, 1024 and 262144 with weights 1, 100 and 10000, rounded up.
 ///
 /// The answer is 0 for any other conversion. It would be 0 too if logarithms to 36 binary digits
 /// did not tell the weight of conversion 2. Tests try each number of shares, and they all do.

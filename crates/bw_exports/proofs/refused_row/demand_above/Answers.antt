@@ -13,4 +13,5 @@ returns-in_default c =
     rows_length (table_of c.args.columns.now) in
     let past : length rows ≤ c.in-Some.parent =
     omega (arith, long, c.len.ensures, c.if-parent-len.false) in
-    sym (ap (λ (o : Option ℕ). demand_above rows o) c.in-Some.is ∙ none_above rows c.in-Some.parent past)
+    sym (ap (λ (o : Option ℕ). demand_above rows o) c.in-Some.is
+    ∙ none_above rows c.in-Some.parent past)

@@ -6,7 +6,8 @@ use Rattle.bw_exports.proofs.refused_row.first_row.Goals as goal
 
 pub returns-then-has_fault-clause-some : goal.returns-then-has_fault-clause-some
 returns-then-has_fault-clause-some c =
-    let long : length (rows_in (table_of c.args.columns.now)) ≡ length c.args.columns.now.parents.now =
+    let long : length (rows_in (table_of c.args.columns.now))
+    ≡ length c.args.columns.now.parents.now =
     rows_length (table_of c.args.columns.now) in
     record {
       within = omega (arith, long, c.loop-g-test.true, c.len-g-end.ensures);
@@ -16,6 +17,7 @@ returns-then-has_fault-clause-some c =
 
 pub returns-clause-none : goal.returns-clause-none
 returns-clause-none c = λ k within.
-    let long : length (rows_in (table_of c.args.columns.now)) ≡ length c.args.columns.now.parents.now =
+    let long : length (rows_in (table_of c.args.columns.now))
+    ≡ length c.args.columns.now.parents.now =
     rows_length (table_of c.args.columns.now) in
     c.loop-g.invariant k (omega (arith, long, within, c.loop-g-test.false, c.len-g-end.ensures))

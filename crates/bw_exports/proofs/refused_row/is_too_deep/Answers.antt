@@ -39,4 +39,5 @@ returns c =
     c.loop-level.invariant.depth in
     c.is_some.ensures
     ∙ ap (λ (r : Row). is_some r.parent) c.row_at-2.ensures
-    ∙ at_last rows c.requires.tree c.args.g c.loop-level.at (parent_of rows c.loop-level.at) depth refl
+    ∙ at_last rows c.requires.tree c.args.g c.loop-level.at (parent_of rows c.loop-level.at) depth
+    refl
