@@ -4,6 +4,7 @@ import sqlite3
 import subprocess
 import sys
 from fractions import Fraction
+from types import SimpleNamespace
 
 import pytest
 from arbiter_host import command
@@ -307,11 +308,20 @@ def test_a_host_that_no_worker_survives_is_named(fleet, alone, library_engine):
     assert len([names for names in times if names == [bad]]) <= 3 and len(times) <= 10
 
 
-def test_a_batch_that_hangs_is_given_again(fleet, alone, library_engine):
-    """A worker that hangs on its first batch loses it to another."""
-    pool = Workers({"hangs": lambda *_: Workers.HANGS, "honest": honest})
-    gatherer, store = gathered(fleet, pool, library_engine, deadline=0.2)
-    assert outcome(store) == alone and pool.shunned.count("hangs") >= 1
+def test_a_batch_that_hangs_is_given_again(fleet, alone, library_engine, monkeypatch):
+    """A worker that hangs on its first batch loses it to another. Time passes in idle turns."""
+    clock = SimpleNamespace(now=0.0)
+    monkeypatch.setattr(gather, "time", SimpleNamespace(monotonic=lambda: clock.now))
+
+    class Timed(Workers):
+        def replies(self, seconds):
+            found = super().replies(seconds)
+            clock.now += 0 if found else 10
+            return found
+
+    pool = Timed({"hangs": lambda *_: Workers.HANGS, "honest": honest})
+    gatherer, store = gathered(fleet, pool, library_engine, deadline=25.0)
+    assert outcome(store) == alone and set(pool.shunned) == {"hangs"}
 
 
 def test_lost_batches_in_a_row_end_the_run(fleet, library_engine):

@@ -73,7 +73,8 @@ class Cluster:
                 self.local.scale(workers)
             # What workers answer is bytes, and never a pickled object.
             self.client: Any = distributed.Client(
-                self.local or address, set_as_default=False, timeout=ASK_SECONDS,
+                self.local.scheduler_address if self.local else address,
+                set_as_default=False, timeout=ASK_SECONDS,
                 deserializers=["dask", "msgpack", "error"])
         except (OSError, ValueError, RuntimeError) as error:
             self.folder.cleanup()

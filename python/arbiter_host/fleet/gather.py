@@ -343,8 +343,9 @@ class Gatherer:
         Without certificates it is a claim that there is no answer: then the host is planned here.
         """
         self.counts.checked += 1
-        by: Engine = (self.library if certificates is None
-                      else Replaying(self.library, certificates))
+        by: Engine = self.library
+        if certificates is not None:
+            by = Replaying(self.library, certificates)
         own = work.result(self.asked.job, task.item, by)
         if own != text:
             other = ("it is not so here" if certificates is None
