@@ -11,13 +11,15 @@ test_folders=(tests)
 
 # Debian's packages that the tests need, and their modules.
 packages=(python3-pytest python3-hypothesis python3-rich python3-yaml python3-distributed mypy
-  pyflakes3)
+  python3-typeshed pyflakes3)
 modules='pytest, hypothesis, rich, yaml, distributed, mypy, pyflakes'
 # Packages of the same name as their command. Tests that need one that is missing are skipped.
 tools=(mandoc zsh fish chromium prometheus)
 
+# mypy reads the types of yaml from python3-typeshed.
 has_packages() {
-  "$python" -c "import $modules" 2>/dev/null
+  "$python" -c "import $modules; from importlib import metadata; metadata.version('types-PyYAML')" \
+    2>/dev/null
 }
 
 # Installs what is missing if this may be done, otherwise names the command.
