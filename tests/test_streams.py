@@ -271,7 +271,7 @@ def write_failed_once(program, refusing, words, given, nth):
     return ended.out
 
 
-@pytest.mark.parametrize("lines", [None, b"frob\n" * 600], ids=["script", "more than the buffer"])
+@pytest.mark.parametrize("lines", [None, b"frob\n" * 6000], ids=["script", "more than the buffer"])
 def test_run_write_fails_once(program, refusing, script, lines):
     """What the first write wrote, and no answer of a later one."""
     given = lines or script
