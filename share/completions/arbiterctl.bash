@@ -15,7 +15,7 @@ _arbiterctl() {
         given=$before
     fi
     if ((COMP_CWORD == 1)); then
-        mapfile -t COMPREPLY < <(compgen -W "explain compare picture report series top fleet apply undo import from-cgroup -h --help -V --version" -- "$word")
+        mapfile -t COMPREPLY < <(compgen -W "explain compare need guarantee picture report series top fleet apply undo import from-cgroup -h --help -V --version" -- "$word")
         return
     fi
     case ${COMP_WORDS[1]} in
@@ -71,6 +71,53 @@ _arbiterctl() {
                 --driver) mapfile -t COMPREPLY < <(compgen -W "systemd cgroupfs" -- "$word") ;;
                 *)
                     [[ $word == -* ]] && mapfile -t COMPREPLY < <(compgen -W "--set --only --sort --depth --unit --width --all --full-names --json --cpus --processors --period --slice --library --program --from --want --scale --interval --samples --later --own --depth-read --node --conversion --driver --strict -h --help" -- "$word")
+                    ;;
+            esac
+            ;;
+        need)
+            case $given in
+                --unit) mapfile -t COMPREPLY < <(compgen -W "cpu m % slices us" -- "$word") ;;
+                --cpus|--processors) ;;
+                --period) ;;
+                --slice) ;;
+                --library) ;;
+                --program) ;;
+                --from) mapfile -t COMPREPLY < <(compgen -W "script toml yaml json cgroup kubernetes systemd docker" -- "$word") ;;
+                --want) mapfile -t COMPREPLY < <(compgen -W "usage peak p95 psi limit request busy" -- "$word") ;;
+                --scale) ;;
+                --interval) ;;
+                --samples) ;;
+                --later) ;;
+                --depth-read) ;;
+                --node) ;;
+                --conversion) mapfile -t COMPREPLY < <(compgen -W "linear log" -- "$word") ;;
+                --driver) mapfile -t COMPREPLY < <(compgen -W "systemd cgroupfs" -- "$word") ;;
+                *)
+                    [[ $word == -* ]] && mapfile -t COMPREPLY < <(compgen -W "--unit --json --cpus --processors --period --slice --library --program --from --want --scale --interval --samples --later --own --depth-read --node --conversion --driver --strict -h --help" -- "$word")
+                    ;;
+            esac
+            ;;
+        guarantee)
+            case $given in
+                --group) ;;
+                --unit) mapfile -t COMPREPLY < <(compgen -W "cpu m % slices us" -- "$word") ;;
+                --cpus|--processors) ;;
+                --period) ;;
+                --slice) ;;
+                --library) ;;
+                --program) ;;
+                --from) mapfile -t COMPREPLY < <(compgen -W "script toml yaml json cgroup kubernetes systemd docker" -- "$word") ;;
+                --want) mapfile -t COMPREPLY < <(compgen -W "usage peak p95 psi limit request busy" -- "$word") ;;
+                --scale) ;;
+                --interval) ;;
+                --samples) ;;
+                --later) ;;
+                --depth-read) ;;
+                --node) ;;
+                --conversion) mapfile -t COMPREPLY < <(compgen -W "linear log" -- "$word") ;;
+                --driver) mapfile -t COMPREPLY < <(compgen -W "systemd cgroupfs" -- "$word") ;;
+                *)
+                    [[ $word == -* ]] && mapfile -t COMPREPLY < <(compgen -W "--group --unit --json --cpus --processors --period --slice --library --program --from --want --scale --interval --samples --later --own --depth-read --node --conversion --driver --strict -h --help" -- "$word")
                     ;;
             esac
             ;;

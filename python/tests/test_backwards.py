@@ -1,0 +1,152 @@
+"""Questions asked backwards: by values worked by hand, and against plans of other settings."""
+import json
+from dataclasses import replace
+from fractions import Fraction
+
+import pytest
+from arbiter_host import backwards, units
+from arbiter_host.faults import HostFault
+from arbiter_host.model import Group, Host, Model
+from arbiter_host.plan import plan
+from hypothesis import HealthCheck, given, settings
+from hypothesis import strategies as st
+
+# One CPU of 20 slices; a counts once and b twice, and both want all of it.
+TWO = """# arbiter run --processors 1 --period 100000 --slice 5000
+mkdir a
+mkdir b
+write b cpu.weight 200
+demand a 20
+demand b 20
+"""
+
+
+def knobs(ctl, folder, text, *words):
+    """The answers of `need` as JSON, by the name of the setting."""
+    source = folder / "host.script"
+    source.write_text(text)
+    found = json.loads(ctl.run("need", *words, source, "--json")[0])
+    return found, {knob["name"]: knob for knob in found["knobs"]}
+
+
+def test_need_by_hand(ctl, folder):
+    """The tenth slice of a costs 19/w, and the eleventh of b 21/200: w is 181 at least."""
+    found, by = knobs(ctl, folder, TWO, "a", "500m")
+    assert (found["gets_millicpu"], found["amount_millicpu"]) == (350, 500)
+    assert (by["weight"]["now"], by["weight"]["least"]) == (100, 181)
+    assert by["weight"]["pays"] == [{"group": "b", "millicpu": 150}]
+    assert (by["limit"]["now"], by["limit"]["least"]) == (None, None)
+    assert (by["CPUs"]["least"], by["CPUs"]["pays"]) == (2, [])
+
+
+def test_need_of_a_limit(ctl, folder):
+    """A limit of 200m is in the way, and 500m is the least that is not."""
+    text = TWO + "write a cpu.max 20000\ndemand b 5\n"
+    found, by = knobs(ctl, folder, text, "a", "500m")
+    assert (found["gets_millicpu"], by["limit"]["now"], by["limit"]["least"]) == (200, 200, 500)
+    assert (by["weight"]["least"], by["CPUs"]["least"]) == (None, None)
+
+
+def test_need_of_more_than_is_asked(ctl, folder):
+    """No setting gives a group more than it asks for, and a line says so."""
+    source = folder / "host.script"
+    source.write_text(TWO)
+    out, _ = ctl.run("need", "a", "2cpu", source)
+    assert "it asks for less" in out
+    assert [line.split()[-3:] for line in out.split("\n") if line.startswith("CPUs")]
+    assert "64 CPUs do not reach it" in out and "no weight reaches it" in out
+
+
+@pytest.mark.parametrize("words, status", [
+    (("none", "500m"), 1), (("a", "0"), 1), (("a", "lots"), 2), (("*", "500m"), 1),
+])
+def test_need_refuses(ctl, folder, words, status):
+    """No such group, several, nothing asked for, and no amount."""
+    source = folder / "host.script"
+    source.write_text(TWO)
+    _, err = ctl.run("need", *words, source, status=status)
+    assert err.count("\n") == 1
+
+
+def test_guarantee_by_hand(ctl, folder):
+    """7 of 20 slices are a's whatever b asks for, also where b asks for nothing now."""
+    source = folder / "host.script"
+    source.write_text(TWO + "demand b 0\n")
+    found = json.loads(ctl.run("guarantee", source, "--json")[0])
+    assert [(each["group"], each["guaranteed_millicpu"], each["gets_millicpu"])
+            for each in found] == [("a", 350, 1000), ("b", 0, 0)]
+    out, _ = ctl.run("guarantee", source, "--group", "a", "--unit", "slices")
+    assert out.split("\n")[-2].split() == ["7", "20", "20", "a"]
+
+
+def test_guarantee_of_the_inside(library_engine):
+    """What a group's own children ask for is as it is: they do not count as others."""
+    model = Model(Host(1, 100000, 5000))
+    for path, demand in (("pod", 0), ("pod/one", 200), ("pod/two", 200), ("other", 0)):
+        model.add(Group(path, demand=Fraction(demand)))
+    found = plan(library_engine, model)
+    owed = backwards.guarantees(library_engine, found, found.groups[1:])
+    assert owed == [8, 4, 4, 0]
+
+
+PATHS = ["a", "b", "c", "a/x", "a/y"]
+
+
+@st.composite
+def models(draw):
+    """Small hosts with limits and demands."""
+    model = Model(Host(draw(st.integers(1, 3)), 100000, 20000))
+    for path in PATHS:
+        quota = draw(st.none() | st.integers(1, 12).map(lambda slices: 20000 * slices))
+        demand = 0 if path == "a" else draw(st.integers(0, 12)) * 200
+        model.add(Group(path, draw(st.integers(1, 400)), quota, demand=Fraction(demand)))
+    return model
+
+
+SOME = settings(max_examples=40, deadline=None,
+                suppress_health_check=[HealthCheck.function_scoped_fixture])
+
+
+@SOME
+@given(model=models(), path=st.sampled_from(PATHS), slices=st.integers(1, 10))
+def test_least_values(library_engine, model, path, slices):
+    """The least value reaches the amount, and the value before it does not."""
+    found = backwards.need(library_engine, model, path, Fraction(200 * slices))
+    changes = {
+        "weight": (lambda v: backwards.with_weight(model, path, v), units.MAX_WEIGHT),
+        "limit": (lambda v: backwards.with_limit(model, path, v), None),
+        "CPUs": (lambda v: replace(model, host=replace(model.host, cpus=v)), 64),
+    }
+    for knob in found.knobs:
+        changed, greatest = changes[knob.name]
+        gets = lambda v: plan(library_engine, changed(v)).by_path()[path].gets
+        if knob.least is None:
+            assert gets(greatest) < slices
+        else:
+            assert gets(knob.least) >= slices == found.amount
+            assert knob.plan.by_path()[path].gets == gets(knob.least)
+            assert knob.least == 1 or gets(knob.least - 1) < slices
+
+
+@SOME
+@given(model=models(), demands=st.lists(st.integers(0, 12), min_size=5, max_size=5))
+def test_no_demands_of_the_others_give_less(library_engine, model, demands):
+    """Each group gets its guarantee with any demands of the groups that are not under it."""
+    before = plan(library_engine, model)
+    owed = backwards.guarantees(library_engine, before, before.groups[1:])
+    for group, least in zip(before.groups[1:], owed):
+        after = model.copy()
+        for path, slices in zip(PATHS[1:], demands):
+            if path != group.path and not path.startswith(f"{group.path}/"):
+                after.groups[path].demand = Fraction(200 * slices)
+        assert plan(library_engine, after).by_path()[group.path].gets >= least
+        assert group.gets >= least
+
+
+def test_one_group_is_named():
+    """A word that names several groups is refused."""
+    model = Model()
+    for path in ("a", "b"):
+        model.add(Group(path))
+    with pytest.raises(HostFault, match="2 groups"):
+        backwards.one_group(model, "*")
