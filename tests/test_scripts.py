@@ -411,7 +411,7 @@ def test_help_of_build(copy):
     same((status, err), (0, ""), "--help")
     same(copy.call(["./build", "-h"])[1], out, "-h")
     places = re.findall(r"^  ((?:bin|lib|include|share)/\S+)$", out, re.M)
-    same(len(places), 28, "places in help")
+    same(len(places), 30, "places in help")
     page = (ROOT / "docs/BUILDING.md").read_text()
     same(set(re.findall(r"^    DIR/(\S+)$", page, re.M)), set(places), "places in BUILDING.md")
     no_folder = [(words, "needs a folder") for words in (["--install"], ["--install", ""])]
