@@ -158,7 +158,7 @@ GUARANTEE_DETAILS = (
 )
 GUARANTEE_EXAMPLES = (
     ("all groups of a host file", "arbiterctl guarantee host.toml"),
-    ("the groups of one pod", "arbiterctl guarantee pods.json node.json --group 'prod/web/*'"),
+    ("the groups of one pod", "arbiterctl guarantee pods.json node.json --group '*/prod:web-*'"),
 )
 GUARANTEE = Subcommand("guarantee", "what groups get whatever the others ask for",
                        "Says what each group gets at least, whatever the others ask for.",
