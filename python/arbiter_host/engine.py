@@ -322,8 +322,8 @@ def found_program() -> ProgramEngine:
         return ProgramEngine(on_path)
     if (CLONE / "arbiter").is_file():
         if not (CLONE / "crates/arbiter/out/arbiter").is_file():
-            print("arbiterctl: warning: no native program: each run of ./arbiter takes a minute or"
-                  " more; ./build makes it", file=sys.stderr)
+            print("arbiterctl: warning: no native program: the first run of ./arbiter takes about"
+                  " a minute; ./build makes it", file=sys.stderr)
         return ProgramEngine(str(CLONE / "arbiter"))
     raise HostFault("neither libarbiter.so.1 nor the program arbiter is found: name one by"
                     " --library PATH or --program PATH")
