@@ -1,3 +1,5 @@
 -- The files of lemmas.
 mod IdleLaw
-mod Last
+mod LevelLaw
+mod Longer
+mod Places

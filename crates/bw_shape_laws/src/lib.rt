@@ -5,5 +5,7 @@
 #![tactic(auto)]
 
 mod idle;
+mod level;
 
 pub use idle::idle_group_changes_nothing;
+pub use level::level_changes_nothing;
