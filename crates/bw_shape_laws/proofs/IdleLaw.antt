@@ -16,24 +16,24 @@ use Rattle.bw_model.proofs.CallerLemmas.{parent_lt, inner_has_child}
 use Rattle.bw_plan.specs.Shared.{IsPlanning}
 use Rattle.bw_plan.proofs.CallerLemmas.{plan-IsPlanning, at_most}
 use Rattle.bw_shape_laws.specs.Places.{later, renumbered, all_renumbered}
-use Rattle.bw_shape_laws.specs.Idle.{IdleGroupChangesNothing, with_row}
+use Rattle.bw_shape_laws.specs.Idle.{IdleGroupChangesNothing, with_group}
 use Rattle.bw_shape_laws.proofs.Places.{later-below, later-from, later-in, later-le, later-alike}
 use Rattle.bw_shape_laws.proofs.Places.{inserted_old, inserted_whole, later_back, later_taken}
 use Rattle.bw_shape_laws.proofs.Longer.{IsLonger, most_same, amounts_same}
 
 module _ (shape : Shape) (rows : List Row) (place : ℕ) (idle : Row)
     (va : IsInstance (record { shape = shape; rows = rows })) (inside : place ≤ length rows)
-    (vb : IsInstance (record { shape = shape; rows = with_row rows place idle }))
+    (vb : IsInstance (record { shape = shape; rows = with_group rows place idle }))
     (none : idle.demand ≡ 0) where
   abbrev longer : List Row
-  longer = with_row rows place idle
+  longer = with_group rows place idle
 
   length_all : length (all_renumbered place rows) ≡ length rows
   unfolding all_renumbered
   length_all = length-map rows (renumbered place)
 
   one_more : length longer ≡ suc (length rows)
-  unfolding with_row
+  unfolding with_group
   one_more =
       omega (
         arith,
@@ -43,14 +43,14 @@ module _ (shape : Shape) (rows : List Row) (place : ℕ) (idle : Row)
 
   row_old : (x : ℕ) → x < length rows
       → row_of longer (later place x) ≡ renumbered place (row_of rows x)
-  unfolding with_row all_renumbered
+  unfolding with_group all_renumbered
   row_old x below =
       inserted_old (all_renumbered place rows) place idle no_row x
       (omega (arith, length_all, inside))
       ∙ get_or-map (renumbered place) rows x no_row no_row below
 
   row_new : row_of longer place ≡ idle
-  unfolding with_row
+  unfolding with_group
   row_new =
       get_or-insert_at (all_renumbered place rows) place idle no_row
       (omega (arith, length_all, inside))

@@ -1,5 +1,5 @@
 -- The files of lemmas.
 mod IdleLaw
-mod LevelLaw
 mod Longer
+mod OuterLaw
 mod Places

@@ -45,7 +45,7 @@ through : (number : ℕ → ℕ) (q : ℕ) → ((x y : ℕ) → eqb (number x) (
 through number q alike None = refl
 through number q alike (Some p) = alike p q
 
-limit_below : (groups : Groups) (g : ℕ) → 0 < g
+pub limit_below : (groups : Groups) (g : ℕ) → 0 < g
     → limit_of groups g ≡ (row_of groups.rows g).limit
 limit_below groups zero above = absurd (omega arith)
 limit_below groups (suc g) above = refl

@@ -1,5 +1,5 @@
 -- The numbers of a longer list's groups: inserted rows, filtered ranges, lists joined from two parts.
-use Rattle.std.proofs.Common.{◌≡◌, ℕ, zero, suc, ◌+◌, ◌<◌, ◌≤◌, List, [], ◌∷◌, ◌++◌, Bool}
+use Rattle.std.proofs.Common.{◌≡◌, ℕ, zero, suc, ◌+◌, ◌-◌, ◌<◌, ◌≤◌, List, [], ◌∷◌, ◌++◌, Bool}
 use Rattle.std.proofs.Common.{Option, None, Some, cond, true, false, length, get_or, refl, ap}
 use Rattle.std.proofs.Common.{sym, subst, ◌∙◌, arith}
 use Rattle.std.proofs.Common.{◌⊎◌, inl, inr, eqb}
@@ -131,11 +131,14 @@ AreParts p q k a m = (left : List ℕ) × (right : List ℕ)
 
 parts_here : (p q : ℕ → Bool) (k m : ℕ) → ((x : ℕ) → x < k + m → p (later k x) ≡ q x)
     → AreParts p q k k m
-parts_here p q k m same =
-    ([], filter q (range_with_len k m), refl,
-    cond_front (p k) k (filter p (range_with_len (k + 1) m))
-    (map (later k) (filter q (range_with_len k m)))
-    (filter_after p q k k m (omega arith) same))
+parts_here p q k m same = (
+  [],
+  filter q (range_with_len k m),
+  refl,
+  cond_front (p k) k (filter p (range_with_len (k + 1) m))
+      (map (later k) (filter q (range_with_len k m)))
+      (filter_after p q k k m (omega arith) same),
+)
 
 parts_step : (p q : ℕ → Bool) (k a m : ℕ) → a < k → p a ≡ q a → AreParts p q k (a + 1) m
     → AreParts p q k a (suc m)

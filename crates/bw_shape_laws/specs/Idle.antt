@@ -6,16 +6,16 @@ use Rattle.bw_model.specs.Host.{Shape}
 use Rattle.bw_model.specs.Plan.{IsPlan}
 use Rattle.bw_shape_laws.specs.Places.{all_renumbered}
 
--- the rows with a new one at a place
-unfoldable pub with_row : List Row → ℕ → Row → List Row
-with_row rows place row = insert (all_renumbered place rows) place row
+-- the rows with a new group at a place
+unfoldable pub with_group : List Row → ℕ → Row → List Row
+with_group rows place group = insert (all_renumbered place rows) place group
 
 -- A new group with no demand has nothing, and the amounts of the others stay.
 abbrev pub IdleGroupChangesNothing : Type 0
 IdleGroupChangesNothing = (shape : Shape) (rows : List Row) (place : ℕ) (idle : Row)
     (amounts others : List ℕ) → IsInstance (record { shape = shape; rows = rows })
-    → IsInstance (record { shape = shape; rows = with_row rows place idle })
+    → IsInstance (record { shape = shape; rows = with_group rows place idle })
     → place ≤ length rows → idle.demand ≡ 0
     → IsPlan (record { shape = shape; rows = rows }) amounts
-    → IsPlan (record { shape = shape; rows = with_row rows place idle }) others
+    → IsPlan (record { shape = shape; rows = with_group rows place idle }) others
     → others ≡ insert amounts place 0

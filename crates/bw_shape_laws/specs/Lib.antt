@@ -1,4 +1,4 @@
 -- The files of definitions.
 pub mod Idle
-pub mod Level
+pub mod Outer
 pub mod Places

@@ -5,7 +5,7 @@
 #![tactic(auto)]
 
 mod idle;
-mod level;
+mod outer;
 
 pub use idle::idle_group_changes_nothing;
-pub use level::level_changes_nothing;
+pub use outer::outer_group_changes_nothing;

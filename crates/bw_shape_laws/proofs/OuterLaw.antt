@@ -1,4 +1,4 @@
--- One more level over a group has what the group has, and the others have what they had.
+-- An outer group around a group has what the group has, and the others have what they had.
 use Rattle.std.proofs.Common.{◌≡◌, ℕ, zero, suc, ◌+◌, ◌<◌, ◌≤◌, List, [], ◌∷◌, ◌++◌, Option}
 use Rattle.std.proofs.Common.{true, false, None, Some, length, get_or, refl, ap, sym, ◌∙◌, arith}
 use Rattle.std.proofs.Common.{inl, inr, eqb}
@@ -22,11 +22,12 @@ use Rattle.bw_model.proofs.CallerLemmas.{parent_not_leaf}
 use Rattle.bw_plan.specs.Shared.{IsPlanning}
 use Rattle.bw_plan.proofs.CallerLemmas.{plan-IsPlanning}
 use Rattle.bw_shape_laws.specs.Places.{later, renumbered, all_renumbered}
-use Rattle.bw_shape_laws.specs.Level.{LevelChangesNothing, level_over, inside_level, with_level}
+use Rattle.bw_shape_laws.specs.Outer.{OuterGroupChangesNothing, outer_group, inner_group, with_outer}
 use Rattle.bw_shape_laws.proofs.Places.{later-below, later-from, later-in, later-le, later-alike}
 use Rattle.bw_shape_laws.proofs.Places.{later-free, later-beside, inserted_old, inserted_whole}
 use Rattle.bw_shape_laws.proofs.Places.{parts, AreParts, filter_no, both_empty}
-use Rattle.bw_shape_laws.proofs.Longer.{IsLonger, want_same, most_same, amounts_same}
+use Rattle.bw_shape_laws.proofs.Longer.{IsLonger, limit_below, want_same, most_same}
+use Rattle.bw_shape_laws.proofs.Longer.{amounts_same}
 
 -- A parent that stands before the place keeps its number.
 parent_stays : (rows : List Row) → AreTreeRows rows → (place x : ℕ) → x < length rows → x ≤ place
@@ -46,12 +47,12 @@ nobody place (Some p) = ne_eqb (later place p) place (later-free place p)
 
 module _ (shape : Shape) (rows : List Row) (group weight : ℕ)
     (va : IsInstance (record { shape = shape; rows = rows })) (inside : group < length rows)
-    (vb : IsInstance (record { shape = shape; rows = with_level rows group weight })) where
+    (vb : IsInstance (record { shape = shape; rows = with_outer rows group weight })) where
   abbrev longer : List Row
-  longer = with_level rows group weight
+  longer = with_outer rows group weight
 
   abbrev base : List Row
-  base = slice_set (all_renumbered group rows) group (inside_level rows group weight)
+  base = slice_set (all_renumbered group rows) group (inner_group rows group weight)
 
   length_all : length (all_renumbered group rows) ≡ length rows
   unfolding all_renumbered
@@ -59,49 +60,49 @@ module _ (shape : Shape) (rows : List Row) (group weight : ℕ)
 
   length_base : length base ≡ length rows
   length_base =
-      length-set (all_renumbered group rows) group (inside_level rows group weight) ∙ length_all
+      length-set (all_renumbered group rows) group (inner_group rows group weight) ∙ length_all
 
   fits : group ≤ length base
   fits = omega (arith, length_base, inside)
 
   one_more : length longer ≡ suc (length rows)
-  unfolding with_level
+  unfolding with_outer
   one_more =
-      omega (arith, length_base, length-insert base group (level_over rows group) fits)
+      omega (arith, length_base, length-insert base group (outer_group rows group) fits)
 
-  row_level : row_of longer group ≡ level_over rows group
-  unfolding with_level
-  row_level = get_or-insert_at base group (level_over rows group) no_row fits
+  row_outer : row_of longer group ≡ outer_group rows group
+  unfolding with_outer
+  row_outer = get_or-insert_at base group (outer_group rows group) no_row fits
 
-  row_inside : row_of longer (later group group) ≡ inside_level rows group weight
-  unfolding with_level
-  row_inside =
-      inserted_old base group (level_over rows group) no_row group fits
-      ∙ get_or-set_same (all_renumbered group rows) group (inside_level rows group weight) no_row
+  row_inner : row_of longer (later group group) ≡ inner_group rows group weight
+  unfolding with_outer
+  row_inner =
+      inserted_old base group (outer_group rows group) no_row group fits
+      ∙ get_or-set_same (all_renumbered group rows) group (inner_group rows group weight) no_row
       (omega (arith, length_all, inside))
 
   row_old : (x : ℕ) → x < length rows → (x ≡ group → ⊥)
       → row_of longer (later group x) ≡ renumbered group (row_of rows x)
-  unfolding with_level all_renumbered
+  unfolding with_outer all_renumbered
   row_old x below other =
-      inserted_old base group (level_over rows group) no_row x fits
-      ∙ get_or-set_other (map (renumbered group) rows) group x (inside_level rows group weight)
+      inserted_old base group (outer_group rows group) no_row x fits
+      ∙ get_or-set_other (map (renumbered group) rows) group x (inner_group rows group weight)
       no_row other
       ∙ get_or-map (renumbered group) rows x no_row no_row below
 
-  at_level : later (group + 1) group ≡ group
-  at_level = later-below (group + 1) group (omega arith)
+  at_outer : later (group + 1) group ≡ group
+  at_outer = later-below (group + 1) group (omega arith)
 
-  at_inside : later group group ≡ group + 1
-  at_inside = later-from group group (omega arith)
+  at_inner : later group group ≡ group + 1
+  at_inner = later-from group group (omega arith)
 
   parents : (x : ℕ) → x < length rows
       → parent_of longer (later (group + 1) x) ≡ option_map (later group) (parent_of rows x)
-  unfolding renumbered level_over
+  unfolding renumbered outer_group
   parents x below = elim (cases_eq x group) [
     | inl here ↦
-        rw (here, at_level)
-        (ap (λ (r : Row). r.parent) row_level
+        rw (here, at_outer)
+        (ap (λ (r : Row). r.parent) row_outer
         ∙ sym (parent_stays rows va.tree group group inside (omega arith)))
     | inr other ↦
         ap (parent_of longer) (later-beside group x other)
@@ -110,26 +111,26 @@ module _ (shape : Shape) (rows : List Row) (group weight : ℕ)
 
   weights : (x : ℕ) → x < length rows
       → weight_of longer (later (group + 1) x) ≡ weight_of rows x
-  unfolding renumbered level_over
+  unfolding renumbered outer_group
   weights x below = elim (cases_eq x group) [
-    | inl here ↦ rw (here, at_level) (ap (λ (r : Row). r.weight) row_level)
+    | inl here ↦ rw (here, at_outer) (ap (λ (r : Row). r.weight) row_outer)
     | inr other ↦
         ap (weight_of longer) (later-beside group x other)
         ∙ ap (λ (r : Row). r.weight) (row_old x below other)
   ]
 
   demands : (x : ℕ) → x < length rows → demand_of longer (later group x) ≡ demand_of rows x
-  unfolding renumbered inside_level
+  unfolding renumbered inner_group
   demands x below = elim (cases_eq x group) [
-    | inl here ↦ rw here (ap (λ (r : Row). r.demand) row_inside)
+    | inl here ↦ rw here (ap (λ (r : Row). r.demand) row_inner)
     | inr other ↦ ap (λ (r : Row). r.demand) (row_old x below other)
   ]
 
   limits : (x : ℕ) → x < length rows
       → (row_of longer (later group x)).limit ≡ (row_of rows x).limit
-  unfolding renumbered inside_level
+  unfolding renumbered inner_group
   limits x below = elim (cases_eq x group) [
-    | inl here ↦ rw here (ap (λ (r : Row). r.limit) row_inside)
+    | inl here ↦ rw here (ap (λ (r : Row). r.limit) row_inner)
     | inr other ↦ ap (λ (r : Row). r.limit) (row_old x below other)
   ]
 
@@ -146,15 +147,15 @@ module _ (shape : Shape) (rows : List Row) (group weight : ℕ)
     limits = limits;
   }
 
-  parent_inside : parent_of longer (group + 1) ≡ Some group
-  unfolding inside_level
-  parent_inside =
-      ap (parent_of longer) (sym at_inside) ∙ ap (λ (r : Row). r.parent) row_inside
+  parent_inner : parent_of longer (group + 1) ≡ Some group
+  unfolding inner_group
+  parent_inner =
+      ap (parent_of longer) (sym at_inner) ∙ ap (λ (r : Row). r.parent) row_inner
 
-  -- The group is the level's child, and nobody else's.
+  -- The group is the outer group's child, and nobody else's.
   not_elsewhere : (q : ℕ) → is_child longer (later group q) (group + 1) ≡ false
   not_elsewhere q =
-      rw parent_inside (ne_eqb group (later group q) (λ e. later-free group q (sym e)))
+      rw parent_inner (ne_eqb group (later group q) (λ e. later-free group q (sym e)))
 
   only_child : children_of longer group ≡ (group + 1) ∷ []
   unfolding children_of
@@ -166,7 +167,7 @@ module _ (shape : Shape) (rows : List Row) (group weight : ℕ)
       (parents x (omega (arith, below)))
       ∙ nobody group (parent_of rows x)) in
       let here : is_child longer group (group + 1) ≡ true =
-      rw parent_inside (eq-eqb group group refl) in
+      rw parent_inner (eq-eqb group group refl) in
       let cut : AreParts (is_child longer group) (λ _. false) (group + 1) 0 (length rows) =
       parts (is_child longer group) (λ _. false) (group + 1) 0 (length rows) (omega arith)
       (omega (arith, inside)) others in
@@ -174,9 +175,9 @@ module _ (shape : Shape) (rows : List Row) (group weight : ℕ)
       both_empty cut.0 cut.1 (sym cut.2 ∙ filter_no (range_with_len 0 (length rows))) in
       rw (one_more, cut.3, none.0, none.1, here) refl
 
-  level_inner : is_leaf longer group ≡ false
-  level_inner =
-      parent_not_leaf longer group (group + 1) (omega (arith, one_more, inside)) parent_inside
+  outer_inner : is_leaf longer group ≡ false
+  outer_inner =
+      parent_not_leaf longer group (group + 1) (omega (arith, one_more, inside)) parent_inner
 
   ma : List ℕ
   ma = mosts (record { shape = shape; rows = rows }) va.tree
@@ -196,51 +197,52 @@ module _ (shape : Shape) (rows : List Row) (group weight : ℕ)
   unfolding mb
   rule_b = mosts-capped (record { shape = shape; rows = longer }) vb.tree
 
-  -- The level wants what its child can be given.
-  want_level : want_of (record { shape = shape; rows = longer }) mb group
+  -- The outer group wants what its child can be given.
+  want_outer : want_of (record { shape = shape; rows = longer }) mb group
       ≡ get_or mb (group + 1) 0
-  want_level =
-      rw (level_inner, only_child)
+  want_outer =
+      rw (outer_inner, only_child)
       (sum_by-cons (slice_index mb) (group + 1) [] ∙ omega arith)
 
-  free : (level : ℕ) → level ≡ group → (level ≡ 0 → ⊥)
-      → limit_of (record { shape = shape; rows = longer }) level ≡ None
-  unfolding level_over
-  free zero here other = absurd (other refl)
-  free (suc level) here other = rw here (ap (λ (r : Row). r.limit) row_level)
+  unlimited : (group ≡ 0 → ⊥) → limit_of (record { shape = shape; rows = longer }) group ≡ None
+  unfolding outer_group
+  unlimited other =
+      limit_below (record { shape = shape; rows = longer }) group (omega (arith, other))
+      ∙ ap (λ (r : Row). r.limit) row_outer
 
   module _ (kids : (c : ℕ) → c < length rows → parent_of rows c ≡ Some group
       → get_or mb (later (group + 1) c) 0 ≡ get_or ma c 0) where
     most_below : (group ≡ 0 → ⊥) → get_or mb group 0 ≡ get_or ma group 0
     most_below other =
         rule_b group (omega (arith, one_more, inside))
-        ∙ rw (free group refl other) want_level
-        ∙ ap (λ i. get_or mb i 0) (sym at_inside)
+        ∙ rw (unlimited other) want_outer
+        ∙ ap (λ i. get_or mb i 0) (sym at_inner)
         ∙ most_same shape rows longer (group + 1) (later group) is_longer va vb ma mb
         (λ q q_in. inl (not_elsewhere q)) rule_a rule_b group inside
         (λ root. absurd (other root)) kids
 
     most_top : group ≡ 0 → get_or mb group 0 ≡ get_or ma group 0
     most_top root =
-        let unlimited : limit_of (record { shape = shape; rows = longer }) (group + 1) ≡ None =
-        ap (λ i. (row_of longer i).limit) (sym at_inside)
+        let no_limit : limit_of (record { shape = shape; rows = longer }) (group + 1) ≡ None =
+        limit_below (record { shape = shape; rows = longer }) (group + 1) (omega arith)
+        ∙ ap (λ i. (row_of longer i).limit) (sym at_inner)
         ∙ limits group inside
         ∙ rw root va.root_unlimited in
         let wants : get_or mb (group + 1) 0
         ≡ want_of (record { shape = shape; rows = rows }) ma group =
         rule_b (group + 1) (omega (arith, one_more, inside))
-        ∙ rw unlimited refl
-        ∙ ap (want_of (record { shape = shape; rows = longer }) mb) (sym at_inside)
+        ∙ rw no_limit refl
+        ∙ ap (want_of (record { shape = shape; rows = longer }) mb) (sym at_inner)
         ∙ want_same shape rows longer (group + 1) (later group) is_longer va vb ma mb
         (λ q q_in. inl (not_elsewhere q)) group inside kids in
         let one_limit : limit_of (record { shape = shape; rows = longer }) group
         ≡ limit_of (record { shape = shape; rows = rows }) group = rw root refl in
         rule_b group (omega (arith, one_more, inside))
-        ∙ rw (one_limit, want_level, wants) refl
+        ∙ rw (one_limit, want_outer, wants) refl
         ∙ sym (rule_a group inside)
 
-    most_level : get_or mb group 0 ≡ get_or ma group 0
-    most_level = elim (cases_eq group 0) [
+    most_outer : get_or mb group 0 ≡ get_or ma group 0
+    most_outer = elim (cases_eq group 0) [
       | inl root ↦ most_top root
       | inr other ↦ most_below other
     ]
@@ -250,8 +252,8 @@ module _ (shape : Shape) (rows : List Row) (group weight : ℕ)
       (λ x. get_or mb (later (group + 1) x) 0 ≡ get_or ma x 0)
       (λ x below after. elim (cases_eq x group) [
         | inl here ↦
-            rw (here, at_level)
-            (most_level
+            rw (here, at_outer)
+            (most_outer
             (λ c c_in e.
             after c (omega (arith, here, parent_lt rows va.tree c group e)) c_in))
         | inr other ↦
@@ -270,18 +272,18 @@ module _ (shape : Shape) (rows : List Row) (group weight : ℕ)
     pb : IsPlanning (record { shape = shape; rows = longer }) mb (λ _. true) ys
     pb = plan-IsPlanning (record { shape = shape; rows = longer }) vb mb rule_b ys is_other
 
-    -- The only child has all that the level has.
+    -- The only child has all that the outer group has.
     all_inside : get_or ys (group + 1) 0 ≡ get_or ys group 0
     all_inside =
         let whole : sum (map (slice_index ys) (children_of longer group)) ≡ get_or ys group 0 =
-        (pb.splits group (omega (arith, one_more, inside)) refl level_inner).split.whole in
+        (pb.splits group (omega (arith, one_more, inside)) refl outer_inner).split.whole in
         let one : sum (get_or ys (group + 1) 0 ∷ []) ≡ get_or ys group 0 = rw only_child at whole in
         omega (arith, one, sum_by-cons (λ y. y) (get_or ys (group + 1) 0) [])
 
     one_amount : (x : ℕ) → x < length rows
         → get_or ys (later group x) 0 ≡ get_or ys (later (group + 1) x) 0
     one_amount x below = elim (cases_eq x group) [
-      | inl here ↦ rw (here, at_inside, at_level) all_inside
+      | inl here ↦ rw (here, at_inner, at_outer) all_inside
       | inr other ↦ ap (λ i. get_or ys i 0) (sym (later-beside group x other))
     ]
 
@@ -303,8 +305,8 @@ module _ (shape : Shape) (rows : List Row) (group weight : ℕ)
     whole = inserted_whole xs ys group (get_or xs group 0)
         (omega (arith, pb.one_each, one_more, pa.one_each)) (omega (arith, inside, pa.one_each))
         (λ x below. same x (omega (arith, below, pa.one_each)))
-        (sym all_inside ∙ ap (λ i. get_or ys i 0) (sym at_inside) ∙ same group inside)
+        (sym all_inside ∙ ap (λ i. get_or ys i 0) (sym at_inner) ∙ same group inside)
 
-pub level_changes_nothing : LevelChangesNothing
-level_changes_nothing shape rows group weight xs ys va vb inside is_plan is_other =
+pub outer_changes_nothing : OuterGroupChangesNothing
+outer_changes_nothing shape rows group weight xs ys va vb inside is_plan is_other =
     whole shape rows group weight va inside vb xs ys is_plan is_other
