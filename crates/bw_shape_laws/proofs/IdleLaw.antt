@@ -19,7 +19,8 @@ use Rattle.bw_shape_laws.specs.Places.{later, renumbered, all_renumbered}
 use Rattle.bw_shape_laws.specs.Idle.{IdleGroupChangesNothing, with_group}
 use Rattle.bw_shape_laws.proofs.Places.{later-below, later-from, later-in, later-le, later-alike}
 use Rattle.bw_shape_laws.proofs.Places.{inserted_old, inserted_whole, later_back, later_taken}
-use Rattle.bw_shape_laws.proofs.Longer.{IsLonger, most_same, amounts_same}
+use Rattle.bw_shape_laws.proofs.Carried.{IsCarried, most_same, amounts_same}
+use Rattle.bw_shape_laws.proofs.Longer.{IsLonger, longer-IsCarried}
 
 module _ (shape : Shape) (rows : List Row) (place : ℕ) (idle : Row)
     (va : IsInstance (record { shape = shape; rows = rows })) (inside : place ≤ length rows)
@@ -30,7 +31,7 @@ module _ (shape : Shape) (rows : List Row) (place : ℕ) (idle : Row)
 
   length_all : length (all_renumbered place rows) ≡ length rows
   unfolding all_renumbered
-  length_all = length-map rows (renumbered place)
+  length_all = length-map rows (renumbered (later place))
 
   one_more : length longer ≡ suc (length rows)
   unfolding with_group
@@ -42,12 +43,12 @@ module _ (shape : Shape) (rows : List Row) (place : ℕ) (idle : Row)
       )
 
   row_old : (x : ℕ) → x < length rows
-      → row_of longer (later place x) ≡ renumbered place (row_of rows x)
+      → row_of longer (later place x) ≡ renumbered (later place) (row_of rows x)
   unfolding with_group all_renumbered
   row_old x below =
       inserted_old (all_renumbered place rows) place idle no_row x
       (omega (arith, length_all, inside))
-      ∙ get_or-map (renumbered place) rows x no_row no_row below
+      ∙ get_or-map (renumbered (later place)) rows x no_row no_row below
 
   row_new : row_of longer place ≡ idle
   unfolding with_group
@@ -68,6 +69,9 @@ module _ (shape : Shape) (rows : List Row) (place : ℕ) (idle : Row)
     demands = λ x below. ap (λ (r : Row). r.demand) (row_old x below);
     limits = λ x below. ap (λ (r : Row). r.limit) (row_old x below);
   }
+
+  carried : IsCarried rows longer place (later place) (later place)
+  carried = longer-IsCarried rows longer place (later place) is_longer
 
   ma : List ℕ
   ma = mosts (record { shape = shape; rows = rows }) va.tree
@@ -134,7 +138,7 @@ module _ (shape : Shape) (rows : List Row) (place : ℕ) (idle : Row)
       (λ x. get_or (mosts (record { shape = shape; rows = longer }) vb.tree) (later place x) 0
       ≡ get_or (mosts (record { shape = shape; rows = rows }) va.tree) x 0)
       (λ x below after.
-      most_same shape rows longer place (later place) is_longer va vb
+      most_same shape rows longer place (later place) (later place) carried va vb
       (mosts (record { shape = shape; rows = rows }) va.tree)
       (mosts (record { shape = shape; rows = longer }) vb.tree) (λ q q_in. inr most_new)
       (mosts-capped (record { shape = shape; rows = rows }) va.tree)
@@ -175,7 +179,7 @@ module _ (shape : Shape) (rows : List Row) (place : ℕ) (idle : Row)
     whole = inserted_whole xs ys place 0 (omega (arith, pb.one_each, one_more, pa.one_each))
         (omega (arith, inside, pa.one_each))
         (λ x below.
-        amounts_same shape rows longer place (later place) is_longer va vb ma mb
+        amounts_same shape rows longer place (later place) (later place) carried va vb ma mb
         (λ q q_in. inr most_new) xs ys pa pb most_old top (λ c c_in. refl) x
         (omega (arith, below, pa.one_each)))
         nothing_new

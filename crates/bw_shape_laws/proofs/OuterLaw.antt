@@ -26,8 +26,9 @@ use Rattle.bw_shape_laws.specs.Outer.{OuterGroupChangesNothing, outer_group, inn
 use Rattle.bw_shape_laws.proofs.Places.{later-below, later-from, later-in, later-le, later-alike}
 use Rattle.bw_shape_laws.proofs.Places.{later-free, later-beside, inserted_old, inserted_whole}
 use Rattle.bw_shape_laws.proofs.Places.{parts, AreParts, filter_no, both_empty}
-use Rattle.bw_shape_laws.proofs.Longer.{IsLonger, limit_below, want_same, most_same}
-use Rattle.bw_shape_laws.proofs.Longer.{amounts_same}
+use Rattle.bw_shape_laws.proofs.Carried.{IsCarried, limit_below, want_same, most_same}
+use Rattle.bw_shape_laws.proofs.Carried.{amounts_same}
+use Rattle.bw_shape_laws.proofs.Longer.{IsLonger, longer-IsCarried}
 
 -- A parent that stands before the place keeps its number.
 parent_stays : (rows : List Row) → AreTreeRows rows → (place x : ℕ) → x < length rows → x ≤ place
@@ -56,7 +57,7 @@ module _ (shape : Shape) (rows : List Row) (group weight : ℕ)
 
   length_all : length (all_renumbered group rows) ≡ length rows
   unfolding all_renumbered
-  length_all = length-map rows (renumbered group)
+  length_all = length-map rows (renumbered (later group))
 
   length_base : length base ≡ length rows
   length_base =
@@ -82,13 +83,13 @@ module _ (shape : Shape) (rows : List Row) (group weight : ℕ)
       (omega (arith, length_all, inside))
 
   row_old : (x : ℕ) → x < length rows → (x ≡ group → ⊥)
-      → row_of longer (later group x) ≡ renumbered group (row_of rows x)
+      → row_of longer (later group x) ≡ renumbered (later group) (row_of rows x)
   unfolding with_outer all_renumbered
   row_old x below other =
       inserted_old base group (outer_group rows group) no_row x fits
-      ∙ get_or-set_other (map (renumbered group) rows) group x (inner_group rows group weight)
+      ∙ get_or-set_other (map (renumbered (later group)) rows) group x (inner_group rows group weight)
       no_row other
-      ∙ get_or-map (renumbered group) rows x no_row no_row below
+      ∙ get_or-map (renumbered (later group)) rows x no_row no_row below
 
   at_outer : later (group + 1) group ≡ group
   at_outer = later-below (group + 1) group (omega arith)
@@ -146,6 +147,9 @@ module _ (shape : Shape) (rows : List Row) (group weight : ℕ)
     demands = demands;
     limits = limits;
   }
+
+  carried : IsCarried rows longer (group + 1) (later group) (later (group + 1))
+  carried = longer-IsCarried rows longer (group + 1) (later group) is_longer
 
   parent_inner : parent_of longer (group + 1) ≡ Some group
   unfolding inner_group
@@ -217,7 +221,7 @@ module _ (shape : Shape) (rows : List Row) (group weight : ℕ)
         rule_b group (omega (arith, one_more, inside))
         ∙ rw (unlimited other) want_outer
         ∙ ap (λ i. get_or mb i 0) (sym at_inner)
-        ∙ most_same shape rows longer (group + 1) (later group) is_longer va vb ma mb
+        ∙ most_same shape rows longer (group + 1) (later group) (later (group + 1)) carried va vb ma mb
         (λ q q_in. inl (not_elsewhere q)) rule_a rule_b group inside
         (λ root. absurd (other root)) kids
 
@@ -233,7 +237,7 @@ module _ (shape : Shape) (rows : List Row) (group weight : ℕ)
         rule_b (group + 1) (omega (arith, one_more, inside))
         ∙ rw no_limit refl
         ∙ ap (want_of (record { shape = shape; rows = longer }) mb) (sym at_inner)
-        ∙ want_same shape rows longer (group + 1) (later group) is_longer va vb ma mb
+        ∙ want_same shape rows longer (group + 1) (later group) (later (group + 1)) carried va vb ma mb
         (λ q q_in. inl (not_elsewhere q)) group inside kids in
         let one_limit : limit_of (record { shape = shape; rows = longer }) group
         ≡ limit_of (record { shape = shape; rows = rows }) group = rw root refl in
@@ -258,7 +262,7 @@ module _ (shape : Shape) (rows : List Row) (group weight : ℕ)
             after c (omega (arith, here, parent_lt rows va.tree c group e)) c_in))
         | inr other ↦
             ap (λ i. get_or mb i 0) (later-beside group x other)
-            ∙ most_same shape rows longer (group + 1) (later group) is_longer va vb ma mb
+            ∙ most_same shape rows longer (group + 1) (later group) (later (group + 1)) carried va vb ma mb
             (λ q q_in. inl (not_elsewhere q)) rule_a rule_b x below
             (λ root. rw root (later-below group 0 (omega (arith, other, root))))
             (λ c c_in e. after c (parent_lt rows va.tree c x e) c_in)
@@ -298,7 +302,7 @@ module _ (shape : Shape) (rows : List Row) (group weight : ℕ)
         ∙ sym pa.top
 
     same : (x : ℕ) → x < length rows → get_or ys (later group x) 0 ≡ get_or xs x 0
-    same = amounts_same shape rows longer (group + 1) (later group) is_longer va vb ma mb
+    same = amounts_same shape rows longer (group + 1) (later group) (later (group + 1)) carried va vb ma mb
         (λ q q_in. inl (not_elsewhere q)) xs ys pa pb most_old top one_amount
 
     whole : ys ≡ insert xs group (get_or xs group 0)

@@ -8,14 +8,14 @@ unfoldable pub later : ℕ → ℕ → ℕ
 later place g = if nat_lt g place then g else g + 1
 
 -- a row that names its parent by the parent's new number
-unfoldable pub renumbered : ℕ → Row → Row
-renumbered place row = record {
-  parent = option_map (later place) row.parent;
+unfoldable pub renumbered : (ℕ → ℕ) → Row → Row
+renumbered number row = record {
+  parent = option_map number row.parent;
   weight = row.weight;
   limit = row.limit;
   demand = row.demand;
 }
 
--- rows that name their parents by the new numbers
+-- the rows that name their parents by the numbers after a new row at a place
 unfoldable pub all_renumbered : ℕ → List Row → List Row
-all_renumbered place rows = map (renumbered place) rows
+all_renumbered place rows = map (renumbered (later place)) rows
