@@ -6,8 +6,8 @@ use Rattle.bw_model.specs.Host.{Shape}
 use Rattle.bw_model.specs.Plan.{IsPlan}
 use Rattle.bw_shape_laws.specs.Places.{renumbered}
 
--- The same groups in rows of another order, and siblings in the same one. Each group has a number
--- there, and each number there is that of a group that was here.
+-- A tree's rows in another order, with siblings in the same one. The number of a group is its new
+-- row, and the old number of a new row is the group's row here.
 pub record IsReordered (rows others : List Row) (number old : ℕ → ℕ) : Type 0 where
   pub as_many : length others ≡ length rows
   pub numbers : (g : ℕ) → g < length rows → (number g < length rows) × (old (number g) ≡ g)
