@@ -1,9 +1,9 @@
 -- A tree carried into another one: the wants, the splits and the amounts of its groups.
-use Rattle.std.proofs.Common.{◌≡◌, ℕ, zero, suc, ◌+◌, ◌<◌, ◌≤◌, List, [], ◌∷◌, ◌++◌, Bool}
-use Rattle.std.proofs.Common.{Option, cond, true, false, None, Some, length, get_or, refl, ap, sym}
-use Rattle.std.proofs.Common.{◌∙◌, ◌⊎◌, arith, inl, inr, eqb}
+use Rattle.std.proofs.Common.{◌≡◌, ℕ, zero, suc, ◌<◌, List, [], ◌∷◌, ◌++◌, Bool}
+use Rattle.std.proofs.Common.{cond, true, false, Some, length, get_or, refl, ap, sym}
+use Rattle.std.proofs.Common.{◌∙◌, ◌⊎◌, arith, inl, inr}
 use Rattle.std.specs.Prelude.{map, sum, sum_by, slice_index}
-use Rattle.std.specs.Option.{option_map, option_map_or}
+use Rattle.std.specs.Option.{option_map}
 use Rattle.std.proofs.lemmas.Bool.{cases_eq, cases_Bool}
 use Rattle.std.proofs.lemmas.List.{length-map, map-append}
 use Rattle.std.proofs.lemmas.List.Sums.{sum-map}
@@ -14,7 +14,7 @@ use Rattle.bw_model.specs.Host.{Shape}
 use Rattle.bw_model.specs.Demand.{want_of}
 use Rattle.bw_model.specs.Plan.{child_weights}
 use Rattle.bw_model.specs.Split.{IsBestSplit}
-use Rattle.bw_model.proofs.CallerLemmas.{strong, capped, mosts, mosts-capped, parent_lt, get_or-map}
+use Rattle.bw_model.proofs.CallerLemmas.{strong, capped, parent_lt, get_or-map}
 use Rattle.bw_model.proofs.CallerLemmas.{parent_not_leaf, listed_child, is_child_from_parent}
 use Rattle.bw_model.proofs.CallerLemmas.{inner_has_child, leaf_no_child, no_children}
 use Rattle.bw_model.proofs.CallerLemmas.{IsBestSplit-unique}

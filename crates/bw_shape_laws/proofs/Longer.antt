@@ -1,5 +1,5 @@
 -- A tree with one row more is one that the shorter tree is carried into.
-use Rattle.std.proofs.Common.{◌≡◌, ℕ, suc, ◌+◌, ◌<◌, ◌≤◌, List, [], ◌∷◌, ◌++◌, Option, cond}
+use Rattle.std.proofs.Common.{◌≡◌, ℕ, suc, ◌<◌, ◌≤◌, List, [], ◌∷◌, ◌++◌, Option, cond}
 use Rattle.std.proofs.Common.{false, None, Some, length, refl, ap, ◌∙◌, arith, eqb}
 use Rattle.std.specs.Prelude.{map}
 use Rattle.std.specs.Option.{option_map, option_map_or}

@@ -1,14 +1,14 @@
 -- In another order of the rows, with siblings in the same order, each group has what it had.
-use Rattle.std.proofs.Common.{◌≡◌, ℕ, zero, suc, ◌+◌, ◌<◌, ◌≤◌, List, [], ◌∷◌, ◌++◌, Option, cond}
+use Rattle.std.proofs.Common.{◌≡◌, ℕ, ◌+◌, ◌<◌, ◌≤◌, List, [], ◌∷◌, ◌++◌, Option, cond}
 use Rattle.std.proofs.Common.{true, false, None, Some, length, get_or, refl, ap, sym, ◌∙◌, arith}
 use Rattle.std.proofs.Common.{inl, inr, eqb}
-use Rattle.std.specs.Prelude.{map, slice_index}
+use Rattle.std.specs.Prelude.{map}
 use Rattle.std.specs.Option.{option_map, option_map_or}
 use Rattle.std.proofs.lemmas.Bool.{cases_eq}
 use Rattle.std.proofs.lemmas.List.{append-nil, get_or_past}
 use Rattle.std.proofs.lemmas.Option.{same_Some}
 use Rattle.bw_model.specs.declared.row.Row.{Row}
-use Rattle.bw_model.specs.Groups.{IsInstance, no_row, row_of, parent_of, is_child, children_of}
+use Rattle.bw_model.specs.Groups.{IsInstance, no_row, parent_of, is_child, children_of}
 use Rattle.bw_model.specs.Host.{Shape}
 use Rattle.bw_model.specs.Plan.{IsPlan}
 use Rattle.bw_model.proofs.CallerLemmas.{from_the_last, mosts, mosts-capped, parent_lt}

@@ -1,11 +1,11 @@
 -- An outer group around a group has what the group has, and the others have what they had.
-use Rattle.std.proofs.Common.{◌≡◌, ℕ, zero, suc, ◌+◌, ◌<◌, ◌≤◌, List, [], ◌∷◌, ◌++◌, Option}
+use Rattle.std.proofs.Common.{◌≡◌, ℕ, suc, ◌+◌, ◌<◌, ◌≤◌, List, [], ◌∷◌, Option}
 use Rattle.std.proofs.Common.{true, false, None, Some, length, get_or, refl, ap, sym, ◌∙◌, arith}
 use Rattle.std.proofs.Common.{inl, inr, eqb}
-use Rattle.std.specs.Prelude.{map, insert, slice_index, slice_set, sum, sum_by}
+use Rattle.std.specs.Prelude.{map, insert, slice_index, slice_set, sum}
 use Rattle.std.specs.List.{range_with_len}
 use Rattle.std.specs.Option.{option_map, option_map_or}
-use Rattle.std.proofs.lemmas.Bool.{cases_eq, cases_Bool, eq-eqb, ne_eqb}
+use Rattle.std.proofs.lemmas.Bool.{cases_eq, eq-eqb, ne_eqb}
 use Rattle.std.proofs.lemmas.List.{get_or-map, get_or-set_same, get_or-set_other, length-map}
 use Rattle.std.proofs.lemmas.List.{length-set}
 use Rattle.std.proofs.lemmas.List.Edits.{length-insert, get_or-insert_at}
@@ -13,8 +13,7 @@ use Rattle.std.proofs.lemmas.List.Sums.{sum_by-cons}
 use Rattle.bw_model.specs.declared.row.Row.{Row}
 use Rattle.bw_model.specs.Groups.{IsInstance, AreTreeRows, no_row, row_of, parent_of, is_child}
 use Rattle.bw_model.specs.Groups.{children_of, is_leaf, weight_of, demand_of, limit_of}
-use Rattle.bw_model.specs.Groups.{sum_of_children}
-use Rattle.bw_model.specs.Host.{Shape, capacity_of}
+use Rattle.bw_model.specs.Host.{Shape}
 use Rattle.bw_model.specs.Demand.{want_of}
 use Rattle.bw_model.specs.Plan.{IsPlan}
 use Rattle.bw_model.proofs.CallerLemmas.{from_the_last, mosts, mosts-capped, capped, parent_lt}

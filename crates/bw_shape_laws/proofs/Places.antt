@@ -3,7 +3,7 @@ use Rattle.std.proofs.Common.{◌≡◌, ℕ, zero, suc, ◌+◌, ◌-◌, ◌<�
 use Rattle.std.proofs.Common.{Option, None, Some, cond, true, false, length, get_or, refl, ap}
 use Rattle.std.proofs.Common.{sym, subst, ◌∙◌, arith}
 use Rattle.std.proofs.Common.{◌⊎◌, inl, inr, eqb}
-use Rattle.std.specs.Prelude.{filter, insert, map, nat_lt, remove, sum, sum_by}
+use Rattle.std.specs.Prelude.{filter, insert, map, remove, sum}
 use Rattle.std.specs.List.{range_with_len}
 use Rattle.std.proofs.lemmas.Bool.{cases_eq, cases_lt, cases_Bool, lt-ltb, le-ltb, eq-eqb, ne_eqb}
 use Rattle.std.specs.Option.{option_map}
