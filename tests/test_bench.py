@@ -55,6 +55,17 @@ def stub(tmp_path):
     return Stub(tmp_path, dict.fromkeys(PLANS, 100.0))
 
 
+def test_types():
+    """mypy and pyflakes find nothing in the modules that are typed."""
+    typed = ["instructions.py", "questions.py", "runs.py", "shapes.py", "../tests/meeting_names.py"]
+    words = {"mypy": ["--strict", "--cache-dir", "/dev/null", *typed],
+             "pyflakes": [*map(str, sorted((ROOT / "bench").glob("*.py")))]}
+    for module, rest in words.items():
+        ended = run([sys.executable, "-m", module, *rest], cwd=ROOT / "bench", seconds=300,
+                    env={**os.environ, "MYPYPATH": str(ROOT / "python")})
+        same((ended.status, ended.err), (0, b""), ended.out.decode())
+
+
 def test_kept_numbers_are_read_back():
     """What is kept has each row with its number."""
     table = {row: 100.25 + at for at, row in enumerate(instructions.rows_of(instructions.WORK))}
