@@ -94,8 +94,8 @@ def fixed_random() -> str:
 def counted(words: list[str], file: str, byte: int = 0) -> tuple[float, float]:
     """The instructions of a process, which has to succeed: always the same for the same bytes.
 
-    Each random byte of the process is `byte`, so the keys of its hash of names are known. Its
-    threads take turns.
+    Each random byte of the process is `byte`, so the keys of its hash of names are known. A thread
+    may end before it is waited for or after. So each `period` can differ by some hundred.
     """
     whole = ["valgrind", "--tool=callgrind", "--callgrind-out-file=/dev/null", "--fair-sched=try",
              *words]
@@ -142,7 +142,7 @@ class Least:
         self.best[name] = min(self.take(*self.runs[name])[0], self.best.get(name, math.inf))
 
     def turns(self, number: int, names: Iterable[str]) -> None:
-        """Makes runs again. Instructions are counted once, since they are always the same."""
+        """Makes runs again. Instructions are counted once, since they repeat."""
         for _ in range(0 if self.take is counted else number):
             for name in names:
                 self.once(name)

@@ -148,13 +148,24 @@ def valgrind():
         pytest.skip("no valgrind")
 
 
+def two_counts(program, folder, *lines):
+    """Two counts of a script that makes 200 groups and then has these lines."""
+    script = folder / "script"
+    script.write_bytes(text_of([*Tree("random", 200).made, *lines]))
+    return [runs.counted([program.path, *host(1)], script)[0] for _ in range(2)]
+
+
 def test_counts_repeat(program, valgrind, tmp_path):
-    """Two counts of one script are the same, also with the thread of a period."""
-    script = tmp_path / "script"
-    script.write_bytes(text_of([*Tree("random", 200).made, "plan", "period", "report"]))
-    one, two = (runs.counted([program.path, *host(1)], script)[0] for _ in range(2))
+    """Two counts of one script are the same."""
+    one, two = two_counts(program, tmp_path, "plan", "total", "cert", "report")
     same(one, two)
     assert one > 200 * 1000
+
+
+def test_counts_of_a_period_nearly_repeat(program, valgrind, tmp_path):
+    """With the threads of ten periods two counts differ by less than a thousandth."""
+    one, two = two_counts(program, tmp_path, *["period"] * 10)
+    assert abs(one - two) < one / 1000, (one, two)
 
 
 def test_questions_are_timed(library, monkeypatch):
