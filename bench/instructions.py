@@ -35,7 +35,7 @@ WORK = ["mkdir", "setup", "demand", "read", "write", "plan", "total", "cert", "r
         "check"]
 # The work that is counted on trees of so many groups, and the shapes of these.
 SIZES = {4096: (WORK, SHAPES), 16384: (["mkdir", "plan", "check"], ["flat", "random"])}
-# How often a line that is of all groups is given, so that its first time tells less.
+# Times that a line of all groups is given, so that the first of them tells less.
 ROUNDS = 5
 # A number may be so many times the one that is kept.
 MOST = 1.05
@@ -79,7 +79,7 @@ def certified(program: str, made: list[str]) -> bytes:
 
 
 def piece(program: str, tree: Tree, row: Row) -> Piece:
-    """What is counted for a row."""
+    """The runs that are counted for a row."""
     nothing, made, lines = run_of(64), run_of(64, tree.made), tree.rounds.get(row.work, [])
     if row.work == "mkdir":
         return Piece(run_of(64, lines), nothing, row.groups)
@@ -109,7 +109,7 @@ class Counts:
         self.pool = ThreadPoolExecutor(len(os.sched_getaffinity(0)))
 
     def pieces(self, rows: Iterable[Row]) -> Iterator[tuple[Row, Piece]]:
-        """What is counted for each row."""
+        """The runs of each row."""
         for row in rows:
             key = (row.shape, row.groups)
             if key not in self.trees:
@@ -224,7 +224,7 @@ def read_words() -> argparse.Namespace:
 
 
 def kept_table(options: argparse.Namespace, rows: list[Row]) -> Table:
-    """What is kept; empty if there is nothing and it is about to be kept."""
+    """The table that is kept; empty if there is none and one is about to be kept."""
     kept = table_of_text(options.kept.read_text()) if options.kept.is_file() else {}
     missing = [row for row in rows if row not in kept]
     if missing and not options.keep:

@@ -97,8 +97,7 @@ def counted(words: list[str], file: str, byte: int = 0) -> tuple[float, float]:
     Each random byte of the process is `byte`, so the keys of its hash of names are known. A thread
     may end before it is waited for or after. So each `period` can differ by some hundred.
     """
-    whole = ["valgrind", "--tool=callgrind", "--callgrind-out-file=/dev/null", "--fair-sched=try",
-             *words]
+    whole = ["valgrind", "--tool=callgrind", "--callgrind-out-file=/dev/null", *words]
     known = {"LD_PRELOAD": fixed_random(), "RANDOM_BYTE": str(byte)}
     with open(file, "rb") as given:
         ended = subprocess.run(whole, stdin=given, stdout=subprocess.DEVNULL,

@@ -41,7 +41,7 @@ class Stub:
         self.kept.write_text(instructions.text_of_table(kept, "commit abc"))
 
     def run(self, *words, plan="100"):
-        """How the command ends if a `plan` takes so many instructions a group."""
+        """Runs the command where a `plan` takes so many instructions a group."""
         (self.folder / "plan").write_text(plan)
         words = [sys.executable, COMMAND, "--kept", self.kept, "--program", self.folder / "program",
                  *(words or ["--only", "plan"])]
@@ -67,7 +67,7 @@ def test_types():
 
 
 def test_kept_numbers_are_read_back():
-    """What is kept has each row with its number."""
+    """The kept text has each row with its number."""
     table = {row: 100.25 + at for at, row in enumerate(instructions.rows_of(instructions.WORK))}
     text = instructions.text_of_table(table, "commit abc")
     same(instructions.table_of_text(text), table)

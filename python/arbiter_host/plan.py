@@ -87,7 +87,7 @@ class Plan:
 
     @property
     def by(self) -> str:
-        """What planned, for people."""
+        """The words of the engine, for people."""
         return self.engine.words
 
     @property
@@ -116,12 +116,12 @@ class Plan:
 
     @functools.cached_property
     def reasons(self) -> list[Why]:
-        """Why each group gets what it gets, by row: the library's answer where it has the call."""
+        """The reasons, by row: the library's answer where it has the call."""
         proved = questions.of(self.engine, self.model.host, self.rows())
         return worked_out(self.groups) if proved is None else proved.reasons()
 
     def reason(self, group: Planned) -> Reason:
-        """Why a group gets what it gets, in words."""
+        """The reason of a group in words."""
         kind, blamed = self.reasons[group.row]
         if kind is Kind.NOTHING_ASKED:
             return Reason("nothing asked", "nothing asked")
@@ -147,7 +147,7 @@ class Plan:
 
 
 def worked_out(groups: Sequence[Planned]) -> list[Why]:
-    """Why each group gets what it gets, by row, from the amounts."""
+    """The reasons of all groups, by row, from the amounts."""
     blamed: list[int] = []
     for group in groups:
         lacks = group.parent is not None and group.gets < group.most
@@ -156,7 +156,7 @@ def worked_out(groups: Sequence[Planned]) -> list[Why]:
 
 
 def why(group: Planned, blamed: int) -> Why:
-    """Why a group gets what it gets, if the limit of a row cuts: its own or that of one above."""
+    """The reason of a group, if the limit of a row cuts: its own or that of one above."""
     if group.want == 0:
         return Why(Kind.NOTHING_ASKED, group.row)
     if group.gets == group.want:

@@ -35,7 +35,7 @@ class Why(NamedTuple):
 
 
 class Questions:
-    """What the library is asked about one host and its rows."""
+    """Asks the library about one host and its rows."""
 
     def __init__(self, library: LibraryEngine, host: Host, rows: Sequence[Row]) -> None:
         self.library, self.host, self.count = library, host, len(rows)
@@ -50,7 +50,7 @@ class Questions:
             raise HostFault(f"arbiter_{name}: error {number} {self.library.name(number)}")
 
     def reasons(self) -> list[Why]:
-        """Why each group gets what it gets, by row."""
+        """The reasons of all groups, by row."""
         kinds, blamed = (U8 * self.count)(), (U32 * self.count)()
         length = ctypes.c_size_t(self.count)
         self.answered("reasons", self.asked, kinds, length, blamed, length)
@@ -59,7 +59,7 @@ class Questions:
         return [Why(Kind(kind), row) for kind, row in zip(kinds, blamed)]
 
     def guarantee(self, row: int) -> int:
-        """What a group gets whatever the groups that are not under it ask for, in slices."""
+        """The slices that a group gets whatever the groups that are not under it ask for."""
         amount = U64()
         self.answered("guarantee", self.asked, U32(row), ctypes.byref(amount))
         return amount.value
