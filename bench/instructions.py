@@ -81,17 +81,19 @@ def certified(program: str, made: list[str]) -> bytes:
 def piece(program: str, tree: Tree, row: Row) -> Piece:
     """The runs that are counted for a row."""
     nothing, made, lines = run_of(64), run_of(64, tree.made), tree.rounds.get(row.work, [])
+    # pairs can be one group fewer than asked for
+    groups = len(tree.paths) + 1
     if row.work == "mkdir":
-        return Piece(run_of(64, lines), nothing, row.groups)
+        return Piece(run_of(64, lines), nothing, groups)
     if row.work == "setup":
-        return Piece(made, nothing, row.groups)
+        return Piece(made, nothing, groups)
     if row.work == "check":
-        return Piece(Run(("check",), certified(program, tree.made)), nothing, row.groups)
+        return Piece(Run(("check",), certified(program, tree.made)), nothing, groups)
     if row.work in OF_EACH:
         return Piece(run_of(64, tree.made, lines), made, len(lines))
     processors = 1 if row.work == "period" else 64
     return Piece(run_of(processors, tree.made, lines * ROUNDS), run_of(processors, tree.made),
-                 row.groups * ROUNDS)
+                 groups * ROUNDS)
 
 
 def rows_of(only: Iterable[str]) -> list[Row]:

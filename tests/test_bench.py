@@ -35,7 +35,7 @@ class Stub:
 
     def __init__(self, folder, kept):
         self.folder, self.kept = folder, folder / "kept"
-        for name, text in (("valgrind", VALGRIND), ("program", "#!/bin/sh\n")):
+        for name, text in (("valgrind", VALGRIND), ("program", "#!/bin/sh\necho bw 1 1 1\n")):
             (folder / name).write_text(text.format(python=sys.executable, folder=folder))
             (folder / name).chmod(0o755)
         self.kept.write_text(instructions.text_of_table(kept, "commit abc"))
@@ -104,6 +104,16 @@ def test_less_growth_passes(stub):
     ended = stub.run(plan="104.9")
     same((ended.status, b"GREW" in ended.err), (0, False), ended.err.decode())
     same(ended.out.decode().split("\n")[2].split(" | ")[1], "105 (+4.9 %)")
+
+
+def test_numbers_are_kept(stub):
+    """`--keep` counts all and keeps it, also what grew. The next run is compared with that."""
+    ended = stub.run("--keep", plan="200")
+    same(ended.status, 0, ended.err.decode())
+    kept = instructions.table_of_text(stub.kept.read_text())
+    same(list(kept), instructions.rows_of(instructions.WORK))
+    same({row: kept[row] for row in PLANS}, dict.fromkeys(PLANS, 200.0))
+    same([stub.run(plan=number).status for number in ("209.9", "210.1")], [0, 1])
 
 
 class Again:
