@@ -25,7 +25,7 @@ from concurrent.futures import ThreadPoolExecutor
 from pathlib import Path
 from typing import NamedTuple
 
-from runs import answers, counted, note, program_of, stop
+from runs import answers, counted, fixed_random, note, program_of, stop
 from shapes import OF_EACH, Tree, host, text_of
 
 TOP = Path(__file__).resolve().parent.parent
@@ -107,6 +107,8 @@ class Counts:
 
     def __init__(self, program: str, room: str) -> None:
         self.program, self.room = program, room
+        # built once, before several threads ask for it
+        fixed_random()
         self.trees: dict[tuple[str, int], Tree] = {}
         self.pool = ThreadPoolExecutor(len(os.sched_getaffinity(0)))
 

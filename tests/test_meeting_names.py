@@ -95,6 +95,8 @@ def instructions(program, names, ordinary, tmp_path_factory):
                  for name in some]
         (folder / kind).write_bytes(text_of(lines))
     asked = [(kind, byte) for kind in ("met", "usual") for byte in [KNOWN_BYTE, *OTHER_BYTES]]
+    # built once, before several threads ask for it
+    runs.fixed_random()
     with ThreadPoolExecutor(4) as pool:
         found = pool.map(lambda each: runs.counted([program.path, *host(64)],
                                                    str(folder / each[0]), each[1])[0], asked)
