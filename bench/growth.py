@@ -25,11 +25,10 @@ import tempfile
 import time
 
 from periods import tables_of_periods
-from runs import Least, answers, counted, note, quietly, stop, taken
+from runs import (PROGRAM, Least, answers, counted, note, program_of, quietly, stop, taken)
 from shapes import COMMANDS, DEPTHS, OF_ALL, OF_EACH, SHAPES, Tree, host, text_of
 
 TOP = os.path.dirname(os.path.dirname(os.path.abspath(__file__)))
-PROGRAM = "crates/arbiter/out/arbiter"
 SIZES = [1024, 4096, 16384]
 # Twice the groups, or twice the depth where paths are walked or printed, may take so many times
 # the time, or instructions.
@@ -300,19 +299,9 @@ def read_words():
     return options
 
 
-def program_of(options):
-    """The program to measure. The one of ./build has to be up to date."""
-    if not options.program:
-        options.program = f"{TOP}/{PROGRAM}"
-        words = ["bash", "-c", ". scripts/current.sh; is_current"]
-        if subprocess.run(words, cwd=TOP, check=False).returncode:
-            stop("there is no current native program: ./build makes it")
-    return os.path.abspath(options.program)
-
-
 def main():
     options = read_words()
-    options.program = program_of(options)
+    options.program = program_of(options.program)
     if options.instructions and not shutil.which("valgrind"):
         stop("there is no valgrind to count instructions with")
     began, before, start = machine(), taken(), time.monotonic()

@@ -1,5 +1,6 @@
 """Trees that are measured: their groups by shape and size, and the lines of a script for each."""
 import random
+from collections.abc import Callable, Iterable
 
 DEPTHS = [8, 32, 64]
 # A round of these has a line for each group (demand: for each leaf).
@@ -9,42 +10,46 @@ OF_ALL = ["plan", "total", "cert", "report", "period", "check"]
 COMMANDS = OF_EACH + OF_ALL
 
 
-def flat(groups):
+def flat(groups: int) -> list[str]:
     return [f"g{number}" for number in range(groups - 1)]
 
 
-def pairs(groups):
+def pairs(groups: int) -> list[str]:
     half = (groups - 1) // 2
     return [f"g{number}" for number in range(half)] + [f"g{number}/x" for number in range(half)]
 
 
-def chains(depth):
+def chains(depth: int) -> Callable[[int], list[str]]:
     return lambda groups: [f"c{at // depth}" + "/s" * (at % depth) for at in range(groups - 1)]
 
 
-def chain_with_siblings(groups):
+def chain_with_siblings(groups: int) -> list[str]:
     """One chain of 64 groups. Each has as many siblings, without children."""
-    paths, above = [], ""
+    paths: list[str] = []
+    above = ""
     for _ in range(64):
         paths += [f"{above}b{number}" for number in range(groups // 64 - 1)] + [f"{above}s"]
         above += "s/"
     return paths[: groups - 1]
 
 
-def at_random(groups):
+def at_random(groups: int) -> list[str]:
     """Seven of ten groups are below one of the 200 before them, the others below the root.
 
     The depth is at most 25.
     """
-    chosen, paths = random.Random(7), []
+    chosen = random.Random(7)
+    paths: list[str] = []
     for number in range(groups - 1):
         above = chosen.choice(paths[-200:]) if paths and chosen.random() < 0.7 else ""
         paths.append(f"{above}/r{number}" if above and above.count("/") < 24 else f"r{number}")
     return paths
 
 
-SHAPES = {"flat": flat, "pairs": pairs, **{f"chains of {depth}": chains(depth) for depth in DEPTHS}}
-SHAPES |= {"chain of 64 with siblings": chain_with_siblings, "random": at_random}
+SHAPES: dict[str, Callable[[int], list[str]]] = {
+    "flat": flat, "pairs": pairs, **{f"chains of {depth}": chains(depth) for depth in DEPTHS},
+    "chain of 64 with siblings": chain_with_siblings, "random": at_random,
+}
 
 
 class Tree:
@@ -54,7 +59,7 @@ class Tree:
     Limits are up to four times a demand. So the work is of one kind in all sizes.
     """
 
-    def __init__(self, shape, groups):
+    def __init__(self, shape: str, groups: int) -> None:
         chosen = random.Random(11)
         self.paths = SHAPES[shape](groups)
         above = {path.rpartition("/")[0] for path in self.paths}
@@ -72,10 +77,10 @@ class Tree:
         self.rounds |= {command: [command] for command in OF_ALL}
 
 
-def host(processors):
+def host(processors: int) -> list[str]:
     """The words of a run. 64 processors are a capacity of 64000 slices of 1 ms."""
     return ["run", "--processors", str(processors), "--period", "1000000", "--slice", "1000"]
 
 
-def text_of(lines):
+def text_of(lines: Iterable[str]) -> bytes:
     return "".join(f"{line}\n" for line in lines).encode()

@@ -14,7 +14,7 @@ packages=(python3-pytest python3-pytest-xdist python3-hypothesis python3-rich py
   python3-distributed mypy python3-typeshed pyflakes3)
 modules='pytest, xdist, hypothesis, rich, yaml, distributed, mypy, pyflakes'
 # Packages of the same name as their command. Tests that need one that is missing are skipped.
-tools=(mandoc zsh fish chromium prometheus)
+tools=(mandoc zsh fish chromium prometheus valgrind)
 
 # mypy reads the types of yaml from python3-typeshed.
 has_packages() {

@@ -1,8 +1,11 @@
 """Questions asked backwards: what a group needs for an amount, and what it is guaranteed.
 
-Each answer stands on plans that the proved check accepted. A greater weight of a group, and more
-CPUs, take nothing from it (docs/LAWS.md). So what one value reaches each greater one does, and the
-least value is found by halving.
+The C library gives the least values and the guarantees, by calls whose contracts are exact. The
+plan of each least value is made and accepted by the proved check before it is shown.
+
+Without such a library each answer is found from accepted plans. A greater weight of a group, and
+more CPUs, take nothing from it (docs/LAWS.md). So what one value reaches each greater one does, and
+the least value is found by halving.
 """
 from __future__ import annotations
 
@@ -11,12 +14,13 @@ from dataclasses import dataclass, replace
 from fractions import Fraction
 from typing import Any
 
-from arbiter_host import demands, progress, units
+from arbiter_host import demands, progress, questions, units
 from arbiter_host.engine import Engine
 from arbiter_host.faults import HostFault
 from arbiter_host.model import MAX_PROCESSORS, Model, Row
 from arbiter_host.names import shown
 from arbiter_host.plan import Plan, Planned, plan
+from arbiter_host.questions import Questions
 
 
 @dataclass(frozen=True)
@@ -57,21 +61,6 @@ def one_group(model: Model, word: str) -> str:
     return found[0].path
 
 
-def least(planned: Callable[[int], Plan], path: str, amount: int,
-          greatest: int) -> tuple[int | None, Plan | None]:
-    """The least value from 1 on whose plan gives a group so many slices, and that plan."""
-    low, high = 1, greatest
-    best: tuple[int | None, Plan | None] = None, None
-    while low <= high:
-        middle = (low + high) // 2
-        found = planned(middle)
-        if found.by_path()[path].gets >= amount:
-            best, high = (middle, found), middle - 1
-        else:
-            low = middle + 1
-    return best
-
-
 def with_weight(model: Model, path: str, weight: int) -> Model:
     """The model with another weight of one group."""
     after = model.copy()
@@ -88,28 +77,79 @@ def with_limit(model: Model, path: str, slices: int | None) -> Model:
     return after
 
 
-def weight_knob(engine: Engine, before: Plan, group: Planned, amount: int) -> Knob:
+@dataclass(frozen=True)
+class Asked:
+    """An amount of slices that is asked for a group, and what answers."""
+
+    engine: Engine
+    before: Plan
+    group: Planned
+    amount: int
+    # None: the least values are found from accepted plans.
+    proved: Questions | None
+
+    def reaches(self, found: Plan) -> bool:
+        """Whether a plan gives the group the amount."""
+        return found.groups[self.group.row].gets >= self.amount
+
+    def halved(self, planned: Callable[[int], Plan], greatest: int) -> int | None:
+        """The least value from 1 on whose plan reaches the amount; None: the greatest does not."""
+        low, high = 1, greatest + 1
+        while low < high:
+            middle = (low + high) // 2
+            if self.reaches(planned(middle)):
+                high = middle
+            else:
+                low = middle + 1
+        return None if low > greatest else low
+
+    def knob(self, name: str, now: int | None, value: int | None,
+             planned: Callable[[int], Plan]) -> Knob:
+        """A setting with its least value, whose accepted plan has to reach the amount."""
+        if value is None:
+            return Knob(name, now, None, None)
+        found = planned(value)
+        if not self.reaches(found):
+            raise HostFault(f"{name} {value}: the accepted plan does not reach the amount")
+        return Knob(name, now, value, found)
+
+
+def weight_knob(asked: Asked) -> Knob:
     """The least weight."""
-    found = least(lambda weight: plan(engine, with_weight(before.model, group.path, weight)),
-                  group.path, amount, units.MAX_WEIGHT)
-    return Knob("weight", group.weight, *found)
+    model, group = asked.before.model, asked.group
+
+    def planned(weight: int) -> Plan:
+        return plan(asked.engine, with_weight(model, group.path, weight))
+
+    value = (asked.proved.least_weight(group.row, asked.amount) if asked.proved
+             else asked.halved(planned, units.MAX_WEIGHT))
+    return asked.knob("weight", group.weight, value, planned)
 
 
-def limit_knob(engine: Engine, before: Plan, group: Planned, amount: int) -> Knob:
+def limit_knob(asked: Asked) -> Knob:
     """The least limit. A limit only cuts, so it is the amount, or there is none."""
-    free = plan(engine, with_limit(before.model, group.path, None))
-    if free.by_path()[group.path].gets < amount:
-        return Knob("limit", group.limit, None, None)
-    return Knob("limit", group.limit, amount,
-                plan(engine, with_limit(before.model, group.path, amount)))
+    model, group = asked.before.model, asked.group
+
+    def planned(slices: int | None) -> Plan:
+        return plan(asked.engine, with_limit(model, group.path, slices))
+
+    if asked.proved:
+        value = asked.proved.least_limit(group.row, asked.amount)
+    else:
+        value = asked.amount if asked.reaches(planned(None)) else None
+    return asked.knob("limit", group.limit, value, planned)
 
 
-def cpus_knob(engine: Engine, before: Plan, group: Planned, amount: int) -> Knob:
+def cpus_knob(asked: Asked) -> Knob:
     """The least number of CPUs with the same period and slice, at most 64."""
-    model = before.model
-    found = least(lambda cpus: plan(engine, replace(model, host=replace(model.host, cpus=cpus))),
-                  group.path, amount, MAX_PROCESSORS)
-    return Knob("CPUs", model.host.cpus, *found)
+    model, group = asked.before.model, asked.group
+
+    def planned(cpus: int) -> Plan:
+        return plan(asked.engine, replace(model, host=replace(model.host, cpus=cpus)))
+
+    value = (asked.proved.least_processors(group.row, asked.amount) if asked.proved
+             else asked.halved(planned, MAX_PROCESSORS))
+    return asked.knob("CPUs", model.host.cpus, value, planned)
 
 
 def need(engine: Engine, model: Model, word: str, thousandths: Fraction) -> Need:
@@ -120,11 +160,12 @@ def need(engine: Engine, model: Model, word: str, thousandths: Fraction) -> Need
         raise HostFault("an amount of 0 needs nothing")
     before = plan(engine, model)
     group = before.by_path()[path]
+    asked = Asked(engine, before, group, amount, questions.of(engine, host, before.rows()))
     kinds = (weight_knob, limit_knob, cpus_knob)
     with progress.bar("settings", len(kinds)) as step:
         knobs = []
         for kind in kinds:
-            knobs.append(kind(engine, before, group, amount))
+            knobs.append(kind(asked))
             step()
     return Need(before, group, amount, tuple(knobs))
 
@@ -151,11 +192,12 @@ def busy(rows: Sequence[Row], group: int) -> list[Row]:
 
 def guarantees(engine: Engine, before: Plan, chosen: Sequence[Planned]) -> list[int]:
     """What each group gets whatever the groups that are not under it ask for, in slices."""
-    rows, host = before.model.rows(), before.model.host
-    found = []
+    rows, host, found = before.rows(), before.model.host, []
+    proved = questions.of(engine, host, rows)
     with progress.bar("groups", len(chosen)) as step:
         for group in chosen:
-            found.append(engine.plan(host, busy(rows, group.row)).amounts[group.row])
+            found.append(proved.guarantee(group.row) if proved
+                         else engine.plan(host, busy(rows, group.row)).amounts[group.row])
             step()
     return found
 

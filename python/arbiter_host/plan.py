@@ -1,14 +1,21 @@
-"""An accepted plan, and why each group gets its amount. All numbers are slices of one period."""
+"""An accepted plan, and why each group gets its amount. All numbers are slices of one period.
+
+The C library gives the reasons, which are proved; this module words them. Without such a library
+they are worked out here.
+"""
 from __future__ import annotations
 
+import functools
+from collections.abc import Sequence
 from dataclasses import dataclass, field
 from fractions import Fraction
 
-from arbiter_host import units
+from arbiter_host import questions, units
 from arbiter_host.engine import Engine
 from arbiter_host.faults import HostFault
 from arbiter_host.model import Group, Model, Row
 from arbiter_host.names import last_name, short, shown
+from arbiter_host.questions import Kind, Why
 
 
 @dataclass
@@ -76,7 +83,12 @@ class Plan:
     groups: list[Planned]
     limiting: list[Planned]
     rest: int
-    by: str
+    engine: Engine = field(repr=False)
+
+    @property
+    def by(self) -> str:
+        """The words of the engine, for people."""
+        return self.engine.words
 
     @property
     def root(self) -> Planned:
@@ -97,25 +109,30 @@ class Plan:
         """The groups by path."""
         return {group.path: group for group in self.groups}
 
-    def cause(self, group: Planned) -> Planned:
-        """The group whose limit cuts: itself, one above it, or the root where the host is full."""
-        while group.parent is not None and group.gets < group.most:
-            group = self.groups[group.parent]
-        return group
+    def rows(self) -> list[Row]:
+        """The rows that were planned."""
+        rows = [Row(group.parent, group.weight, group.limit, group.demand) for group in self.groups]
+        return [Row(None, rows[0].weight, None, rows[0].demand), *rows[1:]]
+
+    @functools.cached_property
+    def reasons(self) -> list[Why]:
+        """The reasons, by row: the library's answer where it has the call."""
+        proved = questions.of(self.engine, self.model.host, self.rows())
+        return worked_out(self.groups) if proved is None else proved.reasons()
 
     def reason(self, group: Planned) -> Reason:
-        """Why a group gets what it gets."""
-        if group.want == 0:
+        """The reason of a group in words."""
+        kind, blamed = self.reasons[group.row]
+        if kind is Kind.NOTHING_ASKED:
             return Reason("nothing asked", "nothing asked")
-        if group.gets == group.want:
+        if kind is Kind.ALL_WANTED:
             return all_reason(group)
-        cut = self.cause(group)
-        if cut is group and cut.parent is not None:
+        if kind is Kind.OWN_LIMIT:
             words = "its own limit" if group.limit else "its own limit, less than a slice"
             return Reason("own limit", words, group.path)
-        if cut is group:
+        if group.parent is None:
             return Reason("the host is full", "the host is full", group.path)
-        return self.weight_reason(group, cut)
+        return self.weight_reason(group, self.groups[blamed if kind is Kind.LIMIT_ABOVE else 0])
 
     def weight_reason(self, group: Planned, cut: Planned) -> Reason:
         """The reason of a group that gets the part of its weight below a limit."""
@@ -127,6 +144,26 @@ class Plan:
             return Reason(name, f"{words}: the only one that asks here", cut.path)
         words = f"{words}: weight {group.weight} of {above.active_weight}"
         return Reason(name, words, cut.path, group.weight, above.active_weight)
+
+
+def worked_out(groups: Sequence[Planned]) -> list[Why]:
+    """The reasons of all groups, by row, from the amounts."""
+    blamed: list[int] = []
+    for group in groups:
+        lacks = group.parent is not None and group.gets < group.most
+        blamed.append(blamed[group.parent or 0] if lacks else group.row)
+    return [why(group, row) for group, row in zip(groups, blamed)]
+
+
+def why(group: Planned, blamed: int) -> Why:
+    """The reason of a group, if the limit of a row cuts: its own or that of one above."""
+    if group.want == 0:
+        return Why(Kind.NOTHING_ASKED, group.row)
+    if group.gets == group.want:
+        return Why(Kind.ALL_WANTED, group.row)
+    if blamed == 0:
+        return Why(Kind.HOST_FULL, group.row)
+    return Why(Kind.OWN_LIMIT if blamed == group.row else Kind.LIMIT_ABOVE, blamed)
 
 
 def all_reason(group: Planned) -> Reason:
@@ -188,4 +225,4 @@ def plan(engine: Engine, model: Model) -> Plan:
     groups = planned_of(rows, model, answer.amounts)
     check_sums(groups)
     limiting = [groups[row] for row in answer.limiting]
-    return Plan(model, groups, limiting, answer.rest, engine.words)
+    return Plan(model, groups, limiting, answer.rest, engine)

@@ -140,8 +140,9 @@ NEED_DETAILS = (
     "Each setting is changed alone, all else as it is: the weight from 1 to 10000, the limit, and"
     " the number of CPUs from 1 to 64. For each it prints the least value that reaches AMOUNT, and"
     " the groups that get less then. `-` is no value.",
-    "Each answer stands on plans that the proved check accepted. A group that is given more weight,"
-    " or a host with more CPUs, takes nothing from the group. So no lesser value reaches AMOUNT.",
+    "The plan of each least value is accepted by the proved check. A group that is given more"
+    " weight, or a host with more CPUs, takes nothing from the group. So no lesser value reaches"
+    " AMOUNT.",
 )
 NEED_EXAMPLES = (
     ("what web needs for one and a half CPUs", "arbiterctl need web 1.5cpu host.toml"),
