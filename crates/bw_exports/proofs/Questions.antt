@@ -20,7 +20,7 @@ use Rattle.bw_exports.specs.declared.refusal.Refusal.{Refusal}
 use Rattle.bw_exports.specs.declared.refusal.Refusal.TheVariants as of_refusal
 use Rattle.bw_exports.specs.Asked.{Answers, IsAfterMemory}
 use Rattle.bw_exports.specs.Numbers.{number_of_refusal}
-use Rattle.bw_exports.specs.Questions.{group_number, limited_number, first_refusal}
+use Rattle.bw_exports.specs.Questions.{group_number, root_number, first_refusal}
 use Rattle.bw_exports.specs.Questions.{question_refusal_of, limit_question_refusal_of}
 
 -- nothing refuses first
@@ -61,80 +61,54 @@ carried number next answer positive later answers = elim (cases_eq number 0) [
   | inr some ↦ subst (λ (n : ℕ). Answers n answer) (sym (first_some number next some)) answers
 ]
 
--- whether a group is a row is asked after memory
+-- groups are refused after memory is asked for
 row_later : (b : Bool) → IsAfterMemory (cond b 0 20)
 row_later true = inl refl
 row_later false = inr (omega arith, λ e. omega (arith, e))
 
-root_later : (b : Bool) (next : ℕ) → IsAfterMemory next → IsAfterMemory (cond b 10 next)
-root_later true next later = inr (omega arith, λ e. omega (arith, e))
-root_later false next later = later
-
-group_later : (groups : Groups) (group : ℕ) → IsAfterMemory (group_number groups group)
-group_later groups group = row_later (nat_lt group (length groups.rows))
-
-limited_later : (groups : Groups) (group : ℕ) → IsAfterMemory (limited_number groups group)
-limited_later groups group =
-    root_later (group == 0) (group_number groups group) (group_later groups group)
+root_later : (b : Bool) → IsAfterMemory (cond b 10 0)
+root_later true = inr (omega arith, λ e. omega (arith, e))
+root_later false = inl refl
 
 pub question_carried : (number : ℕ) (groups : Groups) (group : ℕ) (refusal : Refusal)
     → Answers number (number_of_refusal refusal)
     → Answers (first_refusal number (group_number groups group)) (number_of_refusal refusal)
 question_carried number groups group refusal answers =
     carried number (group_number groups group) (number_of_refusal refusal)
-    (refusal_positive refusal) (group_later groups group) answers
+    (refusal_positive refusal) (row_later (nat_lt group (length groups.rows))) answers
 
-pub limit_carried : (number : ℕ) (groups : Groups) (group : ℕ) (refusal : Refusal)
+pub limit_carried : (number group : ℕ) (refusal : Refusal)
     → Answers number (number_of_refusal refusal)
-    → Answers (first_refusal number (limited_number groups group)) (number_of_refusal refusal)
-limit_carried number groups group refusal answers =
-    carried number (limited_number groups group) (number_of_refusal refusal)
-    (refusal_positive refusal) (limited_later groups group) answers
+    → Answers (first_refusal number (root_number group)) (number_of_refusal refusal)
+limit_carried number group refusal answers =
+    carried number (root_number group) (number_of_refusal refusal) (refusal_positive refusal)
+    (root_later (group == 0)) answers
 
 -- a group that is a row, and one that is none
-row_here : (groups : Groups) (group : ℕ) → group < length groups.rows
-    → group_number groups group ≡ 0
-row_here groups group within =
-    ap (λ (b : Bool). cond b 0 20) (lt-ltb group (length groups.rows) within)
-
-row_past : (groups : Groups) (group : ℕ) → length groups.rows ≤ group
-    → group_number groups group ≡ 20
-row_past groups group past =
-    ap (λ (b : Bool). cond b 0 20) (le-ltb group (length groups.rows) past)
-
--- a group below the root is refused as any group is
-below_root : (groups : Groups) (group : ℕ) → (group ≡ 0 → ⊥)
-    → limited_number groups group ≡ group_number groups group
-below_root groups group below =
-    ap (λ (b : Bool). cond b 10 (group_number groups group)) (ne_eqb group 0 below)
-
 pub question_none : (number : ℕ) (groups : Groups) (group : ℕ) → number ≡ 0
     → group < length groups.rows → first_refusal number (group_number groups group) ≡ 0
 question_none number groups group none within =
-    first_none number (group_number groups group) none ∙ row_here groups group within
+    first_none number (group_number groups group) none
+    ∙ ap (λ (b : Bool). cond b 0 20) (lt-ltb group (length groups.rows) within)
 
 pub question_past : (number : ℕ) (groups : Groups) (group : ℕ) → number ≡ 0
     → length groups.rows ≤ group → first_refusal number (group_number groups group) ≡ 20
 question_past number groups group none past =
-    first_none number (group_number groups group) none ∙ row_past groups group past
+    first_none number (group_number groups group) none
+    ∙ ap (λ (b : Bool). cond b 0 20) (le-ltb group (length groups.rows) past)
 
-pub limit_none : (number : ℕ) (groups : Groups) (group : ℕ) → number ≡ 0 → (group ≡ 0 → ⊥)
-    → group < length groups.rows → first_refusal number (limited_number groups group) ≡ 0
-limit_none number groups group none below within =
-    first_none number (limited_number groups group) none ∙ below_root groups group below
-    ∙ row_here groups group within
+-- a group below the root, and the root
+pub limit_none : (number group : ℕ) → number ≡ 0 → (group ≡ 0 → ⊥)
+    → first_refusal number (root_number group) ≡ 0
+limit_none number group none below =
+    first_none number (root_number group) none
+    ∙ ap (λ (b : Bool). cond b 10 0) (ne_eqb group 0 below)
 
-pub limit_past : (number : ℕ) (groups : Groups) (group : ℕ) → number ≡ 0 → (group ≡ 0 → ⊥)
-    → length groups.rows ≤ group → first_refusal number (limited_number groups group) ≡ 20
-limit_past number groups group none below past =
-    first_none number (limited_number groups group) none ∙ below_root groups group below
-    ∙ row_past groups group past
-
-pub limit_root : (number : ℕ) (groups : Groups) (group : ℕ) → number ≡ 0 → group ≡ 0
-    → first_refusal number (limited_number groups group) ≡ 10
-limit_root number groups group none root =
-    first_none number (limited_number groups group) none
-    ∙ ap (λ (b : Bool). cond b 10 (group_number groups group)) (eq-eqb group 0 root)
+pub limit_root : (number group : ℕ) → number ≡ 0 → group ≡ 0
+    → first_refusal number (root_number group) ≡ 10
+limit_root number group none root =
+    first_none number (root_number group) none
+    ∙ ap (λ (b : Bool). cond b 10 0) (eq-eqb group 0 root)
 
 -- the refusal of a guarantee
 pub guarantee_refused : (number : ℕ) (groups : Groups) (group : ℕ) (fault : GuaranteeFault)

@@ -16,8 +16,8 @@ abbrev pub group_number : Groups → ℕ → ℕ
 group_number groups group = if nat_lt group (length groups.rows) then 0 else 20
 
 -- the number that refuses a group whose limit is asked for: 10 for the root, which has none
-abbrev pub limited_number : Groups → ℕ → ℕ
-limited_number groups group = if group == 0 then 10 else group_number groups group
+abbrev pub root_number : ℕ → ℕ
+root_number group = if group == 0 then 10 else 0
 
 -- the first number that refuses, 0 where neither does
 unfoldable pub first_refusal : ℕ → ℕ → ℕ
@@ -32,7 +32,7 @@ question_number shape table group =
 -- the number that refuses a question about a group's limit, 0 where none does
 abbrev pub limit_question_number : Shape → Table → ℕ → ℕ
 limit_question_number shape table group =
-    first_refusal (asked_number shape table) (limited_number (groups_in shape table) group)
+    first_refusal (question_number shape table group) (root_number group)
 
 -- the number that refuses a question by the program's host and columns, 0 where none does
 abbrev pub question_refusal_of : Host → Columns → ℕ → ℕ

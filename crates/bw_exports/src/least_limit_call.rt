@@ -6,11 +6,12 @@ ghost use Rattle.bw_exports.specs.Numbers.{number_of_refusal};
 ghost use Rattle.bw_exports.specs.Questions.{limit_question_number, limit_question_refusal_of};
 ghost use Rattle.bw_exports.specs.Questions.{limit_number, IsLeastLimitNumber};
 
-use crate::asked_group::instance_below_root;
+use crate::asked_group::instance_with;
 use crate::asked_instance::Host;
 use crate::columns::{Columns, NO_LIMIT};
 use crate::refusal::Refusal;
 use bw_least::least_limit;
+use bw_model::InstanceFault;
 use std::alloc::Global;
 
 fn limit_number(limit: Option<u64>) -> u64
@@ -32,7 +33,10 @@ fn least_limit_of(
     ensures err { IfErr result
         (λ e. Answers (limit_question_refusal_of host columns.now group) (number_of_refusal e)) }
 {
-    let instance = instance_below_root(alloc, host, columns, group)?;
+    let instance = instance_with(alloc, host, columns, group)?;
+    if group == 0 {
+        return Err(Refusal::Instance(InstanceFault::RootLimited));
+    }
     let limit = least_limit(alloc, &instance, group, amount)?;
     Ok(limit_number(limit))
 }
@@ -47,8 +51,8 @@ fn least_limit_of(
 /// The answer is 0 if `limit` is written. A refusal leaves it unchanged.
 ///
 /// # Errors
-/// The numbers of `arbiter_plan`. After those of the rows 10 if the group is the root, which has no
-/// limit but the capacity, and 20 if it is no row.
+/// The numbers of `arbiter_plan`, and after those of the rows 20 if the group is no row. 10 if it is
+/// the root, which has no limit but the capacity.
 #[unsafe(no_mangle)]
 pub extern "C" fn arbiter_least_limit(
     alloc: Global,
