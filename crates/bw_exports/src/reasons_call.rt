@@ -36,9 +36,10 @@ fn reasons_of(alloc: Global, host: Host, columns: &Columns<'_>) -> Result<Reason
     let gathered = gather_rows(alloc, &instance)?;
     let planned = plan(alloc, &instance)?;
     let found = reasons(alloc, &instance, &gathered, &planned)?;
+    let each = found.as_slice();
     Ok(Reasoned {
-        numbers: reason_numbers(alloc, found.as_slice())?,
-        blamed: blamed_rows(alloc, found.as_slice())?,
+        numbers: reason_numbers(alloc, each)?,
+        blamed: blamed_rows(alloc, each)?,
     })
 }
 
