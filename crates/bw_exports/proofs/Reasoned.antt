@@ -1,9 +1,7 @@
--- The columns of reasons have one entry for each row.
-use Rattle.std.proofs.Common.{◌≡◌, ℕ, ◌≤◌, List, length, map, ap, sym, ◌∙◌, subst}
+-- The rows that reasons blame are one for each group.
+use Rattle.std.proofs.Common.{◌≡◌, List, length}
 use Rattle.std.specs.Prelude.{slice_index_or}
 use Rattle.std.proofs.lemmas.List.FromFn.{length-map-range_with_len}
-use Rattle.bw_model.specs.declared.limits.TheConstants.{MAX_GROUPS}
-use Rattle.bw_model.specs.Groups.{Groups, IsInstance}
 use Rattle.bw_reasons.specs.declared.reason.Reason.{Reason}
 use Rattle.bw_reasons.specs.declared.reason.Reason.TheVariants.{NothingAsked}
 use Rattle.bw_exports.specs.Reasoned.{blamed_row, blamed_rows}

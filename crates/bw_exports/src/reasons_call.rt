@@ -43,6 +43,13 @@ fn reasons_of(alloc: Global, host: Host, columns: &Columns<'_>) -> Result<Reason
     })
 }
 
+// Whether both columns for the answer have so many entries.
+fn are_fit(count: usize, reasons: &[u8], blamed: &[u32]) -> bool
+    ensures { result ≡ are_of_length count (reasons.now ∷ blamed.now ∷ []) }
+{
+    reasons.len() == count && blamed.len() == count
+}
+
 /// Why each group gets what it gets, of the rows that [`crate::plan_call::arbiter_plan`] has.
 ///
 /// If the answer is 0, each row has the number of its reason, and the row that the reason blames:
@@ -80,7 +87,7 @@ pub extern "C" fn arbiter_reasons(
     ensures reasons_kept { 0 < result → reasons.new ≡ reasons.old }
     ensures blamed_kept { 0 < result → blamed.new ≡ blamed.old }
 {
-    if reasons.len() != parents.len() || blamed.len() != parents.len() {
+    if !are_fit(parents.len(), reasons, blamed) {
         return Refusal::WrongLength.number();
     }
     let host = Host::new(processors, period_us, slice_us);
