@@ -54,10 +54,10 @@ carried : (number next answer : ℕ) → 0 < answer → IsAfterMemory next → A
     → Answers (first_refusal number next) answer
 carried number next answer positive later answers = elim (cases_eq number 0) [
   | inl none ↦ elim answers [
-      | inl same ↦ absurd (omega (arith, same, none, positive))
-      | inr memory ↦
-          inr (memory.0, subst IsAfterMemory (sym (first_none number next none)) later)
-    ]
+    | inl same ↦ absurd (omega (arith, same, none, positive))
+    | inr memory ↦
+        inr (memory.0, subst IsAfterMemory (sym (first_none number next none)) later)
+  ]
   | inr some ↦ subst (λ (n : ℕ). Answers n answer) (sym (first_some number next some)) answers
 ]
 
