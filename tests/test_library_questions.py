@@ -56,10 +56,10 @@ def asked(calls, name: str, host, rows: Sequence[Row], group: int,
 def reasons_told(calls, host, rows: Sequence[Row]) -> Tuple[int, List[int], List[int]]:
     """The number that the reasons are answered with, and both columns, which had 7 in them."""
     count = len(rows)
-    columns = [(arbiter.U8 * count)(*[7] * count), (arbiter.U32 * count)(*[7] * count)]
-    words = with_lengths([*raw_columns(rows), *columns], [count] * 6)
+    reasons, blamed = (arbiter.U8 * count)(*[7] * count), (arbiter.U32 * count)(*[7] * count)
+    words = with_lengths([*raw_columns(rows), reasons, blamed], [count] * 6)
     number = calls.arbiter_reasons(*host_words(host), *words)
-    return number, list(columns[0]), list(columns[1])
+    return number, list(reasons), list(blamed)
 
 
 # Worked values

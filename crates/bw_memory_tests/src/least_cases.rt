@@ -26,7 +26,7 @@ static HEAVY: [Group; 3] = [
     (Some(ROOT), 1, None, 20),
 ];
 
-// The same with a left group that no weight of the right one outweighs.
+// A left group of one weight more, which is too heavy for that.
 static HEAVIER: [Group; 3] = [
     (None, 100, None, 0),
     (Some(ROOT), 2122, None, 20),
