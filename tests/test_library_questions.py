@@ -178,7 +178,7 @@ def random_hosts() -> Iterator[Tuple[arbiter.Host, List[Row]]]:
         yield arbiter.Host(chance.choice([1, 2, 3]), 100000, slice_us), random_rows(chance)
 
 
-TREE = pytest.mark.parametrize("host, rows", random_hosts(), ids=range(TREES))
+TREE = pytest.mark.parametrize("host, rows", list(random_hosts()), ids=range(TREES))
 
 
 def model_of(host, rows: Sequence[Row]) -> Instance:
