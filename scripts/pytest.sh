@@ -10,9 +10,9 @@ test_folders=(tests)
 [ -d python/tests ] && test_folders+=(python/tests)
 
 # Debian's packages that the tests need, and their modules.
-packages=(python3-pytest python3-hypothesis python3-rich python3-yaml python3-distributed mypy
-  python3-typeshed pyflakes3)
-modules='pytest, hypothesis, rich, yaml, distributed, mypy, pyflakes'
+packages=(python3-pytest python3-pytest-xdist python3-hypothesis python3-rich python3-yaml
+  python3-distributed mypy python3-typeshed pyflakes3)
+modules='pytest, xdist, hypothesis, rich, yaml, distributed, mypy, pyflakes'
 # Packages of the same name as their command. Tests that need one that is missing are skipped.
 tools=(mandoc zsh fish chromium prometheus)
 
@@ -44,10 +44,11 @@ need_packages() {
   exit 2
 }
 
+# As many files side by side as there are processors. The tests of a file stay in their order.
 pytest_all() {
   rm -f "$test_report"
   timeout --kill-after=10 "$test_seconds" "$python" -m pytest "${test_folders[@]}" \
-    --junitxml="$test_report" -q </dev/null
+    -n "$(nproc)" --dist loadfile --junitxml="$test_report" -q </dev/null
 }
 
 # Prints the numbers of passed and failed tests. Skipped tests are neither.

@@ -43,7 +43,7 @@ def workers_of(run):
 
 @pytest.mark.parametrize("count", [2, 4])
 def test_a_killed_worker_changes_nothing(ctl, folder, count):
-    """A worker that is killed in mid-run costs no host its answer: the bytes are the same."""
+    """A worker that is killed while it holds a batch costs no host its answer."""
     hosts = fleets.make(folder / "hosts", 240, 100)
     alone = ctl.run("fleet", "plan", hosts, "--workers", "0", *WORDS)[0]
     base = folder / "run.sqlite"
@@ -51,12 +51,28 @@ def test_a_killed_worker_changes_nothing(ctl, folder, count):
     fleets.wait_for_rows(base, 1, run)
     found = workers_of(run)
     assert len(found) == count
+    # A worker that stands still answers nothing, and the next batches go to the least busy.
+    os.kill(found[0], signal.SIGSTOP)
+    fleets.wait_for_rows(base, fleets.rows(base) + 1, run)
     os.kill(found[0], signal.SIGKILL)
     status, out, err = ended(run)
     assert (status, out == alone) == (0, True), err
-    # A worker that had nothing under way loses nothing.
-    assert ("lost: 0;" in err) != ("given again" in err), err
+    assert "given again" in err and "lost: 0;" not in err, err
     assert fleets.rows(base) == 240
+
+
+def test_a_worker_killed_at_its_start(ctl, folder):
+    """A worker that dies while it begins holds up no other."""
+    hosts = fleets.make(folder / "hosts", 8, 12)
+    alone = ctl.run("fleet", "plan", hosts, "--workers", "0", *WORDS)[0]
+    run = begun(ctl, "plan", hosts, "--workers", 2, *WORDS)
+    end = time.monotonic() + 60
+    while not (found := workers_of(run)):
+        assert run.poll() is None and time.monotonic() < end, "no worker was begun"
+        time.sleep(0.01)
+    os.kill(found[0], signal.SIGKILL)
+    status, out, err = ended(run)
+    assert (status, out == alone) == (0, True), err
 
 
 class Site:

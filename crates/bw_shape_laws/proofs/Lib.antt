@@ -1,3 +1,8 @@
 -- The files of lemmas.
+mod Carried
 mod IdleLaw
-mod Last
+mod Longer
+mod OrderLaw
+mod OuterLaw
+mod Places
+mod Rising

@@ -5,5 +5,9 @@
 #![tactic(auto)]
 
 mod idle;
+mod order;
+mod outer;
 
 pub use idle::idle_group_changes_nothing;
+pub use order::row_order_changes_nothing;
+pub use outer::outer_group_changes_nothing;
