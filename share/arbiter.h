@@ -21,6 +21,7 @@
  *   1 to 3    the host is refused (BadProcessors, BadPeriod, BadSlice)
  *   4 to 10   the rows are (TooMany, BadParent, BadWeight, TooDeep, InnerDemand, DemandTooLarge, RootLimited)
  *   14, 15    the quota or burst is, or its own period (QuotaTooLarge, PeriodOutOfRange)
+ *   20        the group is no row (NotFound)
  *   40 to 43  the text is (BadLine, BadField, CutShort, Trailing)
  *   50        not one entry for each row (WrongLength)
  *   51 to 58  the amounts are not the plan by this certificate
@@ -30,7 +31,8 @@
  *      arbiter_check from each other
  *   2. 1 to 3
  *   3. 4 to 10, of a text 40 to 43 too
- *   4. of a check 50, where amounts, flags or levels are not one for each row, and then 51 to 58
+ *   4. of a check 50, where amounts, flags or levels are not one for each row, and then 51 to 58; of a question about a group
+ *      20, where it is no row; of arbiter_least_limit 10, where it is row 0, whose only limit is the capacity
  * Memory is asked for after steps 1 and 2: 71 can stand in place of any later answer, and of no earlier one. So of arbiter_check
  * a bad host with amounts of another length than the rows answers 1 to 3, and one with uneven nums, dens and places 50. Of
  * arbiter_check_text 71 can stand in place of any answer.
@@ -53,6 +55,12 @@ extern "C" {
 #define ARBITER_VERSION "1.0.0"
 #define ARBITER_NO_PARENT UINT32_MAX
 #define ARBITER_NO_LIMIT UINT64_MAX
+/* Reasons of arbiter_reasons. */
+#define ARBITER_NOTHING_ASKED 0
+#define ARBITER_ALL_WANTED 1
+#define ARBITER_OWN_LIMIT 2
+#define ARBITER_LIMIT_ABOVE 3
+#define ARBITER_HOST_FULL 4
 /* Room for each name, and for the version, and the 0 behind it. */
 #define ARBITER_NAME_ROOM 17
 
@@ -90,6 +98,47 @@ uint32_t arbiter_limiting(uint64_t processors, uint64_t period_us, uint64_t slic
                           const uint32_t *parents, size_t parents_length, const uint64_t *weights, size_t weights_length,
                           const uint64_t *limits, size_t limits_length, const uint64_t *demands, size_t demands_length,
                           uint32_t *groups, size_t groups_length, uint32_t *count, uint64_t *rest);
+
+/* Writes why each group gets what it gets to `reasons`, and the row that the reason blames to `blamed`:
+ *   ARBITER_NOTHING_ASKED  it wants nothing
+ *   ARBITER_ALL_WANTED     it gets all that it wants
+ *   ARBITER_OWN_LIMIT      it gets its own limit
+ *   ARBITER_LIMIT_ABOVE    the group above it in `blamed` gets its limit, and no group between the two does
+ *   ARBITER_HOST_FULL      the host gives out its capacity, and no group from this one up gets its limit
+ * `blamed` is the group's own row for each reason but ARBITER_LIMIT_ABOVE. */
+uint32_t arbiter_reasons(uint64_t processors, uint64_t period_us, uint64_t slice_us,
+                         const uint32_t *parents, size_t parents_length, const uint64_t *weights, size_t weights_length,
+                         const uint64_t *limits, size_t limits_length, const uint64_t *demands, size_t demands_length,
+                         uint8_t *reasons, size_t reasons_length, uint32_t *blamed, size_t blamed_length);
+
+/* Writes to `amount` the slices that a group gets whatever the groups ask for that are not under it: they give it no less, and for
+ * some demands of theirs no more. `group` is its row. */
+uint32_t arbiter_guarantee(uint64_t processors, uint64_t period_us, uint64_t slice_us,
+                           const uint32_t *parents, size_t parents_length, const uint64_t *weights, size_t weights_length,
+                           const uint64_t *limits, size_t limits_length, const uint64_t *demands, size_t demands_length,
+                           uint32_t group, uint64_t *amount);
+
+/* The next three write the least value of one setting with which the plan gives a group at least `amount` slices. All else is as
+ * the rows say. */
+
+/* The weight of the group, 1 to 10000; 0 where no weight does. At most 14 plans. */
+uint32_t arbiter_least_weight(uint64_t processors, uint64_t period_us, uint64_t slice_us,
+                              const uint32_t *parents, size_t parents_length, const uint64_t *weights, size_t weights_length,
+                              const uint64_t *limits, size_t limits_length, const uint64_t *demands, size_t demands_length,
+                              uint32_t group, uint64_t amount, uint64_t *weight);
+
+/* The limit of the group; ARBITER_NO_LIMIT where no limit does, nor the group without one. One plan. Answers 10 for row 0. */
+uint32_t arbiter_least_limit(uint64_t processors, uint64_t period_us, uint64_t slice_us,
+                             const uint32_t *parents, size_t parents_length, const uint64_t *weights, size_t weights_length,
+                             const uint64_t *limits, size_t limits_length, const uint64_t *demands, size_t demands_length,
+                             uint32_t group, uint64_t amount, uint64_t *limit);
+
+/* The number of processors, 1 to 64, of a host of this period and slice; 0 where no number does. `processors` itself changes no
+ * answer but 1. At most 7 plans. */
+uint32_t arbiter_least_processors(uint64_t processors, uint64_t period_us, uint64_t slice_us,
+                                  const uint32_t *parents, size_t parents_length, const uint64_t *weights, size_t weights_length,
+                                  const uint64_t *limits, size_t limits_length, const uint64_t *demands, size_t demands_length,
+                                  uint32_t group, uint64_t amount, uint64_t *least);
 
 /* The number with which each call refuses these rows: 0, 4 to 10, or 50. For 4 to 10 `row` is written: the first row that is too
  * many, or has a bad parent, weight, depth, demand or limit; for 8 the parent of the first row whose parent has a demand. For 0

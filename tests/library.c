@@ -19,6 +19,17 @@ int main(void)
     uint32_t places[3], groups[3], count = 9, row = 9;
     uint64_t slices = 9;
     char name[ARBITER_NAME_ROOM] = "as it was", version[ARBITER_NAME_ROOM] = "1";
+    /* two groups alike; then one beside a pod of two groups with a limit, an idle one and one that wants a slice */
+    const uint64_t alike[3] = {100, 100, 100};
+    const uint32_t above[7] = {ARBITER_NO_PARENT, 0, 0, 2, 2, 0, 0};
+    const uint64_t hundreds[7] = {100, 100, 100, 100, 100, 100, 100};
+    const uint64_t pod_of_9[7] = {ARBITER_NO_LIMIT, ARBITER_NO_LIMIT, 9, ARBITER_NO_LIMIT, ARBITER_NO_LIMIT, ARBITER_NO_LIMIT, ARBITER_NO_LIMIT};
+    const uint64_t wanted[7] = {0, 20, 0, 20, 20, 0, 1};
+    const uint8_t because[7] = {ARBITER_HOST_FULL, ARBITER_HOST_FULL, ARBITER_OWN_LIMIT, ARBITER_LIMIT_ABOVE, ARBITER_LIMIT_ABOVE, ARBITER_NOTHING_ASKED, ARBITER_ALL_WANTED};
+    const uint32_t to_blame[7] = {0, 1, 2, 2, 2, 5, 6};
+    uint8_t reasons[7];
+    uint32_t blamed[7];
+    uint64_t least = 9;
 
     if (arbiter_plan(0, 100000, 5000, parents, 3, weights, 3, limits, 3, demands, 3, amounts, 3) != 1 || amounts[0] != 1)
         return 1;
@@ -67,5 +78,32 @@ int main(void)
         return 20;
     if (arbiter_refused_row(parents, 3, weights, 3, limits, 3, weights, 3, &row) != 8 || row != 0)
         return 21;
+    if (arbiter_reasons(1, 100000, 5000, above, 7, hundreds, 7, pod_of_9, 7, wanted, 7, reasons, 7, blamed, 7) != 0)
+        return 22;
+    for (int g = 0; g < 7; g++)
+        if (reasons[g] != because[g] || blamed[g] != to_blame[g])
+            return 23;
+    if (arbiter_reasons(1, 100000, 5000, above, 7, hundreds, 7, pod_of_9, 7, wanted, 7, reasons, 7, blamed, 6) != 50 || reasons[3] != ARBITER_LIMIT_ABOVE)
+        return 24;
+    if (arbiter_guarantee(1, 100000, 5000, above, 7, hundreds, 7, pod_of_9, 7, wanted, 7, 7, &least) != 20 || least != 9)
+        return 25;
+    if (arbiter_guarantee(1, 100000, 5000, above, 7, hundreds, 7, pod_of_9, 7, wanted, 7, 3, &least) != 0 || least != 3)
+        return 26;
+    if (arbiter_least_weight(1, 100000, 5000, parents, 3, alike, 3, limits, 3, demands, 3, 1, 14, &least) != 0 || least != 208)
+        return 27;
+    if (arbiter_least_weight(1, 100000, 5000, parents, 3, alike, 3, limits, 3, demands, 3, 1, 21, &least) != 0 || least != 0)
+        return 28;
+    if (arbiter_least_limit(1, 100000, 5000, parents, 3, alike, 3, limits, 3, demands, 3, 1, 10, &least) != 0 || least != 10)
+        return 29;
+    if (arbiter_least_limit(1, 100000, 5000, parents, 3, alike, 3, limits, 3, demands, 3, 1, 11, &least) != 0 || least != ARBITER_NO_LIMIT)
+        return 30;
+    if (arbiter_least_limit(1, 100000, 5000, parents, 3, alike, 3, limits, 3, demands, 3, 0, 10, &least) != 10 || least != ARBITER_NO_LIMIT)
+        return 31;
+    if (arbiter_least_processors(1, 100000, 5000, parents, 3, alike, 3, limits, 3, demands, 3, 1, 14, &least) != 0 || least != 2)
+        return 32;
+    if (arbiter_least_processors(1, 100000, 5000, parents, 3, alike, 3, limits, 3, demands, 3, 1, 21, &least) != 0 || least != 0)
+        return 33;
+    if (arbiter_name(20, name, sizeof name) != 8 || !is_same(name, "NotFound"))
+        return 34;
     return 0;
 }

@@ -37,17 +37,19 @@ static const uint64_t limits[5] = {ARBITER_NO_LIMIT, 10, ARBITER_NO_LIMIT, ARBIT
 static const uint64_t demands[5] = {0, 0, 20, 20, 20};
 static const char text[] = "bw 1 1 100000 5000 3\n- 100 max 0 20 1 13/100@0\n0 100 max 20 7 0 -\n0 200 max 20 13 0 -\n";
 static uint64_t amounts[5], nums[5], dens[5], rest;
-static uint8_t flags[5];
-static uint32_t places[5], groups[5], count, row;
+static uint8_t flags[5], reasons[5];
+static uint32_t places[5], groups[5], blamed[5], count, row;
 
 #define ROWS 1, 100000, 5000, parents, 5, weights, 5, limits, 5, demands, 5
+/* The calls before the check. */
+#define CALLS 9
 
 static void mark(void)
 {
     for (int g = 0; g < 5; g++) {
         amounts[g] = nums[g] = dens[g] = 7;
-        flags[g] = 7;
-        places[g] = groups[g] = 7;
+        flags[g] = reasons[g] = 7;
+        places[g] = groups[g] = blamed[g] = 7;
     }
     rest = count = row = 7;
 }
@@ -55,7 +57,8 @@ static void mark(void)
 static int is_marked(void)
 {
     for (int g = 0; g < 5; g++)
-        if (amounts[g] != 7 || nums[g] != 7 || dens[g] != 7 || flags[g] != 7 || places[g] != 7 || groups[g] != 7)
+        if (amounts[g] != 7 || nums[g] != 7 || dens[g] != 7 || flags[g] != 7 || places[g] != 7 || groups[g] != 7
+                || reasons[g] != 7 || blamed[g] != 7)
             return 0;
     return rest == 7 && count == 7 && row == 7;
 }
@@ -67,13 +70,18 @@ static uint32_t call(int which)
     case 1: return arbiter_certify(ROWS, amounts, 5, flags, 5, nums, 5, dens, 5, places, 5);
     case 2: return arbiter_limiting(ROWS, groups, 5, &count, &rest);
     case 3: return arbiter_check_text((const uint8_t *)text, sizeof text - 1, &row);
+    case 4: return arbiter_reasons(ROWS, reasons, 5, blamed, 5);
+    case 5: return arbiter_guarantee(ROWS, 3, &rest);
+    case 6: return arbiter_least_weight(ROWS, 3, 9, &rest);
+    case 7: return arbiter_least_limit(ROWS, 1, 8, &rest);
+    case 8: return arbiter_least_processors(ROWS, 4, 15, &rest);
     default: return arbiter_check(ROWS, amounts, 5, flags, 5, nums, 5, dens, 5, places, 5, &row);
     }
 }
 
 int main(void)
 {
-    for (int which = 0; which < 4; which++) {
+    for (int which = 0; which < CALLS; which++) {
         int refusals = 0;
         refused_turn = 0;
         /* a list that is refused twice its room takes the room that it needs, so not each refusal is answered */
@@ -99,7 +107,7 @@ int main(void)
         refused_turn++;
         turn = 0;
         row = 7;
-        uint32_t number = call(4);
+        uint32_t number = call(CALLS);
         if (held != 0 || row != 7 || (number != 0 && number != 71))
             return 41;
     } while (turn >= refused_turn);

@@ -33,7 +33,7 @@ ASKING = {line.encode() for line in ASKED.split("\n") if line}
 HOST_OF_ONE = arbiter.Host(1, 100000, 5000)
 LEVEL = re.compile(r"(\d+)/(\d+)@(\d+)\Z")
 # The numbers that share/arbiter.h lists.
-NUMBERS = {*range(1, 18), *range(40, 44), *range(50, 59), 71}
+NUMBERS = {*range(1, 18), 20, *range(40, 44), *range(50, 59), 71}
 # Worked trees: host; rows of parent, weight, limit and demand; amounts.
 WORKED = {
     "the root alone": (HOST_OF_ONE, [(None, 100, None, 0)], [0]),
@@ -409,6 +409,7 @@ KINDS = {
     "plan": ([arbiter.U64], [], 5),
     "limiting": ([arbiter.U32], [arbiter.U32, arbiter.U64], 5),
     "certify": (CERTIFIED, [], 9),
+    "reasons": ([arbiter.U8, arbiter.U32], [], 6),
     "check": (CERTIFIED, [arbiter.U32], 4),
 }
 
@@ -798,7 +799,8 @@ def embedded(name):
 
 
 EXAMPLES = {"two-groups.c": ["cc", "pkg-config"], "two_groups.py": ["python3"],
-            "Cargo.toml": ["cargo", "rustc", "pkg-config"], "units.py": ["python3"]}
+            "Cargo.toml": ["cargo", "rustc", "pkg-config"], "questions.c": ["cc", "pkg-config"],
+            "units.py": ["python3"]}
 
 
 @pytest.mark.parametrize("name", EXAMPLES)

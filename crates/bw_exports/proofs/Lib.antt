@@ -4,3 +4,5 @@ mod Claimed
 mod Spelling
 mod Fit
 mod RefusedRow
+mod Questions
+mod Reasoned

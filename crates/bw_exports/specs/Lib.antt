@@ -8,3 +8,5 @@ pub mod Certified
 pub mod Texts
 pub mod Units
 pub mod RefusedRow
+pub mod Questions
+pub mod Reasoned

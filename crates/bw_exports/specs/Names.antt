@@ -4,20 +4,23 @@ use Rattle.std.specs.Prelude.{if◌then◌else◌}
 use Rattle.bw_cert.specs.Faults.{cert_fault_number, cert_fault_name}
 use Rattle.bw_files.specs.Faults.{file_fault_number, file_fault_name}
 use Rattle.bw_check.specs.Faults.{check_fault_number, check_fault_name}
+use Rattle.bw_guarantee.specs.Fault.{guarantee_fault_number, guarantee_fault_name}
 use Rattle.bw_exports.specs.declared.fault.Fault.{Fault}
-use Rattle.bw_exports.specs.declared.fault.Fault.TheVariants.{Asked, Written, Claimed}
+use Rattle.bw_exports.specs.declared.fault.Fault.TheVariants.{Asked, Written, Claimed, Group}
 
 -- the number of a fault
 abbrev pub number_of_fault : Fault → ℕ
 number_of_fault (Asked fault) = cert_fault_number fault
 number_of_fault (Written fault) = file_fault_number fault
 number_of_fault (Claimed fault) = check_fault_number fault
+number_of_fault (Group fault) = guarantee_fault_number fault
 
 -- its name
 abbrev pub name_of_fault : Fault → List ℕ
 name_of_fault (Asked fault) = cert_fault_name fault
 name_of_fault (Written fault) = file_fault_name fault
 name_of_fault (Claimed fault) = check_fault_name fault
+name_of_fault (Group fault) = guarantee_fault_name fault
 
 -- no fault has this number
 abbrev pub IsNoFault : ℕ → Type 0

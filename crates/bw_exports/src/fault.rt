@@ -5,9 +5,11 @@ ghost use Rattle.bw_exports.specs.Names.{number_of_fault, name_of_fault, IsNoFau
 use bw_cert::CertFault;
 use bw_check::CheckFault;
 use bw_files::FileFault;
+use bw_guarantee::GuaranteeFault;
 use bw_model::{HostFault, InstanceFault};
 
-/// A fault of an instance or a certified text, of a value of a file, or of claimed amounts.
+/// A fault of an instance or a certified text, of a value of a file, of claimed amounts, or of a
+/// question about a group.
 #[derive(Clone, Copy, Debug, PartialEq, Eq)]
 pub(crate) enum Fault {
     /// 1 to 10, 40 to 43 and 71.
@@ -16,6 +18,8 @@ pub(crate) enum Fault {
     Written(FileFault),
     /// 50 to 58.
     Claimed(CheckFault),
+    /// 20 and 71.
+    Group(GuaranteeFault),
 }
 
 impl Fault {
@@ -27,6 +31,7 @@ impl Fault {
             Fault::Asked(fault) => fault.name(),
             Fault::Written(fault) => fault.name(),
             Fault::Claimed(fault) => fault.name(),
+            Fault::Group(fault) => fault.name(),
         }
     }
 }
@@ -54,6 +59,7 @@ pub(crate) fn fault_of(number: u32) -> Option<Fault>
         15 => Some(Fault::Written(FileFault::PeriodOutOfRange)),
         16 => Some(Fault::Written(FileFault::TooManyWords)),
         17 => Some(Fault::Written(FileFault::Empty)),
+        20 => Some(Fault::Group(GuaranteeFault::NotFound)),
         40 => Some(Fault::Asked(CertFault::BadLine)),
         41 => Some(Fault::Asked(CertFault::BadField)),
         42 => Some(Fault::Asked(CertFault::CutShort)),

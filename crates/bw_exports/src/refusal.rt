@@ -2,6 +2,7 @@
 ghost use Rattle.std.specs.Prelude.{◌≡◌};
 ghost use Rattle.bw_exports.specs.Numbers.{number_of_refusal};
 
+use bw_guarantee::GuaranteeFault;
 use bw_model::{HostFault, InstanceFault};
 use std::alloc::AllocError;
 
@@ -14,6 +15,8 @@ pub(crate) enum Refusal {
     Host(HostFault),
     /// 4 to 10, and 71 if memory was refused.
     Instance(InstanceFault),
+    /// 20, and 71 if memory was refused.
+    Group(GuaranteeFault),
 }
 
 impl Refusal {
@@ -25,6 +28,7 @@ impl Refusal {
             Refusal::WrongLength => 50,
             Refusal::Host(fault) => u32::from(fault.number()),
             Refusal::Instance(fault) => u32::from(fault.number()),
+            Refusal::Group(fault) => u32::from(fault.number()),
         }
     }
 }

@@ -1,6 +1,7 @@
 //! Guarantees of groups.
+use crate::instances::{Group, instance};
 use bw_guarantee::{GuaranteeFault, guarantee};
-use bw_model::{HostShape, Instance, InstanceFault, Row};
+use bw_model::Instance;
 use std::alloc::Global;
 use std::process::Abort;
 use std::test::Fail;
@@ -17,36 +18,14 @@ const POD_B: u32 = 4;
 
 const MISSING: u32 = 5;
 
-// Parent, weight and demand of each group. `web` is idle.
-static GROUPS: [(Option<u32>, u64, u64); 5] = [
-    (None, 100, 0),
-    (Some(ROOT), 100, 0),
-    (Some(ROOT), 300, 0),
-    (Some(POD), 100, 20),
-    (Some(POD), 100, 8),
+// `web` is idle.
+static GROUPS: [Group; 5] = [
+    (None, 100, None, 0),
+    (Some(ROOT), 100, None, 0),
+    (Some(ROOT), 300, None, 0),
+    (Some(POD), 100, None, 20),
+    (Some(POD), 100, None, 8),
 ];
-
-// A host of 20 slices with these groups.
-fn new_instance(alloc: Global, shape: HostShape) -> Result<Instance, InstanceFault> {
-    let mut rows = Vec::new(alloc);
-    for (parent, weight, demand) in &GROUPS {
-        rows.push(Row {
-            parent: *parent,
-            weight: *weight,
-            limit: None,
-            demand: *demand,
-        })?;
-    }
-    Instance::new(alloc, rows, shape)
-}
-
-fn instance(alloc: Global) -> Result<Instance, Fail> {
-    let shape = HostShape::new(1, 100_000, 5_000)?;
-    match new_instance(alloc, shape) {
-        Err(_) => Ok(new_instance(alloc, shape)?),
-        Ok(instance) => Ok(instance),
-    }
-}
 
 // The guaranteed amount, asked for again if an allocation failed.
 fn guaranteed(
@@ -66,7 +45,7 @@ fn guaranteed(
 
 #[test]
 fn guarantees(rt: HostRuntime) -> Result<(), Fail> {
-    let instance = instance(rt.alloc())?;
+    let instance = instance(rt.alloc(), &GROUPS)?;
     assert!(rt; guaranteed(&rt, rt.alloc(), &instance, ROOT) == Ok(20));
     assert!(rt; guaranteed(&rt, rt.alloc(), &instance, WEB) == Ok(0));
     assert!(rt; guaranteed(&rt, rt.alloc(), &instance, POD) == Ok(15));
@@ -77,7 +56,7 @@ fn guarantees(rt: HostRuntime) -> Result<(), Fail> {
 
 #[test]
 fn no_such_group(rt: HostRuntime) -> Result<(), Fail> {
-    let instance = instance(rt.alloc())?;
+    let instance = instance(rt.alloc(), &GROUPS)?;
     let refused = guarantee(rt.alloc(), &instance, MISSING);
     assert!(rt; refused == Err(GuaranteeFault::NotFound));
     assert!(rt; GuaranteeFault::NotFound.number() == 20);

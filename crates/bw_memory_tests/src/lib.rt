@@ -11,6 +11,12 @@ mod core_cases;
 #[cfg(test)]
 mod guarantee_cases;
 #[cfg(test)]
+mod instances;
+#[cfg(test)]
 mod known_keys;
+#[cfg(test)]
+mod least_cases;
+#[cfg(test)]
+mod reason_cases;
 #[cfg(test)]
 mod split_cases;

@@ -1,0 +1,135 @@
+-- The number that refuses a question about a group, case by case.
+use Rattle.std.proofs.Common.{◌≡◌, ℕ, ◌<◌, ◌≤◌, Bool, true, false, cond, length, refl, ap, sym}
+use Rattle.std.proofs.Common.{◌∙◌, subst, inl, inr, arith}
+use Rattle.std.specs.Prelude.{◌==◌, nat_lt}
+use Rattle.std.proofs.lemmas.Bool.{cases_eq, ne_eqb, eq-eqb, lt-ltb, le-ltb}
+use Rattle.bw_model.specs.declared.host.HostFault.TheVariants.{BadProcessors, BadPeriod, BadSlice}
+use Rattle.bw_model.specs.declared.instance_fault.InstanceFault.TheVariants.{TooMany, BadParent}
+use Rattle.bw_model.specs.declared.instance_fault.InstanceFault.TheVariants.{BadWeight, TooDeep}
+use Rattle.bw_model.specs.declared.instance_fault.InstanceFault.TheVariants.{InnerDemand}
+use Rattle.bw_model.specs.declared.instance_fault.InstanceFault.TheVariants.{DemandTooLarge}
+use Rattle.bw_model.specs.declared.instance_fault.InstanceFault.TheVariants.{RootLimited}
+use Rattle.bw_model.specs.declared.instance_fault.InstanceFault.TheVariants.{OutOfMemory}
+use Rattle.bw_model.specs.Groups.{Groups}
+use Rattle.bw_guarantee.specs.declared.fault.GuaranteeFault.{GuaranteeFault}
+use Rattle.bw_guarantee.specs.declared.fault.GuaranteeFault.TheVariants as of_group
+use Rattle.bw_guarantee.specs.Fault.{guarantee_fault_number, IsRefused}
+use Rattle.bw_exports.specs.declared.asked_instance.Host.{Host}
+use Rattle.bw_exports.specs.declared.columns.Columns.{Columns}
+use Rattle.bw_exports.specs.declared.refusal.Refusal.{Refusal}
+use Rattle.bw_exports.specs.declared.refusal.Refusal.TheVariants as of_refusal
+use Rattle.bw_exports.specs.Asked.{Answers, IsAfterMemory}
+use Rattle.bw_exports.specs.Numbers.{number_of_refusal}
+use Rattle.bw_exports.specs.Questions.{group_number, root_number, first_refusal}
+use Rattle.bw_exports.specs.Questions.{question_refusal_of, limit_question_refusal_of}
+
+-- nothing refuses first
+pub first_none : (number next : ℕ) → number ≡ 0 → first_refusal number next ≡ next
+unfolding first_refusal
+first_none number next e = ap (λ (b : Bool). cond b next number) (eq-eqb number 0 e)
+
+first_some : (number next : ℕ) → (number ≡ 0 → ⊥) → first_refusal number next ≡ number
+unfolding first_refusal
+first_some number next e = ap (λ (b : Bool). cond b next number) (ne_eqb number 0 e)
+
+-- a refusal has a number above 0
+pub refusal_positive : (refusal : Refusal) → 0 < number_of_refusal refusal
+refusal_positive of_refusal.WrongLength = omega arith
+refusal_positive (of_refusal.Host BadProcessors) = omega arith
+refusal_positive (of_refusal.Host BadPeriod) = omega arith
+refusal_positive (of_refusal.Host BadSlice) = omega arith
+refusal_positive (of_refusal.Instance TooMany) = omega arith
+refusal_positive (of_refusal.Instance BadParent) = omega arith
+refusal_positive (of_refusal.Instance BadWeight) = omega arith
+refusal_positive (of_refusal.Instance TooDeep) = omega arith
+refusal_positive (of_refusal.Instance InnerDemand) = omega arith
+refusal_positive (of_refusal.Instance DemandTooLarge) = omega arith
+refusal_positive (of_refusal.Instance RootLimited) = omega arith
+refusal_positive (of_refusal.Instance OutOfMemory) = omega arith
+refusal_positive (of_refusal.Group of_group.NotFound) = omega arith
+refusal_positive (of_refusal.Group of_group.OutOfMemory) = omega arith
+
+-- what refuses host and rows refuses a question, too
+carried : (number next answer : ℕ) → 0 < answer → IsAfterMemory next → Answers number answer
+    → Answers (first_refusal number next) answer
+carried number next answer positive later answers = elim (cases_eq number 0) [
+  | inl none ↦ elim answers [
+    | inl same ↦ absurd (omega (arith, same, none, positive))
+    | inr memory ↦
+        inr (memory.0, subst IsAfterMemory (sym (first_none number next none)) later)
+  ]
+  | inr some ↦ subst (λ (n : ℕ). Answers n answer) (sym (first_some number next some)) answers
+]
+
+-- groups are refused after memory is asked for
+row_later : (b : Bool) → IsAfterMemory (cond b 0 20)
+row_later true = inl refl
+row_later false = inr (omega arith, λ e. omega (arith, e))
+
+root_later : (b : Bool) → IsAfterMemory (cond b 10 0)
+root_later true = inr (omega arith, λ e. omega (arith, e))
+root_later false = inl refl
+
+pub question_carried : (number : ℕ) (groups : Groups) (group : ℕ) (refusal : Refusal)
+    → Answers number (number_of_refusal refusal)
+    → Answers (first_refusal number (group_number groups group)) (number_of_refusal refusal)
+question_carried number groups group refusal answers =
+    carried number (group_number groups group) (number_of_refusal refusal)
+    (refusal_positive refusal) (row_later (nat_lt group (length groups.rows))) answers
+
+pub limit_carried : (number group : ℕ) (refusal : Refusal)
+    → Answers number (number_of_refusal refusal)
+    → Answers (first_refusal number (root_number group)) (number_of_refusal refusal)
+limit_carried number group refusal answers =
+    carried number (root_number group) (number_of_refusal refusal) (refusal_positive refusal)
+    (root_later (group == 0)) answers
+
+-- a group that is a row, and one that is none
+pub question_none : (number : ℕ) (groups : Groups) (group : ℕ) → number ≡ 0
+    → group < length groups.rows → first_refusal number (group_number groups group) ≡ 0
+question_none number groups group none within =
+    first_none number (group_number groups group) none
+    ∙ ap (λ (b : Bool). cond b 0 20) (lt-ltb group (length groups.rows) within)
+
+pub question_past : (number : ℕ) (groups : Groups) (group : ℕ) → number ≡ 0
+    → length groups.rows ≤ group → first_refusal number (group_number groups group) ≡ 20
+question_past number groups group none past =
+    first_none number (group_number groups group) none
+    ∙ ap (λ (b : Bool). cond b 0 20) (le-ltb group (length groups.rows) past)
+
+-- a group below the root, and the root
+pub limit_none : (number group : ℕ) → number ≡ 0 → (group ≡ 0 → ⊥)
+    → first_refusal number (root_number group) ≡ 0
+limit_none number group none below =
+    first_none number (root_number group) none
+    ∙ ap (λ (b : Bool). cond b 10 0) (ne_eqb group 0 below)
+
+pub limit_root : (number group : ℕ) → number ≡ 0 → group ≡ 0
+    → first_refusal number (root_number group) ≡ 10
+limit_root number group none root =
+    first_none number (root_number group) none
+    ∙ ap (λ (b : Bool). cond b 10 0) (eq-eqb group 0 root)
+
+-- the refusal of a guarantee
+pub guarantee_refused : (number : ℕ) (groups : Groups) (group : ℕ) (fault : GuaranteeFault)
+    → number ≡ 0 → IsRefused groups group fault
+    → Answers (first_refusal number (group_number groups group)) (guarantee_fault_number fault)
+guarantee_refused number groups group of_group.NotFound none past =
+    inl (sym (question_past number groups group none past))
+guarantee_refused number groups group of_group.OutOfMemory none within =
+    inr (refl, inl (question_none number groups group none within))
+
+-- what is asked by the same host and the same columns
+pub question_by : {one two : Host} {these those : Columns} → one ≡ two → these ≡ those
+    → (group : ℕ)
+    → question_refusal_of one these group ≡ question_refusal_of two those group
+question_by {one} {two} {these} {those} host columns group =
+    ap (λ (h : Host). question_refusal_of h these group) host
+    ∙ ap (λ (c : Columns). question_refusal_of two c group) columns
+
+pub limit_question_by : {one two : Host} {these those : Columns} → one ≡ two → these ≡ those
+    → (group : ℕ)
+    → limit_question_refusal_of one these group ≡ limit_question_refusal_of two those group
+limit_question_by {one} {two} {these} {those} host columns group =
+    ap (λ (h : Host). limit_question_refusal_of h these group) host
+    ∙ ap (λ (c : Columns). limit_question_refusal_of two c group) columns
