@@ -20,11 +20,11 @@ FILES = Path(__file__).with_name("test_real_files.py")
 # By how much each repeat begins later, in microseconds: another place in a quota period and in
 # a tick.
 LATER = 21300
-# Scenarios of one boot.
+# Runs of one boot.
 BATCH = 12
 
 EPILOG = """\
-SOURCE is a script, whose line `#:` may have options for it, a host file, a scenario of
+SOURCE is a script, whose lines `#:` may have options for it, a host file, a scenario of
 tests/kernel/scenarios, or the beginning of names of scenarios. Without one all scenarios run.
 
 exit status: 0 all that is judged is within its bounds; 1 a group is not, or a run was refused;
@@ -56,13 +56,14 @@ def with_host(text: str) -> str:
     return f"#: {head.partition(' run ')[2]}\n{rest}"
 
 
-def batches(found: list[Scenario], repeats: int) -> Iterator[list[tuple[Scenario, int]]]:
+def batches(found: list[Scenario], repeats: int,
+            boot: int) -> Iterator[list[tuple[Scenario, int]]]:
     """The runs of each boot: scenarios of equally many processors."""
     for processors in sorted({each.processors for each in found}):
         runs = [(each, repeat) for each in found if each.processors == processors
                 for repeat in range(repeats)]
-        for at in range(0, len(runs), BATCH):
-            yield runs[at:at + BATCH]
+        for at in range(0, len(runs), boot):
+            yield runs[at:at + boot]
 
 
 def measured(kernel: packages.Kernel, setting: machine.Setting, options: argparse.Namespace,
@@ -89,6 +90,8 @@ def arguments(words: list[str]) -> argparse.Namespace:
                         help="of %(default)s (default all)")
     parser.add_argument("--repeats", type=int, default=5, metavar="N",
                         help="runs of each scenario, each a little later (default 5)")
+    parser.add_argument("--boot", type=int, default=BATCH, metavar="N",
+                        help="runs of each boot, one after another (default %(default)s)")
     parser.add_argument("--seconds", type=float, default=10, help="how long counters are watched")
     parser.add_argument("--settle", type=float, default=1, help="how long tasks run before that")
     parser.add_argument("--shift", type=int, default=4, metavar="N",
@@ -145,7 +148,7 @@ def work(words: list[str]) -> int:
         kernel = packages.kernel(name)
         print(f"Linux {kernel.release}, {kernel.ticks} ticks a second; {setting.told}")
         fit = [each for each in found if each.kernel in ("", name)]
-        for runs in batches(fit, options.repeats):
+        for runs in batches(fit, options.repeats, options.boot):
             for outcome in measured(kernel, setting, options, runs):
                 outcomes.append(outcome)
                 saved(options, kernel, setting, outcome)

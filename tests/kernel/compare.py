@@ -95,7 +95,7 @@ class Outcome:
                 "stolen": self.stolen, "idle": self.idle, "others": self.others,
                 "offsets": offsets, "lines": [vars(line) for line in self.lines],
                 "plan": self.plan_counters, "kernel": self.kernel_counters,
-                "tasks": [vars(task) for task in self.run.tasks]}
+                "tasks": [vars(task) for task in self.run.tasks], "guest": self.run.guest}
 
 
 def period_of(scenario: Scenario, path: str) -> int:

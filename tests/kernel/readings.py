@@ -34,7 +34,11 @@ class Reading:
 
 @dataclass
 class Run:
-    """One run of a scenario. `grid` has the times at which quota periods began, by group."""
+    """One run of a scenario. `grid` has the times at which quota periods began, by group.
+
+    `guest` is what the guest said of itself: its kernel, its clock, and how many of its processors
+    have a clock of stolen time (`steal`).
+    """
 
     key: str
     times: tuple[int, ...] = ()
@@ -43,6 +47,7 @@ class Run:
     grid: dict[str, list[int]] = field(default_factory=dict)
     refused: list[str] = field(default_factory=list)
     told: list[str] = field(default_factory=list)
+    guest: dict[str, str] = field(default_factory=dict)
 
     def rose(self) -> dict[str, dict[str, int]]:
         """By how much each counter of each group rose."""
@@ -97,12 +102,15 @@ def add(run: Run, line: str, file: str) -> str:
 
 def runs(lines: list[str]) -> Iterator[Run]:
     """The runs of a guest."""
-    found, file = Run(""), ""
+    found, file, guest = Run(""), "", dict[str, str]()
     for line in lines:
         if line.startswith("run "):
             if found.key:
                 yield checked(found)
-            found, file = Run(line[4:]), ""
+            found, file = Run(line[4:], guest=guest), ""
+        elif not found.key:
+            name, _, text = line.partition(" ")
+            guest[name] = text
         else:
             file = add(found, line, file)
     if found.key:

@@ -5,8 +5,8 @@ from fractions import Fraction
 import pytest
 
 from kernel import (compare, deliberate, exact, layout, page, placed, planned, readings,
-                    real_apply, scenario)
-from kernel.__main__ import SCENARIOS
+                    real_apply, scenario, table)
+from kernel.__main__ import SCENARIOS, batches
 from kernel.faults import KernelFault
 
 ALL = sorted(path.stem for path in SCENARIOS.glob("*.script"))
@@ -115,6 +115,30 @@ def test_scenario_has_loads(name):
     assert text.count("mkdir ") == len(found.paths) + 1
 
 
+def test_options_may_have_several_lines():
+    """Each line `#:` adds to those before it."""
+    found = of("#: --processors 2 --tasks a=3\n#: --pin b=2\n#: --tasks b=5\nmkdir a\nmkdir b\n"
+               "demand a 100\ndemand b 100\n")
+    assert found.processors == 2
+    assert [(leaf.tasks, leaf.cpus) for leaf in found.leaves.values()] == [(3, 3), (5, 2)]
+
+
+def test_runs_of_a_boot():
+    """All repeats of each scenario, so many to a boot, and never of different processors."""
+    one, two = of("mkdir a\ndemand a 1\n"), of("#: --processors 2\nmkdir a\ndemand a 1\n")
+    found = list(batches([two, one, two], 3, 4))
+    assert [[(each.processors, repeat) for each, repeat in runs] for runs in found] == [
+        [(1, 0), (1, 1), (1, 2)], [(2, 0), (2, 1), (2, 2), (2, 0)], [(2, 1), (2, 2)]]
+
+
+@pytest.mark.parametrize("clocks, wanted", [("0", "unseen (the guest has no clock of it)"),
+                                            ("2", "1.0%")])
+def test_stolen_time_is_told_where_it_is_seen(clocks, wanted):
+    """A guest without a clock of stolen time does not say that none was stolen."""
+    run = readings.Run("here", guest={"steal": clocks})
+    assert table.stolen(compare.Outcome(of("mkdir a\n"), run, stolen=0.01)) == wanted
+
+
 def test_spread_tasks_keep_to_one_processor_each():
     """Three tasks on two processors: the first, the second, the first; pinned ones stay within."""
     text = "mkdir a\nmkdir b\ndemand a 300\ndemand b 300\n"
@@ -209,7 +233,7 @@ def test_quota_is_moved():
 
 def test_guest_lines_are_read():
     """A run's counters, tasks and quota periods."""
-    text = ["kernel 6.1", "run here", "times 1000000 2000000 3000000",
+    text = ["kernel 6.1", "clock tsc", "steal 2", "run here", "times 1000000 2000000 3000000",
             "grid /sys/fs/cgroup/host/a/cpu.stat 1500000", "at 2000000",
             "file /sys/fs/cgroup/host/a/cpu.stat", "usage_usec 5", "nr_periods 1",
             "file /proc/stat", "cpu  1 2 3 4 5 6 7 8", "at 3000000",
@@ -219,6 +243,7 @@ def test_guest_lines_are_read():
     run, = readings.runs(text)
     assert run.rose()["a"]["usage_usec"] == 4 and run.rose()["a"]["nr_periods"] == 2
     assert run.offset("a", 1000) == 500
+    assert run.guest == {"kernel": "6.1", "clock": "tsc", "steal": "2"}
     assert [task.seen for task in run.tasks] == [(40, 2)]
     assert run.readings[1].others == 17 and run.readings[1].ticks[7] - run.readings[0].ticks[7] == 1
 
