@@ -4,7 +4,7 @@ from fractions import Fraction
 
 import pytest
 
-from kernel import (compare, deliberate, exact, layout, page, placed, planned, readings,
+from kernel import (compare, deliberate, exact, layout, machine, page, placed, planned, readings,
                     real_apply, scenario, table)
 from kernel.__main__ import SCENARIOS, batches
 from kernel.faults import KernelFault
@@ -121,6 +121,14 @@ def test_options_may_have_several_lines():
                "demand a 100\ndemand b 100\n")
     assert found.processors == 2
     assert [(leaf.tasks, leaf.cpus) for leaf in found.leaves.values()] == [(3, 3), (5, 2)]
+
+
+@pytest.mark.parametrize("flags, wanted", [
+    ("fpu vme vmx ssse3", True), ("fpu svm", True), ("fpu svm_lock vmxoff", False), ("", False)])
+def test_processor_that_runs_guests(flags, wanted):
+    """KVM alone is not enough: a flag of the processor, whole."""
+    text = f"processor\t: 0\nflags\t\t: {flags}\nbugs\t\t: vmx\n"
+    assert machine.runs_guests(text) is wanted
 
 
 def test_runs_of_a_boot():
