@@ -4,8 +4,8 @@ from fractions import Fraction
 
 import pytest
 
-from kernel import (compare, deliberate, exact, layout, machine, page, placed, planned, readings,
-                    real_apply, scenario, table)
+from kernel import (compare, deliberate, exact, layout, machine, page, placed, planned,
+                    readings, real_apply, scenario, table)
 from kernel.__main__ import SCENARIOS, batches
 from kernel.faults import KernelFault
 
