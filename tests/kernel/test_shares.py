@@ -187,6 +187,22 @@ def test_page_of_saved_runs(tmp_path):
     assert page.totals(found).startswith("3 runs, 3 groups judged, 1 out of bounds, 0 runs refused")
 
 
+def test_page_of_counters_and_offsets():
+    """Counters of a limited group by kernel with their ranges, and differences by offset."""
+    def saved(release, periods, offset, had):
+        counters = dict.fromkeys(readings.KEYS, 0) | {"nr_periods": periods, "burst_usec": 20400}
+        return {"release": release, "scenario": "series-burst", "offsets": {"a": offset},
+                "lines": [{"path": "a", "share": 10, "had": had}], "tasks": [{"path": "a"}],
+                "plan": {"a": counters | {"nr_periods": 9}}, "kernel": {"a": counters}}
+    found = [saved("6.12.1", 7, 50000, 12.25), saved("6.12.1", 8, 3000, 10.5),
+             saved("6.1.0-9", 7, None, 10)]
+    assert list(page.counter_rows(found)) == [
+        "| `series-burst` a | 9 / 0 / 0 / 0 / 20 | 6.1: 7 / 0 / 0 / 0 / 20,"
+        " 6.12: 7 to 8 / 0 / 0 / 0 / 20 |"]
+    assert list(page.offset_rows(found)) == ["| `series-burst` a | 6.1 |  |",
+                                             "| `series-burst` a | 6.12 | 3: +0.50, 50: +2.25 |"]
+
+
 LEFT, RIGHT, BOTH = (9, 0), (0, 9), (5, 5)
 
 
