@@ -4,6 +4,8 @@ from __future__ import annotations
 import argparse
 import json
 import os
+import re
+import shlex
 import subprocess
 import sys
 from collections.abc import Iterator
@@ -22,6 +24,8 @@ FILES = Path(__file__).with_name("test_real_files.py")
 LATER = 21300
 # Runs of one boot.
 BATCH = 12
+# What `arbiterctl import` writes above the demand of a group whose tasks are known.
+TASKS = re.compile(r"# tasks ([0-9]+)")
 
 EPILOG = """\
 SOURCE is a script, whose lines `#:` may have options for it, a host file, a scenario of
@@ -37,7 +41,7 @@ def sources(words: list[str]) -> list[Scenario]:
     for word in words or [""]:
         path = Path(word)
         if path.suffix in (".toml", ".yaml", ".json") and path.is_file():
-            text = packages.said([sys.executable, str(ARBITERCTL), "import", word])
+            text = packages.said([sys.executable, str(ARBITERCTL), "import", path.suffix[1:], word])
             found.append(scenario.parse(path.stem, with_host(text)))
         elif path.suffix == ".script" and path.is_file():
             found.append(scenario.read(path))
@@ -51,9 +55,16 @@ def sources(words: list[str]) -> list[Scenario]:
 
 
 def with_host(text: str) -> str:
-    """A script of `arbiterctl import` with its first line as options: that line names the host."""
-    head, _, rest = text.partition("\n")
-    return f"#: {head.partition(' run ')[2]}\n{rest}"
+    """A script of `arbiterctl import` with what its comments say as options: the first line has
+    the host, and a line above a demand the number of the group's tasks."""
+    head, *rest = text.splitlines()
+    lines = ["# a host file", f"#: {head.partition(' run ')[2]}"]
+    for before, line in zip([head, *rest], rest):
+        tasks = TASKS.match(before)
+        if tasks and line.startswith("demand "):
+            lines.append(f"#: --tasks {shlex.quote(line.split()[1] + '=' + tasks[1])}")
+        lines.append(line)
+    return "\n".join(lines) + "\n"
 
 
 def batches(found: list[Scenario], repeats: int,

@@ -6,7 +6,7 @@ import pytest
 
 from kernel import (compare, deliberate, exact, layout, machine, page, placed, planned,
                     readings, real_apply, scenario, table)
-from kernel.__main__ import SCENARIOS, batches
+from kernel.__main__ import SCENARIOS, batches, sources
 from kernel.faults import KernelFault
 
 ALL = sorted(path.stem for path in SCENARIOS.glob("*.script"))
@@ -129,6 +129,19 @@ def test_processor_that_runs_guests(flags, wanted):
     """KVM alone is not enough: a flag of the processor, whole."""
     text = f"processor\t: 0\nflags\t\t: {flags}\nbugs\t\t: vmx\n"
     assert machine.runs_guests(text) is wanted
+
+
+def test_host_file_is_a_scenario(tmp_path):
+    """Its host, limits and numbers of tasks; a demand is cut at what its tasks can use."""
+    file = tmp_path / "small.toml"
+    file.write_text("[host]\ncpus = 4\nslice = '1ms'\n[groups.web]\nweight = 300\ndemand = '3cpu'\n"
+                    "[groups.batch]\nmax = '20%'\ndemand = '4cpu'\ntasks = 2\n")
+    found, = sources([str(file)])
+    assert (found.name, found.processors, found.slice) == ("small", 4, 1000)
+    assert found.files("cpu.weight") == {"web": "300"}
+    assert found.files("cpu.max") == {"batch": "20000 100000"}
+    assert {path: (leaf.demands, leaf.tasks) for path, leaf in found.leaves.items()} == {
+        "web": ((300,), 3), "batch": ((200,), 2)}
 
 
 def test_runs_of_a_boot():
