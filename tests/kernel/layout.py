@@ -12,6 +12,9 @@ TOP = "/sys/fs/cgroup"
 HOME = f"{TOP}/host"
 FEATURES = "/sys/kernel/debug/sched/features"
 GRID = 100000000
+# For so long before counters are read nobody watches quota periods. That takes the groups' time,
+# and what a limited group lacks then it has after the first reading.
+QUIET = 150000000
 # The board's clock without its driver, so that nobody takes its interrupt.
 BEAT = """\
 cd /sys/bus/pnp/drivers/rtc_cmos && for clock in *:*; do echo $clock > unbind; done; cd /
@@ -117,7 +120,7 @@ def script(scenario: Scenario, span: Span) -> str:
         "echo times $first $begin $last",
         *(set_offsets(scenario) if scenario.offset is not None else ()),
         f"/guest watch $begin $last -- {files} &",
-        *([f"/guest grid $first $((begin - 20000000)) {' '.join(limited)} &"] if limited else ()),
+        *([f"/guest grid $first $((begin - {QUIET})) {' '.join(limited)} &"] if limited else ()),
         *tasks,
         "echo ready $(/guest now)",
         "wait",
