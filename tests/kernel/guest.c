@@ -41,6 +41,8 @@
 #define SECOND 1000000000LL
 /* For so long after a time its counters are read: by then each processor has had a turn.  */
 #define COUNTED (300 * MICRO)
+/* For so long before the first time the time of others is read, which takes time itself.  */
+#define EARLIER (300 * MILLI)
 
 static char text[1 << 20];
 static int64_t seen[MOST_PROCESSORS];
@@ -207,7 +209,7 @@ static int watch(int count, char **words) {
         return 2;
     int64_t begin = atoll(words[0]), end = atoll(words[1]);
     go_first();
-    sleep_until(begin - 450 * MILLI);
+    sleep_until(begin - EARLIER);
     others();
     count_at(begin, end);
     sleep_until(begin + COUNTED);
