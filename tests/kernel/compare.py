@@ -91,8 +91,10 @@ class Outcome:
         """All of it as JSON takes it."""
         offsets = {path: self.run.offset(path, period_of(self.scenario, path))
                    for path in self.scenario.files("cpu.max")}
+        one, two = (reading.ticks for reading in self.run.readings)
         return {"scenario": self.scenario.name, "key": self.run.key, "refusal": self.refusal,
                 "stolen": self.stolen, "idle": self.idle, "others": self.others,
+                "ticks": [after - before for before, after in zip(one, two)],
                 "offsets": offsets, "lines": [vars(line) for line in self.lines],
                 "plan": self.plan_counters, "kernel": self.kernel_counters,
                 "tasks": [vars(task) for task in self.run.tasks], "guest": self.run.guest}
