@@ -94,7 +94,7 @@ class Outcome:
         one, two = (reading.ticks for reading in self.run.readings)
         return {"scenario": self.scenario.name, "key": self.run.key, "refusal": self.refusal,
                 "stolen": self.stolen, "idle": self.idle, "others": self.others,
-                "ticks": [after - before for before, after in zip(one, two)],
+                "stat": [after - before for before, after in zip(one, two)],
                 "offsets": offsets, "lines": [vars(line) for line in self.lines],
                 "plan": self.plan_counters, "kernel": self.kernel_counters,
                 "tasks": [vars(task) for task in self.run.tasks], "guest": self.run.guest}
@@ -174,7 +174,7 @@ def spent(outcome: Outcome, microseconds: float) -> None:
     whole = microseconds * outcome.scenario.processors
     used = outcome.kernel_counters["."]["usage_usec"] / whole
     outcome.stolen = (two.ticks[7] - one.ticks[7]) * 10000 / whole
-    outcome.others = two.others / 1000 / whole
+    outcome.others = two.others / outcome.scenario.processors
     outcome.idle = 1 - used - outcome.stolen - outcome.others
 
 

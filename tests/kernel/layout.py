@@ -15,7 +15,7 @@ GRID = 100000000
 # For so long before counters are read nobody watches quota periods. That takes the groups' time:
 # what a limited group lacks then it has after the first reading. It is before the time that the
 # guest's program counts for all others.
-QUIET = 350000000
+QUIET = 650000000
 # The board's clock without its driver, so that nobody takes its interrupt.
 BEAT = """\
 cd /sys/bus/pnp/drivers/rtc_cmos && for clock in *:*; do echo $clock > unbind; done; cd /

@@ -24,10 +24,10 @@ class Task:
 @dataclass
 class Reading:
     """The counters of all groups at a time (nanoseconds), and the ticks of all processors. The
-    second one has the processor time that all other tasks used since the first (nanoseconds)."""
+    second one has the part of one processor that all other tasks used since the first."""
 
     at: int
-    others: int = 0
+    others: float = 0
     groups: dict[str, dict[str, int]] = field(default_factory=dict)
     ticks: tuple[int, ...] = ()
 
@@ -83,7 +83,7 @@ def add(run: Run, line: str, file: str) -> str:
     elif words[:1] == ["at"]:
         run.readings.append(Reading(int(words[1])))
     elif words[:1] == ["others"]:
-        run.readings[-1].others = int(words[1])
+        run.readings[-1].others = int(words[1]) / int(words[2])
     elif words[:1] == ["file"]:
         return words[1]
     elif words[:1] == ["grid"]:

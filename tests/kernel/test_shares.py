@@ -276,18 +276,19 @@ def test_guest_lines_are_read():
             "file /proc/stat", "cpu  1 2 3 4 5 6 7 8", "at 3000000",
             "file /sys/fs/cgroup/host/a/cpu.stat", "usage_usec 9", "nr_periods 3",
             "file /proc/stat", "cpu  1 2 3 4 5 6 7 9",
-            "others 17", "task a 9 10 0 2 3 40 2"]
+            "others 17 68", "task a 9 10 0 2 3 40 2"]
     run, = readings.runs(text)
     assert run.rose()["a"]["usage_usec"] == 4 and run.rose()["a"]["nr_periods"] == 2
     assert run.offset("a", 1000) == 500
     assert run.guest == {"kernel": "6.1", "clock": "tsc", "steal": "2"}
     assert [task.seen for task in run.tasks] == [(40, 2)]
-    assert run.readings[1].others == 17 and run.readings[1].ticks[7] - run.readings[0].ticks[7] == 1
+    one, two = run.readings
+    assert two.others == 0.25 and two.ticks[7] - one.ticks[7] == 1
 
 
 @pytest.mark.parametrize("late, others, why", [
     (0, 0, ""), (21000000, 0, "counters were read 21 ms late"),
-    (0, 20000000000, "0.0% stolen, 2000.0% used by others")])
+    (0, 0.02, "0.0% stolen, 2.0% used by others")])
 def test_run_is_refused(program, late, others, why):
     """A run that was read late, or in which others ran, says nothing."""
     planned.use(program.path)
