@@ -69,6 +69,8 @@ class Outcome:
         """Why the run says nothing; empty if it does."""
         if self.run.refused:
             return f"the kernel refused {'; '.join(self.run.refused)}"
+        if self.run.ready > self.run.times[1]:
+            return f"tasks were started {(self.run.ready - self.run.times[1]) // 1000000} ms late"
         late = max(each.at - time for each, time in zip(self.run.readings, self.run.times[1:]))
         if late > LATEST:
             return f"counters were read {late // 1000000} ms late"
@@ -94,6 +96,7 @@ class Outcome:
         one, two = (reading.ticks for reading in self.run.readings)
         return {"scenario": self.scenario.name, "key": self.run.key, "refusal": self.refusal,
                 "stolen": self.stolen, "idle": self.idle, "others": self.others,
+                "late": (self.run.ready - self.run.times[0]) // 1000,
                 "stat": [after - before for before, after in zip(one, two)],
                 "offsets": offsets, "lines": [vars(line) for line in self.lines],
                 "plan": self.plan_counters, "kernel": self.kernel_counters,

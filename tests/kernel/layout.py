@@ -110,8 +110,9 @@ def script(scenario: Scenario, span: Span) -> str:
                                                  scenario.paths), "/proc/stat"])
     tasks = [task(scenario, path, leaf, number) for path, leaf in scenario.leaves.items()
              if any(leaf.demands) for number in range(leaf.tasks)]
-    # offsets are set from three periods before the tasks begin
-    lead = (2 if scenario.offset is None else 4) + len(tasks) // 8
+    # All tasks have to be there when the first begins to work: from then on the shell has little
+    # time. Offsets are set from three periods before that.
+    lead = 10 + len(tasks) // 2 if scenario.offset is None else 4 + len(tasks) // 8
     lines = [
         *features(scenario.features),
         *groups(scenario),

@@ -36,8 +36,9 @@ class Reading:
 class Run:
     """One run of a scenario. `grid` has the times at which quota periods began, by group.
 
-    `guest` is what the guest said of itself: its kernel, its clock, and how many of its processors
-    have a clock of stolen time (`steal`).
+    `ready` is when the last task was started, in nanoseconds. `guest` is what the guest said of
+    itself: its kernel, its clock, and how many of its processors have a clock of stolen time
+    (`steal`).
     """
 
     key: str
@@ -47,6 +48,7 @@ class Run:
     grid: dict[str, list[int]] = field(default_factory=dict)
     refused: list[str] = field(default_factory=list)
     told: list[str] = field(default_factory=list)
+    ready: int = 0
     guest: dict[str, str] = field(default_factory=dict)
 
     def rose(self) -> dict[str, dict[str, int]]:
@@ -80,6 +82,8 @@ def add(run: Run, line: str, file: str) -> str:
     words = line.split()
     if words[:1] == ["times"]:
         run.times = tuple(map(int, words[1:]))
+    elif words[:1] == ["ready"]:
+        run.ready = int(words[1])
     elif words[:1] == ["at"]:
         run.readings.append(Reading(int(words[1])))
     elif words[:1] == ["others"]:
@@ -95,7 +99,7 @@ def add(run: Run, line: str, file: str) -> str:
         run.refused.append(line.removeprefix("refused "))
     elif words and file and run.readings:
         add_line(run, file, words)
-    elif words[:1] != ["ready"]:
+    else:
         run.told.append(line)
     return file
 

@@ -270,7 +270,8 @@ def test_quota_is_moved():
 
 def test_guest_lines_are_read():
     """A run's counters, tasks and quota periods."""
-    text = ["kernel 6.1", "clock tsc", "steal 2", "run here", "times 1000000 2000000 3000000",
+    text = ["kernel 6.1", "clock tsc", "steal 2", "run here",
+            "times 1000000 2000000 3000000", "ready 900000",
             "grid /sys/fs/cgroup/host/a/cpu.stat 1500000", "at 2000000",
             "file /sys/fs/cgroup/host/a/cpu.stat", "usage_usec 5", "nr_periods 1",
             "file /proc/stat", "cpu  1 2 3 4 5 6 7 8", "at 3000000",
@@ -280,27 +281,30 @@ def test_guest_lines_are_read():
     run, = readings.runs(text)
     assert run.rose()["a"]["usage_usec"] == 4 and run.rose()["a"]["nr_periods"] == 2
     assert run.offset("a", 1000) == 500
+    assert run.ready == 900000 and run.told == []
     assert run.guest == {"kernel": "6.1", "clock": "tsc", "steal": "2"}
     assert [task.seen for task in run.tasks] == [(40, 2)]
     one, two = run.readings
     assert two.others == 0.25 and two.ticks[7] - one.ticks[7] == 1
 
 
-@pytest.mark.parametrize("late, others, why", [
-    (0, 0, ""), (21000000, 0, "counters were read 21 ms late"),
-    (0, 0.02, "0.0% stolen, 2.0% used by others")])
-def test_run_is_refused(program, late, others, why):
-    """A run that was read late, or in which others ran, says nothing."""
+@pytest.mark.parametrize("late, others, ready, why", [
+    (0, 0, 0, ""), (21000000, 0, 0, "counters were read 21 ms late"),
+    (0, 0.02, 0, "0.0% stolen, 2.0% used by others"),
+    (0, 0, 7000000, "tasks were started 7 ms late")])
+def test_run_is_refused(program, late, others, ready, why):
+    """A run that was begun or read late, or in which others ran, says nothing."""
     planned.use(program.path)
     found = of("mkdir a\ndemand a 100\n")
     groups = [{path: dict.fromkeys(readings.KEYS, number) for path in (".", "a")}
               for number in (0, 0)]
     run = readings.Run("here", (0, 0, 1000000000), [
         readings.Reading(late, 0, groups[0], (0,) * 8),
-        readings.Reading(1000000000 + late, others, groups[1], (0,) * 8)])
+        readings.Reading(1000000000 + late, others, groups[1], (0,) * 8)], ready=ready)
     outcome = compare.Outcome(found, run, kernel_counters=run.rose())
     compare.spent(outcome, 1000000)
     assert outcome.refusal == why
+    assert outcome.as_data()["late"] == ready // 1000 and outcome.as_data()["stat"] == [0] * 8
 
 
 def test_steps_of_apply_are_read():
