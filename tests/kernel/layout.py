@@ -112,7 +112,7 @@ def script(scenario: Scenario, span: Span) -> str:
              if any(leaf.demands) for number in range(leaf.tasks)]
     # All tasks have to be there when the first begins to work: from then on the shell has little
     # time. Offsets are set from three periods before that.
-    lead = 10 + len(tasks) // 2 if scenario.offset is None else 4 + len(tasks) // 8
+    lead = 10 + len(tasks) if scenario.offset is None else 4 + len(tasks) // 8
     lines = [
         *features(scenario.features),
         *groups(scenario),

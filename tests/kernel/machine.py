@@ -27,7 +27,8 @@ export PATH=/bin HOME=/root
 mount -t devtmpfs none /dev
 mount -t proc none /proc
 mount -t sysfs none /sys
-mount -t cgroup2 none /sys/fs/cgroup
+# a task that enters a group waits for no grace period, so all tasks begin soon
+mount -t cgroup2 -o favordynmods none /sys/fs/cgroup
 exec >/dev/ttyS1 2>&1
 echo "kernel $(uname -r)"
 echo "clock $(cat /sys/devices/system/clocksource/clocksource0/current_clocksource)"
