@@ -172,9 +172,11 @@ static int64_t others(void) {
         if (id <= 0 || id >= MOST_TASKS || id == getpid())
             continue;
         snprintf(name, sizeof name, "/proc/%d/schedstat", id);
-        int64_t used = atoll(read_file(name)) - before[id];
-        before[id] += used;
-        if (used == 0 || !is_later)
+        int64_t whole = atoll(read_file(name)), used = whole - before[id];
+        if (whole)
+            before[id] = whole;
+        /* a load may end meanwhile, and then has no file */
+        if (!is_later || !whole || !used)
             continue;
         snprintf(name, sizeof name, "/proc/%d/comm", id);
         if (strcmp(read_file(name), "load\n") != 0)
