@@ -179,7 +179,8 @@ static int64_t others(void) {
         if (!is_later || !whole || !used)
             continue;
         snprintf(name, sizeof name, "/proc/%d/comm", id);
-        if (strcmp(read_file(name), "load\n") != 0)
+        const char *is = read_file(name);
+        if (*is && strcmp(is, "load\n") != 0)
             sum += used;
     }
     if (tasks)
