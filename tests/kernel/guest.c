@@ -211,8 +211,14 @@ static size_t add_files(char *to, size_t size, int count, char **files) {
     return length;
 }
 
+/* In one call: what another process prints meanwhile comes before it or after it.  */
+static int print_whole(const char *from, size_t length) {
+    return write(1, from, length) != (ssize_t)length;
+}
+
 static int watch(int count, char **words) {
-    static char one[1 << 21], two[1 << 21];
+    static char made[1 << 22];
+    const size_t size = sizeof made - 100;
     if (count < 4)
         return 2;
     int64_t begin = atoll(words[0]), end = atoll(words[1]);
@@ -222,11 +228,12 @@ static int watch(int count, char **words) {
     others();
     count_at(begin, end);
     sleep_until(begin + COUNTED);
-    add_files(one, sizeof one, count - 3, words + 3);
+    size_t length = add_files(made, size, count - 3, words + 3);
     sleep_until(end + COUNTED);
-    add_files(two, sizeof two, count - 3, words + 3);
+    length += add_files(made + length, size - length, count - 3, words + 3);
     int64_t of = read_clock(CLOCK_MONOTONIC) - from;
-    return printf("%s%sothers %lld %lld\n", one, two, (long long)others(), (long long)of) < 0;
+    length += sprintf(made + length, "others %lld %lld\n", (long long)others(), (long long)of);
+    return print_whole(made, length);
 }
 
 static int grid(int count, char **words) {

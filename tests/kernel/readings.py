@@ -123,6 +123,7 @@ def runs(lines: list[str]) -> Iterator[Run]:
 
 def checked(run: Run) -> Run:
     """A run that was read whole."""
-    if len(run.readings) != 2 or not run.tasks or len(run.times) != 3:
+    if (len(run.readings) != 2 or not run.tasks or len(run.times) != 3
+            or run.readings[0].groups.keys() != run.readings[1].groups.keys()):
         raise KernelFault(f"{run.key}: the guest did not read it whole: {run.told[-3:]}")
     return run

@@ -319,7 +319,10 @@ def test_steps_of_apply_are_read():
         real_apply.read(lines[:-1])
 
 
-def test_unfinished_guest_is_refused():
-    """A run without its second reading is no run."""
+@pytest.mark.parametrize("second", [[], ["at 3", "file /sys/fs/cgroup/host/b/cpu.stat"]])
+def test_unfinished_guest_is_refused(second):
+    """A run without its second reading is no run, nor is one whose readings have other groups."""
+    lines = ["run here", "times 1 2 3", "at 2", "file /sys/fs/cgroup/host/a/cpu.stat",
+             "usage_usec 5", *second, "usage_usec 9", "task a 9 10 0 2 3 40 2"]
     with pytest.raises(KernelFault, match="did not read it whole"):
-        list(readings.runs(["run here", "times 1 2 3", "at 2"]))
+        list(readings.runs(lines))
