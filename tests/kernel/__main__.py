@@ -104,7 +104,7 @@ def arguments(words: list[str]) -> argparse.Namespace:
     parser.add_argument("--boot", type=int, default=BATCH, metavar="N",
                         help="runs of each boot, one after another (default %(default)s)")
     parser.add_argument("--seconds", type=float, default=10, help="how long counters are watched")
-    parser.add_argument("--settle", type=float, default=1, help="how long tasks run before that")
+    parser.add_argument("--settle", type=float, default=2, help="how long tasks run before that")
     parser.add_argument("--shift", type=int, default=4, metavar="N",
                         help="an instruction takes 2^N ns of the guest's time (default 4)")
     parser.add_argument("--kvm", action="store_true", help="run in real time with /dev/kvm")

@@ -14,7 +14,7 @@ FEATURES = "/sys/kernel/debug/sched/features"
 GRID = 100000000
 # For so long before counters are read nobody watches quota periods. That takes the groups' time:
 # what a limited group lacks then it has after the first reading. It is before the time that the
-# guest's program counts for all others.
+# guest's program counts for all others. A series needs a settling time of two rounds for it.
 QUIET = 650000000
 # The board's clock without its driver, so that nobody takes its interrupt.
 BEAT = """\
