@@ -4,6 +4,8 @@ from __future__ import annotations
 import argparse
 import json
 import os
+import re
+import shlex
 import subprocess
 import sys
 from collections.abc import Iterator
@@ -20,11 +22,13 @@ FILES = Path(__file__).with_name("test_real_files.py")
 # By how much each repeat begins later, in microseconds: another place in a quota period and in
 # a tick.
 LATER = 21300
-# Scenarios of one boot.
+# Runs of one boot.
 BATCH = 12
+# What `arbiterctl import` writes above the demand of a group whose tasks are known.
+TASKS = re.compile(r"# tasks ([0-9]+)")
 
 EPILOG = """\
-SOURCE is a script, whose line `#:` may have options for it, a host file, a scenario of
+SOURCE is a script, whose lines `#:` may have options for it, a host file, a scenario of
 tests/kernel/scenarios, or the beginning of names of scenarios. Without one all scenarios run.
 
 exit status: 0 all that is judged is within its bounds; 1 a group is not, or a run was refused;
@@ -37,7 +41,7 @@ def sources(words: list[str]) -> list[Scenario]:
     for word in words or [""]:
         path = Path(word)
         if path.suffix in (".toml", ".yaml", ".json") and path.is_file():
-            text = packages.said([sys.executable, str(ARBITERCTL), "import", word])
+            text = packages.said([sys.executable, str(ARBITERCTL), "import", path.suffix[1:], word])
             found.append(scenario.parse(path.stem, with_host(text)))
         elif path.suffix == ".script" and path.is_file():
             found.append(scenario.read(path))
@@ -51,18 +55,26 @@ def sources(words: list[str]) -> list[Scenario]:
 
 
 def with_host(text: str) -> str:
-    """A script of `arbiterctl import` with its first line as options: that line names the host."""
-    head, _, rest = text.partition("\n")
-    return f"#: {head.partition(' run ')[2]}\n{rest}"
+    """A script of `arbiterctl import` with what its comments say as options: the first line has
+    the host, and a line above a demand the number of the group's tasks."""
+    head, *rest = text.splitlines()
+    lines = ["# a host file", f"#: {head.partition(' run ')[2]}"]
+    for before, line in zip([head, *rest], rest):
+        tasks = TASKS.match(before)
+        if tasks and line.startswith("demand "):
+            lines.append(f"#: --tasks {shlex.quote(line.split()[1] + '=' + tasks[1])}")
+        lines.append(line)
+    return "\n".join(lines) + "\n"
 
 
-def batches(found: list[Scenario], repeats: int) -> Iterator[list[tuple[Scenario, int]]]:
+def batches(found: list[Scenario], repeats: int,
+            boot: int) -> Iterator[list[tuple[Scenario, int]]]:
     """The runs of each boot: scenarios of equally many processors."""
     for processors in sorted({each.processors for each in found}):
         runs = [(each, repeat) for each in found if each.processors == processors
                 for repeat in range(repeats)]
-        for at in range(0, len(runs), BATCH):
-            yield runs[at:at + BATCH]
+        for at in range(0, len(runs), boot):
+            yield runs[at:at + boot]
 
 
 def measured(kernel: packages.Kernel, setting: machine.Setting, options: argparse.Namespace,
@@ -89,8 +101,10 @@ def arguments(words: list[str]) -> argparse.Namespace:
                         help="of %(default)s (default all)")
     parser.add_argument("--repeats", type=int, default=5, metavar="N",
                         help="runs of each scenario, each a little later (default 5)")
+    parser.add_argument("--boot", type=int, default=BATCH, metavar="N",
+                        help="runs of each boot, one after another (default %(default)s)")
     parser.add_argument("--seconds", type=float, default=10, help="how long counters are watched")
-    parser.add_argument("--settle", type=float, default=1, help="how long tasks run before that")
+    parser.add_argument("--settle", type=float, default=2, help="how long tasks run before that")
     parser.add_argument("--shift", type=int, default=4, metavar="N",
                         help="an instruction takes 2^N ns of the guest's time (default 4)")
     parser.add_argument("--kvm", action="store_true", help="run in real time with /dev/kvm")
@@ -145,7 +159,7 @@ def work(words: list[str]) -> int:
         kernel = packages.kernel(name)
         print(f"Linux {kernel.release}, {kernel.ticks} ticks a second; {setting.told}")
         fit = [each for each in found if each.kernel in ("", name)]
-        for runs in batches(fit, options.repeats):
+        for runs in batches(fit, options.repeats, options.boot):
             for outcome in measured(kernel, setting, options, runs):
                 outcomes.append(outcome)
                 saved(options, kernel, setting, outcome)

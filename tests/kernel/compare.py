@@ -69,6 +69,8 @@ class Outcome:
         """Why the run says nothing; empty if it does."""
         if self.run.refused:
             return f"the kernel refused {'; '.join(self.run.refused)}"
+        if self.run.ready > self.run.times[1]:
+            return f"tasks were started {(self.run.ready - self.run.times[1]) // 1000000} ms late"
         late = max(each.at - time for each, time in zip(self.run.readings, self.run.times[1:]))
         if late > LATEST:
             return f"counters were read {late // 1000000} ms late"
@@ -91,11 +93,14 @@ class Outcome:
         """All of it as JSON takes it."""
         offsets = {path: self.run.offset(path, period_of(self.scenario, path))
                    for path in self.scenario.files("cpu.max")}
+        one, two = (reading.ticks for reading in self.run.readings)
         return {"scenario": self.scenario.name, "key": self.run.key, "refusal": self.refusal,
                 "stolen": self.stolen, "idle": self.idle, "others": self.others,
+                "late": (self.run.ready - self.run.times[0]) // 1000,
+                "stat": [after - before for before, after in zip(one, two)],
                 "offsets": offsets, "lines": [vars(line) for line in self.lines],
                 "plan": self.plan_counters, "kernel": self.kernel_counters,
-                "tasks": [vars(task) for task in self.run.tasks]}
+                "tasks": [vars(task) for task in self.run.tasks], "guest": self.run.guest}
 
 
 def period_of(scenario: Scenario, path: str) -> int:
@@ -172,7 +177,7 @@ def spent(outcome: Outcome, microseconds: float) -> None:
     whole = microseconds * outcome.scenario.processors
     used = outcome.kernel_counters["."]["usage_usec"] / whole
     outcome.stolen = (two.ticks[7] - one.ticks[7]) * 10000 / whole
-    outcome.others = two.others / 1000 / whole
+    outcome.others = two.others / outcome.scenario.processors
     outcome.idle = 1 - used - outcome.stolen - outcome.others
 
 

@@ -13,8 +13,9 @@
        often it saw itself on each processor.
    guest watch AT AT -- FILE..
        At each of two AT prints `at CLOCK`, and each FILE after a line `file NAME`. At the end
-       prints `others NS`, the processor time of all tasks but loads. That is read a while before
-       the first AT and after the second one's files, so that it costs no time between them.
+       prints `others NS OF`, the processor time of all tasks but loads in OF nanoseconds. That is
+       read a while before the first AT and after the second one's files, so that it costs no time
+       between them.
    guest grid START END FILE..
        Reads each cpu.stat once a millisecond, or as often as a quarter of the time allows; prints
        `grid FILE CLOCK` where nr_periods rose.  */
@@ -41,6 +42,9 @@
 #define SECOND 1000000000LL
 /* For so long after a time its counters are read: by then each processor has had a turn.  */
 #define COUNTED (300 * MICRO)
+/* For so long before the first time the time of others is read. That takes up to a third of a
+   second where many tasks run on four processors.  */
+#define EARLIER (600 * MILLI)
 
 static char text[1 << 20];
 static int64_t seen[MOST_PROCESSORS];
@@ -156,9 +160,10 @@ static int load(int count, char **words) {
 }
 
 /* The processor time that all tasks but loads and this one used since the last call, of those that
-   are still there.  */
+   are still there. Only of those that used some the name is read: each file takes time.  */
 static int64_t others(void) {
     static int64_t before[MOST_TASKS];
+    static int is_later;
     int64_t sum = 0;
     DIR *tasks = opendir("/proc");
     for (struct dirent *task; tasks && (task = readdir(tasks));) {
@@ -166,16 +171,21 @@ static int64_t others(void) {
         int id = atoi(task->d_name);
         if (id <= 0 || id >= MOST_TASKS || id == getpid())
             continue;
-        snprintf(name, sizeof name, "/proc/%d/comm", id);
-        if (strcmp(read_file(name), "load\n") == 0)
-            continue;
         snprintf(name, sizeof name, "/proc/%d/schedstat", id);
-        int64_t used = atoll(read_file(name));
-        sum += used - before[id];
-        before[id] = used;
+        int64_t whole = atoll(read_file(name)), used = whole - before[id];
+        if (whole)
+            before[id] = whole;
+        /* a load may end meanwhile, and then has no file */
+        if (!is_later || !whole || !used)
+            continue;
+        snprintf(name, sizeof name, "/proc/%d/comm", id);
+        const char *is = read_file(name);
+        if (*is && strcmp(is, "load\n") != 0)
+            sum += used;
     }
     if (tasks)
         closedir(tasks);
+    is_later = 1;
     return sum;
 }
 
@@ -201,20 +211,29 @@ static size_t add_files(char *to, size_t size, int count, char **files) {
     return length;
 }
 
+/* In one call: what another process prints meanwhile comes before it or after it.  */
+static int print_whole(const char *from, size_t length) {
+    return write(1, from, length) != (ssize_t)length;
+}
+
 static int watch(int count, char **words) {
-    static char one[1 << 21], two[1 << 21];
+    static char made[1 << 22];
+    const size_t size = sizeof made - 100;
     if (count < 4)
         return 2;
     int64_t begin = atoll(words[0]), end = atoll(words[1]);
     go_first();
-    sleep_until(begin - 450 * MILLI);
+    sleep_until(begin - EARLIER);
+    int64_t from = read_clock(CLOCK_MONOTONIC);
     others();
     count_at(begin, end);
     sleep_until(begin + COUNTED);
-    add_files(one, sizeof one, count - 3, words + 3);
+    size_t length = add_files(made, size, count - 3, words + 3);
     sleep_until(end + COUNTED);
-    add_files(two, sizeof two, count - 3, words + 3);
-    return printf("%s%sothers %lld\n", one, two, (long long)others()) < 0;
+    length += add_files(made + length, size - length, count - 3, words + 3);
+    int64_t of = read_clock(CLOCK_MONOTONIC) - from;
+    length += sprintf(made + length, "others %lld %lld\n", (long long)others(), (long long)of);
+    return print_whole(made, length);
 }
 
 static int grid(int count, char **words) {

@@ -12,6 +12,10 @@ TOP = "/sys/fs/cgroup"
 HOME = f"{TOP}/host"
 FEATURES = "/sys/kernel/debug/sched/features"
 GRID = 100000000
+# For so long before counters are read nobody watches quota periods. That takes the groups' time:
+# what a limited group lacks then it has after the first reading. It is before the time that the
+# guest's program counts for all others. A series needs a settling time of two rounds for it.
+QUIET = 650000000
 # The board's clock without its driver, so that nobody takes its interrupt.
 BEAT = """\
 cd /sys/bus/pnp/drivers/rtc_cmos && for clock in *:*; do echo $clock > unbind; done; cd /
@@ -106,8 +110,9 @@ def script(scenario: Scenario, span: Span) -> str:
                                                  scenario.paths), "/proc/stat"])
     tasks = [task(scenario, path, leaf, number) for path, leaf in scenario.leaves.items()
              if any(leaf.demands) for number in range(leaf.tasks)]
-    # offsets are set from three periods before the tasks begin
-    lead = (2 if scenario.offset is None else 4) + len(tasks) // 8
+    # All tasks have to be there when the first begins to work: from then on the shell has little
+    # time. Offsets are set from three periods before that.
+    lead = 10 + len(tasks) if scenario.offset is None else 4 + len(tasks) // 8
     lines = [
         *features(scenario.features),
         *groups(scenario),
@@ -117,7 +122,7 @@ def script(scenario: Scenario, span: Span) -> str:
         "echo times $first $begin $last",
         *(set_offsets(scenario) if scenario.offset is not None else ()),
         f"/guest watch $begin $last -- {files} &",
-        *([f"/guest grid $first $((begin - 20000000)) {' '.join(limited)} &"] if limited else ()),
+        *([f"/guest grid $first $((begin - {QUIET})) {' '.join(limited)} &"] if limited else ()),
         *tasks,
         "echo ready $(/guest now)",
         "wait",

@@ -14,6 +14,7 @@ from typing import Any
 
 from kernel import placed, scenario
 from kernel.__main__ import SCENARIOS
+from kernel.readings import KEYS
 
 Saved = dict[str, Any]
 
@@ -112,6 +113,51 @@ def rows(found: list[Saved]) -> Iterator[str]:
         yield f"| `{name}` |" + "".join(map(cells, of))
 
 
+def by_kernel(found: list[Saved], name: str) -> dict[str, list[Saved]]:
+    """The outcomes of a scenario by kernel, the older one first."""
+    made: dict[str, list[Saved]] = defaultdict(list)
+    for saved in found:
+        if saved["scenario"] == name:
+            made[kernel_of(saved)].append(saved)
+    return dict(sorted(made.items(), key=lambda item: int(item[0][2:])))
+
+
+def counted(repeats: list[Saved], which: str, path: str) -> str:
+    """A limited group's periods, throttled periods and milliseconds, bursts and milliseconds: of
+    the plan or of the kernel, with the least and the greatest of the repeats."""
+    told = []
+    for key in KEYS[1:]:
+        unit = 1000 if key.endswith("_usec") else 1
+        numbers = [round(saved[which][path][key] / unit) for saved in repeats]
+        least, most = min(numbers), max(numbers)
+        told.append(str(least) if least == most else f"{least} to {most}")
+    return " / ".join(told)
+
+
+def counter_rows(found: list[Saved]) -> Iterator[str]:
+    """The rows of a table: what each limited group's counters rose by, in the plan and on each
+    kernel."""
+    for name in sorted({str(saved["scenario"]) for saved in found if saved["offsets"]}):
+        of = by_kernel(found, name)
+        for path in next(iter(of.values()))[0]["offsets"]:
+            every = [saved for repeats in of.values() for saved in repeats]
+            kernels = ", ".join(f"{kernel}: {counted(repeats, 'kernel', path)}"
+                                for kernel, repeats in of.items())
+            yield f"| `{name}` {path} | {counted(every, 'plan', path)} | {kernels} |"
+
+
+def offset_rows(found: list[Saved]) -> Iterator[str]:
+    """The rows of a table: how far the first limited group of each series was off, by the offset
+    of its quota periods in milliseconds. Runs whose offset was not seen are left out."""
+    for name in sorted({str(saved["scenario"]) for saved in found if saved["offsets"]}):
+        for kernel, repeats in by_kernel(found, name).items():
+            path = next(iter(repeats[0]["offsets"]))
+            places = sorted((saved["offsets"][path], offs([saved])[path][0]) for saved in repeats
+                            if saved["offsets"][path] is not None)
+            told = ", ".join(f"{offset / 1000:.0f}: {amount:+.2f}" for offset, amount in places)
+            yield f"| `{name}` {path} | {kernel} | {told} |"
+
+
 def totals(found: list[Saved]) -> str:
     """How many runs there were, what was judged, and what was out of its bounds."""
     lines = [line for saved in found for line in saved["lines"] if line["least"] is not None]
@@ -122,9 +168,11 @@ def totals(found: list[Saved]) -> str:
 
 
 def main() -> None:
-    """Prints the table."""
+    """Prints the tables."""
     found = read(sys.argv[1:])
-    print("\n".join([totals(found), "", *rows(found)]))
+    series = [saved for saved in found if "series" in saved["scenario"]]
+    print("\n".join([totals(found), "", *rows(found), "", *counter_rows(found), "",
+                     *offset_rows(series)]))
 
 
 if __name__ == "__main__":

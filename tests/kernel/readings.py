@@ -24,17 +24,22 @@ class Task:
 @dataclass
 class Reading:
     """The counters of all groups at a time (nanoseconds), and the ticks of all processors. The
-    second one has the processor time that all other tasks used since the first (nanoseconds)."""
+    second one has the part of one processor that all other tasks used since the first."""
 
     at: int
-    others: int = 0
+    others: float = 0
     groups: dict[str, dict[str, int]] = field(default_factory=dict)
     ticks: tuple[int, ...] = ()
 
 
 @dataclass
 class Run:
-    """One run of a scenario. `grid` has the times at which quota periods began, by group."""
+    """One run of a scenario. `grid` has the times at which quota periods began, by group.
+
+    `ready` is when the last task was started, in nanoseconds. `guest` is what the guest said of
+    itself: its kernel, its clock, and how many of its processors have a clock of stolen time
+    (`steal`).
+    """
 
     key: str
     times: tuple[int, ...] = ()
@@ -43,6 +48,8 @@ class Run:
     grid: dict[str, list[int]] = field(default_factory=dict)
     refused: list[str] = field(default_factory=list)
     told: list[str] = field(default_factory=list)
+    ready: int = 0
+    guest: dict[str, str] = field(default_factory=dict)
 
     def rose(self) -> dict[str, dict[str, int]]:
         """By how much each counter of each group rose."""
@@ -75,10 +82,12 @@ def add(run: Run, line: str, file: str) -> str:
     words = line.split()
     if words[:1] == ["times"]:
         run.times = tuple(map(int, words[1:]))
+    elif words[:1] == ["ready"]:
+        run.ready = int(words[1])
     elif words[:1] == ["at"]:
         run.readings.append(Reading(int(words[1])))
     elif words[:1] == ["others"]:
-        run.readings[-1].others = int(words[1])
+        run.readings[-1].others = int(words[1]) / int(words[2])
     elif words[:1] == ["file"]:
         return words[1]
     elif words[:1] == ["grid"]:
@@ -90,19 +99,22 @@ def add(run: Run, line: str, file: str) -> str:
         run.refused.append(line.removeprefix("refused "))
     elif words and file and run.readings:
         add_line(run, file, words)
-    elif words[:1] != ["ready"]:
+    else:
         run.told.append(line)
     return file
 
 
 def runs(lines: list[str]) -> Iterator[Run]:
     """The runs of a guest."""
-    found, file = Run(""), ""
+    found, file, guest = Run(""), "", dict[str, str]()
     for line in lines:
         if line.startswith("run "):
             if found.key:
                 yield checked(found)
-            found, file = Run(line[4:]), ""
+            found, file = Run(line[4:], guest=guest), ""
+        elif not found.key:
+            name, _, text = line.partition(" ")
+            guest[name] = text
         else:
             file = add(found, line, file)
     if found.key:
@@ -111,6 +123,7 @@ def runs(lines: list[str]) -> Iterator[Run]:
 
 def checked(run: Run) -> Run:
     """A run that was read whole."""
-    if len(run.readings) != 2 or not run.tasks or len(run.times) != 3:
+    if (len(run.readings) != 2 or not run.tasks or len(run.times) != 3
+            or run.readings[0].groups.keys() != run.readings[1].groups.keys()):
         raise KernelFault(f"{run.key}: the guest did not read it whole: {run.told[-3:]}")
     return run

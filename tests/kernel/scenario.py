@@ -1,4 +1,4 @@
-"""Scenarios: a script of `arbiter run` with its tasks, and the options of its line `#:`."""
+"""Scenarios: a script of `arbiter run` with its tasks, and the options of its lines `#:`."""
 from __future__ import annotations
 
 import argparse
@@ -93,7 +93,7 @@ def pair(text: str) -> tuple[str, int]:
 
 
 def options_parser() -> argparse.ArgumentParser:
-    """The options of a script's line `#:`."""
+    """The options of a script's lines `#:`."""
     parser = argparse.ArgumentParser(prog="#:", add_help=False, exit_on_error=False)
     parser.add_argument("--processors", type=int, default=1)
     parser.add_argument("--period", type=int, default=100000)
@@ -134,7 +134,7 @@ def parse(name: str, text: str) -> Scenario:
     for line in text.splitlines():
         words = tuple(re.split(r"[ \t]+", line.strip(" \t"), maxsplit=3))
         if line.startswith("#:"):
-            options = options_parser().parse_args(shlex.split(line[2:]))
+            options = options_parser().parse_args(shlex.split(line[2:]), options)
         elif line.startswith("#") or words == ("",):
             found.about = found.about or line.lstrip("# ")
         elif words[0] == "period":

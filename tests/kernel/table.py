@@ -30,6 +30,12 @@ def placement(outcome: Outcome, path: str) -> str:
     return ", ".join(told)
 
 
+def stolen(outcome: Outcome) -> str:
+    """The part of the time that was stolen, as far as the guest can see it."""
+    clocks = outcome.run.guest.get("steal", "0")
+    return f"{outcome.stolen:.1%}" if clocks != "0" else "unseen (the guest has no clock of it)"
+
+
 def verdict(line: Any) -> str:
     """What a line's judgement says."""
     if line.least is None:
@@ -43,7 +49,7 @@ def shown(outcome: Outcome) -> Iterator[str]:
     scenario = outcome.scenario
     yield f"{outcome.run.key}: {scenario.about}"
     yield (f"  {scenario.processors} processors; idle {outcome.idle:.1%}, stolen"
-           f" {outcome.stolen:.1%}, others {outcome.others:.1%}")
+           f" {stolen(outcome)}, others {outcome.others:.1%}")
     if outcome.refusal:
         yield f"  REFUSED: {outcome.refusal}"
     yield "     plan    exact      had      off  group"

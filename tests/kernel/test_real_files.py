@@ -36,7 +36,7 @@ def found_in_a_guest(program):
 def phases_in_a_guest():
     """What `apply` and `undo` did to the real files of a guest."""
     if not machine.is_quick() and machine.ALL not in os.environ:
-        pytest.skip("no /dev/kvm, so it takes minutes: ./test --kernel --files runs it")
+        pytest.skip("no KVM that boots a guest, so it takes minutes: ./test --kernel --files")
     setting = machine.Setting(is_kvm=True, seconds=900) if machine.is_quick() else SETTING
     return real_apply.shown_by(kernel_of_guests(), setting)
 

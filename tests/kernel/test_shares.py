@@ -4,9 +4,9 @@ from fractions import Fraction
 
 import pytest
 
-from kernel import (compare, deliberate, exact, layout, page, placed, planned, readings,
-                    real_apply, scenario)
-from kernel.__main__ import SCENARIOS
+from kernel import (compare, deliberate, exact, layout, machine, page, placed, planned,
+                    readings, real_apply, scenario, table)
+from kernel.__main__ import SCENARIOS, batches, sources
 from kernel.faults import KernelFault
 
 ALL = sorted(path.stem for path in SCENARIOS.glob("*.script"))
@@ -115,6 +115,51 @@ def test_scenario_has_loads(name):
     assert text.count("mkdir ") == len(found.paths) + 1
 
 
+def test_options_may_have_several_lines():
+    """Each line `#:` adds to those before it."""
+    found = of("#: --processors 2 --tasks a=3\n#: --pin b=2\n#: --tasks b=5\nmkdir a\nmkdir b\n"
+               "demand a 100\ndemand b 100\n")
+    assert found.processors == 2
+    assert [(leaf.tasks, leaf.cpus) for leaf in found.leaves.values()] == [(3, 3), (5, 2)]
+
+
+@pytest.mark.parametrize("flags, wanted", [
+    ("fpu vme vmx ssse3", True), ("fpu svm", True), ("fpu svm_lock vmxoff", False), ("", False)])
+def test_processor_that_runs_guests(flags, wanted):
+    """KVM alone is not enough: a flag of the processor, whole."""
+    text = f"processor\t: 0\nflags\t\t: {flags}\nbugs\t\t: vmx\n"
+    assert machine.runs_guests(text) is wanted
+
+
+def test_host_file_is_a_scenario(tmp_path):
+    """Its host, limits and numbers of tasks; a demand is cut at what its tasks can use."""
+    file = tmp_path / "small.toml"
+    file.write_text("[host]\ncpus = 4\nslice = '1ms'\n[groups.web]\nweight = 300\ndemand = '3cpu'\n"
+                    "[groups.batch]\nmax = '20%'\ndemand = '4cpu'\ntasks = 2\n")
+    found, = sources([str(file)])
+    assert (found.name, found.processors, found.slice) == ("small", 4, 1000)
+    assert found.files("cpu.weight") == {"web": "300"}
+    assert found.files("cpu.max") == {"batch": "20000 100000"}
+    assert {path: (leaf.demands, leaf.tasks) for path, leaf in found.leaves.items()} == {
+        "web": ((300,), 3), "batch": ((200,), 2)}
+
+
+def test_runs_of_a_boot():
+    """All repeats of each scenario, so many to a boot, and never of different processors."""
+    one, two = of("mkdir a\ndemand a 1\n"), of("#: --processors 2\nmkdir a\ndemand a 1\n")
+    found = list(batches([two, one, two], 3, 4))
+    assert [[(each.processors, repeat) for each, repeat in runs] for runs in found] == [
+        [(1, 0), (1, 1), (1, 2)], [(2, 0), (2, 1), (2, 2), (2, 0)], [(2, 1), (2, 2)]]
+
+
+@pytest.mark.parametrize("clocks, wanted", [("0", "unseen (the guest has no clock of it)"),
+                                            ("2", "1.0%")])
+def test_stolen_time_is_told_where_it_is_seen(clocks, wanted):
+    """A guest without a clock of stolen time does not say that none was stolen."""
+    run = readings.Run("here", guest={"steal": clocks})
+    assert table.stolen(compare.Outcome(of("mkdir a\n"), run, stolen=0.01)) == wanted
+
+
 def test_spread_tasks_keep_to_one_processor_each():
     """Three tasks on two processors: the first, the second, the first; pinned ones stay within."""
     text = "mkdir a\nmkdir b\ndemand a 300\ndemand b 300\n"
@@ -153,6 +198,22 @@ def test_page_of_saved_runs(tmp_path):
     assert list(page.rows(found))[2:] == [
         "| `one-weights` | a +0.10 (1) |  | within: a | a -0.10 to +0.50 (2) |  | out: a 1 |"]
     assert page.totals(found).startswith("3 runs, 3 groups judged, 1 out of bounds, 0 runs refused")
+
+
+def test_page_of_counters_and_offsets():
+    """Counters of a limited group by kernel with their ranges, and differences by offset."""
+    def saved(release, periods, offset, had):
+        counters = dict.fromkeys(readings.KEYS, 0) | {"nr_periods": periods, "burst_usec": 20400}
+        return {"release": release, "scenario": "series-burst", "offsets": {"a": offset},
+                "lines": [{"path": "a", "share": 10, "had": had}], "tasks": [{"path": "a"}],
+                "plan": {"a": counters | {"nr_periods": 9}}, "kernel": {"a": counters}}
+    found = [saved("6.12.1", 7, 50000, 12.25), saved("6.12.1", 8, 3000, 10.5),
+             saved("6.1.0-9", 7, None, 10)]
+    assert list(page.counter_rows(found)) == [
+        "| `series-burst` a | 9 / 0 / 0 / 0 / 20 | 6.1: 7 / 0 / 0 / 0 / 20,"
+        " 6.12: 7 to 8 / 0 / 0 / 0 / 20 |"]
+    assert list(page.offset_rows(found)) == ["| `series-burst` a | 6.1 |  |",
+                                             "| `series-burst` a | 6.12 | 3: +0.50, 50: +2.25 |"]
 
 
 LEFT, RIGHT, BOTH = (9, 0), (0, 9), (5, 5)
@@ -209,35 +270,41 @@ def test_quota_is_moved():
 
 def test_guest_lines_are_read():
     """A run's counters, tasks and quota periods."""
-    text = ["kernel 6.1", "run here", "times 1000000 2000000 3000000",
+    text = ["kernel 6.1", "clock tsc", "steal 2", "run here",
+            "times 1000000 2000000 3000000", "ready 900000",
             "grid /sys/fs/cgroup/host/a/cpu.stat 1500000", "at 2000000",
             "file /sys/fs/cgroup/host/a/cpu.stat", "usage_usec 5", "nr_periods 1",
             "file /proc/stat", "cpu  1 2 3 4 5 6 7 8", "at 3000000",
             "file /sys/fs/cgroup/host/a/cpu.stat", "usage_usec 9", "nr_periods 3",
             "file /proc/stat", "cpu  1 2 3 4 5 6 7 9",
-            "others 17", "task a 9 10 0 2 3 40 2"]
+            "others 17 68", "task a 9 10 0 2 3 40 2"]
     run, = readings.runs(text)
     assert run.rose()["a"]["usage_usec"] == 4 and run.rose()["a"]["nr_periods"] == 2
     assert run.offset("a", 1000) == 500
+    assert run.ready == 900000 and run.told == []
+    assert run.guest == {"kernel": "6.1", "clock": "tsc", "steal": "2"}
     assert [task.seen for task in run.tasks] == [(40, 2)]
-    assert run.readings[1].others == 17 and run.readings[1].ticks[7] - run.readings[0].ticks[7] == 1
+    one, two = run.readings
+    assert two.others == 0.25 and two.ticks[7] - one.ticks[7] == 1
 
 
-@pytest.mark.parametrize("late, others, why", [
-    (0, 0, ""), (21000000, 0, "counters were read 21 ms late"),
-    (0, 20000000000, "0.0% stolen, 2000.0% used by others")])
-def test_run_is_refused(program, late, others, why):
-    """A run that was read late, or in which others ran, says nothing."""
+@pytest.mark.parametrize("late, others, ready, why", [
+    (0, 0, 0, ""), (21000000, 0, 0, "counters were read 21 ms late"),
+    (0, 0.02, 0, "0.0% stolen, 2.0% used by others"),
+    (0, 0, 7000000, "tasks were started 7 ms late")])
+def test_run_is_refused(program, late, others, ready, why):
+    """A run that was begun or read late, or in which others ran, says nothing."""
     planned.use(program.path)
     found = of("mkdir a\ndemand a 100\n")
     groups = [{path: dict.fromkeys(readings.KEYS, number) for path in (".", "a")}
               for number in (0, 0)]
     run = readings.Run("here", (0, 0, 1000000000), [
         readings.Reading(late, 0, groups[0], (0,) * 8),
-        readings.Reading(1000000000 + late, others, groups[1], (0,) * 8)])
+        readings.Reading(1000000000 + late, others, groups[1], (0,) * 8)], ready=ready)
     outcome = compare.Outcome(found, run, kernel_counters=run.rose())
     compare.spent(outcome, 1000000)
     assert outcome.refusal == why
+    assert outcome.as_data()["late"] == ready // 1000 and outcome.as_data()["stat"] == [0] * 8
 
 
 def test_steps_of_apply_are_read():
@@ -252,7 +319,10 @@ def test_steps_of_apply_are_read():
         real_apply.read(lines[:-1])
 
 
-def test_unfinished_guest_is_refused():
-    """A run without its second reading is no run."""
+@pytest.mark.parametrize("second", [[], ["at 3", "file /sys/fs/cgroup/host/b/cpu.stat"]])
+def test_unfinished_guest_is_refused(second):
+    """A run without its second reading is no run, nor is one whose readings have other groups."""
+    lines = ["run here", "times 1 2 3", "at 2", "file /sys/fs/cgroup/host/a/cpu.stat",
+             "usage_usec 5", *second, "usage_usec 9", "task a 9 10 0 2 3 40 2"]
     with pytest.raises(KernelFault, match="did not read it whole"):
-        list(readings.runs(["run here", "times 1 2 3", "at 2"]))
+        list(readings.runs(lines))
