@@ -79,29 +79,31 @@ cut-last text more span from to =
     whole (x ∷ xs) zero same = absurd (omega (arith, same))
     whole (x ∷ xs) (suc n) same = ap (λ ys. x ∷ ys) (whole xs n (omega (arith, same)))
 
--- parts of a text that are put together one by one
-pub parts-append : (a b c d : List ℕ) → ((a ++ b) ++ c) ++ d ≡ a ++ b ++ c ++ d
-parts-append a b c d = append_assoc (a ++ b) c d ∙ append_assoc a b (c ++ d)
+-- three parts behind a text, or one
+pub parts-append : (text head path tail : List ℕ)
+    → text ++ head ++ path ++ tail ≡ text ++ (head ++ path ++ tail)
+parts-append text head path tail =
+    ap (λ x. x ++ tail) (append_assoc text head path) ∙ append_assoc text (head ++ path) tail
 
 -- the path of a line behind a text
 cut-line : (text head path tail : List ℕ) (span : Span) → span.start ≡ length (text ++ head)
-    → span.end ≡ length ((text ++ head) ++ path)
-    → cut (text ++ head ++ path ++ tail) span ≡ path
+    → span.end ≡ length (text ++ head ++ path) → cut (text ++ head ++ path ++ tail) span ≡ path
 cut-line text head path tail span from to =
-    ap (λ t. cut t span) (sym (parts-append text head path tail))
-    ∙ cut-append ((text ++ head) ++ path) tail span
+    cut-append (text ++ head ++ path) tail span
     (omega (arith, from, to, length-append (text ++ head) path)) (omega (arith, to))
     ∙ cut-last (text ++ head) path span from to
 
 -- what stands at the spans of a text, and at that of the path of a line behind it
 pub cuts-line : (text head path tail : List ℕ) (spans : List Span) (span : Span)
     → AreWithin (length text) spans → span.start ≡ length (text ++ head)
-    → span.end ≡ length ((text ++ head) ++ path)
+    → span.end ≡ length (text ++ head ++ path)
     → cuts (text ++ head ++ path ++ tail) (spans ++ span ∷ []) ≡ cuts text spans ++ path ∷ []
 cuts-line text head path tail [] span all from to =
     ap (λ p. p ∷ []) (cut-line text head path tail span from to)
 cuts-line text head path tail (s ∷ spans) span all from to =
-    ap (λ p. p ∷ cuts (text ++ head ++ path ++ tail) (spans ++ span ∷ []))
+    ap (λ t. cut t s ∷ cuts (text ++ head ++ path ++ tail) (spans ++ span ∷ []))
+    (parts-append text head path tail)
+    ∙ ap (λ p. p ∷ cuts (text ++ head ++ path ++ tail) (spans ++ span ∷ []))
     (cut-append text (head ++ path ++ tail) s all.0 all.1)
     ∙ ap (λ paths. cut text s ∷ paths)
     (cuts-line text head path tail spans span all.2 from to)

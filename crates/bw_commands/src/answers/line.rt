@@ -1,5 +1,5 @@
 //! The lines of all groups: what an answer tells of a group, and then its path.
-ghost use Rattle.std.specs.Prelude.{◌≡◌, ◌≤◌, ◌<◌, ◌×◌, ◌++◌, ◌∷◌, [], ℕ, List, codes, length, OnOk};
+ghost use Rattle.std.specs.Prelude.{◌≡◌, ◌≤◌, ◌<◌, ◌++◌, ◌∷◌, [], ℕ, List, codes, length, OnOk};
 ghost use Rattle.std.specs.Fmt.{decimal};
 ghost use Rattle.std.specs.List.{range_with_len};
 ghost use Rattle.std.specs.Map.{keys_of};
@@ -80,7 +80,7 @@ fn put_head(line: Line<'_>, g: usize, answer: &mut Vec<u8>) -> Result<(), AllocE
 // Appends an amount and a space.
 fn put_amount(amount: u64, answer: &mut Vec<u8>) -> Result<(), AllocError>
     ensures ok { OnOk result
-        (answer.new.items ≡ answer.old.items ++ decimal amount ++ codes " ") }
+        (answer.new.items ≡ answer.old.items ++ (decimal amount ++ codes " ")) }
     ensures room { vec_capacity answer.old ≤ vec_capacity answer.new }
 {
     let mut buffer = Buffer::new();

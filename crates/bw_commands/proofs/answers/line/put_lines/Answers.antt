@@ -46,26 +46,24 @@ loop-g-preserved c =
     let path = path_below paths c.parent.result name in
     let span : Span = record { start = c.len-start.result; end = c.len-end.result } in
     let before_path = c.put_head.new.answer.items in
-    let named_part : c.put_path.new.text.items ≡ (text ++ head) ++ path =
+    let named_part : c.put_path.new.text.items ≡ text ++ head ++ path =
     c.in_ok-put_path.ensures.ok
     ∙ ap (λ s. before_path ++ path_below (cuts before_path s) c.parent.result name)
     c.as_slice.ensures.value
     ∙ ap (λ x. x ++ path_below (cuts x spans) c.parent.result name) begun.1
-    ∙ ap (λ ps. (text ++ head) ++ path_below ps c.parent.result name)
+    ∙ ap (λ ps. text ++ head ++ path_below ps c.parent.result name)
     (cuts-append text head spans i.within) in
     let wider : c.push.new.self.items ≡ text ++ head ++ path ++ 10 ∷ [] =
-    c.in_ok-push.ensures.items ∙ ap (λ x. x ++ 10 ∷ []) named_part
-    ∙ parts-append text head path (10 ∷ []) in
+    c.in_ok-push.ensures.items ∙ ap (λ x. x ++ 10 ∷ []) named_part in
     let longer : c.push_reserved.new.self.items ≡ spans ++ span ∷ [] =
     c.push_reserved.ensures.items in
     let from : span.start ≡ length (text ++ head) =
     c.len-start.ensures ∙ c.put_head.new.answer.ok.0 ∙ ap length begun.1 in
-    let to : span.end ≡ length ((text ++ head) ++ path) =
+    let to : span.end ≡ length (text ++ head ++ path) =
     c.len-end.ensures ∙ c.put_path.new.text.ok.0 ∙ ap length named_part in
-    let long = length-append text (head ++ path ++ 10 ∷ []) in
+    let long_head = length-append text head in
     let long_path = length-append (text ++ head) path in
-    let long_line = length-append ((text ++ head) ++ path) (10 ∷ []) in
-    let same_length = ap length (parts-append text head path (10 ∷ [])) in
+    let long_line = ap length wider ∙ length-append (text ++ head ++ path) (10 ∷ []) in
     let cut_are : cuts c.push.new.self.items c.push_reserved.new.self.items ≡ paths ++ path ∷ [] =
     ap (λ x. cuts x c.push_reserved.new.self.items) wider
     ∙ ap (cuts (text ++ head ++ path ++ 10 ∷ [])) longer
@@ -107,7 +105,8 @@ loop-g-preserved c =
     ∙ group_lines-push line (range_with_len 0 g) paths g path (rows-length 0 g ∙ sym count) in
     let put : c.push.new.self.items ≡ c.args.answer.now.items
     ++ group_lines line (range_with_len 0 (g + 1)) (paths ++ path ∷ []) =
-    wider ∙ ap (λ l. text ++ l) (sym (begun.2 path)) ∙ ap (λ x. x ++ line g path) i.put
+    wider ∙ parts-append text head path (10 ∷ []) ∙ ap (λ l. text ++ l) (sym (begun.2 path))
+    ∙ ap (λ x. x ++ line g path) i.put
     ∙ append_assoc c.args.answer.now.items lines (line g path)
     ∙ ap (λ l. c.args.answer.now.items ++ l) (sym more_lines) in
     record {
@@ -115,9 +114,8 @@ loop-g-preserved c =
       space = omega (arith, i.space, c.push_reserved.ensures.capacity);
       within = subst (AreWithin (length c.push.new.self.items)) (sym longer)
           (within_push (length text) (length c.push.new.self.items) spans span i.within
-          (omega (arith, ap length wider, long))
-          (omega (arith, from, to, long_path))
-          (omega (arith, to, ap length wider, same_length, long_line)));
+          (omega (arith, long_line, long_path, long_head))
+          (omega (arith, from, to, long_path)) (omega (arith, to, long_line)));
       named = λ k low. ap (λ ids. path_at t.groups (get_or ids k 0)) known ∙ named k low;
       found = λ k low. path_leads t c.name_of-name.ensures.valid
           (get_or (cuts c.push.new.self.items c.push_reserved.new.self.items) k [])
