@@ -59,8 +59,21 @@ fn put_below(text: &mut Vec<u8>, above: Span, name: &str) -> Result<(), AllocErr
         (text.new.items ≡ text.old.items ++ (cut text.old.items above ++ 47 ∷ name.now)) }
     ensures room { vec_capacity text.old ≤ vec_capacity text.new }
 {
-    text.extend_from_within(above.start..above.end)?;
+    put_again(text, above)?;
     text.push(b'/')?;
     text.extend_from_slice(name.as_bytes())?;
+    Ok(())
+}
+
+// Appends a part of the text once more. `extend_from_within` would go byte by byte.
+fn put_again(text: &mut Vec<u8>, part: Span) -> Result<(), AllocError>
+    requires { AreWithin (length text.old.items) (part ∷ []) }
+    ensures ok { OnOk result (text.new.items ≡ text.old.items ++ cut text.old.items part) }
+    ensures room { vec_capacity text.old ≤ vec_capacity text.new }
+{
+    let at = text.len();
+    text.resize(at + (part.end - part.start), 0)?;
+    let (written, copy) = text.as_mut_slice().split_at_mut(at);
+    copy.copy_from_slice(&written[part.start..part.end]);
     Ok(())
 }
