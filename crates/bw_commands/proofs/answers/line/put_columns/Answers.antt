@@ -1,5 +1,5 @@
 -- The goals of `put_columns` that are answered by hand.
-use Rattle.std.proofs.Common.{◌≡◌, ◌∙◌, ◌+◌, ◌-◌, ◌++◌, ◌∷◌, [], ℕ, List, length, take, arith, sym, ap}
+use Rattle.std.proofs.Common.{◌≡◌, ◌∙◌, ◌-◌, ◌++◌, ◌∷◌, [], ℕ, List, length, take, arith, sym, ap}
 use Rattle.std.proofs.Common.{refl, codes, append_assoc, append-nil}
 use Rattle.std.specs.Fmt.{decimal}
 use Rattle.std.proofs.lemmas.List.{length-append}
@@ -31,11 +31,10 @@ returns-clause-ok c =
     let old = c.args.answer.now.items in
     let put : c.put_report_line.new.text.items ≡ old ++ (columns stat ++ 10 ∷ []) =
     c.in_ok-put_report_line.ensures.ok
-    ∙ ap (λ l. old ++ (l ++ 10 ∷ [])) (append-nil (columns stat)) in
-    (
+    ∙ ap (λ l. old ++ (l ++ 10 ∷ [])) (append-nil (columns stat)) in (
       columns stat,
       c.pop.ensures.rest
-      ∙ all_but_last c.put_report_line.new.text.items old (columns stat) 10 _ put
-      c.put_report_line.new.text.ok.0,
+          ∙ all_but_last c.put_report_line.new.text.items old (columns stat) 10 _ put
+          c.put_report_line.new.text.ok.0,
       λ path. refl,
     )

@@ -122,8 +122,13 @@ loop-g-preserved c =
           (get_or (keys_of t.groups) k 0) (named k low);
       put = put ∙ ap (λ ps. c.args.answer.now.items
           ++ group_lines line (range_with_len 0 (g + 1)) ps) (sym cut_are);
-      room = omega (arith, i.room, c.in_ok-put_head.ensures.room, c.in_ok-put_path.ensures.room,
-          c.in_ok-push.ensures.capacity);
+      room = omega (
+        arith,
+        i.room,
+        c.in_ok-put_head.ensures.room,
+        c.in_ok-put_path.ensures.room,
+        c.in_ok-push.ensures.capacity,
+      );
     }
 
 pub returns-clause-ok : goal.returns-clause-ok
@@ -137,14 +142,13 @@ returns-clause-ok c =
       c.group_count-g-end.ensures.count,
       c.requires.each,
     ) in
-    let paths = cuts c.loop-g.answer.items c.loop-g.spans.items in
-    (
+    let paths = cuts c.loop-g.answer.items c.loop-g.spans.items in (
       paths,
       paths_of_rows c.args.tree.now paths n
           (length-map c.loop-g.spans.items (cut c.loop-g.answer.items)
           ∙ c.loop-g.invariant.count ∙ count)
           (λ k low. c.loop-g.invariant.found k (omega (arith, low, count))),
       c.loop-g.invariant.put
-      ∙ ap (λ m. c.args.answer.now.items
-      ++ group_lines (line_of c.args.line) (range_with_len 0 m) paths) count,
+          ∙ ap (λ m. c.args.answer.now.items
+          ++ group_lines (line_of c.args.line) (range_with_len 0 m) paths) count,
     )
