@@ -1,7 +1,7 @@
 -- Paths that stand one after another in one text.
 use Rattle.std.proofs.Common.{◌≡◌, ◌≤◌, ◌<◌, ◌+◌, ◌-◌, subst, ℕ, Bool, true, false, cond, eqb, Bor}
 use Rattle.std.proofs.Common.{Option, Some, None, is_some, zero, suc, List, [], ◌∷◌, ◌++◌}
-use Rattle.std.proofs.Common.{length, get_or, take, drop, refl, sym, ap, ◌∙◌, arith}
+use Rattle.std.proofs.Common.{length, get_or, take, drop, refl, sym, ap, ◌∙◌, arith, append_assoc}
 use Rattle.std.specs.List.{range_with_len}
 use Rattle.std.specs.Prelude.{IfSome}
 use Rattle.std.specs.Map.{keys_of}
@@ -27,6 +27,13 @@ within_at bytes (span ∷ spans) zero d all lt = (all.0, all.1)
 within_at bytes (span ∷ spans) (suc g) d all lt =
     within_at bytes spans g d all.2 (omega (arith, lt))
 
+-- a longer text
+pub within_more : (bytes more : ℕ) (spans : List Span) → AreWithin bytes spans → bytes ≤ more
+    → AreWithin more spans
+within_more bytes more [] all le = tt
+within_more bytes more (s ∷ spans) all le =
+    (all.0, omega (arith, all.1, le), within_more bytes more spans all.2 le)
+
 -- a longer text, and one span more
 pub within_push : (bytes more : ℕ) (spans : List Span) (span : Span) → AreWithin bytes spans
     → bytes ≤ more → span.start ≤ span.end → span.end ≤ more
@@ -36,7 +43,7 @@ within_push bytes more (s ∷ spans) span all le up fits =
     (all.0, omega (arith, all.1, le), within_push bytes more spans span all.2 le up fits)
 
 -- what is cut out of a text stands in a longer one at the same place
-pub cut-append : (text more : List ℕ) (span : Span) → span.start ≤ span.end → span.end ≤ length text
+cut-append : (text more : List ℕ) (span : Span) → span.start ≤ span.end → span.end ≤ length text
     → cut (text ++ more) span ≡ cut text span
 cut-append text more span up fits =
     ap (λ xs. take (span.end - span.start) xs)
@@ -44,8 +51,15 @@ cut-append text more span up fits =
     ∙ take-append-le (span.end - span.start) (drop span.start text) more
     (omega (arith, up, fits, length-drop span.start text))
 
+pub cuts-append : (text more : List ℕ) (spans : List Span) → AreWithin (length text) spans
+    → cuts (text ++ more) spans ≡ cuts text spans
+cuts-append text more [] all = refl
+cuts-append text more (s ∷ spans) all =
+    ap (λ path. path ∷ cuts (text ++ more) spans) (cut-append text more s all.0 all.1)
+    ∙ ap (λ paths. cut text s ∷ paths) (cuts-append text more spans all.2)
+
 -- the last span of a text
-pub cut-last : (text more : List ℕ) (span : Span) → span.start ≡ length text
+cut-last : (text more : List ℕ) (span : Span) → span.start ≡ length text
     → span.end ≡ length (text ++ more) → cut (text ++ more) span ≡ more
 cut-last text more span from to =
     ap (λ a. take (span.end - span.start) (drop a (text ++ more))) from
@@ -65,16 +79,34 @@ cut-last text more span from to =
     whole (x ∷ xs) zero same = absurd (omega (arith, same))
     whole (x ∷ xs) (suc n) same = ap (λ ys. x ∷ ys) (whole xs n (omega (arith, same)))
 
--- what stands at the spans of a text, and one span more
-pub cuts-push : (text more : List ℕ) (spans : List Span) (span : Span)
-    → AreWithin (length text) spans → span.start ≡ length text
-    → span.end ≡ length (text ++ more)
-    → cuts (text ++ more) (spans ++ span ∷ []) ≡ cuts text spans ++ more ∷ []
-cuts-push text more [] span all from to = ap (λ path. path ∷ []) (cut-last text more span from to)
-cuts-push text more (s ∷ spans) span all from to =
-    ap (λ path. path ∷ cuts (text ++ more) (spans ++ span ∷ []))
-    (cut-append text more s all.0 all.1)
-    ∙ ap (λ paths. cut text s ∷ paths) (cuts-push text more spans span all.2 from to)
+-- three parts behind a text, or one
+pub parts-append : (text head path tail : List ℕ)
+    → text ++ head ++ path ++ tail ≡ text ++ (head ++ path ++ tail)
+parts-append text head path tail =
+    ap (λ x. x ++ tail) (append_assoc text head path) ∙ append_assoc text (head ++ path) tail
+
+-- the path of a line behind a text
+cut-line : (text head path tail : List ℕ) (span : Span) → span.start ≡ length (text ++ head)
+    → span.end ≡ length (text ++ head ++ path) → cut (text ++ head ++ path ++ tail) span ≡ path
+cut-line text head path tail span from to =
+    cut-append (text ++ head ++ path) tail span
+    (omega (arith, from, to, length-append (text ++ head) path)) (omega (arith, to))
+    ∙ cut-last (text ++ head) path span from to
+
+-- what stands at the spans of a text, and at that of the path of a line behind it
+pub cuts-line : (text head path tail : List ℕ) (spans : List Span) (span : Span)
+    → AreWithin (length text) spans → span.start ≡ length (text ++ head)
+    → span.end ≡ length (text ++ head ++ path)
+    → cuts (text ++ head ++ path ++ tail) (spans ++ span ∷ []) ≡ cuts text spans ++ path ∷ []
+cuts-line text head path tail [] span all from to =
+    ap (λ p. p ∷ []) (cut-line text head path tail span from to)
+cuts-line text head path tail (s ∷ spans) span all from to =
+    ap (λ t. cut t s ∷ cuts (text ++ head ++ path ++ tail) (spans ++ span ∷ []))
+    (parts-append text head path tail)
+    ∙ ap (λ p. p ∷ cuts (text ++ head ++ path ++ tail) (spans ++ span ∷ []))
+    (cut-append text (head ++ path ++ tail) s all.0 all.1)
+    ∙ ap (λ paths. cut text s ∷ paths)
+    (cuts-line text head path tail spans span all.2 from to)
 
 -- paths of rows from one on, by what holds of each
 paths_from : (tree : TreeState) (paths : List (List ℕ)) (a n : ℕ) → length paths ≡ n

@@ -3,7 +3,6 @@ ghost use Rattle.bw_commands.specs.Answers.{Answers};
 ghost use Rattle.bw_commands.specs.Planned.{IsPlanText};
 
 use super::line::{Line, put_lines};
-use super::paths::Paths;
 use bw_hierarchy::{Fault, Hierarchy};
 use bw_plan::plan_levels;
 use std::alloc::Global;
@@ -25,7 +24,7 @@ pub fn put_plan<H: Threads + Sync>(
 {
     let snapshot = hierarchy.snapshot()?;
     let plan = plan_levels(rt, alloc, &snapshot.instance)?;
-    let paths = Paths::new(alloc, hierarchy.tree(), &snapshot)?;
-    put_lines(Line::Amount(plan.amounts.as_slice()), &paths, answer)?;
+    let line = Line::Amount(plan.amounts.as_slice());
+    put_lines(alloc, line, hierarchy.tree(), &snapshot, answer)?;
     Ok(())
 }

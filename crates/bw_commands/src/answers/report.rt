@@ -3,7 +3,6 @@ ghost use Rattle.bw_commands.specs.Answers.{Answers};
 ghost use Rattle.bw_commands.specs.Reported.{IsReport};
 
 use super::line::{Line, put_lines};
-use super::paths::Paths;
 use bw_hierarchy::{Fault, Hierarchy};
 use bw_stat::report_head;
 use std::alloc::Global;
@@ -18,9 +17,8 @@ pub fn put_report(alloc: Global, hierarchy: &Hierarchy, answer: &mut Vec<u8>) ->
     ensures { Answers (IsReport hierarchy.now) answer.old answer.new result }
 {
     let snapshot = hierarchy.snapshot()?;
-    let paths = Paths::new(alloc, hierarchy.tree(), &snapshot)?;
     answer.extend_from_slice(report_head().as_bytes())?;
     let line = Line::Counters(hierarchy.books(), snapshot.ids.as_slice());
-    put_lines(line, &paths, answer)?;
+    put_lines(alloc, line, hierarchy.tree(), &snapshot, answer)?;
     Ok(())
 }
