@@ -1,5 +1,5 @@
 -- A group that is written at its place, and one that is written by its id, are the same.
-use Rattle.std.proofs.Common.{◌≡◌, ℕ, zero, suc, ◌<◌, Bool, true, false, cond, List, [], ◌∷◌, length}
+use Rattle.std.proofs.Common.{◌≡◌, ℕ, zero, suc, ◌<◌, true, false, cond, List, [], ◌∷◌}
 use Rattle.std.proofs.Common.{get_or, slice_get, Option, Some, None, position, refl, sym, ap, ◌∙◌}
 use Rattle.std.proofs.Common.{eqb, arith}
 use Rattle.std.proofs.lemmas.List.Quantifiers.{position-Some}
@@ -7,15 +7,6 @@ use Rattle.std.specs.Map.{keys_of, values_of, set_value}
 use Rattle.indexmap.specs.IndexMap.{set_value_at}
 use Rattle.bw_tree.specs.Groups.{GroupFields, group_at}
 use Rattle.bw_tree.specs.Tree.{changed, changed_at}
-
--- the entry at a place gives the key there
-pub key_read : (gs : List (ℕ × GroupFields)) (i : ℕ) (p : ℕ × GroupFields)
-    → slice_get gs i ≡ Some p → (i < length (keys_of gs)) × (get_or (keys_of gs) i 0 ≡ p.0)
-key_read [] i p at = cc
-key_read (e ∷ es) zero p at =
-    let is : e ≡ p = cc in (omega arith, ap (λ (x : ℕ × GroupFields). x.0) is)
-key_read (e ∷ es) (suc i) p at =
-    let rest = key_read es i p at in (omega (arith, rest.0), rest.1)
 
 -- a change past an entry with another id leaves that entry
 changed_past : (f : GroupFields → GroupFields) (e : ℕ × GroupFields) (es : List (ℕ × GroupFields))
