@@ -106,7 +106,9 @@ impl<'a, G: Gate> Script<'a, G> {
             (state_of G.used self.now) }
         ensures room { vec_capacity answer.old ≤ vec_capacity answer.new }
     {
-        Ok(self.hierarchy.read_file_into(path, file, answer)?)
+        let text = self.hierarchy.read_file(path, file)?;
+        answer.extend_from_slice(text.as_bytes())?;
+        Ok(())
     }
 
     // `write P FILE TEXT`, whose answer is `ok`.
