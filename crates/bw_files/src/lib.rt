@@ -11,4 +11,4 @@ pub use fault::FileFault;
 pub use laws::written_is_read;
 pub use ranges::{check_burst, check_period, check_quota, check_weight};
 pub use reading::{MaxWrite, read_burst, read_max, read_weight};
-pub use writing::{write_burst, write_max, write_stat, write_weight};
+pub use writing::{put_burst, put_max, put_stat, put_weight};

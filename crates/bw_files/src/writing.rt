@@ -1,92 +1,101 @@
 //! Writes the texts of a group's files.
-ghost use Rattle.std.specs.Prelude.{◌≡◌, ◌≤◌, ◌++◌, OnOk, IfOk, string_bytes};
+ghost use Rattle.std.specs.Prelude.{◌≡◌, ◌≤◌, ◌++◌, OnOk};
+ghost use Rattle.std.specs.Str.{IsUtf8};
+ghost use Rattle.std.specs.Vec.{vec_capacity};
 ghost use Rattle.bw_model.specs.Quota.{IsValid};
-ghost use Rattle.bw_files.specs.Writing.{weight_text, burst_text, max_text, line, stat_text};
+ghost use Rattle.bw_files.specs.Writing.{weight_text, burst_text, quota_word, max_text, line};
+ghost use Rattle.bw_files.specs.Writing.{stat_text};
 
 use bw_model::limits::{MAX_BURST_US, MAX_PERIOD_US, MAX_WEIGHT, MIN_PERIOD_US, MIN_WEIGHT};
 use bw_model::{Quota, Stat};
-use bw_text::push_number;
-use std::alloc::{AllocError, Global};
+use bw_streams::{put_number, put_number_line};
+use std::alloc::AllocError;
 
-/// Writes the text of `cpu.weight` for a weight, 1 to 10000.
+/// Appends the text of `cpu.weight` for a weight, 1 to 10000.
 ///
 /// # Errors
 ///
 /// `AllocError` if an allocation fails.
-pub fn write_weight(alloc: Global, weight: u64) -> Result<String, AllocError>
+pub fn put_weight(weight: u64, text: &mut Vec<u8>) -> Result<(), AllocError>
     requires { (MIN_WEIGHT ≤ weight) × (weight ≤ MAX_WEIGHT) }
-    ensures { IfOk result (λ t. string_bytes t ≡ weight_text weight) }
+    ensures ok { OnOk result (text.new.items ≡ text.old.items ++ weight_text weight) }
+    ensures utf8 { OnOk result (IsUtf8 text.old.items → IsUtf8 text.new.items) }
+    ensures room { vec_capacity text.old ≤ vec_capacity text.new }
 {
-    let mut out = String::new(alloc);
-    push_number(&mut out, weight)?;
-    out.push_str("\n")?;
-    Ok(out)
+    put_number_line(b"", weight, text)
 }
 
-/// Writes the text of `cpu.max.burst` for a burst, 0 to 10^15 microseconds.
+/// Appends the text of `cpu.max.burst` for a burst, 0 to 10^15 microseconds.
 ///
 /// # Errors
 ///
 /// `AllocError` if an allocation fails.
-pub fn write_burst(alloc: Global, burst: u64) -> Result<String, AllocError>
+pub fn put_burst(burst: u64, text: &mut Vec<u8>) -> Result<(), AllocError>
     requires { burst ≤ MAX_BURST_US }
-    ensures { IfOk result (λ t. string_bytes t ≡ burst_text burst) }
+    ensures ok { OnOk result (text.new.items ≡ text.old.items ++ burst_text burst) }
+    ensures utf8 { OnOk result (IsUtf8 text.old.items → IsUtf8 text.new.items) }
+    ensures room { vec_capacity text.old ≤ vec_capacity text.new }
 {
-    let mut out = String::new(alloc);
-    push_number(&mut out, burst)?;
-    out.push_str("\n")?;
-    Ok(out)
+    put_number_line(b"", burst, text)
 }
 
-/// Writes the text of `cpu.max` for a quota and a period, 1000 to 1000000 microseconds.
+/// Appends the text of `cpu.max` for a quota and a period, 1000 to 1000000 microseconds.
 ///
 /// # Errors
 ///
-/// `AllocError` if an allocation fails.
-pub fn write_max(alloc: Global, quota: Quota, period: u64) -> Result<String, AllocError>
+/// `AllocError` if an allocation fails. The text may then have the quota.
+pub fn put_max(quota: Quota, period: u64, text: &mut Vec<u8>) -> Result<(), AllocError>
     requires quota { IsValid quota }
     requires period { (MIN_PERIOD_US ≤ period) × (period ≤ MAX_PERIOD_US) }
-    ensures { IfOk result (λ t. string_bytes t ≡ max_text quota period) }
+    ensures ok { OnOk result (text.new.items ≡ text.old.items ++ max_text quota period) }
+    ensures utf8 { OnOk result (IsUtf8 text.old.items → IsUtf8 text.new.items) }
+    ensures room { vec_capacity text.old ≤ vec_capacity text.new }
 {
-    let mut out = String::new(alloc);
+    put_quota(quota, text)?;
+    put_number_line(b" ", period, text)
+}
+
+// Appends a limit in microseconds, or `max`.
+fn put_quota(quota: Quota, text: &mut Vec<u8>) -> Result<(), AllocError>
+    requires { IsValid quota }
+    ensures ok { OnOk result (text.new.items ≡ text.old.items ++ quota_word quota) }
+    ensures utf8 { OnOk result (IsUtf8 text.old.items → IsUtf8 text.new.items) }
+    ensures room { vec_capacity text.old ≤ vec_capacity text.new }
+{
     match quota {
-        Quota::Max => out.push_str("max")?,
-        Quota::Micros(n) => push_number(&mut out, n)?,
+        Quota::Max => text.extend_from_slice(b"max"),
+        Quota::Micros(n) => put_number(b"", n, text),
     }
-    out.push_str(" ")?;
-    push_number(&mut out, period)?;
-    out.push_str("\n")?;
-    Ok(out)
 }
 
 // Appends a key and its value.
-fn push_line(out: &mut String, key: &str, n: u64) -> Result<(), AllocError>
-    ensures { OnOk result (string_bytes out.new ≡ string_bytes out.old ++ line key.now n) }
+fn put_line(key: &str, n: u64, text: &mut Vec<u8>) -> Result<(), AllocError>
+    ensures ok { OnOk result (text.new.items ≡ text.old.items ++ line key.now n) }
+    ensures utf8 { OnOk result (IsUtf8 text.old.items → IsUtf8 text.new.items) }
+    ensures room { vec_capacity text.old ≤ vec_capacity text.new }
 {
-    out.push_str(key)?;
-    out.push_str(" ")?;
-    push_number(out, n)?;
-    out.push_str("\n")?;
-    Ok(())
+    text.extend_from_slice(key.as_bytes())?;
+    put_number_line(b" ", n, text)
 }
 
-/// Writes the text of `cpu.stat`, times in microseconds. The root's text has the usage alone.
+/// Appends the text of `cpu.stat`, times in microseconds. The root's text has the usage alone.
 ///
 /// # Errors
 ///
-/// `AllocError` if an allocation fails.
-pub fn write_stat(alloc: Global, stat: &Stat, root: bool) -> Result<String, AllocError>
-    ensures { IfOk result (λ t. string_bytes t ≡ stat_text stat.now root) }
+/// `AllocError` if an allocation fails. The text may then have some of the lines.
+pub fn put_stat(stat: &Stat, root: bool, text: &mut Vec<u8>) -> Result<(), AllocError>
+    ensures ok { OnOk result (text.new.items ≡ text.old.items ++ stat_text stat.now root) }
+    ensures utf8 { OnOk result (IsUtf8 text.old.items → IsUtf8 text.new.items) }
+    ensures room { vec_capacity text.old ≤ vec_capacity text.new }
 {
-    let mut out = String::new(alloc);
-    push_line(&mut out, "usage_usec", stat.usage_usec)?;
+    put_line("usage_usec", stat.usage_usec, text)?;
     if root {
-        return Ok(out);
+        return Ok(());
     }
-    push_line(&mut out, "nr_periods", stat.nr_periods)?;
-    push_line(&mut out, "nr_throttled", stat.nr_throttled)?;
-    push_line(&mut out, "throttled_usec", stat.throttled_usec)?;
-    push_line(&mut out, "nr_bursts", stat.nr_bursts)?;
-    push_line(&mut out, "burst_usec", stat.burst_usec)?;
-    Ok(out)
+    put_line("nr_periods", stat.nr_periods, text)?;
+    put_line("nr_throttled", stat.nr_throttled, text)?;
+    put_line("throttled_usec", stat.throttled_usec, text)?;
+    put_line("nr_bursts", stat.nr_bursts, text)?;
+    put_line("burst_usec", stat.burst_usec, text)?;
+    Ok(())
 }

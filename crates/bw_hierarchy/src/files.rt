@@ -1,6 +1,8 @@
 //! Reads and writes the files of a group.
-ghost use Rattle.std.specs.Prelude.{◌≡◌, ◌==◌, false, OnOk, OnErr, IfOk, IfErr, Ok, Err, None};
-ghost use Rattle.std.specs.Prelude.{string_bytes};
+ghost use Rattle.std.specs.Prelude.{◌≡◌, ◌≤◌, ◌==◌, false, [], OnOk, OnErr, IfOk, IfErr, Ok, Err};
+ghost use Rattle.std.specs.Prelude.{None};
+ghost use Rattle.std.specs.Str.{IsUtf8};
+ghost use Rattle.std.specs.Vec.{vec_capacity};
 ghost use Rattle.bw_model.specs.Host.{IsHost};
 ghost use Rattle.bw_tree.specs.Groups.{group_at};
 ghost use Rattle.bw_tree.specs.Tree.{setting_refusal};
@@ -12,13 +14,10 @@ ghost use Rattle.bw_hierarchy.specs.Files.{burst_write, write_at, write_of};
 use crate::fault::Fault;
 use crate::group_file::{GroupFile, file_named};
 use crate::{by_path, settings};
-use bw_files::{
-    read_burst, read_max, read_weight, write_burst, write_max, write_stat, write_weight,
-};
+use bw_files::{put_burst, put_max, put_stat, put_weight, read_burst, read_max, read_weight};
 use bw_model::HostShape;
 use bw_stat::Books;
 use bw_tree::{GroupId, Tree, TreeFault};
-use std::alloc::Global;
 
 // File of a group with this name.
 fn file_of(id: GroupId, name: &str) -> Result<GroupFile, Fault>
@@ -34,47 +33,59 @@ fn file_of(id: GroupId, name: &str) -> Result<GroupFile, Fault>
     Ok(file)
 }
 
-// Text of a group's file.
-fn text(alloc: Global, tree: &Tree, books: &Books, id: GroupId, name: &str) -> Result<String, Fault>
-    ensures found { IfOk result
-        (λ t. text_of books.now id name.now (group_at tree.now.groups id) ≡ Ok (string_bytes t)) }
+// Appends the text of a group's file to an empty text.
+fn put_text(
+    tree: &Tree,
+    books: &Books,
+    id: GroupId,
+    name: &str,
+    text: &mut Vec<u8>,
+) -> Result<(), Fault>
+    requires { text.old.items ≡ [] }
+    ensures found { OnOk result
+        (text_of books.now id name.now (group_at tree.now.groups id) ≡ Ok text.new.items) }
+    ensures utf8 { OnOk result (IsUtf8 text.new.items) }
     ensures refused { IfErr result
         (IsRefusal (text_of books.now id name.now (group_at tree.now.groups id))) }
     ensures memory { IfErr result
         (IsMemoryLast (text_of books.now id name.now (group_at tree.now.groups id))) }
+    ensures room { vec_capacity text.old ≤ vec_capacity text.new }
 {
     let Some(group) = tree.group(id) else {
         return Err(Fault::Tree(TreeFault::NotFound));
     };
     match file_of(id, name)? {
-        GroupFile::Weight => Ok(write_weight(alloc, group.weight)?),
-        GroupFile::Max => Ok(write_max(alloc, group.quota, group.period)?),
-        GroupFile::MaxBurst => Ok(write_burst(alloc, group.burst)?),
-        GroupFile::Stat => Ok(write_stat(alloc, &books.counters(id), id == 0)?),
+        GroupFile::Weight => Ok(put_weight(group.weight, text)?),
+        GroupFile::Max => Ok(put_max(group.quota, group.period, text)?),
+        GroupFile::MaxBurst => Ok(put_burst(group.burst, text)?),
+        GroupFile::Stat => Ok(put_stat(&books.counters(id), id == 0, text)?),
     }
 }
 
-// Text of a file of the group at a path.
-pub(crate) fn read(
-    alloc: Global,
+// Appends the text of a file of the group at a path to an empty text.
+pub(crate) fn read_into(
     shape: HostShape,
     tree: &Tree,
     books: &Books,
     path: &str,
     file: &str,
-) -> Result<String, Fault>
-    ensures found { IfOk result
-        (λ t. read_of (record { shape = shape; tree = tree.now; books = books.now })
-        path.now file.now ≡ Ok (string_bytes t)) }
+    text: &mut Vec<u8>,
+) -> Result<(), Fault>
+    requires { text.old.items ≡ [] }
+    ensures found { OnOk result
+        (read_of (record { shape = shape; tree = tree.now; books = books.now })
+        path.now file.now ≡ Ok text.new.items) }
+    ensures utf8 { OnOk result (IsUtf8 text.new.items) }
     ensures refused { IfErr result
         (IsRefusal (read_of (record { shape = shape; tree = tree.now; books = books.now })
         path.now file.now)) }
     ensures memory { IfErr result
         (IsMemoryLast (read_of (record { shape = shape; tree = tree.now; books = books.now })
         path.now file.now)) }
+    ensures room { vec_capacity text.old ≤ vec_capacity text.new }
 {
     let id = by_path::find(tree, path)?;
-    text(alloc, tree, books, id, file)
+    put_text(tree, books, id, file, text)
 }
 
 fn write_weight_at(tree: &mut Tree, id: GroupId, text: &[u8]) -> Result<(), Fault>

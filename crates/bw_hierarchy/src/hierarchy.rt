@@ -1,6 +1,8 @@
 //! Hierarchy: a host with its tree of groups and their counters.
-ghost use Rattle.std.specs.Prelude.{◌≡◌, length, nat_eq, OnOk, OnErr, IfOk, IfErr, Ok, Err};
-ghost use Rattle.std.specs.Prelude.{string_bytes};
+ghost use Rattle.std.specs.Prelude.{◌≡◌, ◌≤◌, [], length, nat_eq, OnOk, OnErr, IfOk, IfErr, Ok};
+ghost use Rattle.std.specs.Prelude.{Err, string_bytes};
+ghost use Rattle.std.specs.Str.{IsUtf8};
+ghost use Rattle.std.specs.Vec.{vec_capacity};
 ghost use Rattle.std.specs.List.{IsDistinct};
 ghost use Rattle.bw_model.specs.Groups.{IsInstance};
 ghost use Rattle.bw_tree.specs.Snapshot.{instance_of, base_of, IsDrawnWithin};
@@ -227,7 +229,28 @@ impl Hierarchy {
         ensures refused { IfErr result (IsRefusal (read_of self.now path.now file.now)) }
         ensures memory { IfErr result (IsMemoryLast (read_of self.now path.now file.now)) }
     {
-        files::read(self.alloc, self.shape, &self.tree, &self.books, path, file)
+        let mut text = Vec::new(self.alloc);
+        self.read_file_into(path, file, &mut text)?;
+        match String::from_utf8(text) {
+            Ok(text) => Ok(text),
+            Err(_) => unreachable!(),
+        }
+    }
+
+    /// Reads a group's file into an empty text, as [`Hierarchy::read_file`] does.
+    ///
+    /// # Errors
+    ///
+    /// Those of [`Hierarchy::read_file`], in its order. The text may then have a part.
+    pub fn read_file_into(&self, path: &str, file: &str, text: &mut Vec<u8>) -> Result<(), Fault>
+        requires { text.old.items ≡ [] }
+        ensures found { OnOk result (read_of self.now path.now file.now ≡ Ok text.new.items) }
+        ensures utf8 { OnOk result (IsUtf8 text.new.items) }
+        ensures refused { IfErr result (IsRefusal (read_of self.now path.now file.now)) }
+        ensures memory { IfErr result (IsMemoryLast (read_of self.now path.now file.now)) }
+        ensures room { vec_capacity text.old ≤ vec_capacity text.new }
+    {
+        files::read_into(self.shape, &self.tree, &self.books, path, file, text)
     }
 
     /// Writes a text into a group's file, which changes the one value that the file names.

@@ -1,5 +1,6 @@
 //! Names of groups, and the first name of a path.
-ghost use Rattle.std.specs.Prelude.{◌≡◌, ◌==◌, ◌<◌, [], ◌∷◌, length, MatchOption, IfSome};
+ghost use Rattle.std.specs.Prelude.{◌≡◌, ◌==◌, ◌<◌, [], ◌∷◌, length, position, MatchOption};
+ghost use Rattle.std.specs.Prelude.{IfSome};
 ghost use Rattle.std.specs.List.{list_all, slice_split};
 ghost use Rattle.bw_tree.specs.Groups.{is_name, is_name_byte};
 
@@ -38,5 +39,18 @@ pub fn split_front(path: &str) -> Option<(&str, &str)>
         (λ x. slice_split (λ b. b == 47) path.now ≡ x.0.now ∷ slice_split (λ b. b == 47) x.1.now) }
     ensures shorter { IfSome result (λ x. length x.1.now < length path.now) }
 {
-    path.split_once('/')
+    let Some(place) = first_slash(path.as_bytes()) else {
+        return None;
+    };
+    let (name, _) = path.split_at(place);
+    let (_, rest) = path.split_at(place + 1);
+    Some((name, rest))
+}
+
+// Place of the first `/`. This loop costs less than the library's search for a `char`.
+fn first_slash(path: &[u8]) -> Option<usize>
+    ensures value { result ≡ position (λ b. b == 47) path.now }
+    ensures within { IfSome result (λ n. n < length path.now) }
+{
+    path.iter().position(|b| *b == b'/')
 }

@@ -1,6 +1,7 @@
 //! First refusal of each call on a tree, if any.
 ghost use Rattle.std.specs.Prelude.{◌≡◌, ℕ, is_some};
-ghost use Rattle.bw_tree.specs.Groups.{above, group_at, parent_of};
+ghost use Rattle.bw_tree.specs.Groups.{above, child_of, demand_at, group_at, has_children};
+ghost use Rattle.bw_tree.specs.Groups.{parent_of, IsTree};
 ghost use Rattle.bw_tree.specs.Tree.{mkdir_refusal, demand_refusal, setting_refusal, rmdir_refusal};
 
 use crate::fault::TreeFault;
@@ -10,8 +11,15 @@ use crate::tree::Tree;
 use bw_model::limits::{MAX_DEMAND, MAX_DEPTH, MAX_GROUPS};
 
 impl Tree {
-    // Refusal of a new group with this name below a parent.
-    pub(crate) fn mkdir_refusal(&self, parent: GroupId, name: &str) -> Option<TreeFault>
+    // Refusal of a new group with this name below a parent. `child` is the parent's child that has
+    // the name.
+    pub(crate) fn mkdir_refusal(
+        &self,
+        parent: GroupId,
+        name: &str,
+        child: Option<GroupId>,
+    ) -> Option<TreeFault>
+        requires { child ≡ child_of self.now.groups parent name.now }
         ensures { result ≡ mkdir_refusal self.now parent name.now }
     {
         let Some(above) = self.group(parent) else {
@@ -23,7 +31,7 @@ impl Tree {
         if above.demand > 0 {
             return Some(TreeFault::ParentHasDemand);
         }
-        if self.child_of(parent, name).is_some() {
+        if child.is_some() {
             return Some(TreeFault::Exists);
         }
         if self.is_deepest(above.parent) {
@@ -61,19 +69,31 @@ impl Tree {
     pub(crate) fn demand_refusal(&self, id: GroupId, demand: u64) -> Option<TreeFault>
         ensures { result ≡ demand_refusal self.now id demand }
     {
-        if self.group(id).is_none() {
+        let Some(group) = self.group(id) else {
             return Some(TreeFault::NotFound);
-        }
+        };
         if id == 0 {
             return Some(TreeFault::RootFixed);
         }
         if demand > MAX_DEMAND {
             return Some(TreeFault::DemandTooLarge);
         }
-        if demand > 0 && self.has_children(id) {
+        if demand > 0 && self.is_inner(id, group.demand) {
             return Some(TreeFault::InnerDemand);
         }
         None
+    }
+
+    // Whether a group with this demand has children. One with a demand has none: no look-up.
+    fn is_inner(&self, id: GroupId, demand: u64) -> bool
+        requires tree { IsTree self.now }
+        requires demand { demand ≡ demand_at self.now.groups id }
+        ensures { result ≡ has_children self.now.groups id }
+    {
+        if demand > 0 {
+            return false;
+        }
+        self.has_children(id)
     }
 
     // Refusal of a weight, a limit, a period or a burst.

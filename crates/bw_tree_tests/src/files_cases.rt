@@ -1,6 +1,6 @@
 //! Texts of a group's files that no script line can hold: with line breaks, and with counters at
 //! their greatest value.
-use bw_files::{MaxWrite, read_burst, read_max, read_weight, write_stat};
+use bw_files::{MaxWrite, put_stat, read_burst, read_max, read_weight};
 use bw_model::{Quota, Stat};
 use std::alloc::Global;
 use std::process::Abort;
@@ -53,11 +53,12 @@ static OF_A_GROUP: &str = "usage_usec 18446744073709551615\nnr_periods 184467440
      nr_bursts 18446744073709551615\nburst_usec 18446744073709551615\n";
 
 fn assert_writes(rt: &impl Abort, alloc: Global, root: bool, wanted: &str) -> Result<(), Fail> {
-    let text = match write_stat(alloc, &GREATEST, root) {
-        Err(_) => write_stat(alloc, &GREATEST, root)?,
-        Ok(text) => text,
-    };
-    assert!(rt; text.as_str() == wanted);
+    let mut text = Vec::new(alloc);
+    if put_stat(&GREATEST, root, &mut text).is_err() {
+        text.clear();
+        put_stat(&GREATEST, root, &mut text)?;
+    }
+    assert!(rt; text.as_slice() == wanted.as_bytes());
     Ok(())
 }
 

@@ -13,19 +13,16 @@ loop-id-init c =
     c.new-children.ensures.counts c.new-children.ensures.none_empty c.requires.named in
     search (rules, all)
 
-pub insert-requires : goal.insert-requires
-insert-requires c =
+pub insert-requires-clause-few : goal.insert-requires-clause-few
+insert-requires-clause-few c =
     let done = c.loop-id.invariant.2.counts c.in-Some-parent.parent in
-    record {
-      few =
-          few_counted _ done.0 done.1
-          (omega (
-            arith,
-            done.2,
-            count_le c.args.groups.now.entries c.in-Some-parent.parent,
-            c.requires.few,
-          ));
-    }
+    few_counted _ done.0 done.1
+    (omega (
+      arith,
+      done.2,
+      count_le c.args.groups.now.entries c.in-Some-parent.parent,
+      c.requires.few,
+    ))
 
 pub loop-id-preserved-in-Continue-1 : goal.loop-id-preserved-in-Continue-1
 loop-id-preserved-in-Continue-1 c =
@@ -33,7 +30,7 @@ loop-id-preserved-in-Continue-1 c =
     c.in-Some.ensures.steps c.loop-id.invariant.2 in
     let up : c.in-Some.group.now.parent ≡ Some c.in-Some-parent.parent =
     sym (ap (λ (g : GroupFields). g.parent) c.group.view_is) ∙ c.in-Some-parent.is in
-    let name = c.as_str.ensures.value ∙ ap (λ (g : GroupFields). g.name) c.group.view_is in
+    let name = c.as_str-name.ensures.value ∙ ap (λ (g : GroupFields). g.name) c.group.view_is in
     let added = subst
     (λ n. IsAdded c.loop-id.children c.insert.new.self c.in-Some-parent.parent n
     c.in-Some.id.now) name c.in_ok-insert.ensures.added in (
