@@ -1,4 +1,6 @@
 //! Least values that reach an amount, at the ends of their ranges.
+ghost use Rattle.std.specs.Prelude.{◌<◌, length};
+
 use crate::instances::{Group, instance};
 use bw_least::{least_limit, least_processors, least_weight};
 use bw_model::Instance;
@@ -38,7 +40,9 @@ fn weight(
     instance: &Instance,
     group: u32,
     amount: u64,
-) -> Result<Option<u64>, AllocError> {
+) -> Result<Option<u64>, AllocError>
+    requires { group < length instance.now.rows }
+{
     match least_weight(alloc, instance, group, amount) {
         Err(_) => least_weight(alloc, instance, group, amount),
         answer => answer,
@@ -50,7 +54,9 @@ fn processors(
     instance: &Instance,
     group: u32,
     amount: u64,
-) -> Result<Option<u64>, AllocError> {
+) -> Result<Option<u64>, AllocError>
+    requires { group < length instance.now.rows }
+{
     match least_processors(alloc, instance, group, amount) {
         Err(_) => least_processors(alloc, instance, group, amount),
         answer => answer,
@@ -62,7 +68,10 @@ fn limit(
     instance: &Instance,
     group: u32,
     amount: u64,
-) -> Result<Option<u64>, AllocError> {
+) -> Result<Option<u64>, AllocError>
+    requires row { group < length instance.now.rows }
+    requires below_root { 0 < group }
+{
     match least_limit(alloc, instance, group, amount) {
         Err(_) => least_limit(alloc, instance, group, amount),
         answer => answer,

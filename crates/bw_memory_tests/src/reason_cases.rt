@@ -1,8 +1,10 @@
 //! Reasons of the amounts of a plan.
 use crate::instances::{Group, instance};
 use bw_demand::gather_rows;
+use bw_model::Instance;
 use bw_plan::plan;
 use bw_reasons::{Reason, reasons};
+use std::alloc::{AllocError, Global};
 use std::test::Fail;
 
 const ROOT: u32 = 0;
@@ -32,19 +34,17 @@ static REASONS: [Reason; 7] = [
     Reason::AllWanted,
 ];
 
+fn reasons_once(alloc: Global, instance: &Instance) -> Result<Vec<Reason>, AllocError> {
+    let gathered = gather_rows(alloc, instance)?;
+    let planned = plan(alloc, instance)?;
+    reasons(alloc, instance, &gathered, &planned)
+}
+
 #[test]
 fn reasons_of_amounts(rt: HostRuntime) -> Result<(), Fail> {
     let instance = instance(rt.alloc(), &GROUPS)?;
-    let gathered = match gather_rows(rt.alloc(), &instance) {
-        Err(_) => gather_rows(rt.alloc(), &instance)?,
-        Ok(gathered) => gathered,
-    };
-    let planned = match plan(rt.alloc(), &instance) {
-        Err(_) => plan(rt.alloc(), &instance)?,
-        Ok(planned) => planned,
-    };
-    let found = match reasons(rt.alloc(), &instance, &gathered, &planned) {
-        Err(_) => reasons(rt.alloc(), &instance, &gathered, &planned)?,
+    let found = match reasons_once(rt.alloc(), &instance) {
+        Err(_) => reasons_once(rt.alloc(), &instance)?,
         Ok(found) => found,
     };
     assert!(rt; found.as_slice() == REASONS.as_slice());
