@@ -106,9 +106,7 @@ impl<'a, G: Gate> Script<'a, G> {
             (state_of G.used self.now) }
         ensures room { vec_capacity answer.old ≤ vec_capacity answer.new }
     {
-        let text = self.hierarchy.read_file(path, file)?;
-        answer.extend_from_slice(text.as_bytes())?;
-        Ok(())
+        Ok(self.hierarchy.read_file_into(path, file, answer)?)
     }
 
     // `write P FILE TEXT`, whose answer is `ok`.
