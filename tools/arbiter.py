@@ -213,10 +213,10 @@ class Library:
     def of_group(self, name: str, host: Host, rows: Sequence[Row], group: int,
                  *amount: int) -> int:
         """The number that a question about the group of a row is answered with."""
-        answer = U64()
-        words = [U32(in_range(group, 32, "group")), *[U64(in_range(n, 64, "amount")) for n in amount]]
+        answer, row = U64(), U32(in_range(group, 32, "group"))
+        amounts = [U64(in_range(slices, 64, "amount")) for slices in amount]
         call = getattr(self.calls, f"arbiter_{name}")
-        number = call(*self.asked(host, rows), *words, ctypes.byref(answer))
+        number = call(*self.asked(host, rows), row, *amounts, ctypes.byref(answer))
         if number:
             raise self.of_rows(number, rows)
         return answer.value
