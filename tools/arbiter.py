@@ -5,6 +5,7 @@
     host = arbiter.Host(processors=1, period_us=100000, slice_us=5000)
     rows = [arbiter.Row(), arbiter.Row(parent=0, demand=20), arbiter.Row(parent=0, weight=200, demand=20)]
     library.plan(host, rows)                                # [20, 7, 13]
+    library.least_weight(host, rows, 1, 14)                 # 416: row 1 gets 14 slices with it
 
 It needs the standard library alone. The code that plans and checks is proved; this file is not.
 """

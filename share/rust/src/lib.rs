@@ -1,9 +1,11 @@
 //! The planner and the checker of arbiter, over the C library that `arbiter.h` describes.
 //!
 //! ```
-//! use arbiter::{plan, Host, Row};
+//! use arbiter::{least_weight, plan, Host, Row};
 //! let rows = [Row::ROOT, Row { demand: 20, ..Row::under(0) }, Row { weight: 200, demand: 20, ..Row::under(0) }];
 //! assert_eq!(plan(Host::default(), &rows), Ok(vec![20, 7, 13]));
+//! // The least weight with which row 1 gets 14 slices.
+//! assert_eq!(least_weight(Host::default(), &rows, 1, 14), Ok(Some(416)));
 //! ```
 //!
 //! The code that plans and checks is proved; these wrappers are not.
