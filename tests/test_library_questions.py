@@ -4,14 +4,15 @@ The answers are compared with values worked by hand, and on random trees with th
 """
 import ctypes
 import random
+import re
 from typing import Iterator, List, Optional, Sequence, Tuple
 
 import pytest
 
 import arbiter
 from plan_model import Instance, Row
-from support import same
-from test_library import REFUSED, raw_columns, with_lengths
+from support import ROOT, same
+from test_library import REFUSED, number_of, raw_columns, rows_of, with_lengths
 
 SEED = 20261126
 TREES = 60
@@ -31,12 +32,20 @@ IDLE = [Row(None), Row(0), Row(0, 300), Row(2, demand=20), Row(2, demand=8)]
 # At weight 9999 the seventeenth slice of row 2 costs as much as the fourth of row 1, the first.
 HEAVY = [Row(None), Row(0, 2121, None, 20), Row(0, 1, None, 20)]
 HEAVIER = [Row(None), Row(0, 2122, None, 20), Row(0, 10000, None, 20)]
+# Two groups that want more than half of any host.
+WIDE = [Row(None), Row(0, demand=GREATEST_DEMAND), Row(0, demand=GREATEST_DEMAND)]
 
 
 @pytest.fixture(scope="module")
-def calls(library):
+def module(library):
+    """The library under test, as the Python module calls it."""
+    return arbiter.Library(str(library))
+
+
+@pytest.fixture(scope="module")
+def calls(module):
     """The calls of the library under test, as C has them."""
-    return arbiter.Library(str(library)).calls
+    return module.calls
 
 
 def host_words(host) -> list:
@@ -153,6 +162,90 @@ def test_wrong_length(calls, name, by):
         words += [arbiter.U64(1)] * QUESTIONS[name] + [ctypes.byref(written)]
         same(getattr(calls, f"arbiter_{name}")(*words), 50, f"column {at}")
         same(written.value, 7, f"column {at}")
+
+
+# The Python module
+
+
+def asked_of_module(module, name: str, host, rows: Sequence[Row], group: int,
+                    amount: int) -> Tuple[int, Optional[int]]:
+    """The number and the row of the refusal of a question about a group, (0, None) if none is."""
+    words = [host, rows, group] + [amount] * QUESTIONS[name]
+    return number_of(getattr(module, name), *words)
+
+
+def test_module_reasons(module):
+    """Each kind at least once. The row of the limit above stands with that kind alone."""
+    above = arbiter.Reason(arbiter.Kind.LIMIT_ABOVE, 2)
+    full, own, nothing, wanted = [arbiter.Reason(kind) for kind in (
+        arbiter.Kind.HOST_FULL, arbiter.Kind.OWN_LIMIT, arbiter.Kind.NOTHING_ASKED,
+        arbiter.Kind.ALL_WANTED)]
+    found = module.reasons(HOST, POD)
+    same(found, [full, full, own, above, above, nothing, wanted])
+    same([reason.above for reason in found], [None, None, None, 2, 2, None, None], "rows")
+    same({type(reason.kind) for reason in found}, {arbiter.Kind}, "types")
+    same(module.reasons(HOST, [Row(None)]), [nothing], "the root alone")
+
+
+def test_kinds_of_the_header():
+    """The kinds of reasons have the names and numbers of the header."""
+    header = (ROOT / "share/arbiter.h").read_text(encoding="utf-8")
+    listed = header.split("/* Reasons of arbiter_reasons. */\n")[1].split("/*")[0]
+    found = re.findall(r"^#define ARBITER_(\w+) (\d)$", listed, re.M)
+    same(found, [(kind.name, str(kind.value)) for kind in arbiter.Kind])
+
+
+@pytest.mark.parametrize("rows, group, amount", [(IDLE, 0, 20), (IDLE, 1, 0), (IDLE, 2, 15),
+                                                 (IDLE, 3, 8), (IDLE, 4, 7), (POD, 3, 3)])
+def test_module_guarantees(module, rows, group, amount):
+    same(module.guarantee(HOST, rows, group), amount)
+
+
+@pytest.mark.parametrize("name, rows, group, amount, least", [
+    ("least_weight", EQUAL, 1, 0, 1), ("least_weight", EQUAL, 1, 14, 208),
+    ("least_weight", HEAVY, 2, 17, 10000), ("least_weight", HEAVIER, 2, 17, None),
+    ("least_weight", EQUAL, 1, 2**64 - 1, None), ("least_limit", EQUAL, 1, 0, 0),
+    ("least_limit", EQUAL, 1, 10, 10), ("least_limit", EQUAL, 1, 11, None),
+    ("least_limit", POD, 2, 9, 9), ("least_limit", EQUAL, 1, 2**64 - 1, None),
+    ("least_processors", EQUAL, 1, 10, 1), ("least_processors", EQUAL, 1, 14, 2),
+    ("least_processors", WIDE, 1, 640, 64), ("least_processors", WIDE, 1, 641, None),
+    ("least_processors", EQUAL, 1, 2**64 - 1, None),
+])
+def test_module_least_values(module, name, rows, group, amount, least):
+    """The values at the ends of each range, and None. A limit of 0 is not None."""
+    same(getattr(module, name)(HOST, rows, group, amount), least)
+
+
+@pytest.mark.parametrize("number, row, host, tuples", REFUSED,
+                         ids=[f"{row[0]}, {at}" for at, row in enumerate(REFUSED)])
+def test_module_refused(module, number, row, host, tuples):
+    """A host and rows are refused before the group, with the row that the number speaks of."""
+    rows = rows_of(tuples)
+    same(number_of(module.reasons, host, rows), (number, row), "reasons")
+    for name in QUESTIONS:
+        for group in (0, len(rows), 2**32 - 1):
+            found = asked_of_module(module, name, host, rows, group, 1)
+            same(found, (number, row), f"{name} of row {group}")
+
+
+@pytest.mark.parametrize("name", QUESTIONS)
+def test_module_no_such_group(module, name):
+    """20 from the first row on that is not there, and 10 for the limit of the root."""
+    for group in (3, 2**32 - 1):
+        same(asked_of_module(module, name, HOST, EQUAL, group, 1), (20, None), f"row {group}")
+    number = 10 if name == "least_limit" else 0
+    same(asked_of_module(module, name, HOST, EQUAL, 0, 1), (number, None), "root")
+
+
+@pytest.mark.parametrize("name", QUESTIONS)
+def test_module_out_of_range(module, name):
+    """The module refuses a row and an amount that C would cut."""
+    for group in (-1, 2**32):
+        with pytest.raises(OverflowError, match=f"group {group} is no number of 32 bits"):
+            asked_of_module(module, name, HOST, EQUAL, group, 1)
+    for amount in [-1, 2**64] if QUESTIONS[name] else []:
+        with pytest.raises(OverflowError, match=f"amount {amount} is no number of 64 bits"):
+            asked_of_module(module, name, HOST, EQUAL, 1, amount)
 
 
 # Random trees

@@ -5,6 +5,7 @@
     host = arbiter.Host(processors=1, period_us=100000, slice_us=5000)
     rows = [arbiter.Row(), arbiter.Row(parent=0, demand=20), arbiter.Row(parent=0, weight=200, demand=20)]
     library.plan(host, rows)                                # [20, 7, 13]
+    library.least_weight(host, rows, 1, 14)                 # 416: row 1 gets 14 slices with it
 
 It needs the standard library alone. The code that plans and checks is proved; this file is not.
 """
@@ -12,7 +13,10 @@ from __future__ import annotations
 
 import ctypes
 import dataclasses
+import enum
 import os
+from collections.abc import Sequence
+from typing import NamedTuple
 
 TOP = os.path.dirname(os.path.dirname(os.path.abspath(__file__)))
 BUILT = f"{TOP}/crates/bw_exports/out/libarbiter.so"
@@ -58,6 +62,30 @@ class Certificate:
     levels: list
 
 
+class Kind(enum.IntEnum):
+    """The kinds of reasons for a group's amount, by their numbers in C.
+
+    NOTHING_ASKED  it wants nothing
+    ALL_WANTED     it gets all that it wants
+    OWN_LIMIT      it gets its own limit
+    LIMIT_ABOVE    a group above it gets its limit, and no group between the two does
+    HOST_FULL      the host gives out its capacity, and no group from this one up gets its limit
+    """
+
+    NOTHING_ASKED = 0
+    ALL_WANTED = 1
+    OWN_LIMIT = 2
+    LIMIT_ABOVE = 3
+    HOST_FULL = 4
+
+
+class Reason(NamedTuple):
+    """The reason for a group's amount. LIMIT_ABOVE has the row of the group above, others None."""
+
+    kind: Kind
+    above: int | None = None
+
+
 def in_range(number, bits, what):
     """A number that the column holds: ctypes itself would cut it."""
     if not 0 <= number < 2**bits:
@@ -88,7 +116,9 @@ class Library:
     def __init__(self, path=None):
         path = path or os.environ.get("ARBITER_LIBRARY") or (BUILT if os.path.exists(BUILT) else SONAME)
         self.calls = ctypes.CDLL(os.path.abspath(path) if "/" in path else path)
-        for name in ("plan", "certify", "check", "check_text", "limiting", "refused_row", "slices", "demand", "name", "version"):
+        for name in ("plan", "certify", "check", "check_text", "limiting", "reasons", "guarantee",
+                     "least_weight", "least_limit", "least_processors", "refused_row", "slices",
+                     "demand", "name", "version"):
             getattr(self.calls, f"arbiter_{name}").restype = U32
         self.calls.arbiter_weight_of_shares.restype = U64
 
@@ -171,6 +201,61 @@ class Library:
         if number:
             raise self.of_rows(number, rows)
         return list(groups[:count.value]), rest.value
+
+    def reasons(self, host: Host, rows: Sequence[Row]) -> list[Reason]:
+        """The reason for each group's amount, one for each row. Refused as a plan is."""
+        kinds, blamed = (U8 * len(rows))(), (U32 * len(rows))()
+        number = self.calls.arbiter_reasons(*self.asked(host, rows), *given(kinds, blamed))
+        if number:
+            raise self.of_rows(number, rows)
+        return [Reason(Kind(kind), row if kind == Kind.LIMIT_ABOVE else None)
+                for kind, row in zip(kinds, blamed)]
+
+    def of_group(self, name: str, host: Host, rows: Sequence[Row], group: int,
+                 *amount: int) -> int:
+        """The number that a question about the group of a row is answered with."""
+        answer, row = U64(), U32(in_range(group, 32, "group"))
+        amounts = [U64(in_range(slices, 64, "amount")) for slices in amount]
+        call = getattr(self.calls, f"arbiter_{name}")
+        number = call(*self.asked(host, rows), row, *amounts, ctypes.byref(answer))
+        if number:
+            raise self.of_rows(number, rows)
+        return answer.value
+
+    def guarantee(self, host: Host, rows: Sequence[Row], group: int) -> int:
+        """The slices of one period that a group gets whatever the groups not under it ask for.
+
+        `group` is its row. Refused as a plan is, then 20 NotFound if it is no row.
+        """
+        return self.of_group("guarantee", host, rows, group)
+
+    def least_weight(self, host: Host, rows: Sequence[Row], group: int, amount: int) -> int | None:
+        """The least weight with which a group gets at least `amount` slices of one period.
+
+        It is 1 to 10000, or None if no weight does. All else is as the rows say.
+        Refused as a plan is, then 20 NotFound if the group is no row.
+        """
+        return self.of_group("least_weight", host, rows, group, amount) or None
+
+    def least_limit(self, host: Host, rows: Sequence[Row], group: int, amount: int) -> int | None:
+        """The least limit with which a group gets at least `amount` slices of one period.
+
+        It is in slices of one period, or None if no limit does, nor the group without one.
+        Refused as a plan is, then 20 NotFound if the group is no row. The root, row 0, is refused
+        by 10 RootLimited.
+        """
+        limit = self.of_group("least_limit", host, rows, group, amount)
+        return None if limit == NO_LIMIT else limit
+
+    def least_processors(self, host: Host, rows: Sequence[Row], group: int,
+                         amount: int) -> int | None:
+        """The least number of processors with which a group gets at least `amount` slices.
+
+        It is 1 to 64, of a host of this period and slice, or None if no number does. The
+        processors of `host` change nothing but the refusal 1. Refused as a plan is, then
+        20 NotFound if the group is no row.
+        """
+        return self.of_group("least_processors", host, rows, group, amount) or None
 
     def slices(self, host, usec, own_period_us=100000):
         """The whole slices of one period that a quota or burst allows, rounded down: microseconds of its own period."""

@@ -1,9 +1,11 @@
 //! The planner and the checker of arbiter, over the C library that `arbiter.h` describes.
 //!
 //! ```
-//! use arbiter::{plan, Host, Row};
+//! use arbiter::{least_weight, plan, Host, Row};
 //! let rows = [Row::ROOT, Row { demand: 20, ..Row::under(0) }, Row { weight: 200, demand: 20, ..Row::under(0) }];
 //! assert_eq!(plan(Host::default(), &rows), Ok(vec![20, 7, 13]));
+//! // The least weight with which row 1 gets 14 slices.
+//! assert_eq!(least_weight(Host::default(), &rows, 1, 14), Ok(Some(416)));
 //! ```
 //!
 //! The code that plans and checks is proved; these wrappers are not.
@@ -85,6 +87,21 @@ pub struct Certificate {
     pub flags: Vec<bool>,
     /// The level of each group that shares something out.
     pub levels: Vec<Option<Level>>,
+}
+
+/// Why a group gets its amount. Each group has exactly one reason.
+#[derive(Clone, Copy, Debug, PartialEq, Eq)]
+pub enum Reason {
+    /// It wants nothing.
+    NothingAsked,
+    /// It gets all that it wants.
+    AllWanted,
+    /// It gets its own limit.
+    OwnLimit,
+    /// The group of this row, above it, gets its limit, and no group between the two does.
+    LimitAbove(u32),
+    /// The host gives out its capacity, and no group from this one up gets its limit.
+    HostFull,
 }
 
 /// What a call answers in place of 0.
@@ -199,6 +216,85 @@ pub fn limiting(host: Host, rows: &[Row]) -> Result<(Vec<u32>, u64), Fault> {
     )?;
     groups.truncate(count as usize);
     Ok((groups, rest))
+}
+
+/// The reason for each row's amount.
+///
+/// # Errors
+/// As of [`plan`].
+pub fn reasons(host: Host, rows: &[Row]) -> Result<Vec<Reason>, Fault> {
+    let (columns, mut kinds) = (Columns::of(rows), vec![0; rows.len()]);
+    let mut blamed = vec![0; rows.len()];
+    of_rows(columns.reasons(host, &mut kinds, &mut blamed), &columns)?;
+    let told = kinds.into_iter().zip(blamed);
+    Ok(told.map(|(kind, row)| raw::reason(kind, row)).collect())
+}
+
+/// The slices of one period that a group gets whatever the groups not under it ask for.
+///
+/// They give it no less, and for some demands of theirs no more. `group` is its row.
+///
+/// # Errors
+/// As of [`plan`], then 20 where the group is no row.
+pub fn guarantee(host: Host, rows: &[Row], group: u32) -> Result<u64, Fault> {
+    let (columns, mut amount) = (Columns::of(rows), 0);
+    of_rows(columns.guarantee(host, group, &mut amount), &columns)?;
+    Ok(amount)
+}
+
+/// The least weight with which a group gets at least `amount` slices of one period.
+///
+/// It is 1 to 10000, none where no weight does. All else is as the rows say. At most 14 plans.
+///
+/// # Errors
+/// As of [`plan`], then 20 where the group is no row.
+pub fn least_weight(
+    host: Host,
+    rows: &[Row],
+    group: u32,
+    amount: u64,
+) -> Result<Option<u64>, Fault> {
+    let (columns, mut weight) = (Columns::of(rows), 0);
+    let number = columns.least_weight(host, group, amount, &mut weight);
+    of_rows(number, &columns)?;
+    Ok(Some(weight).filter(|weight| *weight != 0))
+}
+
+/// The least limit with which a group gets at least `amount` slices of one period.
+///
+/// It is in slices of one period, none where no limit does, nor the group without one. One plan.
+///
+/// # Errors
+/// As of [`plan`], then 20 where the group is no row, and 10 for the root, which is row 0.
+pub fn least_limit(
+    host: Host,
+    rows: &[Row],
+    group: u32,
+    amount: u64,
+) -> Result<Option<u64>, Fault> {
+    let (columns, mut limit) = (Columns::of(rows), raw::NO_LIMIT);
+    let number = columns.least_limit(host, group, amount, &mut limit);
+    of_rows(number, &columns)?;
+    Ok(Some(limit).filter(|limit| *limit != raw::NO_LIMIT))
+}
+
+/// The least number of processors with which a group gets at least `amount` slices of one period.
+///
+/// It is 1 to 64, of a host of this period and slice, none where no number does. The processors
+/// of `host` change nothing but the refusal 1. At most 7 plans.
+///
+/// # Errors
+/// As of [`plan`], then 20 where the group is no row.
+pub fn least_processors(
+    host: Host,
+    rows: &[Row],
+    group: u32,
+    amount: u64,
+) -> Result<Option<u64>, Fault> {
+    let (columns, mut least) = (Columns::of(rows), 0);
+    let number = columns.least_processors(host, group, amount, &mut least);
+    of_rows(number, &columns)?;
+    Ok(Some(least).filter(|least| *least != 0))
 }
 
 /// The whole slices of one period that a quota or burst allows, rounded down: a limit of a row.
@@ -316,6 +412,104 @@ mod tests {
         };
         let wide = [Row::ROOT, wants(0, 1, 50)];
         assert_eq!(plan(two, &wide), Ok(vec![40, 40]));
+    }
+
+    /// Two groups of weight 100 that want 20 slices each.
+    fn equal() -> [Row; 3] {
+        let wants = Row {
+            demand: 20,
+            ..Row::under(0)
+        };
+        [Row::ROOT, wants, wants]
+    }
+
+    /// A group (1), a pod with limit 9 (2) over two (3, 4), an idle one (5), one of a slice (6).
+    fn pod() -> [Row; 7] {
+        let wants = |parent, demand| Row {
+            demand,
+            ..Row::under(parent)
+        };
+        let pod = Row {
+            limit: Some(9),
+            ..Row::under(0)
+        };
+        let (web, a, b) = (wants(0, 20), wants(2, 20), wants(2, 20));
+        [Row::ROOT, web, pod, a, b, Row::under(0), wants(0, 1)]
+    }
+
+    #[test]
+    fn tells_reasons() {
+        use Reason::*;
+        let (full, above) = (HostFull, LimitAbove(2));
+        assert_eq!(
+            reasons(Host::default(), &pod()),
+            Ok(vec![
+                full,
+                full,
+                OwnLimit,
+                above,
+                above,
+                NothingAsked,
+                AllWanted
+            ])
+        );
+        assert_eq!(
+            reasons(Host::default(), &[Row::ROOT]),
+            Ok(vec![NothingAsked])
+        );
+    }
+
+    #[test]
+    fn guarantees() {
+        let amounts = [20, 5, 5, 3, 2, 0, 1];
+        for (group, amount) in (0..).zip(amounts) {
+            assert_eq!(guarantee(Host::default(), &pod(), group), Ok(amount));
+        }
+    }
+
+    #[test]
+    fn finds_least_values() {
+        let (host, rows) = (Host::default(), equal());
+        assert_eq!(least_weight(host, &rows, 1, 0), Ok(Some(1)));
+        assert_eq!(least_weight(host, &rows, 1, 14), Ok(Some(208)));
+        assert_eq!(least_weight(host, &rows, 1, 21), Ok(None));
+        assert_eq!(least_weight(host, &rows, 1, u64::MAX), Ok(None));
+        assert_eq!(least_limit(host, &rows, 1, 0), Ok(Some(0)));
+        assert_eq!(least_limit(host, &rows, 1, 10), Ok(Some(10)));
+        assert_eq!(least_limit(host, &rows, 1, 11), Ok(None));
+        assert_eq!(least_limit(host, &rows, 1, u64::MAX), Ok(None));
+        assert_eq!(least_limit(host, &pod(), 2, 9), Ok(Some(9)));
+        let wide = Host {
+            processors: 64,
+            ..host
+        };
+        for host in [host, wide] {
+            assert_eq!(least_processors(host, &rows, 1, 10), Ok(Some(1)));
+            assert_eq!(least_processors(host, &rows, 1, 14), Ok(Some(2)));
+            assert_eq!(least_processors(host, &rows, 1, 21), Ok(None));
+        }
+    }
+
+    #[test]
+    fn refuses_questions() {
+        let (host, rows) = (Host::default(), equal());
+        assert_eq!(least_limit(host, &rows, 0, 10), Err(fault(10, None)));
+        for group in [3, u32::MAX] {
+            let none = fault(20, None);
+            assert_eq!(none.name(), "NotFound");
+            assert_eq!(guarantee(host, &rows, group), Err(none));
+            assert_eq!(least_weight(host, &rows, group, 1), Err(none));
+            assert_eq!(least_limit(host, &rows, group, 1), Err(none));
+            assert_eq!(least_processors(host, &rows, group, 1), Err(none));
+        }
+        let mut heavy = rows;
+        heavy[2].weight = 10_001;
+        let refused = fault(6, Some(2));
+        assert_eq!(reasons(host, &heavy), Err(refused));
+        assert_eq!(guarantee(host, &heavy, 3), Err(refused));
+        assert_eq!(least_weight(host, &heavy, 3, 1), Err(refused));
+        assert_eq!(least_limit(host, &heavy, 0, 1), Err(refused));
+        assert_eq!(least_processors(host, &heavy, 3, 1), Err(refused));
     }
 
     #[test]

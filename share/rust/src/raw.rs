@@ -1,9 +1,9 @@
 //! The calls of `arbiter.h`, on slices. Each call has what the header asks: lengths that are those of the slices, pointers that
 //! are not null (a slice has none), and no memory that is written and read at once (a `&mut` overlaps nothing).
-use crate::{Certificate, Host, Level, Row};
+use crate::{Certificate, Host, Level, Reason, Row};
 
 const NO_PARENT: u32 = u32::MAX;
-const NO_LIMIT: u64 = u64::MAX;
+pub(crate) const NO_LIMIT: u64 = u64::MAX;
 pub(crate) const NAME_ROOM: usize = 17;
 
 #[rustfmt::skip]
@@ -29,6 +29,37 @@ extern "C" {
                         parents: *const u32, parents_length: usize, weights: *const u64, weights_length: usize,
                         limits: *const u64, limits_length: usize, demands: *const u64, demands_length: usize,
                         groups: *mut u32, groups_length: usize, count: *mut u32, rest: *mut u64) -> u32;
+    fn arbiter_reasons(processors: u64, period_us: u64, slice_us: u64,
+                       parents: *const u32, parents_length: usize,
+                       weights: *const u64, weights_length: usize,
+                       limits: *const u64, limits_length: usize,
+                       demands: *const u64, demands_length: usize,
+                       reasons: *mut u8, reasons_length: usize,
+                       blamed: *mut u32, blamed_length: usize) -> u32;
+    fn arbiter_guarantee(processors: u64, period_us: u64, slice_us: u64,
+                         parents: *const u32, parents_length: usize,
+                         weights: *const u64, weights_length: usize,
+                         limits: *const u64, limits_length: usize,
+                         demands: *const u64, demands_length: usize,
+                         group: u32, amount: *mut u64) -> u32;
+    fn arbiter_least_weight(processors: u64, period_us: u64, slice_us: u64,
+                            parents: *const u32, parents_length: usize,
+                            weights: *const u64, weights_length: usize,
+                            limits: *const u64, limits_length: usize,
+                            demands: *const u64, demands_length: usize,
+                            group: u32, amount: u64, weight: *mut u64) -> u32;
+    fn arbiter_least_limit(processors: u64, period_us: u64, slice_us: u64,
+                           parents: *const u32, parents_length: usize,
+                           weights: *const u64, weights_length: usize,
+                           limits: *const u64, limits_length: usize,
+                           demands: *const u64, demands_length: usize,
+                           group: u32, amount: u64, limit: *mut u64) -> u32;
+    fn arbiter_least_processors(processors: u64, period_us: u64, slice_us: u64,
+                                parents: *const u32, parents_length: usize,
+                                weights: *const u64, weights_length: usize,
+                                limits: *const u64, limits_length: usize,
+                                demands: *const u64, demands_length: usize,
+                                group: u32, amount: u64, least: *mut u64) -> u32;
     fn arbiter_refused_row(parents: *const u32, parents_length: usize, weights: *const u64, weights_length: usize,
                            limits: *const u64, limits_length: usize, demands: *const u64, demands_length: usize,
                            row: *mut u32) -> u32;
@@ -124,6 +155,74 @@ impl Columns {
     }
 
     #[rustfmt::skip]
+    pub(crate) fn reasons(&self, host: Host, reasons: &mut [u8], blamed: &mut [u32]) -> u32 {
+        // SAFETY: as above
+        unsafe {
+            arbiter_reasons(host.processors, host.period_us, host.slice_us,
+                            self.parents.as_ptr(), self.parents.len(),
+                            self.weights.as_ptr(), self.weights.len(),
+                            self.limits.as_ptr(), self.limits.len(),
+                            self.demands.as_ptr(), self.demands.len(),
+                            reasons.as_mut_ptr(), reasons.len(),
+                            blamed.as_mut_ptr(), blamed.len())
+        }
+    }
+
+    #[rustfmt::skip]
+    pub(crate) fn guarantee(&self, host: Host, group: u32, amount: &mut u64) -> u32 {
+        // SAFETY: as above
+        unsafe {
+            arbiter_guarantee(host.processors, host.period_us, host.slice_us,
+                              self.parents.as_ptr(), self.parents.len(),
+                              self.weights.as_ptr(), self.weights.len(),
+                              self.limits.as_ptr(), self.limits.len(),
+                              self.demands.as_ptr(), self.demands.len(),
+                              group, amount)
+        }
+    }
+
+    #[rustfmt::skip]
+    pub(crate) fn least_weight(&self, host: Host,
+                               group: u32, amount: u64, weight: &mut u64) -> u32 {
+        // SAFETY: as above
+        unsafe {
+            arbiter_least_weight(host.processors, host.period_us, host.slice_us,
+                                 self.parents.as_ptr(), self.parents.len(),
+                                 self.weights.as_ptr(), self.weights.len(),
+                                 self.limits.as_ptr(), self.limits.len(),
+                                 self.demands.as_ptr(), self.demands.len(),
+                                 group, amount, weight)
+        }
+    }
+
+    #[rustfmt::skip]
+    pub(crate) fn least_limit(&self, host: Host, group: u32, amount: u64, limit: &mut u64) -> u32 {
+        // SAFETY: as above
+        unsafe {
+            arbiter_least_limit(host.processors, host.period_us, host.slice_us,
+                                self.parents.as_ptr(), self.parents.len(),
+                                self.weights.as_ptr(), self.weights.len(),
+                                self.limits.as_ptr(), self.limits.len(),
+                                self.demands.as_ptr(), self.demands.len(),
+                                group, amount, limit)
+        }
+    }
+
+    #[rustfmt::skip]
+    pub(crate) fn least_processors(&self, host: Host,
+                                   group: u32, amount: u64, least: &mut u64) -> u32 {
+        // SAFETY: as above
+        unsafe {
+            arbiter_least_processors(host.processors, host.period_us, host.slice_us,
+                                     self.parents.as_ptr(), self.parents.len(),
+                                     self.weights.as_ptr(), self.weights.len(),
+                                     self.limits.as_ptr(), self.limits.len(),
+                                     self.demands.as_ptr(), self.demands.len(),
+                                     group, amount, least)
+        }
+    }
+
+    #[rustfmt::skip]
     pub(crate) fn refused_row(&self, row: &mut u32) -> u32 {
         // SAFETY: as above
         unsafe {
@@ -178,6 +277,18 @@ impl Claim {
                 .map(|g| (self.nums[g] > 0 && self.dens[g] > 0).then(|| level(g)))
                 .collect(),
         }
+    }
+}
+
+/// A reason by its number in `arbiter.h`, with the row that it blames.
+pub(crate) fn reason(number: u8, blamed: u32) -> Reason {
+    match number {
+        0 => Reason::NothingAsked,
+        1 => Reason::AllWanted,
+        2 => Reason::OwnLimit,
+        3 => Reason::LimitAbove(blamed),
+        4 => Reason::HostFull,
+        _ => unreachable!("arbiter.h has no reason {number}"),
     }
 }
 
