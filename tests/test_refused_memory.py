@@ -22,7 +22,9 @@ START_TAKES = 2
 # The commands that take memory. `rmdir`, `demand` and `write` take none, and are never refused.
 TAKE_MEMORY = ["mkdir", "read", "total", "plan", "cert", "period", "report"]
 
+# A read takes memory only where the answers so far have left no room, so one stands early.
 EVERY_COMMAND = b"""mkdir pod
+read pod cpu.stat
 mkdir pod/x
 mkdir pod/y
 mkdir job
