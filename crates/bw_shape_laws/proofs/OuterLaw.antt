@@ -21,7 +21,8 @@ use Rattle.bw_model.proofs.CallerLemmas.{parent_not_leaf}
 use Rattle.bw_plan.specs.Shared.{IsPlanning}
 use Rattle.bw_plan.proofs.CallerLemmas.{plan-IsPlanning}
 use Rattle.bw_shape_laws.specs.Places.{later, renumbered, all_renumbered}
-use Rattle.bw_shape_laws.specs.Outer.{OuterGroupChangesNothing, outer_group, inner_group, with_outer}
+use Rattle.bw_shape_laws.specs.Outer.{OuterGroupChangesNothing, outer_group, inner_group}
+use Rattle.bw_shape_laws.specs.Outer.{with_outer}
 use Rattle.bw_shape_laws.proofs.Places.{later-below, later-from, later-in, later-le, later-alike}
 use Rattle.bw_shape_laws.proofs.Places.{later-free, later-beside, inserted_old, inserted_whole}
 use Rattle.bw_shape_laws.proofs.Places.{parts, AreParts, filter_no, both_empty}
@@ -86,8 +87,8 @@ module _ (shape : Shape) (rows : List Row) (group weight : ℕ)
   unfolding with_outer all_renumbered
   row_old x below other =
       inserted_old base group (outer_group rows group) no_row x fits
-      ∙ get_or-set_other (map (renumbered (later group)) rows) group x (inner_group rows group weight)
-      no_row other
+      ∙ get_or-set_other (map (renumbered (later group)) rows) group x
+      (inner_group rows group weight) no_row other
       ∙ get_or-map (renumbered (later group)) rows x no_row no_row below
 
   at_outer : later (group + 1) group ≡ group
@@ -220,8 +221,8 @@ module _ (shape : Shape) (rows : List Row) (group weight : ℕ)
         rule_b group (omega (arith, one_more, inside))
         ∙ rw (unlimited other) want_outer
         ∙ ap (λ i. get_or mb i 0) (sym at_inner)
-        ∙ most_same shape rows longer (group + 1) (later group) (later (group + 1)) carried va vb ma mb
-        (λ q q_in. inl (not_elsewhere q)) rule_a rule_b group inside
+        ∙ most_same shape rows longer (group + 1) (later group) (later (group + 1)) carried
+        va vb ma mb (λ q q_in. inl (not_elsewhere q)) rule_a rule_b group inside
         (λ root. absurd (other root)) kids
 
     most_top : group ≡ 0 → get_or mb group 0 ≡ get_or ma group 0
@@ -236,8 +237,8 @@ module _ (shape : Shape) (rows : List Row) (group weight : ℕ)
         rule_b (group + 1) (omega (arith, one_more, inside))
         ∙ rw no_limit refl
         ∙ ap (want_of (record { shape = shape; rows = longer }) mb) (sym at_inner)
-        ∙ want_same shape rows longer (group + 1) (later group) (later (group + 1)) carried va vb ma mb
-        (λ q q_in. inl (not_elsewhere q)) group inside kids in
+        ∙ want_same shape rows longer (group + 1) (later group) (later (group + 1)) carried
+        va vb ma mb (λ q q_in. inl (not_elsewhere q)) group inside kids in
         let one_limit : limit_of (record { shape = shape; rows = longer }) group
         ≡ limit_of (record { shape = shape; rows = rows }) group = rw root refl in
         rule_b group (omega (arith, one_more, inside))
@@ -261,8 +262,8 @@ module _ (shape : Shape) (rows : List Row) (group weight : ℕ)
             after c (omega (arith, here, parent_lt rows va.tree c group e)) c_in))
         | inr other ↦
             ap (λ i. get_or mb i 0) (later-beside group x other)
-            ∙ most_same shape rows longer (group + 1) (later group) (later (group + 1)) carried va vb ma mb
-            (λ q q_in. inl (not_elsewhere q)) rule_a rule_b x below
+            ∙ most_same shape rows longer (group + 1) (later group) (later (group + 1)) carried
+            va vb ma mb (λ q q_in. inl (not_elsewhere q)) rule_a rule_b x below
             (λ root. rw root (later-below group 0 (omega (arith, other, root))))
             (λ c c_in e. after c (parent_lt rows va.tree c x e) c_in)
       ])
@@ -301,8 +302,8 @@ module _ (shape : Shape) (rows : List Row) (group weight : ℕ)
         ∙ sym pa.top
 
     same : (x : ℕ) → x < length rows → get_or ys (later group x) 0 ≡ get_or xs x 0
-    same = amounts_same shape rows longer (group + 1) (later group) (later (group + 1)) carried va vb ma mb
-        (λ q q_in. inl (not_elsewhere q)) xs ys pa pb most_old top one_amount
+    same = amounts_same shape rows longer (group + 1) (later group) (later (group + 1)) carried
+        va vb ma mb (λ q q_in. inl (not_elsewhere q)) xs ys pa pb most_old top one_amount
 
     whole : ys ≡ insert xs group (get_or xs group 0)
     whole = inserted_whole xs ys group (get_or xs group 0)

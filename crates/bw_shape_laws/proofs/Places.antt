@@ -1,4 +1,5 @@
--- The numbers of a longer list's groups: inserted rows, filtered ranges, lists joined from two parts.
+-- The numbers of a longer list's groups: inserted rows, filtered ranges, lists joined from two
+-- parts.
 use Rattle.std.proofs.Common.{◌≡◌, ℕ, zero, suc, ◌+◌, ◌-◌, ◌<◌, ◌≤◌, List, [], ◌∷◌, ◌++◌, Bool}
 use Rattle.std.proofs.Common.{Option, None, Some, cond, true, false, length, get_or, refl, ap}
 use Rattle.std.proofs.Common.{sym, subst, ◌∙◌, arith}

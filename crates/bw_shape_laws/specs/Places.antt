@@ -3,7 +3,7 @@ use Rattle.std.specs.Prelude.{ℕ, ◌+◌, List, map, nat_lt, if◌then◌else�
 use Rattle.std.specs.Option.{option_map}
 use Rattle.bw_model.specs.declared.row.Row.{Row}
 
--- The number of a group once a new row stands at a place. From the place on each number is one more.
+-- The number of a group once a new row stands at a place: one more from the place on.
 unfoldable pub later : ℕ → ℕ → ℕ
 later place g = if nat_lt g place then g else g + 1
 
