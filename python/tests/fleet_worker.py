@@ -33,7 +33,8 @@ def garbage(job_text, items):
 
 
 def hung(job_text, items):
-    """Never ends."""
+    """Never ends. What waits for it reads that it has begun."""
+    print("begun", flush=True)
     time.sleep(3600)
 
 
