@@ -11,8 +11,9 @@ use crate::asked_instance::{Host, instance_of};
 use crate::certificate_columns::{dens, flag_numbers, nums, places};
 use crate::columns::Columns;
 use crate::refusal::Refusal;
-use bw_cert::certify;
-use bw_plan::plan;
+use bw_cert::certify_gathered;
+use bw_demand::gather_rows;
+use bw_plan::plan_rows;
 use std::alloc::Global;
 
 // A plan with its certificate, by column.
@@ -34,8 +35,9 @@ fn found_in(alloc: Global, host: Host, columns: &Columns<'_>) -> Result<Found, R
     ensures err { IfErr result (λ e. Answers (refusal_of host columns.now) (number_of_refusal e)) }
 {
     let instance = instance_of(alloc, host, columns)?;
-    let plan = plan(alloc, &instance)?;
-    let certificate = certify(alloc, &instance, &plan)?;
+    let gathered = gather_rows(alloc, &instance)?;
+    let plan = plan_rows(alloc, &instance, &gathered)?;
+    let certificate = certify_gathered(alloc, &instance, gathered, &plan)?;
     let levels = certificate.levels.as_slice();
     Ok(Found {
         flags: flag_numbers(alloc, certificate.tight.as_slice())?,

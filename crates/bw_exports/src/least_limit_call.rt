@@ -51,8 +51,8 @@ fn least_limit_of(
 /// The answer is 0 if `limit` is written. A refusal leaves it unchanged.
 ///
 /// # Errors
-/// The numbers of `arbiter_plan`, and after those of the rows 20 if the group is no row. 10 if it is
-/// the root, which has no limit but the capacity.
+/// The numbers of `arbiter_plan`, and after those of the rows 20 if the group is no row. 10 if it
+/// is the root, which has no limit but the capacity.
 #[unsafe(no_mangle)]
 pub extern "C" fn arbiter_least_limit(
     alloc: Global,

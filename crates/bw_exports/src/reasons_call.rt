@@ -11,7 +11,7 @@ use crate::columns::Columns;
 use crate::reason_columns::{blamed_rows, reason_numbers};
 use crate::refusal::Refusal;
 use bw_demand::gather_rows;
-use bw_plan::plan;
+use bw_plan::plan_rows;
 use bw_reasons::reasons;
 use std::alloc::Global;
 
@@ -34,7 +34,7 @@ fn reasons_of(alloc: Global, host: Host, columns: &Columns<'_>) -> Result<Reason
 {
     let instance = instance_of(alloc, host, columns)?;
     let gathered = gather_rows(alloc, &instance)?;
-    let planned = plan(alloc, &instance)?;
+    let planned = plan_rows(alloc, &instance, &gathered)?;
     let found = reasons(alloc, &instance, &gathered, &planned)?;
     let each = found.as_slice();
     Ok(Reasoned {

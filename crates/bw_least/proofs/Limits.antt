@@ -10,6 +10,7 @@ use Rattle.bw_plan.specs.Laws.{HasOnePlan, ThereIsOnePlan}
 use Rattle.bw_plan_laws.specs.Cut.{IsLimitedAt, LimitOnlyCuts}
 use Rattle.bw_plan_laws.specs.Host.{IsRoomier}
 use Rattle.bw_plan_laws.specs.Tree.{IsSameTree}
+use Rattle.bw_plan_laws.proofs.CallerLemmas.{limit_below}
 use Rattle.bw_least.specs.Change.{with_limit}
 use Rattle.bw_least.specs.Least.{Reaches, IsLeastLimit}
 use Rattle.bw_least.proofs.StillInstance.{field_same, row_here, row_other, as_many}
@@ -26,12 +27,6 @@ limit-IsInstance groups valid group limit inside deeper =
     row-IsInstance groups group (limited groups group limit) inside valid refl refl
     (valid.weights group inside).0 (valid.weights group inside).1
     (λ root. absurd (omega (arith, root, deeper)))
-
--- Below the root the limit of a group is that of its row.
-limit_there : (groups : Groups) (group : ℕ) → 0 < group
-    → limit_of groups group ≡ (row_of groups.rows group).limit
-limit_there groups zero deeper = absurd (omega (arith, deeper))
-limit_there groups (suc group) deeper = refl
 
 -- The limits of two instances that differ at one row.
 other_limit : (one two : Groups) (h : ℕ) → one.shape ≡ two.shape
@@ -52,7 +47,7 @@ module _ (groups : Groups) (valid : IsInstance groups) (group : ℕ)
       (same (Some limit)) h)
 
   limit_is : (l : Option ℕ) → limit_of (with_limit groups group l) group ≡ l
-  limit_is l = limit_there (with_limit groups group l) group deeper
+  limit_is l = limit_below (with_limit groups group l) group deeper
       ∙ ap (λ (r : Row). r.limit) (row_here groups group (limited groups group l) inside)
 
   others_kept : (h : ℕ) → h ≢ group → limit_of (with_limit groups group None) h

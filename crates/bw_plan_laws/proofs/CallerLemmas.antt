@@ -3,5 +3,6 @@ pub use Rattle.bw_plan_laws.proofs.BusyLaw.{others_demands_give}
 pub use Rattle.bw_plan_laws.proofs.HostLaws.{capacity_takes_nothing, serve_no_less}
 pub use Rattle.bw_plan_laws.proofs.InsideLaw.{inside_stays}
 pub use Rattle.bw_plan_laws.proofs.RoomLaw.{more_room_takes}
-pub use Rattle.bw_plan_laws.proofs.Trees.{children_same, leaf_same, at_children, at_place, weighted}
+pub use Rattle.bw_plan_laws.proofs.Trees.{limit_below, children_same, leaf_same, at_children}
+pub use Rattle.bw_plan_laws.proofs.Trees.{at_place, weighted}
 pub use Rattle.bw_plan_laws.proofs.WeightLaw.{heavier_alone_gains}

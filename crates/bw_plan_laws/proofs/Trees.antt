@@ -1,5 +1,5 @@
 -- Two instances of one tree: their children, their mosts and their plans, group by group.
-use Rattle.std.proofs.Common.{◌≡◌, ℕ, ◌<◌, ◌≤◌, List, [], ◌∷◌, Bool, cond}
+use Rattle.std.proofs.Common.{◌≡◌, ℕ, zero, suc, ◌<◌, ◌≤◌, List, [], ◌∷◌, Bool, cond}
 use Rattle.std.proofs.Common.{true, false, None, Some, length, get_or, refl, ap, sym, ◌∙◌}
 use Rattle.std.proofs.Common.{arith, inl, inr, eqb}
 use Rattle.std.specs.Prelude.{not}
@@ -11,7 +11,7 @@ use Rattle.std.proofs.lemmas.List.{length-map}
 use Rattle.std.proofs.lemmas.List.Sums.{sum-map}
 use Rattle.bw_model.specs.declared.row.Row.{Row}
 use Rattle.bw_model.specs.Groups.{Groups, IsInstance, AreTreeRows, parent_of, is_child, children_of}
-use Rattle.bw_model.specs.Groups.{is_leaf, weight_of, demand_of, is_under}
+use Rattle.bw_model.specs.Groups.{is_leaf, weight_of, demand_of, limit_of, row_of, is_under}
 use Rattle.bw_model.specs.Demand.{want_of}
 use Rattle.bw_model.specs.Plan.{child_weights}
 use Rattle.bw_model.specs.Split.{IsBestSplit}
@@ -22,6 +22,12 @@ use Rattle.bw_plan.specs.Shared.{IsPlanning}
 use Rattle.bw_plan.proofs.CallerLemmas.{weights_in_range}
 use Rattle.bw_split_laws.specs.Change.{AreWeighted}
 use Rattle.bw_plan_laws.specs.Tree.{IsSameTree, IsNotBelow}
+
+-- Below the root the limit of a group is that of its row.
+pub limit_below : (groups : Groups) (group : ℕ) → 0 < group
+    → limit_of groups group ≡ (row_of groups.rows group).limit
+limit_below groups zero deeper = absurd (omega (arith, deeper))
+limit_below groups (suc group) deeper = refl
 
 -- A filter by an equal test gives the same list.
 filter-ap : (p q : ℕ → Bool) (xs : List ℕ) → ((x : ℕ) → p x ≡ q x) → filter p xs ≡ filter q xs

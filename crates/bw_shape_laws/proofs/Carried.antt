@@ -19,7 +19,7 @@ use Rattle.bw_model.proofs.CallerLemmas.{parent_not_leaf, listed_child, is_child
 use Rattle.bw_model.proofs.CallerLemmas.{inner_has_child, leaf_no_child, no_children}
 use Rattle.bw_model.proofs.CallerLemmas.{IsBestSplit-unique}
 use Rattle.bw_plan.specs.Shared.{IsPlanning}
-use Rattle.bw_plan_laws.proofs.CallerLemmas.{at_children, at_place, weighted}
+use Rattle.bw_plan_laws.proofs.CallerLemmas.{limit_below, at_children, at_place, weighted}
 use Rattle.bw_shape_laws.proofs.Places.{map-map, sum_between}
 use Rattle.bw_shape_laws.proofs.Places.{split_between}
 
@@ -39,11 +39,6 @@ pub record IsCarried (rows longer : List Row) (place : ℕ) (number face : ℕ �
       × (children_of rows q ≡ left ++ right)
       × (children_of longer (number q) ≡ map face left
       ++ (cond (is_child longer (number q) place) (place ∷ []) [] ++ map face right))
-
-pub limit_below : (groups : Groups) (g : ℕ) → 0 < g
-    → limit_of groups g ≡ (row_of groups.rows g).limit
-limit_below groups zero above = absurd (omega arith)
-limit_below groups (suc g) above = refl
 
 -- The values of a group's children in the longer tree, with the new row's between them.
 values_more : (face : ℕ → ℕ) (place : ℕ) (f : ℕ → ℕ) (left right : List ℕ) (b : Bool)

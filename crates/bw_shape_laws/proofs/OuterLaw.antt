@@ -20,14 +20,14 @@ use Rattle.bw_model.proofs.CallerLemmas.{from_the_last, mosts, mosts-capped, cap
 use Rattle.bw_model.proofs.CallerLemmas.{parent_not_leaf}
 use Rattle.bw_plan.specs.Shared.{IsPlanning}
 use Rattle.bw_plan.proofs.CallerLemmas.{plan-IsPlanning}
+use Rattle.bw_plan_laws.proofs.CallerLemmas.{limit_below}
 use Rattle.bw_shape_laws.specs.Places.{later, renumbered, all_renumbered}
 use Rattle.bw_shape_laws.specs.Outer.{OuterGroupChangesNothing, outer_group, inner_group}
 use Rattle.bw_shape_laws.specs.Outer.{with_outer}
 use Rattle.bw_shape_laws.proofs.Places.{later-below, later-from, later-in, later-le, later-alike}
 use Rattle.bw_shape_laws.proofs.Places.{later-free, later-beside, inserted_old, inserted_whole}
 use Rattle.bw_shape_laws.proofs.Places.{parts, AreParts, filter_no, both_empty}
-use Rattle.bw_shape_laws.proofs.Carried.{IsCarried, limit_below, want_same, most_same}
-use Rattle.bw_shape_laws.proofs.Carried.{amounts_same}
+use Rattle.bw_shape_laws.proofs.Carried.{IsCarried, want_same, most_same, amounts_same}
 use Rattle.bw_shape_laws.proofs.Longer.{IsLonger, longer-IsCarried}
 
 -- A parent that stands before the place keeps its number.
