@@ -30,8 +30,11 @@ fn sharers(instance: &Instance, g: u32) -> usize
 }
 
 // Whether the groups below the root have enough sharers for two pieces. The root is alone at its
-// depth. Trees without them need no lists by depth.
+// depth. Trees without them need no lists by depth. A tree of fewer groups is not looked at.
 fn may_be_cut(instance: &Instance) -> bool {
+    if instance.group_count() as usize <= 2 * PIECE_CHILDREN {
+        return false;
+    }
     let mut sharing = 0usize;
     for g in 1..instance.group_count() {
         sharing = sharing.saturating_add(sharers(instance, g));
