@@ -20,8 +20,13 @@ pub const RATIO_UNITS: u64 = 65536;
 /// One and a half times the ratio of the greatest amount to the least weight, in units.
 pub const GREATEST_RATIO: u64 = 3 * MAX_CAPACITY * (RATIO_UNITS / 2);
 
-/// Steps of a level in a cost of one. Two costs that differ are at least one step apart.
-pub const STEPS: u64 = MAX_WEIGHT * MAX_WEIGHT;
+/// Steps of a level in a cost of one: a power of two, so that a division by it is a shift.
+///
+/// Two costs that differ are at least a step apart. They have two weights below them, so they
+/// differ by at least the cost one over the product of the weights.
+pub const STEPS: u64 = 1 << 27;
+
+const _: () = prove!(MAX_WEIGHT * MAX_WEIGHT <= STEPS);
 
 /// Level, in steps, at which each child takes its maximum: the last mark of the greatest amount at
 /// the least weight.
