@@ -90,7 +90,8 @@ impl Work {
 ///
 /// A round is counted for each level that was tested on all children, at most [`MAX_ROUNDS`]. A
 /// pick is counted for each slice that was given after the search, at most one a child. There is no
-/// round if the amount is 0 or the sum of the maxima, or if there is one child; else at least one.
+/// round if the amount is 0 or the sum of the maxima, or with at most two children; else at least
+/// one.
 ///
 /// # Errors
 /// `AllocError` if memory was refused.

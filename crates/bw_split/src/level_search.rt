@@ -11,6 +11,7 @@ use crate::guess::{counted_on, even_guess, guess_after, weakened_where};
 use crate::limits::{
     FILLINGS, GREATEST_LEVEL, GREATEST_RATIO, MAX_ROUNDS, MOST_TAKEN, RATIO_UNITS, STEPS, WIDEST,
 };
+use crate::pair::first_of_two;
 use bw_model::limits::MAX_CAPACITY;
 use std::alloc::{AllocError, Global};
 
@@ -259,6 +260,10 @@ pub(crate) fn split_by_level(
 {
     if weights.len() == 1 {
         return [amount].to_vec(alloc);
+    }
+    if weights.len() == 2 {
+        let first = first_of_two(amount, weights, most);
+        return [first, amount - first].to_vec(alloc);
     }
     let found = find_level(amount, weights, most, work);
     let mut parts = parts_at(alloc, found.level, weights, most)?;

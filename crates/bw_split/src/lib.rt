@@ -15,6 +15,7 @@ mod laws;
 mod level;
 mod level_search;
 pub mod limits;
+mod pair;
 
 pub use by_marks::split_by_marks;
 pub use conditions::{can_split, fits_in};

@@ -1,9 +1,9 @@
 -- The goals of `split_by_level` that are answered by hand.
-use Rattle.std.proofs.Common.{◌≡◌, ◌<◌, ℕ, List, [], ◌∷◌, length, get_or, arith, inl, inr, ◌∙◌}
+use Rattle.std.proofs.Common.{◌≡◌, ◌-◌, ◌<◌, ◌≤◌, ℕ, List, [], ◌∷◌, length, get_or, arith, inl, inr, ◌∙◌}
 use Rattle.std.proofs.Common.{rules}
-use Rattle.std.specs.Prelude.{IfOk}
+use Rattle.std.specs.Prelude.{IfOk, sum}
 use Rattle.std.proofs.lemmas.Result.{IfOk-weaker}
-use Rattle.std.proofs.lemmas.Bool.{cases_lt}
+use Rattle.std.proofs.lemmas.Bool.{cases_lt, cases_eq}
 use Rattle.bw_model.specs.Split.{IsBestSplit}
 use Rattle.bw_model.proofs.CallerLemmas.{get_or_within}
 use Rattle.bw_split.specs.Conditions.{NeedsNoSearch}
@@ -18,6 +18,17 @@ amount_left amount weights most wanted = elim (cases_lt 0 amount) [
   | inl h ↦ h
   | inr h ↦ absurd (wanted (inl (omega (arith, h))))
 ]
+
+-- of no children, one and two none is left
+two_or_more : (weights most : List ℕ) (amount : ℕ) → amount < sum most
+    → length most ≡ length weights → (length weights ≡ 1 → ⊥) → (length weights ≡ 2 → ⊥)
+    → length weights ≤ 2 → ⊥
+two_or_more weights [] amount scarce each one two few = omega (arith, scarce)
+two_or_more weights (m ∷ ms) amount scarce each one two few =
+    elim (cases_eq (length weights) 1) [
+      | inl e ↦ one e
+      | inr other ↦ two (omega (arith, each, few, other))
+    ]
 
 pub loop-slice-init : goal.loop-slice-init
 loop-slice-init c = record {
@@ -34,7 +45,8 @@ loop-slice-init c = record {
     | inl none ↦ omega (arith, c.find_level-found.ensures.no_search none)
     | inr other ↦ absurd (elim other [
       | inl all ↦ let clash : ⊥ = omega (arith, all, c.requires.scarce) in clash
-      | inr one ↦ c.if-weights-eq1.false one
+      | inr few ↦ two_or_more c.args.weights.now c.args.most.now c.args.amount c.requires.scarce
+          c.requires.can.one_each c.if-weights-eq1.false c.if-weights-eq2.false few
     ])
   ];
   counted = (
@@ -90,6 +102,15 @@ returns-then-weights-eq1-clause-best c =
     c.requires.can.one_each
     (c.requires.can.weights_in_range 0 (omega (arith, c.if-weights-eq1.true))).0
     c.requires.can.enough)) copied
+
+pub returns-then-weights-eq2-clause-best : goal.returns-then-weights-eq2-clause-best
+returns-then-weights-eq2-clause-best c =
+    let first = c.first_of_two-first.result in
+    let both = first ∷ (c.args.amount - first) ∷ [] in
+    let copied : IfOk c.to_vec-then-weights-eq2.result (λ v. v.items ≡ both) = search rules in
+    IfOk-weaker c.to_vec-then-weights-eq2.result (λ v. v.items ≡ both)
+    (λ parts. IsBestSplit c.args.amount c.args.weights.now c.args.most.now parts.items)
+    (λ v is. rw is c.first_of_two-first.ensures.best) copied
 
 pub returns-clause-best : goal.returns-clause-best
 returns-clause-best c =
