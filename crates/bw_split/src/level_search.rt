@@ -1,4 +1,5 @@
-//! The split by a level of cost: a search for the level in rounds, then one slice each of the rest.
+//! The split by a level of cost: a search for the level in rounds, then the parts, with one slice
+//! each of the rest.
 ghost use Rattle.std.specs.Prelude.{◌≡◌, ◌+◌, ◌*◌, ◌<◌, ◌≤◌, length, sum, IfOk, IsTrue};
 ghost use Rattle.bw_model.specs.Split.{IsBestSplit};
 ghost use Rattle.bw_split.specs.Conditions.{AreWeights, CanSplit, NeedsNoSearch};
@@ -270,8 +271,8 @@ pub(crate) fn share_by_level(amount: u64, weights: &[u64], most: &mut [u64], wor
         share_among_few(amount, weights, most);
         return;
     }
-    let found = find_level(amount, weights, most, work);
-    write_parts(found, amount, weights, most, work);
+    let reached = find_level(amount, weights, most, work);
+    write_parts(reached, amount, weights, most, work);
 }
 
 /// [`split`](crate::split), with the rounds and picks added to a count.
