@@ -85,7 +85,20 @@ fn many_children(rt: HostRuntime) -> Result<(), Fail> {
 /// A level is greatest where nearly all slices go to a child of the least weight.
 #[test]
 fn great_level(rt: HostRuntime) -> Result<(), Fail> {
-    assert_split(&rt, rt.alloc(), 60005, &[1, 1], &[60000, 10], &[59995, 10])?;
+    let most = [60000, 10, 10];
+    assert_split(&rt, rt.alloc(), 60015, &[1, 1, 1], &most, &[59995, 10, 10])?;
+    Ok(())
+}
+
+/// Two children of great weights, of the same weight in a tie, and each cut at what both can take.
+#[test]
+fn two_children(rt: HostRuntime) -> Result<(), Fail> {
+    let alloc = rt.alloc();
+    let most = [64000, 64000];
+    assert_split(&rt, alloc, 64000, &[10000, 9999], &most, &[32002, 31998])?;
+    assert_split(&rt, alloc, 63999, &[1, 1], &most, &[32000, 31999])?;
+    assert_split(&rt, alloc, 60005, &[1, 1], &[60000, 10], &[59995, 10])?;
+    assert_split(&rt, alloc, 60005, &[1, 1], &[10, u64::MAX], &[10, 59995])?;
     Ok(())
 }
 

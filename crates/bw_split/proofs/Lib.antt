@@ -8,3 +8,4 @@ mod Neighbours
 mod Picks
 mod Search
 mod Takes
+mod TwoChildren

@@ -18,6 +18,6 @@ pub record CanSplit (amount : ℕ) (weights most : List ℕ) : Type 0 where
   pub enough : amount ≤ sum most
   pub small : amount ≤ MAX_CAPACITY
 
--- nothing to split, all that the children can take, or one child alone
+-- nothing to split, all that the children can take, or at most two children
 abbrev pub NeedsNoSearch : ℕ → List ℕ → List ℕ → Type 0
-NeedsNoSearch amount weights most = (amount ≡ 0) ⊎ ((amount ≡ sum most) ⊎ (length weights ≡ 1))
+NeedsNoSearch amount weights most = (amount ≡ 0) ⊎ ((amount ≡ sum most) ⊎ (length weights ≤ 2))

@@ -1,119 +1,49 @@
-//! The split by a level of cost: a search for the level in rounds, then one slice each of the rest.
-ghost use Rattle.std.specs.Prelude.{◌≡◌, ◌+◌, ◌*◌, ◌<◌, ◌≤◌, length, sum, IfOk, IfSome, IfNone};
+//! The split by a level of cost: a search for the level in rounds, then the parts, with one slice
+//! each of the rest.
+ghost use Rattle.std.specs.Prelude.{◌≡◌, ◌+◌, ◌*◌, ◌<◌, ◌≤◌, length, sum, IfOk, IsTrue};
 ghost use Rattle.bw_model.specs.Split.{IsBestSplit};
 ghost use Rattle.bw_split.specs.Conditions.{AreWeights, CanSplit, NeedsNoSearch};
-ghost use Rattle.bw_split.specs.Levels.{taken_by_all, TakesMore, NoneTakesMore};
+ghost use Rattle.bw_split.specs.Levels.{taken_by_all};
 
-use crate::at_level::{parts_at, takes, test_level};
+use crate::at_level::{takes, test_level};
 use crate::conditions::fits_in;
 use crate::counted::Tally;
-use crate::guess::{counted_on, even_guess, guess_after, weakened_where};
-use crate::limits::{
-    FILLINGS, GREATEST_LEVEL, GREATEST_RATIO, MAX_ROUNDS, MOST_TAKEN, RATIO_UNITS, STEPS, WIDEST,
-};
-use bw_model::limits::MAX_CAPACITY;
+use crate::ends::Ends;
+use crate::guess::guess_after;
+use crate::limits::{COARSE, GREATEST_LEVEL, MAX_ROUNDS, MOST_TAKEN, STEPS, WIDEST};
+use crate::pair::first_of_two;
+use bw_model::limits::MAX_WEIGHT;
 use std::alloc::{AllocError, Global};
-
-// One slice more than a part. Only this function adds a pick.
-fn with_one_more(part: u64, work: &mut Tally) -> u64
-    requires { part ≤ MOST_TAKEN }
-    ensures part { result ≡ part + 1 }
-    ensures rounds { work.new.rounds ≡ work.old.rounds }
-    ensures picks { work.new.picks ≡ work.old.picks + 1 }
-{
-    work.add_pick();
-    part + 1
-}
-
-// The children filled up to their shares at a ratio of slices to weight.
-#[derive(Clone, Copy)]
-struct Filling {
-    // The least level, in steps, that is at or above all their last marks.
-    level: u64,
-    // The slices that they take, at most as many as at the level.
-    sum: u64,
-    // The weight of the children that could take more.
-    open: u64,
-}
-
-// The weight of a child if it could take more than its share, else 0.
-fn open_weight(weight: u64, share: u64, bound: u64) -> u64
-    ensures { result ≤ weight }
-{
-    if share < bound { weight } else { 0 }
-}
-
-// Fills each child up to its share by weight at a ratio and one slice more, but not above its
-// maximum or the amount.
-fn fill(ratio: u64, amount: u64, weights: &[u64], most: &[u64]) -> Filling
-    requires can { CanSplit amount weights.now most.now }
-    requires ratio { ratio ≤ (FILLINGS + 1) * GREATEST_RATIO }
-    ensures in_range { result.level ≤ GREATEST_LEVEL }
-    ensures reached { result.sum ≤ taken_by_all result.level weights.now most.now }
-{
-    let mut level = 1;
-    let mut sum = 0;
-    let mut open: u64 = 0;
-    for i in 0..weights.len() {
-        let share = weights[i] * ratio / RATIO_UNITS + 1;
-        let bound = most[i].min(amount);
-        open += open_weight(weights[i], share, bound);
-        let part = share.min(bound);
-        sum += part;
-        // The last mark of the part is `(mark - STEPS) / weight`. The level rises to it.
-        let mark = 2 * part * STEPS;
-        if mark > level * weights[i] + STEPS {
-            level = (mark - STEPS).div_ceil(weights[i]);
-        }
-    }
-    Filling { level, sum, open }
-}
-
-// One and a half times the ratio of an amount to a weight, in units of `1 / RATIO_UNITS`.
-fn ratio_of(amount: u64, weight: u64) -> u64
-    requires { amount ≤ MAX_CAPACITY }
-    ensures { result ≤ GREATEST_RATIO }
-{
-    3 * amount * (RATIO_UNITS / 2) / weight.max(1)
-}
 
 // The upper end of a search, in steps.
 #[derive(Clone, Copy)]
 struct Upper {
     level: u64,
-    // About how many slices the children take there above the amount.
+    // About how many slices the children would take there above the amount, if they had no maxima.
     over: u64,
 }
 
-// A level at which the children take the amount or more.
-//
-// The children are filled up to one and a half times their shares. If that is less than the amount,
-// since some have reached their maxima, the others are filled up again with what is missing. After
-// `FILLINGS` fillings it is the greatest level.
+// A level at which the children take the amount or more: the last mark of the greatest maximum, or
+// of the amount, at the least weight.
 fn upper_level(amount: u64, weights: &[u64], most: &[u64]) -> Upper
     requires can { CanSplit amount weights.now most.now }
-    requires some { 0 < amount }
     ensures in_range { result.level ≤ GREATEST_LEVEL }
     ensures enough { amount ≤ taken_by_all result.level weights.now most.now }
 {
     let mut whole: u64 = 0;
-    for weight in weights {
-        whole += *weight;
+    let mut least = MAX_WEIGHT;
+    let mut greatest = 0;
+    for i in 0..weights.len() {
+        whole += weights[i];
+        least = least.min(weights[i]);
+        greatest = greatest.max(most[i]);
     }
-    let mut ratio = ratio_of(amount, whole);
-    for _filling in 0..FILLINGS {
-        let filling = fill(ratio, amount, weights, most);
-        if filling.sum >= amount {
-            return Upper {
-                level: filling.level,
-                over: filling.sum - amount,
-            };
-        }
-        ratio += ratio_of(amount - filling.sum, filling.open);
-    }
+    let mark = 2 * greatest.min(amount) * STEPS;
+    let level = mark.saturating_sub(STEPS).div_ceil(least);
+    let unbounded = (level / COARSE).saturating_mul(whole) / (2 * STEPS / COARSE);
     Upper {
-        level: GREATEST_LEVEL,
-        over: amount,
+        level,
+        over: unbounded.saturating_sub(amount),
     }
 }
 
@@ -142,9 +72,7 @@ fn trial(level: u64, above: u64, reach: u64, guess: u64) -> u64
 // A level at which the children take at most the amount, and one step above it the amount or more.
 //
 // Each trial is a guess by how far the two ends are off, moved so far that halving would still end
-// within the rounds left. If an end stays twice, its distance counts less in the next guess, so
-// that it moves too: the false position in its Pegasus form. If a test finds a total that an end
-// had already, the next guess goes to a mark.
+// within the rounds left.
 fn search_level(amount: u64, weights: &[u64], most: &[u64], work: &mut Tally) -> Found
     requires can { CanSplit amount weights.now most.now }
     requires some { 0 < amount }
@@ -159,13 +87,9 @@ fn search_level(amount: u64, weights: &[u64], most: &[u64], work: &mut Tally) ->
     let mut rest = amount;
     let upper = upper_level(amount, weights, most);
     let mut above = upper.level;
-    let mut over = upper.over;
-    let mut over_by = over;
-    let mut short_by = rest;
-    let mut level_moved = false;
-    let mut repeats = 0;
+    let mut ends = Ends::new(amount, upper.over);
     let mut reach = WIDEST;
-    for round in 0..MAX_ROUNDS {
+    for _round in 0..MAX_ROUNDS {
         if above - level == 1 {
             return Found { level, rest };
         }
@@ -173,24 +97,17 @@ fn search_level(amount: u64, weights: &[u64], most: &[u64], work: &mut Tally) ->
             return Found { level, rest };
         }
         reach /= 2;
-        let even = even_guess(level, above, short_by, over_by);
-        let guess = guess_after(repeats, even, level, above, weights, most, round);
+        let even = ends.even_guess(level, above);
+        let guess = guess_after(ends.repeats(), even, level, above, weights, most);
         let middle = trial(level, above, reach, guess);
         let total = test_level(middle, weights, most, work);
         if total > amount {
-            repeats = counted_on(repeats, total - amount == over);
+            ends = ends.after_lowering(total - amount);
             above = middle;
-            over = total - amount;
-            short_by = weakened_where(!level_moved, short_by, over_by, over);
-            over_by = over;
-            level_moved = false;
         } else {
-            repeats = counted_on(repeats, amount - total == rest);
+            ends = ends.after_raising(amount - total, middle - level, above - middle);
             level = middle;
             rest = amount - total;
-            over_by = weakened_where(level_moved, over_by, short_by, rest);
-            short_by = rest;
-            level_moved = true;
         }
     }
     Found { level, rest }
@@ -214,67 +131,74 @@ fn find_level(amount: u64, weights: &[u64], most: &[u64], work: &mut Tally) -> F
     search_level(amount, weights, most, work)
 }
 
-// The first child, from a place on, that takes more at a level than its part: of several with a
-// tie the earliest sibling.
-fn first_taker(
-    from: usize,
-    level: u64,
-    parts: &[u64],
-    weights: &[u64],
-    most: &[u64],
-) -> Option<usize>
-    requires level_in_range { level ≤ GREATEST_LEVEL }
-    requires part_each { length parts.now ≡ length weights.now }
-    requires one_each { length most.now ≡ length weights.now }
-    requires weights_in_range { AreWeights weights.now }
-    ensures takes { IfSome result (λ child. (from ≤ child) × (child < length weights.now)
-        × TakesMore level weights.now most.now parts.now child) }
-    ensures first { IfSome result
-        (λ child. NoneTakesMore level weights.now most.now parts.now from child) }
-    ensures none { IfNone result
-        (NoneTakesMore level weights.now most.now parts.now from (length weights.now)) }
+// One slice more than a part, where it is given one. Only this function adds a pick.
+fn part_with(part: u64, more: bool, work: &mut Tally) -> u64
+    requires { part ≤ MOST_TAKEN }
+    ensures more { IsTrue more → result ≡ part + 1 }
+    ensures same { (IsTrue more → ⊥) → result ≡ part }
+    ensures rounds { work.new.rounds ≡ work.old.rounds }
+    ensures picks { work.new.picks ≤ work.old.picks + 1 }
+    ensures counted { work.old.picks ≤ work.new.picks }
 {
-    (from..weights.len()).find(|i| takes(level, weights[*i], most[*i]) > parts[*i])
+    if more {
+        work.add_pick();
+        part + 1
+    } else {
+        part
+    }
 }
 
-/// The best split of an amount below the sum of the maxima, with the rounds and picks added to a
-/// count.
-pub(crate) fn split_by_level(
-    alloc: Global,
-    amount: u64,
-    weights: &[u64],
-    most: &[u64],
-    work: &mut Tally,
-) -> Result<Vec<u64>, AllocError>
-    requires can { CanSplit amount weights.now most.now }
-    requires scarce { amount < sum most.now }
-    ensures best { IfOk result (λ parts. IsBestSplit amount weights.now most.now parts.items) }
-    ensures rounds { work.new.rounds ≤ work.old.rounds + MAX_ROUNDS }
+// Writes in the place of each maximum what its child takes at a level.
+//
+// The rest goes, one slice each, to the first children in order that take one more a step above the
+// level. Their next marks are equal in cost, a tie, which goes to the earlier sibling.
+fn write_parts(found: Found, amount: u64, weights: &[u64], most: &mut [u64], work: &mut Tally)
+    requires can { CanSplit amount weights.now most.old }
+    requires in_range { found.level < GREATEST_LEVEL }
+    requires rest { found.rest + taken_by_all found.level weights.now most.old ≡ amount }
+    requires enough { amount ≤ taken_by_all (found.level + 1) weights.now most.old }
+    ensures best { IsBestSplit amount weights.now most.old most.new }
+    ensures rounds { work.new.rounds ≡ work.old.rounds }
     ensures picks { work.new.picks ≤ work.old.picks + length weights.now }
-    ensures counted { (work.old.rounds ≤ work.new.rounds) × (work.old.picks ≤ work.new.picks) }
-    ensures no_search { NeedsNoSearch amount weights.now most.now
-        → work.new.rounds ≡ work.old.rounds }
-    ensures searched { (NeedsNoSearch amount weights.now most.now → ⊥)
-        → work.old.rounds < work.new.rounds }
+    ensures counted { work.old.picks ≤ work.new.picks }
 {
-    if weights.len() == 1 {
-        return [amount].to_vec(alloc);
+    let mut left = found.rest;
+    for i in 0..weights.len() {
+        let part = takes(found.level, weights[i], most[i]);
+        let more = left > 0 && takes(found.level + 1, weights[i], most[i]) > part;
+        left -= u64::from(more);
+        most[i] = part_with(part, more, work);
     }
-    let found = find_level(amount, weights, most, work);
-    let mut parts = parts_at(alloc, found.level, weights, most)?;
-    // The rest goes, one slice each, to the first children in order that take one more a step above
-    // the level. Their next marks are equal in cost, a tie, which goes to the earlier sibling.
-    let mut from = 0;
-    for _slice in 0..found.rest {
-        match first_taker(from, found.level + 1, &parts, weights, most) {
-            Some(i) => {
-                parts[i] = with_one_more(parts[i], work);
-                from = i + 1;
-            }
-            None => unreachable!(),
-        }
+}
+
+// Writes the split of an amount among at most two children in the place of their maxima.
+fn share_among_few(amount: u64, weights: &[u64], most: &mut [u64])
+    requires can { CanSplit amount weights.now most.old }
+    requires scarce { amount < sum most.old }
+    requires few { length weights.now ≤ 2 }
+    ensures { IsBestSplit amount weights.now most.old most.new }
+{
+    if weights.len() == 2 {
+        let first = first_of_two(amount, weights, most);
+        most[0] = first;
+        most[1] = amount - first;
+    } else {
+        most[0] = amount;
     }
-    Ok(parts)
+}
+
+/// Writes the best split of an amount below the sum of the maxima in their place.
+pub(crate) fn share_by_level(amount: u64, weights: &[u64], most: &mut [u64], work: &mut Tally)
+    requires can { CanSplit amount weights.now most.old }
+    requires scarce { amount < sum most.old }
+    ensures { IsBestSplit amount weights.now most.old most.new }
+{
+    if weights.len() <= 2 {
+        share_among_few(amount, weights, most);
+        return;
+    }
+    let reached = find_level(amount, weights, most, work);
+    write_parts(reached, amount, weights, most, work);
 }
 
 /// [`split`](crate::split), with the rounds and picks added to a count.
@@ -298,5 +222,13 @@ pub(crate) fn split_with(
     if fits_in(most, amount) {
         return most.to_vec(alloc);
     }
-    split_by_level(alloc, amount, weights, most, work)
+    if weights.len() <= 2 {
+        let mut parts = most.to_vec(alloc)?;
+        share_among_few(amount, weights, parts.as_mut_slice());
+        return Ok(parts);
+    }
+    let found = find_level(amount, weights, most, work);
+    let mut parts = most.to_vec(alloc)?;
+    write_parts(found, amount, weights, parts.as_mut_slice(), work);
+    Ok(parts)
 }

@@ -10,11 +10,13 @@ mod by_marks;
 mod conditions;
 mod count;
 mod counted;
+mod ends;
 mod guess;
 mod laws;
 mod level;
 mod level_search;
 pub mod limits;
+mod pair;
 
 pub use by_marks::split_by_marks;
 pub use conditions::{can_split, fits_in};

@@ -1,0 +1,15 @@
+-- The goals of `first_of_two` that are answered by hand.
+use Rattle.std.proofs.Common.{◌+◌, ◌*◌, ◌/◌, get_or, refl, arith}
+use Rattle.bw_split.proofs.TwoChildren.{first-IsBestSplit}
+use Rattle.bw_split.proofs.pair.first_of_two.Goals as goal
+
+pub returns-clause-best : goal.returns-clause-best
+returns-clause-best c =
+    let v = c.requires.can.weights_in_range 0 (omega (arith, c.requires.two)) in
+    let w = c.requires.can.weights_in_range 1 (omega (arith, c.requires.two)) in
+    (first-IsBestSplit c.args.amount c.args.weights.now c.args.most.now
+    ((2 * c.args.amount * get_or c.args.weights.now 0 0
+    + (get_or c.args.weights.now 0 0 + get_or c.args.weights.now 1 0))
+    / (2 * (get_or c.args.weights.now 0 0 + get_or c.args.weights.now 1 0)))
+    c.min.result c.requires.two c.requires.can.one_each v.0 w.0 c.requires.can.enough refl
+    (omega (arith, c.min.ensures, c.max.ensures, c.saturating_sub.ensures))).1
