@@ -10,7 +10,10 @@ push_ascii-requires c =
     let start = c.write_group-start.result in
     let bytes = drop start c.write_group-start.new.buffer in
     let small = c.write_group-start.ensures in
-    rw (take_all (170 - start) bytes
-    (omega (arith, length-drop start c.write_group-start.new.buffer)), small.written)
+    rw (
+      take_all (170 - start) bytes
+          (omega (arith, length-drop start c.write_group-start.new.buffer)),
+      small.written,
+    )
     (group_ascii c.args.row c.args.amount c.args.flag (option_map price_of c.args.level)
     small.small_row small.small_amount small.small_level)

@@ -1,5 +1,5 @@
 -- The goals of `write_number_before` that are answered by hand.
-use Rattle.std.proofs.Common.{◌≡◌, ◌+◌, ◌≤◌, length, arith, rules}
+use Rattle.std.proofs.Common.{◌≤◌, length, arith, rules}
 use Rattle.std.proofs.lemmas.Fmt.{length-decimal-le}
 use Rattle.std.specs.Fmt.{decimal}
 use Rattle.bw_text.proofs.backward.write_number_before.Goals as goal
