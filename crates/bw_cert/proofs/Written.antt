@@ -19,11 +19,17 @@ pub head_text : (old p us s n : List ℕ)
     ≡ old ++ line (codes "bw" ∷ codes "1" ∷ p ∷ us ∷ s ∷ n ∷ [])
 head_text old p us s n = simp append_assoc
 
-pub group_text : (old p w l d a f m : List ℕ)
-    → (((((old ++ (p ++ codes " " ++ w ++ codes " " ++ l ++ codes " " ++ d ++ codes " ")) ++ a)
-    ++ codes " ") ++ f) ++ codes " ") ++ m ++ codes "\n"
-    ≡ old ++ line (p ∷ w ∷ l ∷ d ∷ a ∷ f ∷ m ∷ [])
-group_text old p w l d a f m = simp append_assoc
+-- a row's words before a text
+pub row_before_text : (p w l d text : List ℕ)
+    → p ++ 32 ∷ (w ++ 32 ∷ (l ++ 32 ∷ (d ++ 32 ∷ text)))
+    ≡ (p ++ codes " " ++ w ++ codes " " ++ l ++ codes " " ++ d ++ codes " ") ++ text
+row_before_text p w l d text = simp append_assoc
+
+pub group_text : (p w l d a f m : List ℕ)
+    → (p ++ codes " " ++ w ++ codes " " ++ l ++ codes " " ++ d ++ codes " ")
+    ++ (a ++ 32 ∷ (f ++ 32 ∷ (m ++ 10 ∷ [])))
+    ≡ line (p ∷ w ∷ l ∷ d ∷ a ∷ f ∷ m ∷ [])
+group_text p w l d a f m = simp append_assoc
 
 -- the lines from a group on
 abbrev pub rest_text : List Row → List ℕ → List Bool → List (Option Mark) → ℕ → List ℕ

@@ -1,24 +1,19 @@
--- The goals of `push_group` that are answered by hand.
-use Rattle.std.specs.Prelude.{string_bytes}
-use Rattle.std.specs.Fmt.{decimal}
+-- The goal of `push_group` that is answered by hand.
+use Rattle.std.proofs.Common.{◌-◌, drop, take_all, length-drop, arith}
 use Rattle.std.specs.Option.{option_map}
 use Rattle.bw_model.specs.Marks.{price_of}
-use Rattle.bw_cert.specs.Spelling.{parent_word, limit_word, flag_word, level_word}
-use Rattle.bw_cert.proofs.Written.{group_text}
+use Rattle.bw_cert.proofs.AsciiLine.{group_ascii}
 use Rattle.bw_cert.proofs.writing.push_group.Goals as goal
 
-pub returns-clause-text : goal.returns-clause-text
-returns-clause-text c =
+pub push_ascii-requires : goal.push_ascii-requires
+push_ascii-requires c =
+    let start = c.write_group-start.result in
+    let bytes = drop start c.write_group-start.new.buffer in
+    let small = c.write_group-start.ensures in
     rw (
-      c.in_ok-push_str-3.ensures.bytes,
-      c.in_ok-push_level.ensures,
-      c.in_ok-push_str-2.ensures.bytes,
-      c.in_ok-push_flag.ensures,
-      c.in_ok-push_str.ensures.bytes,
-      c.in_ok-push_number.ensures.bytes,
-      c.in_ok-push_row.ensures,
+      take_all (170 - start) bytes
+          (omega (arith, length-drop start c.write_group-start.new.buffer)),
+      small.written,
     )
-    (group_text (string_bytes c.args.out.now) (parent_word c.args.row.parent)
-    (decimal c.args.row.weight) (limit_word c.args.row.limit)
-    (decimal c.args.row.demand) (decimal c.args.amount) (flag_word c.args.flag)
-    (level_word (option_map price_of c.args.level)))
+    (group_ascii c.args.row c.args.amount c.args.flag (option_map price_of c.args.level)
+    small.small_row small.small_amount small.small_level)
