@@ -251,25 +251,8 @@ fn add_withheld(stat: &mut Stat, slices: u64, slice_us: u64)
     }
 }
 
-// Counts a burst if any slices were drawn above the quota. Counters saturate.
-fn add_burst(stat: &mut Stat, slices: u64, slice_us: u64)
-    ensures { stat.new ≡ record stat.old {
-      nr_bursts = cut (stat.old.nr_bursts + periods_if (nat_lt 0 slices));
-      burst_usec = cut (stat.old.burst_usec + slices * slice_us);
-    } }
-{
-    let Stat {
-        nr_bursts,
-        burst_usec,
-        ..
-    } = *stat;
-    if slices > 0 {
-        stat.nr_bursts = nr_bursts.saturating_add(1);
-        stat.burst_usec = burst_usec.saturating_add(slices.saturating_mul(slice_us));
-    }
-}
-
-// Adds the slices that a group drew. Counters saturate.
+// Adds the slices that a group drew, and counts a burst if any were above its quota. A group that
+// drew nothing keeps its usage and its bursts. Counters saturate.
 fn add_drawn(stat: &mut Stat, slice_us: u64, row: &Row, quota: Option<u64>, drawn: u64)
     ensures { stat.new ≡ record stat.old {
       usage_usec = cut (stat.old.usage_usec + drawn * slice_us);
@@ -277,26 +260,28 @@ fn add_drawn(stat: &mut Stat, slice_us: u64, row: &Row, quota: Option<u64>, draw
       burst_usec = cut (stat.old.burst_usec + burst row.now.parent quota drawn * slice_us);
     } }
 {
-    stat.usage_usec = stat
-        .usage_usec
-        .saturating_add(drawn.saturating_mul(slice_us));
-    add_burst(stat, burst(row, quota, drawn), slice_us);
-}
-
-// Adds one period to the counters of a group. One that drew nothing has neither usage nor a burst.
-fn add(stat: &mut Stat, slice_us: u64, row: &Row, quota: Option<u64>, want: u64, drawn: u64)
-    ensures { stat.new ≡ added stat.old (share_of slice_us row.now quota want drawn) }
-{
     let Stat {
         usage_usec,
         nr_bursts,
         burst_usec,
         ..
     } = *stat;
+    if drawn > 0 {
+        stat.usage_usec = usage_usec.saturating_add(drawn.saturating_mul(slice_us));
+        let above = burst(row, quota, drawn);
+        if above > 0 {
+            stat.nr_bursts = nr_bursts.saturating_add(1);
+            stat.burst_usec = burst_usec.saturating_add(above.saturating_mul(slice_us));
+        }
+    }
+}
+
+// Adds one period to the counters of a group.
+fn add(stat: &mut Stat, slice_us: u64, row: &Row, quota: Option<u64>, want: u64, drawn: u64)
+    ensures { stat.new ≡ added stat.old (share_of slice_us row.now quota want drawn) }
+{
     let withheld = withheld_slices(row, want);
     stat.nr_periods = stat.nr_periods.saturating_add(1);
     add_withheld(stat, withheld, slice_us);
-    if drawn > 0 {
-        add_drawn(stat, slice_us, row, quota, drawn);
-    }
+    add_drawn(stat, slice_us, row, quota, drawn);
 }
