@@ -131,6 +131,8 @@ fn book_rows(
     }
 }
 
+// Counts a period for one group. Its counters are at `likely`, the number of its row, if every
+// booked instance had all groups in order of creation, and each removed group was forgotten.
 fn book_row(
     stats: &mut IndexMap<u64, Stat>,
     likely: usize,
@@ -146,7 +148,32 @@ fn book_row(
         ≡ with_share stats.old.entries id (share_of slice_us row.now quota want drawn) }
     ensures room { spare stats.old ≤ spare stats.new + 1 }
 {
-    match place_of(stats, likely, id) {
+    if is_at(stats, likely, id) {
+        let stat = &mut stats[likely];
+        add(stat, slice_us, row, quota, want, drawn);
+    } else {
+        book_by_id(stats, id, slice_us, row, quota, want, drawn);
+    }
+}
+
+// Counts a period for a group whose counters are looked up. Apart from the loop, which is then
+// short.
+#[inline(never)]
+fn book_by_id(
+    stats: &mut IndexMap<u64, Stat>,
+    id: u64,
+    slice_us: u64,
+    row: &Row,
+    quota: Option<u64>,
+    want: u64,
+    drawn: u64,
+)
+    requires { 0 < spare stats.old }
+    ensures entries { stats.new.entries
+        ≡ with_share stats.old.entries id (share_of slice_us row.now quota want drawn) }
+    ensures room { spare stats.old ≤ spare stats.new + 1 }
+{
+    match stats.get_index_of(&id) {
         Some(place) => {
             let stat = &mut stats[place];
             add(stat, slice_us, row, quota, want, drawn);
@@ -157,18 +184,6 @@ fn book_row(
             let _none = stats.insert(id, stat).unwrap();
         }
     }
-}
-
-// Place of a group's counters: `likely`, the number of the group's row, if they are there.
-// Otherwise they are looked up. They are at that place if every booked instance had all groups in
-// order of creation, and each removed group was forgotten.
-fn place_of(stats: &IndexMap<u64, Stat>, likely: usize, id: u64) -> Option<usize>
-    ensures { result ≡ position (nat_eq id) (keys_of stats.now.entries) }
-{
-    if is_at(stats, likely, id) {
-        return Some(likely);
-    }
-    stats.get_index_of(&id)
 }
 
 // Whether the counters at a place belong to this group.
@@ -236,21 +251,28 @@ fn add_withheld(stat: &mut Stat, slices: u64, slice_us: u64)
     }
 }
 
-// Counts a burst if any slices were drawn above the quota. Counters saturate.
-fn add_burst(stat: &mut Stat, slices: u64, slice_us: u64)
+// Adds the slices that a group drew, and counts a burst if any were above its quota. A group that
+// drew nothing keeps its usage and its bursts. Counters saturate.
+fn add_drawn(stat: &mut Stat, slice_us: u64, row: &Row, quota: Option<u64>, drawn: u64)
     ensures { stat.new ≡ record stat.old {
-      nr_bursts = cut (stat.old.nr_bursts + periods_if (nat_lt 0 slices));
-      burst_usec = cut (stat.old.burst_usec + slices * slice_us);
+      usage_usec = cut (stat.old.usage_usec + drawn * slice_us);
+      nr_bursts = cut (stat.old.nr_bursts + periods_if (nat_lt 0 (burst row.now.parent quota drawn)));
+      burst_usec = cut (stat.old.burst_usec + burst row.now.parent quota drawn * slice_us);
     } }
 {
     let Stat {
+        usage_usec,
         nr_bursts,
         burst_usec,
         ..
     } = *stat;
-    if slices > 0 {
-        stat.nr_bursts = nr_bursts.saturating_add(1);
-        stat.burst_usec = burst_usec.saturating_add(slices.saturating_mul(slice_us));
+    if drawn > 0 {
+        stat.usage_usec = usage_usec.saturating_add(drawn.saturating_mul(slice_us));
+        let above = burst(row, quota, drawn);
+        if above > 0 {
+            stat.nr_bursts = nr_bursts.saturating_add(1);
+            stat.burst_usec = burst_usec.saturating_add(above.saturating_mul(slice_us));
+        }
     }
 }
 
@@ -259,10 +281,7 @@ fn add(stat: &mut Stat, slice_us: u64, row: &Row, quota: Option<u64>, want: u64,
     ensures { stat.new ≡ added stat.old (share_of slice_us row.now quota want drawn) }
 {
     let withheld = withheld_slices(row, want);
-    stat.usage_usec = stat
-        .usage_usec
-        .saturating_add(drawn.saturating_mul(slice_us));
     stat.nr_periods = stat.nr_periods.saturating_add(1);
     add_withheld(stat, withheld, slice_us);
-    add_burst(stat, burst(row, quota, drawn), slice_us);
+    add_drawn(stat, slice_us, row, quota, drawn);
 }
