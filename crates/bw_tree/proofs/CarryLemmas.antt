@@ -16,7 +16,10 @@ use Rattle.bw_tree.specs.Groups.{IsTree, AllBefore, AllAfter, AreRising, IsSound
 use Rattle.bw_tree.specs.Tree.{set_carry}
 use Rattle.bw_tree.specs.Snapshot.{carried, carried_at, left_of, left_over}
 use Rattle.bw_tree.proofs.GroupLemmas.{above_same}
+use Rattle.bw_tree.specs.declared.node.Node.{Node}
+use Rattle.bw_tree.specs.Nodes.{IsNodeOf, AreNodesOf}
 use Rattle.bw_tree.proofs.IndexLemmas.{index_alike}
+use Rattle.bw_tree.proofs.NodeLemmas.{nodes_alike}
 
 pub length_carried : (gs : List (ℕ × GroupFields)) (cs : List ℕ)
     → length (carried gs cs) ≡ length gs
@@ -216,7 +219,15 @@ index_carried gs cs index is =
     index_alike gs (carried gs cs) index
     (λ q p n. child_kept p n (group_at (carried gs cs) q) (group_at gs q)
     (look_carried gs cs q))
-    (child_carried gs cs) (count_carried gs cs) is
+    (child_carried gs cs) is
+
+-- and so do the nodes
+pub nodes_carried : (gs : List (ℕ × GroupFields)) (cs : List ℕ) (nodes : List Node)
+    → AreNodesOf gs nodes → AreNodesOf (carried gs cs) nodes
+nodes_carried gs cs nodes =
+    nodes_alike (IsNodeOf gs) (IsNodeOf (carried gs cs)) gs (carried gs cs) nodes
+    (keys_carried gs cs)
+    (λ p n is. record { children = is.children ∙ sym (count_carried gs cs p) })
 
 -- ---- one group after another
 

@@ -10,6 +10,7 @@ mod group;
 mod laws;
 pub mod limits;
 mod names;
+mod node;
 mod paths;
 mod refusals;
 mod setting;

@@ -1,8 +1,7 @@
 -- The goals of `index_of` that are answered by hand.
-use Rattle.std.proofs.Common.{rules, ◌≡◌, Some, None, sym, ap, subst, ◌∙◌, arith}
+use Rattle.std.proofs.Common.{rules, ◌≡◌, Some, None, sym, ap, subst, ◌∙◌}
 use Rattle.bw_tree.specs.Groups.{GroupFields}
 use Rattle.bw_tree.specs.Children.{IsAdded}
-use Rattle.bw_tree.proofs.CountLemmas.{count_le, few_counted}
 use Rattle.bw_tree.proofs.IndexLemmas.{IsPartIndex, part_start, part_end, part_skip, part_step}
 use Rattle.bw_tree.proofs.tree.index_of.Goals as goal
 
@@ -10,19 +9,8 @@ pub loop-id-init : goal.loop-id-init
 loop-id-init c =
     let all = part_start c.args.groups.now.entries c.new-children.result
     c.new-children.ensures.first c.new-children.ensures.others
-    c.new-children.ensures.counts c.new-children.ensures.none_empty c.requires.named in
+    c.new-children.ensures.none_empty c.requires in
     search (rules, all)
-
-pub insert-requires-clause-few : goal.insert-requires-clause-few
-insert-requires-clause-few c =
-    let done = c.loop-id.invariant.2.counts c.in-Some-parent.parent in
-    few_counted _ done.0 done.1
-    (omega (
-      arith,
-      done.2,
-      count_le c.args.groups.now.entries c.in-Some-parent.parent,
-      c.requires.few,
-    ))
 
 pub loop-id-preserved-in-Continue-1 : goal.loop-id-preserved-in-Continue-1
 loop-id-preserved-in-Continue-1 c =

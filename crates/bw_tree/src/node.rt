@@ -1,0 +1,44 @@
+//! What is kept beside each group, in the same order: the number of its children.
+ghost use Rattle.std.specs.Prelude.{◌≡◌, ◌<◌, ◌+◌, ◌^◌, ◌++◌, [], ◌∷◌, length, slice_set};
+ghost use Rattle.std.specs.Prelude.{vec_len, vec_capacity};
+ghost use Rattle.std.specs.List.{remove};
+ghost use Rattle.bw_tree.specs.Nodes.{leaf, node_at, one_child_more, one_child_less};
+
+// Node of a group in the tree.
+#[derive(Clone, Copy, Debug)]
+pub(crate) struct Node {
+    // number of its children
+    pub(crate) children: u32,
+}
+
+impl Node {
+    // Node of a group without children.
+    pub(crate) fn leaf() -> Node
+        ensures { result ≡ leaf }
+    {
+        Node { children: 0 }
+    }
+}
+
+// Appends a leaf below the node at a place. The caller has reserved room for it.
+pub(crate) fn push_leaf(nodes: &mut Vec<Node>, above: usize)
+    requires within { above < length nodes.old.items }
+    requires few { (node_at nodes.old.items above).children + 1 < 2 ^ 32 }
+    requires room { vec_len nodes.old < vec_capacity nodes.old }
+    ensures { nodes.new.items
+        ≡ slice_set nodes.old.items above (one_child_more (node_at nodes.old.items above))
+        ++ leaf ∷ [] }
+{
+    nodes[above].children += 1;
+    nodes.push_reserved(Node::leaf());
+}
+
+// Takes one child from the node at a place.
+pub(crate) fn take_child(nodes: &mut Vec<Node>, above: usize)
+    requires within { above < length nodes.old.items }
+    requires some { 0 < (node_at nodes.old.items above).children }
+    ensures { nodes.new.items
+        ≡ slice_set nodes.old.items above (one_child_less (node_at nodes.old.items above)) }
+{
+    nodes[above].children -= 1;
+}
