@@ -2,9 +2,8 @@
 use Rattle.std.proofs.Common.{◌≡◌, ℕ, zero, suc, ◌<◌, Bool, true, false, cond, ◌||◌, List, [], ◌∷◌}
 use Rattle.std.proofs.Common.{length, get_or, take, Option, Some, None, is_some, refl}
 use Rattle.std.proofs.Common.{sym, ap, subst, ◌∙◌, arith, eqb}
-use Rattle.std.specs.Prelude.{slice_get}
-use Rattle.std.specs.Map.{keys_of, values_of}
-use Rattle.indexmap.specs.IndexMap.{set_value_at}
+use Rattle.std.specs.Prelude.{slice_set}
+use Rattle.std.specs.Map.{keys_of}
 use Rattle.bw_model.specs.declared.row.Row.{Row}
 use Rattle.bw_model.specs.declared.limits.TheConstants.{MAX_PATH}
 use Rattle.bw_tree.specs.declared.child_index.ChildIndex.{ChildIndex}
@@ -232,14 +231,14 @@ nodes_carried gs cs nodes =
 -- ---- one group after another
 
 -- a group that is written at a place
-pub written_at : (gs : List (ℕ × GroupFields)) (i carry : ℕ) (g : GroupFields)
-    → slice_get (values_of gs) i ≡ Some g
-    → set_value_at gs i (set_carry carry g) ≡ carried_at gs i carry
-written_at [] i carry g at = cc
-written_at (e ∷ es) zero carry g at =
-    let is : e.1 ≡ g = cc in ap (λ (x : GroupFields). (e.0, set_carry carry x) ∷ es) (sym is)
-written_at (e ∷ es) (suc i) carry g at =
-    ap (λ (xs : List (ℕ × GroupFields)). e ∷ xs) (written_at es i carry g at)
+pub written_at : (gs : List (ℕ × GroupFields)) (i carry : ℕ) (x : ℕ × GroupFields)
+    → x ≡ get_or gs i x
+    → slice_set gs i (x.0, set_carry carry x.1) ≡ carried_at gs i carry
+written_at [] i carry x is = refl
+written_at (e ∷ es) zero carry x is =
+    ap (λ (y : ℕ × GroupFields). (y.0, set_carry carry y.1) ∷ es) is
+written_at (e ∷ es) (suc i) carry x is =
+    ap (λ (xs : List (ℕ × GroupFields)). e ∷ xs) (written_at es i carry x is)
 
 -- the next group keeps what it left over
 pub carry_next : (gs : List (ℕ × GroupFields)) (cs : List ℕ) (i : ℕ) → i < length gs → i < length cs

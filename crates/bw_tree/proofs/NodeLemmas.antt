@@ -1,11 +1,9 @@
 -- What is kept beside each group, after each change of the groups.
 use Rattle.std.proofs.Common.{◌≡◌, ◌≢◌, ℕ, suc, zero, ◌<◌, Bool, true, false, cond}
-use Rattle.std.proofs.Common.{◌||◌, List, [], ◌∷◌, ◌++◌, length, get_or, position, Some, None}
+use Rattle.std.proofs.Common.{◌||◌, List, [], ◌∷◌, ◌++◌, length, Some, None}
 use Rattle.std.proofs.Common.{refl, sym, ap, subst, ◌∙◌, arith, eqb}
 use Rattle.std.specs.Prelude.{slice_set}
 use Rattle.std.proofs.lemmas.Bool.{eq-eqb, ne_eqb, eqb-true}
-use Rattle.std.proofs.lemmas.List.{length-map}
-use Rattle.std.proofs.lemmas.List.Quantifiers.{position-Some}
 use Rattle.std.proofs.lemmas.Slice.Zip.{AllZip-long}
 use Rattle.std.specs.List.{AllZip, remove}
 use Rattle.std.specs.Map.{keys_of, remove_entry, set_value}
@@ -17,34 +15,11 @@ use Rattle.bw_tree.specs.Tree.{changed, changed_at}
 use Rattle.bw_tree.proofs.CountLemmas.{count_push, count_removed, count_set, count_has}
 use Rattle.bw_tree.proofs.GroupLemmas.{not_positive}
 use Rattle.bw_tree.proofs.IndexLemmas.{at_more}
+use Rattle.bw_tree.proofs.PlaceLemmas.{StandsAt, stands_later}
 
 -- a list of groups, each with its id
 abbrev pub Groups : Type 0
 Groups = List (ℕ × GroupFields)
-
--- where a key stands, and that it does not stand before
-pub record StandsAt (gs : Groups) (id i : ℕ) : Type 0 where
-  pub here : eqb id (get_or (keys_of gs) i 0) ≡ true
-  pub before : (k : ℕ) → k < i → eqb id (get_or (keys_of gs) k 0) ≡ false
-  pub within : i < length gs
-
-pub stands_at : (gs : Groups) (id i : ℕ) → position (eqb id) (keys_of gs) ≡ Some i
-    → StandsAt gs id i
-stands_at gs id i at =
-    let first = position-Some (eqb id) (keys_of gs) i 0 at in
-    record {
-      here = first.1;
-      before = first.2;
-      within = omega (arith, first.0, length-map gs (λ (e : ℕ × GroupFields). e.0));
-    }
-
-stands_later : (e : ℕ × GroupFields) (es : Groups) (id i : ℕ) → StandsAt (e ∷ es) id (suc i)
-    → StandsAt es id i
-stands_later e es id i at = record {
-  here = at.here;
-  before = λ k lt. at.before (suc k) (omega (arith, lt));
-  within = omega (arith, at.within);
-}
 
 module _ (P : ℕ → Node → Type 0) where
   -- a fact of each group's id and its node

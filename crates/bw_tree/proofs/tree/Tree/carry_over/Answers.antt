@@ -8,7 +8,7 @@ use Rattle.bw_tree.proofs.tree.Tree.carry_over.Goals as goal
 pub invariant_of-self : goal.invariant_of-self
 invariant_of-self c =
     let t : TreeState =
-    record { groups = c.self.inside.groups.entries; next = c.self.inside.next_id } in
+    record { groups = c.self.inside.groups.items; next = c.self.inside.next_id } in
     subst (λ es. IsIndexedTree (record { groups = es; next = c.self.inside.next_id })
     c.self.inside.children c.self.inside.nodes.items) (sym c.write_carries.ensures)
     (record {

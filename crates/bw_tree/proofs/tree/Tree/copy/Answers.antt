@@ -10,28 +10,28 @@ use Rattle.bw_tree.proofs.tree.Tree.copy.Goals as goal
 pub index_of-requires : goal.index_of-requires
 index_of-requires c =
     let t : TreeState =
-    record { groups = c.self.inside.groups.entries; next = c.self.inside.next_id } in
-    let same = same_entries c.self.inside.groups.entries c.in_ok-groups.groups.entries
-    c.in_ok-groups.ensures.cases in
+    record { groups = c.self.inside.groups.items; next = c.self.inside.next_id } in
+    let same = same_entries c.self.inside.groups.items c.in_ok-groups.groups.items
+    c.in_ok-groups.ensures.cases.0 in
     subst (λ es. AreNamed es es) (sym same) (tree_named t c.self.invariant.tree)
 
 pub invariant_of-result : goal.invariant_of-result
 invariant_of-result c =
-    let same = same_entries c.self.inside.groups.entries c.in_ok-groups.groups.entries
-    c.in_ok-groups.ensures.cases in
+    let same = same_entries c.self.inside.groups.items c.in_ok-groups.groups.items
+    c.in_ok-groups.ensures.cases.0 in
     let beside = each_same c.self.inside.nodes.items c.in_ok-nodes.nodes.items
     c.in_ok-nodes.ensures.cases.0 in
     record {
       tree = subst (λ es. IsTree (record { groups = es; next = c.self.inside.next_id })) (sym same)
           c.self.invariant.tree;
       index = c.in_ok-children.ensures;
-      nodes = subst (AreNodesOf c.in_ok-groups.groups.entries) (sym beside)
+      nodes = subst (AreNodesOf c.in_ok-groups.groups.items) (sym beside)
           (subst (λ es. AreNodesOf es c.self.inside.nodes.items) (sym same)
           c.self.invariant.nodes);
     }
 
 pub returns-clause-made : goal.returns-clause-made
 returns-clause-made c =
-    let same = same_entries c.self.inside.groups.entries c.in_ok-groups.groups.entries
-    c.in_ok-groups.ensures.cases in
+    let same = same_entries c.self.inside.groups.items c.in_ok-groups.groups.items
+    c.in_ok-groups.ensures.cases.0 in
     ap (λ es. record { groups = es; next = c.self.inside.next_id }) same ∙ c.self.view_is

@@ -5,12 +5,13 @@ use Rattle.bw_tree.specs.declared.node.Node.{Node}
 use Rattle.bw_tree.specs.Groups.{TreeState, has_group, has_children}
 use Rattle.bw_tree.specs.Nodes.{IsNodeOf, leaf, node_at}
 use Rattle.bw_tree.proofs.CountLemmas.{count_has}
-use Rattle.bw_tree.proofs.NodeLemmas.{as_many, childless, node_read, stands_at}
+use Rattle.bw_tree.proofs.NodeLemmas.{as_many, childless, node_read}
+use Rattle.bw_tree.proofs.PlaceLemmas.{stands_at}
 use Rattle.bw_tree.proofs.tree.Tree.has_children.Goals as goal
 
 pub index-requires : goal.index-requires
 index-requires c =
-    let gs = c.self.inside.groups.entries in
+    let gs = c.self.inside.groups.items in
     let long : length c.self.inside.nodes.items ≡ length gs =
     as_many gs c.self.inside.nodes.items c.self.invariant.nodes in
     omega (arith, c.in-Some.ensures.within, long)
@@ -18,7 +19,7 @@ index-requires c =
 pub returns-in-None : goal.returns-in-None
 returns-in-None c =
     let t : TreeState =
-    record { groups = c.self.inside.groups.entries; next = c.self.inside.next_id } in
+    record { groups = c.self.inside.groups.items; next = c.self.inside.next_id } in
     let none : has_group t.groups c.args.id ≡ false =
     sym c.place_of.ensures.found ∙ ap is_some c.in-None.is in
     sym (childless t c.self.invariant.tree c.args.id none)
@@ -26,7 +27,7 @@ returns-in-None c =
 
 pub returns-in-Some : goal.returns-in-Some
 returns-in-Some c =
-    let gs = c.self.inside.groups.entries in
+    let gs = c.self.inside.groups.items in
     let ns = c.self.inside.nodes.items in
     let long : length ns ≡ length gs = as_many gs ns c.self.invariant.nodes in
     let within : c.in-Some.place < length ns = omega (arith, c.in-Some.ensures.within, long) in
