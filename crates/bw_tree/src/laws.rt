@@ -40,7 +40,8 @@ pub fn carries_need_a_burst()
 
 /// Law: numbers of a new group, which the definitions read from the code.
 ///
-/// A name has up to 255 bytes, and is stored in place up to 24. The weight is 100, the period 100000 microseconds, the first id 1.
+/// A name has up to 255 bytes, and is stored in place up to 24. The weight is 100, the period
+/// 100000 microseconds, the first id 1.
 pub fn new_group_numbers()
     ensures name { MAX_NAME ≡ 255 }
     ensures short_name { MAX_SHORT_NAME ≡ 24 }
