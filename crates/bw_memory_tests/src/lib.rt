@@ -17,6 +17,8 @@ mod known_keys;
 #[cfg(test)]
 mod least_cases;
 #[cfg(test)]
+mod name_cases;
+#[cfg(test)]
 mod reason_cases;
 #[cfg(test)]
 mod split_cases;

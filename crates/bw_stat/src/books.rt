@@ -131,6 +131,8 @@ fn book_rows(
     }
 }
 
+// Counts a period for one group. Its counters are at `likely`, the number of its row, if every
+// booked instance had all groups in order of creation, and each removed group was forgotten.
 fn book_row(
     stats: &mut IndexMap<u64, Stat>,
     likely: usize,
@@ -146,7 +148,32 @@ fn book_row(
         ≡ with_share stats.old.entries id (share_of slice_us row.now quota want drawn) }
     ensures room { spare stats.old ≤ spare stats.new + 1 }
 {
-    match place_of(stats, likely, id) {
+    if is_at(stats, likely, id) {
+        let stat = &mut stats[likely];
+        add(stat, slice_us, row, quota, want, drawn);
+    } else {
+        book_by_id(stats, id, slice_us, row, quota, want, drawn);
+    }
+}
+
+// Counts a period for a group whose counters are looked up. Apart from the loop, which is then
+// short.
+#[inline(never)]
+fn book_by_id(
+    stats: &mut IndexMap<u64, Stat>,
+    id: u64,
+    slice_us: u64,
+    row: &Row,
+    quota: Option<u64>,
+    want: u64,
+    drawn: u64,
+)
+    requires { 0 < spare stats.old }
+    ensures entries { stats.new.entries
+        ≡ with_share stats.old.entries id (share_of slice_us row.now quota want drawn) }
+    ensures room { spare stats.old ≤ spare stats.new + 1 }
+{
+    match stats.get_index_of(&id) {
         Some(place) => {
             let stat = &mut stats[place];
             add(stat, slice_us, row, quota, want, drawn);
@@ -157,18 +184,6 @@ fn book_row(
             let _none = stats.insert(id, stat).unwrap();
         }
     }
-}
-
-// Place of a group's counters: `likely`, the number of the group's row, if they are there.
-// Otherwise they are looked up. They are at that place if every booked instance had all groups in
-// order of creation, and each removed group was forgotten.
-fn place_of(stats: &IndexMap<u64, Stat>, likely: usize, id: u64) -> Option<usize>
-    ensures { result ≡ position (nat_eq id) (keys_of stats.now.entries) }
-{
-    if is_at(stats, likely, id) {
-        return Some(likely);
-    }
-    stats.get_index_of(&id)
 }
 
 // Whether the counters at a place belong to this group.
@@ -254,15 +269,34 @@ fn add_burst(stat: &mut Stat, slices: u64, slice_us: u64)
     }
 }
 
-// Adds one period to the counters of a group.
-fn add(stat: &mut Stat, slice_us: u64, row: &Row, quota: Option<u64>, want: u64, drawn: u64)
-    ensures { stat.new ≡ added stat.old (share_of slice_us row.now quota want drawn) }
+// Adds the slices that a group drew. Counters saturate.
+fn add_drawn(stat: &mut Stat, slice_us: u64, row: &Row, quota: Option<u64>, drawn: u64)
+    ensures { stat.new ≡ record stat.old {
+      usage_usec = cut (stat.old.usage_usec + drawn * slice_us);
+      nr_bursts = cut (stat.old.nr_bursts + periods_if (nat_lt 0 (burst row.now.parent quota drawn)));
+      burst_usec = cut (stat.old.burst_usec + burst row.now.parent quota drawn * slice_us);
+    } }
 {
-    let withheld = withheld_slices(row, want);
     stat.usage_usec = stat
         .usage_usec
         .saturating_add(drawn.saturating_mul(slice_us));
+    add_burst(stat, burst(row, quota, drawn), slice_us);
+}
+
+// Adds one period to the counters of a group. One that drew nothing has neither usage nor a burst.
+fn add(stat: &mut Stat, slice_us: u64, row: &Row, quota: Option<u64>, want: u64, drawn: u64)
+    ensures { stat.new ≡ added stat.old (share_of slice_us row.now quota want drawn) }
+{
+    let Stat {
+        usage_usec,
+        nr_bursts,
+        burst_usec,
+        ..
+    } = *stat;
+    let withheld = withheld_slices(row, want);
     stat.nr_periods = stat.nr_periods.saturating_add(1);
     add_withheld(stat, withheld, slice_us);
-    add_burst(stat, burst(row, quota, drawn), slice_us);
+    if drawn > 0 {
+        add_drawn(stat, slice_us, row, quota, drawn);
+    }
 }

@@ -5,7 +5,7 @@ ghost use Rattle.bw_tree.specs.Booked.{IsLeftOver, AreLimitsQuotas, IsCarryUnsee
 ghost use Rattle.bw_tree.specs.Groups.{TreeState, IsTree};
 ghost use Rattle.bw_tree.specs.Paths.{IsInverse, AreNamesUnique};
 
-use crate::limits::{DEFAULT_PERIOD_US, DEFAULT_WEIGHT, FIRST_ID, MAX_NAME};
+use crate::limits::{DEFAULT_PERIOD_US, DEFAULT_WEIGHT, FIRST_ID, MAX_NAME, MAX_SHORT_NAME};
 
 /// Law: in each tree the path of a group, and no other path, finds the group.
 ///
@@ -40,9 +40,11 @@ pub fn carries_need_a_burst()
 
 /// Law: numbers of a new group, which the definitions read from the code.
 ///
-/// A name has up to 255 bytes. The weight is 100, the period 100000 microseconds, the first id 1.
+/// A name has up to 255 bytes, and is stored in place up to 24. The weight is 100, the period
+/// 100000 microseconds, the first id 1.
 pub fn new_group_numbers()
     ensures name { MAX_NAME ≡ 255 }
+    ensures short_name { MAX_SHORT_NAME ≡ 24 }
     ensures first_id { FIRST_ID ≡ 1 }
     ensures first_weight { DEFAULT_WEIGHT ≡ 100 }
     ensures first_period { DEFAULT_PERIOD_US ≡ 100000 }

@@ -3,6 +3,9 @@
 /// Maximum length of a group's name in bytes, as of a directory's.
 pub const MAX_NAME: usize = 255;
 
+/// Maximum length in bytes of a name that its group stores in place, without an allocation.
+pub const MAX_SHORT_NAME: usize = 24;
+
 /// Weight of a new group (`cpu.weight` in cgroup-v2.rst, "CPU Interface Files").
 pub const DEFAULT_WEIGHT: u64 = 100;
 

@@ -192,6 +192,41 @@ fn assert_shared_key(rt: &impl Abort, tree: &mut Tree, id: GroupId) {
     assert_finds(rt, tree, "p/a", id.wrapping_add(3));
 }
 
+// Names of 24 bytes, which a group stores in itself, and of 25 bytes.
+static NAMES: [(&str, GroupId); 2] = [
+    ("name-of-twenty-four-byte", 3),
+    ("name-of-twenty-five-bytes", 4),
+];
+
+fn assert_named(rt: &impl Abort, tree: &Tree) {
+    for (name, id) in &NAMES {
+        assert_finds(rt, tree, name, *id);
+        match tree.group(*id) {
+            Some(group) => assert!(rt; group.name.as_str() == *name),
+            None => assert!(rt; false),
+        }
+    }
+}
+
+fn assert_makes_names(rt: &impl Abort, tree: &mut Tree) {
+    for (name, id) in &NAMES {
+        assert_makes(rt, tree, 0, name, Ok(*id));
+    }
+    assert_named(rt, tree);
+}
+
+#[test]
+fn names_in_place_and_longer(rt: HostRuntime) -> Result<(), Fail> {
+    let mut tree = small_tree(rt.alloc())?;
+    assert_makes_names(&rt, &mut tree);
+    let copy = match tree.copy() {
+        Err(_) => tree.copy()?,
+        Ok(copy) => copy,
+    };
+    assert_named(&rt, &copy);
+    Ok(())
+}
+
 // Two children whose keys are one: the second stands among the others of the key. A key is the
 // hash of the name, times the point, plus the parent's id. The hash of `b` is one more than that of
 // `a`. So `b` shares its key with `p/a` if the id of `p` is the point.
