@@ -18,7 +18,7 @@ use Rattle.bw_tree.proofs.GroupLemmas.{above_same}
 use Rattle.bw_tree.specs.declared.node.Node.{Node}
 use Rattle.bw_tree.specs.Nodes.{IsNodeOf, AreNodesOf}
 use Rattle.bw_tree.proofs.IndexLemmas.{index_alike}
-use Rattle.bw_tree.proofs.NodeLemmas.{nodes_alike}
+use Rattle.bw_tree.proofs.NodeLemmas.{above_kept, nodes_alike}
 
 pub length_carried : (gs : List (ℕ × GroupFields)) (cs : List ℕ)
     → length (carried gs cs) ≡ length gs
@@ -226,7 +226,15 @@ pub nodes_carried : (gs : List (ℕ × GroupFields)) (cs : List ℕ) (nodes : Li
 nodes_carried gs cs nodes =
     nodes_alike (IsNodeOf gs) (IsNodeOf (carried gs cs)) gs (carried gs cs) nodes
     (keys_carried gs cs)
-    (λ p n is. record { children = is.children ∙ sym (count_carried gs cs p) })
+    (λ p n is. record {
+      children = is.children ∙ sym (count_carried gs cs p);
+      depth = above_kept gs (carried gs cs) (λ _. Unit {0})
+          (λ q k w up. (
+            parent_kept (group_at (carried gs cs) q) (group_at gs q)
+                (look_carried gs cs q) ∙ up,
+            tt,
+          )) n.depth p 0 tt is.depth;
+    })
 
 -- ---- one group after another
 

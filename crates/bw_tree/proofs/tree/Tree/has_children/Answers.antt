@@ -3,7 +3,7 @@ use Rattle.std.proofs.Common.{◌≡◌, ◌<◌, length, is_some, false, sym, a
 use Rattle.std.proofs.lemmas.List.{get_or_default}
 use Rattle.bw_tree.specs.declared.node.Node.{Node}
 use Rattle.bw_tree.specs.Groups.{TreeState, has_group, has_children}
-use Rattle.bw_tree.specs.Nodes.{IsNodeOf, leaf, node_at}
+use Rattle.bw_tree.specs.Nodes.{IsNodeOf, root_node, node_at}
 use Rattle.bw_tree.proofs.CountLemmas.{count_has}
 use Rattle.bw_tree.proofs.NodeLemmas.{as_many, childless, node_read}
 use Rattle.bw_tree.proofs.PlaceLemmas.{stands_at}
@@ -35,7 +35,7 @@ returns-in-Some c =
     (stands_at gs c.args.id c.in-Some.place (sym c.place_of.ensures.place ∙ c.in-Some.is))
     c.self.invariant.nodes in
     let read : c.index.result.now ≡ node_at ns c.in-Some.place =
-    c.index.ensures ∙ get_or_default ns c.in-Some.place c.index.result.now leaf within in
+    c.index.ensures ∙ get_or_default ns c.in-Some.place c.index.result.now root_node within in
     ap (λ (n : Node). ltb 0 n.children) read ∙ ap (ltb 0) own.children
     ∙ count_has gs c.args.id
     ∙ ap (λ (s : TreeState). has_children s.groups c.args.id) c.self.view_is
