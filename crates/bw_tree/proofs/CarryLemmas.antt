@@ -2,9 +2,8 @@
 use Rattle.std.proofs.Common.{◌≡◌, ℕ, zero, suc, ◌<◌, Bool, true, false, cond, ◌||◌, List, [], ◌∷◌}
 use Rattle.std.proofs.Common.{length, get_or, take, Option, Some, None, is_some, refl}
 use Rattle.std.proofs.Common.{sym, ap, subst, ◌∙◌, arith, eqb}
-use Rattle.std.specs.Prelude.{slice_get}
-use Rattle.std.specs.Map.{keys_of, values_of}
-use Rattle.indexmap.specs.IndexMap.{set_value_at}
+use Rattle.std.specs.Prelude.{slice_set}
+use Rattle.std.specs.Map.{keys_of}
 use Rattle.bw_model.specs.declared.row.Row.{Row}
 use Rattle.bw_model.specs.declared.limits.TheConstants.{MAX_PATH}
 use Rattle.bw_tree.specs.declared.child_index.ChildIndex.{ChildIndex}
@@ -16,7 +15,10 @@ use Rattle.bw_tree.specs.Groups.{IsTree, AllBefore, AllAfter, AreRising, IsSound
 use Rattle.bw_tree.specs.Tree.{set_carry}
 use Rattle.bw_tree.specs.Snapshot.{carried, carried_at, left_of, left_over}
 use Rattle.bw_tree.proofs.GroupLemmas.{above_same}
+use Rattle.bw_tree.specs.declared.node.Node.{Node}
+use Rattle.bw_tree.specs.Nodes.{IsNodeOf, AreNodesOf}
 use Rattle.bw_tree.proofs.IndexLemmas.{index_alike}
+use Rattle.bw_tree.proofs.NodeLemmas.{above_kept, nodes_alike}
 
 pub length_carried : (gs : List (ℕ × GroupFields)) (cs : List ℕ)
     → length (carried gs cs) ≡ length gs
@@ -216,19 +218,35 @@ index_carried gs cs index is =
     index_alike gs (carried gs cs) index
     (λ q p n. child_kept p n (group_at (carried gs cs) q) (group_at gs q)
     (look_carried gs cs q))
-    (child_carried gs cs) (count_carried gs cs) is
+    (child_carried gs cs) is
+
+-- and so do the nodes
+pub nodes_carried : (gs : List (ℕ × GroupFields)) (cs : List ℕ) (nodes : List Node)
+    → AreNodesOf gs nodes → AreNodesOf (carried gs cs) nodes
+nodes_carried gs cs nodes =
+    nodes_alike (IsNodeOf gs) (IsNodeOf (carried gs cs)) gs (carried gs cs) nodes
+    (keys_carried gs cs)
+    (λ p n is. record {
+      children = is.children ∙ sym (count_carried gs cs p);
+      depth = above_kept gs (carried gs cs) (λ _. Unit {0})
+          (λ q k w up. (
+            parent_kept (group_at (carried gs cs) q) (group_at gs q)
+                (look_carried gs cs q) ∙ up,
+            tt,
+          )) n.depth p 0 tt is.depth;
+    })
 
 -- ---- one group after another
 
 -- a group that is written at a place
-pub written_at : (gs : List (ℕ × GroupFields)) (i carry : ℕ) (g : GroupFields)
-    → slice_get (values_of gs) i ≡ Some g
-    → set_value_at gs i (set_carry carry g) ≡ carried_at gs i carry
-written_at [] i carry g at = cc
-written_at (e ∷ es) zero carry g at =
-    let is : e.1 ≡ g = cc in ap (λ (x : GroupFields). (e.0, set_carry carry x) ∷ es) (sym is)
-written_at (e ∷ es) (suc i) carry g at =
-    ap (λ (xs : List (ℕ × GroupFields)). e ∷ xs) (written_at es i carry g at)
+pub written_at : (gs : List (ℕ × GroupFields)) (i carry : ℕ) (x : ℕ × GroupFields)
+    → x ≡ get_or gs i x
+    → slice_set gs i (x.0, set_carry carry x.1) ≡ carried_at gs i carry
+written_at [] i carry x is = refl
+written_at (e ∷ es) zero carry x is =
+    ap (λ (y : ℕ × GroupFields). (y.0, set_carry carry y.1) ∷ es) is
+written_at (e ∷ es) (suc i) carry x is =
+    ap (λ (xs : List (ℕ × GroupFields)). e ∷ xs) (written_at es i carry x is)
 
 -- the next group keeps what it left over
 pub carry_next : (gs : List (ℕ × GroupFields)) (cs : List ℕ) (i : ℕ) → i < length gs → i < length cs

@@ -1,24 +1,21 @@
 -- How many children each group has.
-use Rattle.std.proofs.Common.{◌≡◌, ℕ, suc, zero, ◌+◌, ◌-◌, ◌<◌, ◌≤◌, ◌^◌, Bool, true, false, cond}
-use Rattle.std.proofs.Common.{◌||◌, List, [], ◌∷◌, ◌++◌, length, Option, Some, is_some, refl, sym}
-use Rattle.std.proofs.Common.{ap, subst, ◌∙◌, eqb, arith}
-use Rattle.std.specs.Prelude.{IfSome}
+use Rattle.std.proofs.Common.{◌≡◌, ℕ, suc, ◌≤◌, Bool, true, false, cond, ◌||◌, List, [], ◌∷◌}
+use Rattle.std.proofs.Common.{◌++◌, length, Some, refl, sym, ap, ◌∙◌, eqb, ltb, arith}
+use Rattle.std.proofs.lemmas.Bool.{lt-ltb}
 use Rattle.std.specs.Map.{remove_entry, set_value}
-use Rattle.bw_model.specs.declared.limits.TheConstants.{MAX_GROUPS}
-use Rattle.bw_tree.specs.Keys.{counted, one_more, one_less}
 use Rattle.bw_tree.specs.Groups.{GroupFields, group_at, has_children, is_parent, children_count}
 use Rattle.bw_model.proofs.CallerLemmas.{inside}
 
--- a number is kept where there are children
+-- the count is above 0 where there are children
 pub count_has : (gs : List (ℕ × GroupFields)) (p : ℕ)
-    → is_some (counted (children_count gs p)) ≡ has_children gs p
+    → ltb 0 (children_count gs p) ≡ has_children gs p
 count_has [] p = refl
 count_has (e ∷ es) p = onto (is_parent e.1.parent p) (count_has es p)
   where
-    onto : (b : Bool) → is_some (counted (children_count es p)) ≡ has_children es p
-        → is_some (counted (cond b (suc (children_count es p)) (children_count es p)))
+    onto : (b : Bool) → ltb 0 (children_count es p) ≡ has_children es p
+        → ltb 0 (cond b (suc (children_count es p)) (children_count es p))
         ≡ (b || has_children es p)
-    onto true h = refl
+    onto true h = lt-ltb 0 (suc (children_count es p)) (omega arith)
     onto false h = h
 
 -- two groups are counted in either order
@@ -84,26 +81,3 @@ count_le (e ∷ es) p = onto (is_parent e.1.parent p) (count_le es p)
         → cond b (suc (children_count es p)) (children_count es p) ≤ suc (length es)
     onto true le = omega (arith, le)
     onto false le = omega (arith, le)
-
--- what is kept after one child more
-pub counted_more : (b : Bool) (n : ℕ)
-    → cond b (one_more (counted n)) (counted n) ≡ counted (cond b (suc n) n)
-counted_more true zero = refl
-counted_more true (suc n) = ap Some (omega arith)
-counted_more false n = refl
-
--- what is kept after one child less
-pub counted_less : (b : Bool) (n m : ℕ) → n ≡ cond b (suc m) m
-    → cond b (one_less (counted n)) (counted n) ≡ counted m
-counted_less true n m is = let less : suc m - 1 ≡ m = omega arith in
-    ap (λ k. one_less (counted k)) is ∙ ap counted less
-counted_less false n m is = ap counted is
-
--- a number that is kept has room above it
-pub few_counted : (o : Option ℕ) (n : ℕ) → o ≡ counted n → n ≤ MAX_GROUPS
-    → IfSome o (λ x. x + 1 < 2 ^ 64)
-few_counted o n is few = subst (λ k. IfSome k (λ x. x + 1 < 2 ^ 64)) (sym is) (by n few)
-  where
-    by : (n : ℕ) → n ≤ MAX_GROUPS → IfSome (counted n) (λ x. x + 1 < 2 ^ 64)
-    by zero few = tt
-    by (suc n) few = omega (arith, few)

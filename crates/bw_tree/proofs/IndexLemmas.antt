@@ -1,5 +1,5 @@
 -- The index of children, after each change of the groups.
-use Rattle.std.proofs.Common.{◌≡◌, ◌≢◌, ◌⊎◌, inl, inr, ℕ, suc, ◌+◌, ◌<◌, Bool, true, false, cond}
+use Rattle.std.proofs.Common.{◌≡◌, ◌≢◌, ◌⊎◌, inl, inr, ℕ, ◌<◌, Bool, true, false, cond}
 use Rattle.std.proofs.Common.{◌&&◌, List, [], ◌∷◌, ◌++◌, Option, Some, None, refl, sym, ap, ◌∙◌}
 use Rattle.std.proofs.Common.{arith, eqb}
 use Rattle.std.proofs.lemmas.Bool.{and_parts, and_from, eq-eqb, ne_eqb, eqb-true}
@@ -10,16 +10,14 @@ use Rattle.std.specs.Str.{bytes_eq}
 use Rattle.std.specs.Cmp.Lexicographic.{bytes_decides}
 use Rattle.std.specs.HashMap.{get}
 use Rattle.bw_tree.specs.declared.child_index.ChildIndex.{ChildIndex}
-use Rattle.bw_tree.specs.Keys.{key, text_at, NoneEmpty, counted, one_more, one_less}
+use Rattle.bw_tree.specs.Keys.{key, text_at, NoneEmpty}
 use Rattle.bw_tree.specs.Children.{child_among, child_at, AnswersAs, IsAdded, IsTaken, AreNamed}
 use Rattle.bw_tree.specs.Children.{IsIndexOf}
 use Rattle.bw_tree.specs.Groups.{GroupFields, TreeState, group_at, has_children, is_parent}
-use Rattle.bw_tree.specs.Groups.{is_child_named, is_child_of, is_child_at, children_count, child_of}
+use Rattle.bw_tree.specs.Groups.{is_child_named, is_child_of, is_child_at, child_of}
 use Rattle.bw_tree.specs.Groups.{IsTree, AllAfter, AreRising}
 use Rattle.bw_tree.specs.Tree.{changed, changed_at, new_group}
 use Rattle.bw_tree.proofs.AnswerLemmas.{at_same, alike, added_at, taken_at}
-use Rattle.bw_tree.proofs.CountLemmas.{count_push, count_removed, count_set, counted_more}
-use Rattle.bw_tree.proofs.CountLemmas.{counted_less}
 use Rattle.bw_tree.proofs.GroupLemmas.{child_push, child_push_old, look_push_same, look_push_other}
 use Rattle.bw_tree.proofs.SetLemmas.{child_set, look_set_same, look_set_other}
 use Rattle.bw_tree.proofs.RemoveLemmas.{was_other, rising_removed, look_removed_same}
@@ -108,7 +106,6 @@ pub index_same : (gs : List (ℕ × GroupFields)) (old new : ChildIndex) → IsI
 index_same gs old new is same =
     record {
       children = λ p n. alike gs old new same p n ∙ is.children p n;
-      counts = λ p. same.counts p ∙ is.counts p;
       none_empty = same.none_empty is.none_empty;
     }
 
@@ -116,12 +113,10 @@ index_same gs old new is same =
 pub index_alike : (gs hs : List (ℕ × GroupFields)) (index : ChildIndex)
     → ((q p : ℕ) (n : List ℕ) → is_child_at hs q p n ≡ is_child_at gs q p n)
     → ((p : ℕ) (n : List ℕ) → child_of hs p n ≡ child_of gs p n)
-    → ((p : ℕ) → children_count hs p ≡ children_count gs p)
     → IsIndexOf gs index → IsIndexOf hs index
-index_alike gs hs index same children counts is = record {
+index_alike gs hs index same children is = record {
   children = λ p n. at_same gs hs index p n (λ q. same q p n) ∙ is.children p n
       ∙ sym (children p n);
-  counts = λ p. is.counts p ∙ ap counted (sym (counts p));
   none_empty = is.none_empty;
 }
 
@@ -169,11 +164,6 @@ module _ (gs : List (ℕ × GroupFields)) (k parent : ℕ) (g : GroupFields) (ol
         λ p n. added_at (gs ++ (k, g) ∷ []) old new parent k g.name added p n (mine p n) only
         ∙ ap (λ b. cond b (Some k) (child_at (gs ++ (k, g) ∷ []) old p n)) (sym (named_so p n))
         ∙ onto p n (is_child_named g p n) refl (child_of gs p n) refl;
-    counts =
-        λ p. added.counts p ∙ ap (λ o. cond (eqb parent p) (one_more o) o) (is.counts p)
-        ∙ counted_more (eqb parent p) (children_count gs p)
-        ∙ ap (λ o. counted (cond (is_parent o p) (suc (children_count gs p)) (children_count gs p)))
-        (sym up) ∙ ap counted (sym (count_push gs k p g));
     none_empty = added.none_empty is.none_empty;
   }
     where
@@ -203,8 +193,7 @@ index_set f gs id index parent name is = by (group_at gs id) refl
     by None at = is
     by (Some g) at =
         index_alike gs (changed f gs id (Some g)) index same
-        (λ p n. child_set id (f g) g (parent g) (name g) gs p n at)
-        (λ p. count_set id (f g) g (parent g) gs p at) is
+        (λ p n. child_set id (f g) g (parent g) (name g) gs p n at) is
       where
         same : (q p : ℕ) (n : List ℕ) → is_child_at (set_value (eqb id) gs (f g)) q p n
             ≡ is_child_at gs q p n
@@ -274,13 +263,6 @@ module _ (t : TreeState) (id : ℕ) (g : GroupFields) (ok : IsTree t) (inner : i
         ∙ ap (λ o. cond (eqb parent p && bytes_eq g.name n) None o) (is.children p n)
         ∙ ap (λ b. cond b None (child_of t.groups p n)) (sym (named_so p n))
         ∙ onto p n (is_child_named g p n) refl;
-    counts =
-        λ p. taken.counts p ∙ ap (λ o. cond (eqb parent p) (one_less o) o) (is.counts p)
-        ∙ counted_less (eqb parent p) (children_count t.groups p)
-        (children_count (remove_entry (eqb id) t.groups) p)
-        (count_removed id g t.groups p at
-        ∙ ap (λ o. cond (is_parent o p) (suc (children_count (remove_entry (eqb id) t.groups) p))
-        (children_count (remove_entry (eqb id) t.groups) p)) up);
     none_empty = taken.none_empty is.none_empty;
   }
     where
@@ -319,22 +301,19 @@ either (Some id) o = Some id
 pub record IsPartIndex (groups rest : List (ℕ × GroupFields)) (index : ChildIndex) : Type 0 where
   pub children : (parent : ℕ) (name : List ℕ) → either (child_at groups index parent name)
       (child_of rest parent name) ≡ child_of groups parent name
-  pub counts : (parent : ℕ) → (done : ℕ) × (get eqb index.counts parent ≡ counted done)
-      × (done + children_count rest parent ≡ children_count groups parent)
   pub none_empty : NoneEmpty index.others
   pub left : AreNamed groups rest
 
 pub part_start : (groups : List (ℕ × GroupFields)) (index : ChildIndex)
     → ((k : ℕ) → get eqb index.first k ≡ None)
     → ((p : ℕ) (n : List ℕ) → text_at index.others p n ≡ None)
-    → ((p : ℕ) → get eqb index.counts p ≡ None) → NoneEmpty index.others → AreNamed groups groups
+    → NoneEmpty index.others → AreNamed groups groups
     → IsPartIndex groups groups index
-part_start groups index first others counts none_empty left = record {
+part_start groups index first others none_empty left = record {
   children =
       λ p n. ap (λ o. either o (child_of groups p n))
       (ap (λ o. child_among groups o (text_at index.others p n) p n) (first (key index.seed p n))
       ∙ others p n);
-  counts = λ p. (0, counts p, omega arith);
   none_empty = none_empty;
   left = left;
 }
@@ -343,8 +322,6 @@ pub part_end : (groups : List (ℕ × GroupFields)) (index : ChildIndex) → IsP
     → IsIndexOf groups index
 part_end groups index is = record {
   children = λ p n. sym (last (child_at groups index p n)) ∙ is.children p n;
-  counts = λ p. let c = is.counts p in
-      let all : c.0 ≡ children_count groups p = omega (arith, c.2) in c.1 ∙ ap counted all;
   none_empty = is.none_empty;
 }
   where
@@ -361,11 +338,6 @@ part_skip groups e es index top is = record {
       λ p n. sym (ap (λ o. either (child_at groups index p n)
       (cond (is_parent o p && bytes_eq e.1.name n) (Some e.0) (child_of es p n))) top)
       ∙ is.children p n;
-  counts =
-      λ p. let c = is.counts p in
-      let none : children_count (e ∷ es) p ≡ children_count es p =
-      ap (λ o. cond (is_parent o p) (suc (children_count es p)) (children_count es p)) top in
-      (c.0, c.1, omega (arith, c.2, none));
   none_empty = is.none_empty;
   left = is.left.1;
 }
@@ -381,23 +353,10 @@ part_step groups e es parent old new up is added = record {
       (added_at groups old new parent e.0 e.1.name added p n
       (mine_at groups e.0 parent e.1.name (is.left.0 parent up).1 p n) only)
       ∙ onto p n (eqb parent p && bytes_eq e.1.name n) refl;
-  counts =
-      λ p. let c = is.counts p in (
-        cond (eqb parent p) (suc c.0) c.0,
-        added.counts p ∙ ap (λ o. cond (eqb parent p) (one_more o) o) c.1
-            ∙ counted_more (eqb parent p) c.0,
-        sum (eqb parent p) c.0 (children_count es p)
-            ∙ ap (λ o. c.0 + cond (is_parent o p) (suc (children_count es p)) (children_count es p))
-            (sym up) ∙ c.2,
-      );
   none_empty = added.none_empty is.none_empty;
   left = is.left.1;
 }
   where
-    sum : (b : Bool) (done rest : ℕ) → cond b (suc done) done + rest ≡ done + cond b (suc rest) rest
-    sum true done rest = omega arith
-    sum false done rest = refl
-
     only : (q : ℕ) → get eqb old.first (key old.seed parent e.1.name) ≡ Some q
         → is_child_at groups q parent e.1.name ≡ true → q ≡ e.0
     only q at there =

@@ -1,12 +1,91 @@
--- A group that is written at its place, and one that is written by its id, are the same.
-use Rattle.std.proofs.Common.{◌≡◌, ℕ, zero, suc, ◌<◌, true, false, cond, List, [], ◌∷◌}
-use Rattle.std.proofs.Common.{get_or, slice_get, Option, Some, None, position, refl, sym, ap, ◌∙◌}
-use Rattle.std.proofs.Common.{eqb, arith}
+-- A group at its place: read, written and removed there.
+use Rattle.std.proofs.Common.{◌≡◌, ℕ, zero, suc, ◌<◌, Bool, true, false, cond, List, [], ◌∷◌, length}
+use Rattle.std.proofs.Common.{get_or, Option, Some, None, position, refl, sym, ap, ◌∙◌, eqb, arith}
+use Rattle.std.proofs.Common.{◌+◌, is_some, ltb, not}
+use Rattle.std.proofs.lemmas.Bool.{lt-ltb}
+use Rattle.std.proofs.lemmas.Bool.Decides.{nat_tests}
+use Rattle.std.specs.List.{position_or_len}
+use Rattle.std.specs.Prelude.{slice_set}
+use Rattle.std.proofs.lemmas.List.{length-map}
 use Rattle.std.proofs.lemmas.List.Quantifiers.{position-Some}
-use Rattle.std.specs.Map.{keys_of, values_of, set_value}
-use Rattle.indexmap.specs.IndexMap.{set_value_at}
-use Rattle.bw_tree.specs.Groups.{GroupFields, group_at}
+use Rattle.std.specs.List.{remove}
+use Rattle.std.specs.Map.{keys_of, remove_entry, set_value}
+use Rattle.bw_tree.specs.Groups.{GroupFields, group_at, has_group}
 use Rattle.bw_tree.specs.Tree.{changed, changed_at}
+
+-- where an id stands, and that it does not stand before
+pub record StandsAt (gs : List (ℕ × GroupFields)) (id i : ℕ) : Type 0 where
+  pub here : eqb id (get_or (keys_of gs) i 0) ≡ true
+  pub before : (k : ℕ) → k < i → eqb id (get_or (keys_of gs) k 0) ≡ false
+  pub within : i < length gs
+
+pub stands_at : (gs : List (ℕ × GroupFields)) (id i : ℕ)
+    → position (eqb id) (keys_of gs) ≡ Some i → StandsAt gs id i
+stands_at gs id i at =
+    let first = position-Some (eqb id) (keys_of gs) i 0 at in
+    record {
+      here = first.1;
+      before = first.2;
+      within = omega (arith, first.0, length-map gs (λ (e : ℕ × GroupFields). e.0));
+    }
+
+pub stands_later : (e : ℕ × GroupFields) (es : List (ℕ × GroupFields)) (id i : ℕ)
+    → StandsAt (e ∷ es) id (suc i) → StandsAt es id i
+stands_later e es id i at = record {
+  here = at.here;
+  before = λ k lt. at.before (suc k) (omega (arith, lt));
+  within = omega (arith, at.within);
+}
+
+-- an id has a place where there is a group with it
+next_to : (a b : ℕ) → ltb (1 + a) (suc b) ≡ ltb a b
+next_to a b = grind (arith, nat_tests)
+
+placed : (gs : List (ℕ × GroupFields)) (id : ℕ)
+    → ltb (position_or_len (eqb id) (keys_of gs)) (length (keys_of gs)) ≡ has_group gs id
+placed [] id = refl
+placed (e ∷ es) id = onto (eqb id e.0) (placed es id)
+  where
+    onto : (b : Bool)
+        → ltb (position_or_len (eqb id) (keys_of es)) (length (keys_of es)) ≡ has_group es id
+        → ltb (cond (not b) (1 + position_or_len (eqb id) (keys_of es)) 0)
+        (suc (length (keys_of es))) ≡ is_some (cond b (Some e.1) (group_at es id))
+    onto true rest = lt-ltb 0 (suc (length (keys_of es))) (omega arith)
+    onto false rest =
+        next_to (position_or_len (eqb id) (keys_of es)) (length (keys_of es)) ∙ rest
+
+some_if : (b : Bool) (n : ℕ) → is_some (cond b (Some n) None) ≡ b
+some_if true n = refl
+some_if false n = refl
+
+pub some_place : (gs : List (ℕ × GroupFields)) (id : ℕ)
+    → is_some (position (eqb id) (keys_of gs)) ≡ has_group gs id
+some_place gs id =
+    some_if (ltb (position_or_len (eqb id) (keys_of gs)) (length (keys_of gs)))
+    (position_or_len (eqb id) (keys_of gs)) ∙ placed gs id
+
+-- the group that stands there is found by its id
+pub look_at : (gs : List (ℕ × GroupFields)) (id i : ℕ) (x : ℕ × GroupFields) → StandsAt gs id i
+    → x ≡ get_or gs i x → group_at gs id ≡ Some x.1
+look_at [] id i x at is = absurd (omega (arith, at.within))
+look_at (e ∷ es) id zero x at is =
+    ap (λ b. cond b (Some e.1) (group_at es id)) at.here
+    ∙ ap (λ (y : ℕ × GroupFields). Some y.1) (sym is)
+look_at (e ∷ es) id (suc i) x at is =
+    ap (λ b. cond b (Some e.1) (group_at es id)) (at.before 0 (omega arith))
+    ∙ look_at es id i x (stands_later e es id i at) is
+
+-- what is removed at the place is removed by its id
+pub removed_there : (gs : List (ℕ × GroupFields)) (id i : ℕ) → StandsAt gs id i
+    → remove gs i ≡ remove_entry (eqb id) gs
+removed_there [] id i at = absurd (omega (arith, at.within))
+removed_there (e ∷ es) id zero at =
+    sym (ap (λ (b : Bool). cond b es (e ∷ remove_entry (eqb id) es)) at.here)
+removed_there (e ∷ es) id (suc i) at =
+    ap (λ (xs : List (ℕ × GroupFields)). e ∷ xs)
+    (removed_there es id i (stands_later e es id i at))
+    ∙ sym (ap (λ (b : Bool). cond b es (e ∷ remove_entry (eqb id) es))
+    (at.before 0 (omega arith)))
 
 -- a change past an entry with another id leaves that entry
 changed_past : (f : GroupFields → GroupFields) (e : ℕ × GroupFields) (es : List (ℕ × GroupFields))
@@ -16,28 +95,23 @@ changed_past f e es id None apart = refl
 changed_past f e es id (Some g) apart =
     ap (λ b. cond b ((e.0, f g) ∷ es) (e ∷ set_value (eqb id) es (f g))) apart
 
--- the first entry with the id is the one at the place
-written_first : (f : GroupFields → GroupFields) (gs : List (ℕ × GroupFields)) (id i : ℕ)
-    (g : GroupFields) → slice_get (values_of gs) i ≡ Some g
-    → eqb id (get_or (keys_of gs) i 0) ≡ true
-    → ((k : ℕ) → k < i → eqb id (get_or (keys_of gs) k 0) ≡ false)
-    → set_value_at gs i (f g) ≡ changed_at f gs id
-written_first f [] id i g at here before = cc
-written_first f (e ∷ es) id zero g at here before =
-    let is : e.1 ≡ g = cc in
-    ap (λ (x : GroupFields). (e.0, f x) ∷ es) (sym is)
-    ∙ sym (ap (λ b. changed f (e ∷ es) id (cond b (Some e.1) (group_at es id))) here
-    ∙ ap (λ b. cond b ((e.0, f e.1) ∷ es) (e ∷ set_value (eqb id) es (f e.1))) here)
-written_first f (e ∷ es) id (suc i) g at here before =
-    let apart : eqb id e.0 ≡ false = before 0 (omega arith) in
+-- what is written at the place is written by its id
+written_there : (f : GroupFields → GroupFields) (gs : List (ℕ × GroupFields)) (id i : ℕ)
+    (x : ℕ × GroupFields) → StandsAt gs id i → x ≡ get_or gs i x
+    → slice_set gs i (x.0, f x.1) ≡ changed_at f gs id
+written_there f [] id i x at is = absurd (omega (arith, at.within))
+written_there f (e ∷ es) id zero x at is =
+    ap (λ (y : ℕ × GroupFields). (y.0, f y.1) ∷ es) is
+    ∙ sym (ap (λ b. changed f (e ∷ es) id (cond b (Some e.1) (group_at es id))) at.here
+    ∙ ap (λ b. cond b ((e.0, f e.1) ∷ es) (e ∷ set_value (eqb id) es (f e.1))) at.here)
+written_there f (e ∷ es) id (suc i) x at is =
+    let apart : eqb id e.0 ≡ false = at.before 0 (omega arith) in
     ap (λ (xs : List (ℕ × GroupFields)). e ∷ xs)
-    (written_first f es id i g at here (λ k lt. before (suc k) (omega (arith, lt))))
+    (written_there f es id i x (stands_later e es id i at) is)
     ∙ sym (ap (λ b. changed f (e ∷ es) id (cond b (Some e.1) (group_at es id))) apart
     ∙ changed_past f e es id (group_at es id) apart)
 
 pub written_place : (f : GroupFields → GroupFields) (gs : List (ℕ × GroupFields)) (id i : ℕ)
-    (g : GroupFields) → position (eqb id) (keys_of gs) ≡ Some i
-    → slice_get (values_of gs) i ≡ Some g → set_value_at gs i (f g) ≡ changed_at f gs id
-written_place f gs id i g place at =
-    let first = position-Some (eqb id) (keys_of gs) i 0 place in
-    written_first f gs id i g at first.1 first.2
+    (x : ℕ × GroupFields) → position (eqb id) (keys_of gs) ≡ Some i → x ≡ get_or gs i x
+    → slice_set gs i (x.0, f x.1) ≡ changed_at f gs id
+written_place f gs id i x place is = written_there f gs id i x (stands_at gs id i place) is

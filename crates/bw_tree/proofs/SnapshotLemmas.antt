@@ -1,14 +1,13 @@
 -- The rows of a tree are an instance.
 use Rattle.std.proofs.Common.{◌≡◌, ◌⊎◌, inl, inr, ℕ, suc, zero, ◌<◌, ◌≤◌, Bool, true, false, cond}
-use Rattle.std.proofs.Common.{◌==◌, ◌||◌, ◌&&◌, not, List, [], ◌∷◌, length, get_or, Option}
+use Rattle.std.proofs.Common.{◌++◌, map, take, subst, ◌==◌, ◌||◌, ◌&&◌, not, List, [], ◌∷◌, length, get_or, Option}
 use Rattle.std.proofs.Common.{Some, None, is_some, refl, sym, ap, ◌∙◌, arith, eqb, ltb, position}
 use Rattle.std.proofs.Common.{zero-add}
 use Rattle.std.proofs.lemmas.Bool.{eq-eqb, ne_eqb, eqb-true, lt-ltb, le-ltb, cases_order, cases_lt}
 use Rattle.std.proofs.lemmas.List.{get_or-map, length-map}
-use Rattle.indexmap.proofs.MapLemmas.{some_index}
 use Rattle.std.proofs.lemmas.List.FromFn.{get_or-enumerate_from, length-enumerate_from}
 use Rattle.std.proofs.lemmas.List.Quantifiers.{position-Some}
-use Rattle.std.specs.List.{list_any, list_all, enumerate_from, AllByRecursion}
+use Rattle.std.specs.List.{list_any, list_all, enumerate_from, AllByRecursion, IsDistinct}
 use Rattle.std.specs.Map.{keys_of, values_of}
 use Rattle.bw_model.specs.declared.row.Row.{Row}
 use Rattle.bw_model.specs.Quota.{in_slices, slices_of}
@@ -28,7 +27,7 @@ use Rattle.bw_tree.specs.Snapshot.{row_above, bursting, row_of, rows_of, instanc
 use Rattle.bw_tree.specs.Tree.{root_group}
 use Rattle.bw_tree.proofs.GroupLemmas.{above_more, above_here, some_of}
 use Rattle.bw_tree.proofs.RemoveLemmas.{children_found}
-use Rattle.bw_tree.proofs.IndexLemmas.{at_more}
+use Rattle.bw_tree.proofs.PlaceLemmas.{some_place}
 use Rattle.bw_model.proofs.CallerLemmas.{goes_on, earlier-AreTreeRows, refused_none-IsInstance}
 use Rattle.bw_model.proofs.CallerLemmas.{depth_of-top, depth_of-step}
 
@@ -87,7 +86,7 @@ found_at (e ∷ es) (suc i) d up lt =
 -- an id that is found has a place
 pub place_found : (gs : List (ℕ × GroupFields)) (id : ℕ) → has_group gs id ≡ true
     → (i : ℕ) × (position (eqb id) (keys_of gs) ≡ Some i)
-place_found gs id there = some_of (position (eqb id) (keys_of gs)) (some_index (eqb id) gs ∙ there)
+place_found gs id there = some_of (position (eqb id) (keys_of gs)) (some_place gs id ∙ there)
 
 -- a key that is read at a place has its place there
 pub place_read : (gs : List (ℕ × GroupFields)) (i id : ℕ) → AreRising gs → i < length (keys_of gs)
@@ -127,15 +126,34 @@ place_read gs i id up lt read = same (cases_order j.0 i)
     same (inr (inr after)) = let high = rising_at gs i j.0 d up after there in
         absurd (omega (arith, high, key, here))
 
--- the values of each group are in range
-pub all_sound : (gs : List (ℕ × GroupFields)) → AreRising gs
-    → ((id : ℕ) (g : GroupFields) → group_at gs id ≡ Some g → IsSound g)
-    → AllByRecursion IsSound (values_of gs)
-all_sound [] up each = tt
-all_sound (e ∷ es) up each = (
-  each e.0 e.1 (ap (λ b. cond b (Some e.1) (group_at es e.0)) (eq-eqb e.0 e.0 refl)),
-  all_sound es up.1 (λ id g at. each id g (at_more e es id g up.0 at)),
-)
+-- the values of the group at a place are in range
+pub sound_at : (t : TreeState) → IsTree t → (i : ℕ) (x : ℕ × GroupFields) → i < length t.groups
+    → x ≡ get_or t.groups i x → IsSound x.1
+sound_at t ok i x lt is =
+    ok.sound x.0 x.1
+    (subst (λ (y : ℕ × GroupFields). group_at t.groups y.0 ≡ Some y.1) (sym is)
+    (found_at t.groups i x ok.rising lt))
+
+-- what is made of one group more
+pub next_value : {X : Type 0} (f : GroupFields → X) (gs : List (ℕ × GroupFields)) (i : ℕ)
+    (x : ℕ × GroupFields) → i < length gs → x ≡ get_or gs i x
+    → map f (values_of (take i gs)) ++ f x.1 ∷ [] ≡ map f (values_of (take (suc i) gs))
+next_value f [] i x lt is = absurd (omega (arith, lt))
+next_value f (e ∷ es) zero x lt is = ap (λ (y : ℕ × GroupFields). f y.1 ∷ []) is
+next_value {X} f (e ∷ es) (suc i) x lt is =
+    ap (λ (xs : List X). f e.1 ∷ xs) (next_value f es i x (omega (arith, lt)) is)
+
+-- ids that rise are distinct
+pub rising_distinct : (gs : List (ℕ × GroupFields)) → AreRising gs → IsDistinct eqb (keys_of gs)
+unfolding IsDistinct
+rising_distinct [] up = tt
+rising_distinct (e ∷ es) up = (others es up.0, rising_distinct es up.1)
+  where
+    others : (hs : List (ℕ × GroupFields)) → AllAfter e.0 hs
+        → AllByRecursion (λ k. eqb e.0 k ≡ false) (keys_of hs)
+    others [] all = tt
+    others (h ∷ hs) all =
+        (ne_eqb e.0 h.0 (λ same. omega (arith, all.0, same)), others hs all.1)
 
 -- the row at a place
 pub row_at : (gs : List (ℕ × GroupFields)) (s : Shape) (i : ℕ) (d : ℕ × GroupFields) (r : Row)

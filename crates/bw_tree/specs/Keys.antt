@@ -1,5 +1,5 @@
 -- Where the children of all groups are found: by a key that is made of the parent and the name.
-use Rattle.std.specs.Prelude.{ℕ, zero, suc, ◌+◌, ◌-◌, ◌*◌, ◌%◌, ◌^◌, ◌<◌, nat_eq, ◌==◌, cond, List}
+use Rattle.std.specs.Prelude.{ℕ, ◌+◌, ◌*◌, ◌%◌, ◌^◌, ◌<◌, nat_eq, ◌==◌, cond, List}
 use Rattle.std.specs.Prelude.{Option, Some, None, IfSome}
 use Rattle.std.specs.List.{fold}
 use Rattle.std.specs.HashMap.{HashMap, get}
@@ -43,18 +43,3 @@ first_of (Some first) id = Some first
 abbrev pub without : ℕ → Option ℕ → Option ℕ
 without id None = None
 without id (Some first) = cond (first == id) None (Some first)
-
--- a number of children as it is kept: none where there are none
-abbrev pub counted : ℕ → Option ℕ
-counted zero = None
-counted (suc n) = Some (suc n)
-
--- one child more
-abbrev pub one_more : Option ℕ → Option ℕ
-one_more None = Some 1
-one_more (Some n) = Some (n + 1)
-
--- one child less
-abbrev pub one_less : Option ℕ → Option ℕ
-one_less None = None
-one_less (Some n) = counted (n - 1)

@@ -6,10 +6,10 @@ ghost use Rattle.bw_tree.specs.Groups.{IsSound};
 ghost use Rattle.bw_tree.specs.Snapshot.{quota_slices, period_limit, left_of, left_over, carried};
 ghost use Rattle.bw_tree.specs.Snapshot.{carried_at, IsDrawnWithin};
 
-use crate::group::{Group, GroupId};
+use crate::by_id::Groups;
+use crate::group::Group;
 use bw_model::limits::{MAX_BURST_US, MAX_QUOTA_US};
 use bw_model::{HostShape, Row};
-use indexmap::IndexMap;
 
 // Quota of a group in whole slices of the host's period.
 pub(crate) fn quota_slices(group: &Group, shape: HostShape) -> Option<u64>
@@ -83,21 +83,21 @@ fn left_of(limit: Option<u64>, drawn: u64) -> u64
 }
 
 // Stores the rest of each row's limit in the group at the row's place.
-pub(crate) fn write_carries(groups: &mut IndexMap<GroupId, Group>, rows: &[Row], drawn: &[u64])
-    requires rows { length rows.now ≡ length groups.old.entries }
+pub(crate) fn write_carries(groups: &mut Groups, rows: &[Row], drawn: &[u64])
+    requires rows { length rows.now ≡ length groups.old.items }
     requires drawn { length drawn.now ≡ length rows.now }
     requires within { IsDrawnWithin rows.now drawn.now }
-    ensures { groups.new.entries ≡ carried groups.old.entries (left_over rows.now drawn.now) }
+    ensures { groups.new.items ≡ carried groups.old.items (left_over rows.now drawn.now) }
 {
     for i in 0..rows.len() {
         write_carry(groups, i, left_of(rows[i].limit, drawn[i]));
     }
 }
 
-fn write_carry(groups: &mut IndexMap<GroupId, Group>, place: usize, carry: u64)
-    requires { place < length groups.old.entries }
-    ensures { groups.new.entries ≡ carried_at groups.old.entries place carry }
+fn write_carry(groups: &mut Groups, place: usize, carry: u64)
+    requires { place < length groups.old.items }
+    ensures { groups.new.items ≡ carried_at groups.old.items place carry }
 {
-    let group = &mut groups[place];
+    let group = &mut groups[place].1;
     group.carry = carry;
 }

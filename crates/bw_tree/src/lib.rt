@@ -11,6 +11,7 @@ mod laws;
 pub mod limits;
 mod name;
 mod names;
+mod node;
 mod paths;
 mod refusals;
 mod setting;

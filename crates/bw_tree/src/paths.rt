@@ -62,7 +62,7 @@ impl Tree {
         ensures { OnOk result (string_bytes path.new ≡ string_bytes path.old
             ++ join_with_byte 47 (names_to self.now.groups id)) }
     {
-        let Some(group) = self.groups.get(&id) else {
+        let Some(group) = self.group(id) else {
             return Ok(());
         };
         let Some(parent) = group.parent else {

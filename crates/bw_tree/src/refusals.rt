@@ -1,9 +1,9 @@
 //! First refusal of each call on a tree, if any.
-ghost use Rattle.std.specs.Prelude.{◌≡◌, ℕ, is_some};
-ghost use Rattle.bw_tree.specs.Groups.{above, child_of, demand_at, group_at, has_children};
-ghost use Rattle.bw_tree.specs.Groups.{parent_of, IsTree};
+ghost use Rattle.std.specs.Prelude.{◌≡◌, is_some};
+ghost use Rattle.bw_tree.specs.Groups.{above, child_of, demand_at, has_children, IsTree};
 ghost use Rattle.bw_tree.specs.Tree.{mkdir_refusal, demand_refusal, setting_refusal, rmdir_refusal};
 
+use crate::by_id::place_of;
 use crate::fault::TreeFault;
 use crate::group::GroupId;
 use crate::names::is_name;
@@ -34,7 +34,7 @@ impl Tree {
         if child.is_some() {
             return Some(TreeFault::Exists);
         }
-        if self.is_deepest(above.parent) {
+        if self.is_deepest(parent) {
             return Some(TreeFault::TooDeep);
         }
         if self.groups.len() >= MAX_GROUPS {
@@ -109,21 +109,13 @@ impl Tree {
         None
     }
 
-    // Whether a group with this parent is `MAX_DEPTH` levels below the root.
-    fn is_deepest(&self, parent: Option<GroupId>) -> bool
-        ensures { (id : ℕ) → parent_of (group_at self.now.groups id) ≡ parent →
-            result ≡ is_some (above self.now.groups MAX_DEPTH id) }
+    // Whether a group is `MAX_DEPTH` levels below the root.
+    fn is_deepest(&self, id: GroupId) -> bool
+        ensures { result ≡ is_some (above self.now.groups MAX_DEPTH id) }
     {
-        let mut above = parent;
-        for _ in 1..MAX_DEPTH {
-            let Some(at) = above else {
-                return false;
-            };
-            let Some(next) = self.group(at) else {
-                return false;
-            };
-            above = next.parent;
+        match place_of(&self.groups, id) {
+            None => false,
+            Some(place) => u64::from(self.nodes[place].depth) >= MAX_DEPTH,
         }
-        above.is_some()
     }
 }

@@ -7,6 +7,7 @@ ghost use Rattle.std.specs.Map.{keys_of};
 ghost use Rattle.bw_tree.specs.Snapshot.{instance_of, rows_of, base_of, row_above, row_of};
 ghost use Rattle.bw_tree.specs.Snapshot.{quota_slices};
 
+use crate::by_id::place_of;
 use crate::carry::{period_limit, quota_slices};
 use crate::fault::TreeFault;
 use crate::group::{Group, GroupId};
@@ -65,8 +66,8 @@ impl Tree {
         ensures distinct { IsDistinct nat_eq (keys_of self.now.groups) }
     {
         self.groups
-            .keys()
-            .copied()
+            .iter()
+            .map(|(id, _)| *id)
             .collect(*self.groups.allocator())
     }
 
@@ -79,7 +80,7 @@ impl Tree {
         let alloc = *self.groups.allocator();
         let mut rows = Vec::with_capacity(alloc, self.groups.len())?;
         let mut base = Vec::with_capacity(alloc, self.groups.len())?;
-        for group in self.groups.values() {
+        for (_, group) in &self.groups {
             let quota = quota_slices(group, shape);
             let row = self.row_of(group, quota, ids, shape);
             rows.push(row)?;
@@ -117,7 +118,7 @@ impl Tree {
         if id < self.groups.len() as u64 && ids[id as usize] == id {
             return Some(id as u32);
         }
-        match self.groups.get_index_of(&id) {
+        match place_of(&self.groups, id) {
             None => None,
             Some(place) => Some(place as u32),
         }

@@ -1,14 +1,38 @@
 -- The goals of `place_of` that are answered by hand.
-use Rattle.std.proofs.Common.{◌<◌, ℕ, length, arith, sym}
+use Rattle.std.proofs.Common.{◌≡◌, ◌<◌, ℕ, Some, length, is_some, position, arith, sym, ap, ◌∙◌, eqb}
 use Rattle.std.proofs.lemmas.List.{length-map}
 use Rattle.std.specs.Map.{keys_of}
 use Rattle.bw_tree.specs.Groups.{GroupFields}
+use Rattle.bw_tree.proofs.PlaceLemmas.{some_place}
 use Rattle.bw_tree.proofs.SnapshotLemmas.{place_read}
 use Rattle.bw_tree.proofs.by_id.place_of.Goals as goal
 
-pub returns-in-Some-clause-place : goal.returns-in-Some-clause-place
-returns-in-Some-clause-place c =
-    let gs = c.args.groups.now.entries in
+pub returns-then-is_in_place-clause-place : goal.returns-then-is_in_place-clause-place
+returns-then-is_in_place-clause-place c =
+    let gs = c.args.groups.now.items in
     let within : c.args.id < length (keys_of gs) =
-    omega (arith, c.in-Some.ensures.within, length-map gs (λ (e : ℕ × GroupFields). e.0)) in
-    sym (place_read gs c.args.id c.args.id c.requires within c.in-Some.ensures.place)
+    omega (
+      arith,
+      c.is_in_place.ensures.within c.if-is_in_place.true,
+      length-map gs (λ (e : ℕ × GroupFields). e.0),
+    ) in
+    sym (place_read gs c.args.id c.args.id c.requires within
+    (c.is_in_place.ensures.place c.if-is_in_place.true))
+
+pub returns-then-is_in_place-clause-found : goal.returns-then-is_in_place-clause-found
+returns-then-is_in_place-clause-found c =
+    let gs = c.args.groups.now.items in
+    let within : c.args.id < length (keys_of gs) =
+    omega (
+      arith,
+      c.is_in_place.ensures.within c.if-is_in_place.true,
+      length-map gs (λ (e : ℕ × GroupFields). e.0),
+    ) in
+    let place : position (eqb c.args.id) (keys_of gs) ≡ Some c.args.id =
+    place_read gs c.args.id c.args.id c.requires within
+    (c.is_in_place.ensures.place c.if-is_in_place.true) in
+    sym (ap is_some place) ∙ some_place gs c.args.id
+
+pub returns-clause-found : goal.returns-clause-found
+returns-clause-found c =
+    ap is_some c.search.ensures ∙ some_place c.args.groups.now.items c.args.id

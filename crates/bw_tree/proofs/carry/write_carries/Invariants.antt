@@ -5,4 +5,4 @@ use Rattle.bw_tree.proofs.carry.write_carries.Given as goal
 
 abbrev pub invariant-loop-i : goal.invariant-loop-i
 invariant-loop-i l =
-    l.groups.entries ≡ carried l.initial.groups.entries (take l.i (left_over l.rows l.drawn))
+    l.groups.items ≡ carried l.initial.groups.items (take l.i (left_over l.rows l.drawn))

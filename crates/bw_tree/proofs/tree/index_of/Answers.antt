@@ -1,60 +1,61 @@
 -- The goals of `index_of` that are answered by hand.
-use Rattle.std.proofs.Common.{rules, ◌≡◌, Some, None, sym, ap, subst, ◌∙◌, arith}
+use Rattle.std.proofs.Common.{◌≡◌, ◌<◌, ◌≤◌, ℕ, suc, ◌+◌, List, ◌∷◌, length, get_or, drop, Some, None}
+use Rattle.std.proofs.Common.{sym, ap, subst, ◌∙◌, arith}
+use Rattle.std.proofs.Math.Seq.{drop-cons}
+use Rattle.std.proofs.lemmas.List.{drop_all}
 use Rattle.bw_tree.specs.Groups.{GroupFields}
 use Rattle.bw_tree.specs.Children.{IsAdded}
-use Rattle.bw_tree.proofs.CountLemmas.{count_le, few_counted}
 use Rattle.bw_tree.proofs.IndexLemmas.{IsPartIndex, part_start, part_end, part_skip, part_step}
 use Rattle.bw_tree.proofs.tree.index_of.Goals as goal
+use Rattle.bw_tree.proofs.tree.index_of.Goals.{in-Some+in_ok-insert, in_default}
 
 pub loop-id-init : goal.loop-id-init
 loop-id-init c =
-    let all = part_start c.args.groups.now.entries c.new-children.result
+    part_start c.args.groups.now.items c.new-children.result
     c.new-children.ensures.first c.new-children.ensures.others
-    c.new-children.ensures.counts c.new-children.ensures.none_empty c.requires.named in
-    search (rules, all)
-
-pub insert-requires-clause-few : goal.insert-requires-clause-few
-insert-requires-clause-few c =
-    let done = c.loop-id.invariant.2.counts c.in-Some-parent.parent in
-    few_counted _ done.0 done.1
-    (omega (
-      arith,
-      done.2,
-      count_le c.args.groups.now.entries c.in-Some-parent.parent,
-      c.requires.few,
-    ))
-
-pub loop-id-preserved-in-Continue-1 : goal.loop-id-preserved-in-Continue-1
-loop-id-preserved-in-Continue-1 c =
-    let was = subst (λ es. IsPartIndex c.args.groups.now.entries es c.loop-id.children)
-    c.in-Some.ensures.steps c.loop-id.invariant.2 in
-    let up : c.in-Some.group.now.parent ≡ Some c.in-Some-parent.parent =
-    sym (ap (λ (g : GroupFields). g.parent) c.group.view_is) ∙ c.in-Some-parent.is in
-    let name = c.as_str-name.ensures.value ∙ ap (λ (g : GroupFields). g.name) c.group.view_is in
-    let added = subst
-    (λ n. IsAdded c.loop-id.children c.insert.new.self c.in-Some-parent.parent n
-    c.in-Some.id.now) name c.in_ok-insert.ensures.added in (
-      tt,
-      tt,
-      part_step c.args.groups.now.entries (c.in-Some.id.now, c.in-Some.group.now) c.next.new.self
-          c.in-Some-parent.parent
-          c.loop-id.children c.insert.new.self up was added,
-    )
+    c.new-children.ensures.none_empty c.requires
 
 pub loop-id-preserved : goal.loop-id-preserved
 loop-id-preserved c =
-    let was = subst (λ es. IsPartIndex c.args.groups.now.entries es c.loop-id.children)
-    c.in-Some.ensures.steps c.loop-id.invariant.2 in
-    let top : c.in-Some.group.now.parent ≡ None =
-    sym (ap (λ (g : GroupFields). g.parent) c.group.view_is) ∙ c.in_default.is in (
-      tt,
-      tt,
-      part_skip c.args.groups.now.entries (c.in-Some.id.now, c.in-Some.group.now) c.next.new.self
-          c.loop-id.children top was,
-    )
+    let gs = c.args.groups.now.items in
+    let i = c.loop-id.id-index in
+    let x = c.loop-id-item.result in
+    let rest : List (ℕ × GroupFields) = drop (suc i) gs in
+    let lt : i < length gs =
+    subst (λ (s : List (ℕ × GroupFields)). i < length s) c.deref-id-items.ensures.value
+    c.loop-id-test.true in
+    let is : x ≡ get_or gs i x = c.loop-id-item.is
+    ∙ ap (λ (s : List (ℕ × GroupFields)). get_or s i x) c.deref-id-items.ensures.value in
+    let was : IsPartIndex gs (x ∷ rest) c.loop-id.children =
+    subst (λ (es : List (ℕ × GroupFields)). IsPartIndex gs es c.loop-id.children)
+    (drop-cons gs i x lt ∙ ap (λ (y : ℕ × GroupFields). y ∷ rest) (sym is))
+    c.loop-id.invariant in
+    let next : suc i ≡ i + 1 = omega arith in
+    subst (λ (n : ℕ). IsPartIndex gs (drop n gs) c.match-group.children) next
+    (elim c.match-group.branch [
+      | in-Some+in_ok-insert w ↦
+          let up : x.1.parent ≡ Some w.in-Some.parent =
+          sym (ap (λ (g : GroupFields). g.parent) c.group.view_is) ∙ w.in-Some.is in
+          let name = w.as_str-name.ensures.value
+          ∙ ap (λ (g : GroupFields). g.name) c.group.view_is in
+          let added = subst
+          (λ n. IsAdded c.loop-id.children w.insert.new.self w.in-Some.parent n x.0) name
+          w.in_ok-insert.ensures.added in
+          subst (IsPartIndex gs rest) (sym w.children-is)
+          (part_step gs x rest w.in-Some.parent c.loop-id.children w.insert.new.self up was added)
+      | in_default w ↦
+          let top : x.1.parent ≡ None =
+          sym (ap (λ (g : GroupFields). g.parent) c.group.view_is) ∙ w.in_default.is in
+          subst (IsPartIndex gs rest) (sym w.children-is)
+          (part_skip gs x rest c.loop-id.children top was)
+    ])
 
 pub returns : goal.returns
 returns c =
-    part_end c.args.groups.now.entries c.loop-id.children
-    (subst (λ es. IsPartIndex c.args.groups.now.entries es c.loop-id.children)
-    c.in-None.ensures.steps.0 c.loop-id.invariant.2)
+    let gs = c.args.groups.now.items in
+    let past : length gs ≤ c.loop-id.id-index =
+    subst (λ (s : List (ℕ × GroupFields)). length s ≤ c.loop-id.id-index)
+    c.deref-id-items.ensures.value c.loop-id-test.false in
+    part_end gs c.loop-id.children
+    (subst (λ (es : List (ℕ × GroupFields)). IsPartIndex gs es c.loop-id.children)
+    (drop_all c.loop-id.id-index gs past) c.loop-id.invariant)

@@ -8,14 +8,14 @@ use Rattle.bw_tree.proofs.SnapshotLemmas.{place_read}
 use Rattle.bw_tree.proofs.tree.Tree.place_of.Goals as goal
 
 pub overflow_cast-result : goal.overflow_cast-result
-overflow_cast-result c = omega (arith, c.self.invariant.tree.count, c.len.ensures.len)
+overflow_cast-result c = omega (arith, c.self.invariant.tree.count, c.len.ensures)
 
 pub returns-then-ids-id : goal.returns-then-ids-id
 returns-then-ids-id c =
-    let gs = c.self.inside.groups.entries in
+    let gs = c.self.inside.groups.items in
     let same : gs ≡ c.args.self.now.groups = ap (λ (t : TreeState). t.groups) c.self.view_is in
     let within : c.args.id < length (keys_of gs) =
-    omega (arith, c.len.ensures.len, length-map gs (λ (e : ℕ × GroupFields). e.0)) in
+    omega (arith, c.len.ensures, length-map gs (λ (e : ℕ × GroupFields). e.0)) in
     let read : get_or (keys_of gs) c.args.id 0 ≡ c.args.id =
     ap (λ (g : List (ℕ × GroupFields)). get_or (keys_of g) c.args.id 0) same
     ∙ ap (λ (xs : List ℕ). get_or xs c.args.id 0) (sym c.requires) ∙ c.if-ids-id.true in

@@ -3,6 +3,7 @@ use Rattle.std.proofs.Common.{◌≡◌, None, sym, subst}
 use Rattle.bw_tree.specs.Groups.{TreeState}
 use Rattle.bw_tree.specs.Children.{IsIndexedTree}
 use Rattle.bw_tree.proofs.IndexLemmas.{index_set}
+use Rattle.bw_tree.proofs.NodeLemmas.{nodes_set}
 use Rattle.bw_tree.specs.Tree.{setting_refusal, changed_by}
 use Rattle.bw_tree.proofs.SetLemmas.{can_set, setting_IsTree, same_parent_by, same_name_by}
 use Rattle.bw_tree.proofs.tree.Tree.set.Goals as goal
@@ -10,7 +11,7 @@ use Rattle.bw_tree.proofs.tree.Tree.set.Goals as goal
 pub invariant_of-self : goal.invariant_of-self
 invariant_of-self c =
     let t : TreeState =
-    record { groups = c.self.inside.groups.entries; next = c.self.inside.next_id } in
+    record { groups = c.self.inside.groups.items; next = c.self.inside.next_id } in
     let s = c.args.setting in
     let can = can_set t c.args.id
     (subst (λ s. setting_refusal s c.args.id ≡ None) (sym c.self.view_is)
@@ -18,8 +19,10 @@ invariant_of-self c =
     let kept = index_set (changed_by s) t.groups c.args.id c.self.inside.children (same_parent_by s)
     (same_name_by s) c.self.invariant.index in
     subst (λ es. IsIndexedTree (record { groups = es; next = c.self.inside.next_id })
-    c.self.inside.children) (sym c.write_setting.ensures)
+    c.self.inside.children c.self.inside.nodes.items) (sym c.write_setting.ensures)
     (record {
       tree = setting_IsTree t c.args.id c.self.invariant.tree s can c.requires;
       index = kept;
+      nodes = nodes_set (changed_by s) t.groups c.args.id c.self.inside.nodes.items (same_parent_by s)
+          c.self.invariant.nodes;
     })

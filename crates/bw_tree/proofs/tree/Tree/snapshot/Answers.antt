@@ -9,7 +9,7 @@ use Rattle.bw_tree.proofs.tree.Tree.snapshot.Goals as goal
 pub of_valid-requires : goal.of_valid-requires
 of_valid-requires c =
     let t : TreeState =
-    record { groups = c.self.inside.groups.entries; next = c.self.inside.next_id } in
+    record { groups = c.self.inside.groups.items; next = c.self.inside.next_id } in
     let shape = c.args.shape in
     let same : rows_of t.groups shape ≡ c.in_ok-rows.rows.items =
     ap (λ (s : TreeState). rows_of s.groups shape) c.self.view_is ∙ sym c.in_ok-rows.ensures.rows in

@@ -1,0 +1,446 @@
+-- What is kept beside each group, after each change of the groups.
+use Rattle.std.proofs.Common.{◌≡◌, ◌≢◌, ℕ, suc, zero, ◌<◌, Bool, true, false, cond}
+use Rattle.std.proofs.Common.{◌||◌, List, [], ◌∷◌, ◌++◌, length, Some, None}
+use Rattle.std.proofs.Common.{refl, sym, ap, subst, ◌∙◌, arith, eqb}
+use Rattle.std.specs.Prelude.{slice_set}
+use Rattle.std.proofs.lemmas.Bool.{eq-eqb, ne_eqb, eqb-true}
+use Rattle.std.proofs.lemmas.Slice.Zip.{AllZip-long}
+use Rattle.std.specs.List.{AllZip, remove}
+use Rattle.std.specs.Map.{keys_of, remove_entry, set_value}
+use Rattle.bw_tree.specs.declared.node.Node.{Node}
+use Rattle.bw_tree.specs.Groups.{GroupFields, TreeState, group_at, has_group, has_children}
+use Rattle.bw_tree.specs.Groups.{is_parent, children_count, IsTree, AllAfter, AreRising}
+use Rattle.bw_tree.specs.Nodes.{leaf_below, node_at, one_child_more, one_child_less}
+use Rattle.bw_tree.specs.Nodes.{IsNodeOf, AreNodesOf}
+use Rattle.bw_tree.specs.Tree.{changed, changed_at}
+use Rattle.bw_tree.proofs.CountLemmas.{count_push, count_removed, count_set, count_has}
+use Rattle.bw_tree.proofs.GroupLemmas.{not_positive}
+use Rattle.bw_tree.proofs.IndexLemmas.{at_more}
+use Rattle.bw_tree.proofs.PlaceLemmas.{StandsAt, stands_later}
+use Rattle.bw_tree.specs.Groups.{above, parent_of}
+use Rattle.bw_tree.proofs.GroupLemmas.{above_here, above_more, look_push_other, look_push_same}
+use Rattle.bw_tree.proofs.GroupLemmas.{parent_found}
+use Rattle.bw_tree.proofs.RemoveLemmas.{children_found, look_removed_other, look_removed_same}
+use Rattle.bw_tree.proofs.RemoveLemmas.{rising_removed}
+use Rattle.bw_tree.proofs.SetLemmas.{look_set_other, look_set_same}
+use Rattle.std.proofs.Common.{◌⊎◌, inl, inr, Option, leb, ◌≤◌, ◌+◌, ◌-◌, is_some}
+use Rattle.std.proofs.lemmas.Bool.{cases_lt, le-leb, lt-leb}
+use Rattle.std.proofs.lemmas.Bool.Decides.{eqb_tells}
+use Rattle.bw_model.proofs.CallerLemmas.{inside}
+
+-- a list of groups, each with its id
+abbrev pub Groups : Type 0
+Groups = List (ℕ × GroupFields)
+
+module _ (P : ℕ → Node → Type 0) where
+  -- a fact of each group's id and its node
+  abbrev pub Beside : Groups → List Node → Type 0
+  Beside gs ns = AllZip (λ e n. P e.0 n) gs ns
+
+  -- the node of a group
+  pub node_read : (gs : Groups) (ns : List Node) (id i : ℕ) → StandsAt gs id i → Beside gs ns
+      → P id (node_at ns i)
+  node_read [] ns id i at all = absurd (omega (arith, at.within))
+  node_read (e ∷ es) [] id i at all = absurd all
+  node_read (e ∷ es) (n ∷ ns) id zero at all =
+      subst (λ k. P k n) (sym (eqb-true id e.0 at.here)) all.0
+  node_read (e ∷ es) (n ∷ ns) id (suc i) at all =
+      node_read es ns id i (stands_later e es id i at) all.1
+
+  -- a group more, with its node
+  pub node_push : (gs : Groups) (ns : List Node) (e : ℕ × GroupFields) (n : Node) → Beside gs ns
+      → P e.0 n → Beside (gs ++ e ∷ []) (ns ++ n ∷ [])
+  node_push [] [] e n all new = (new, tt)
+  node_push [] (x ∷ ns) e n all new = absurd all
+  node_push (y ∷ gs) [] e n all new = absurd all
+  node_push (y ∷ gs) (x ∷ ns) e n all new = (all.0, node_push gs ns e n all.1 new)
+
+  -- a group less, with its node
+  pub node_removed : (gs : Groups) (ns : List Node) (id i : ℕ) → StandsAt gs id i → Beside gs ns
+      → Beside (remove_entry (eqb id) gs) (remove ns i)
+  node_removed [] ns id i at all = absurd (omega (arith, at.within))
+  node_removed (e ∷ es) [] id i at all = absurd all
+  node_removed (e ∷ es) (n ∷ ns) id zero at all =
+      subst (λ (b : Bool). Beside (cond b es (e ∷ remove_entry (eqb id) es)) ns) (sym at.here) all.1
+  node_removed (e ∷ es) (n ∷ ns) id (suc i) at all =
+      subst (λ (b : Bool). Beside (cond b es (e ∷ remove_entry (eqb id) es)) (n ∷ remove ns i))
+      (sym (at.before 0 (omega arith)))
+      (all.0, node_removed es ns id i (stands_later e es id i at) all.1)
+
+-- there are as many nodes as groups
+pub as_many : (gs : Groups) (ns : List Node) → AreNodesOf gs ns → length ns ≡ length gs
+as_many gs ns =
+    AllZip-long (λ (e : ℕ × GroupFields) (n : Node). IsNodeOf gs e.0 n) gs ns
+
+module _ (P Q : ℕ → Node → Type 0) where
+  -- other groups with the same ids
+  pub nodes_alike : (gs hs : Groups) (ns : List Node) → keys_of hs ≡ keys_of gs
+      → ((id : ℕ) (n : Node) → P id n → Q id n) → Beside P gs ns → Beside Q hs ns
+  nodes_alike [] [] [] same other all = tt
+  nodes_alike [] [] (n ∷ ns) same other all = all
+  nodes_alike [] (h ∷ hs) ns same other all = cc
+  nodes_alike (e ∷ gs) [] ns same other all = cc
+  nodes_alike (e ∷ gs) (h ∷ hs) [] same other all = all
+  nodes_alike (e ∷ gs) (h ∷ hs) (n ∷ ns) same other all =
+      let first : h.0 ≡ e.0 = cc in
+      let rest : keys_of hs ≡ keys_of gs = cc in
+      (subst (λ k. Q k n) (sym first) (other e.0 n all.0), nodes_alike gs hs ns rest other all.1)
+
+  module _ (id : ℕ) (other : (k : ℕ) (n : Node) → k ≢ id → P k n → Q k n) where
+    nodes_after : (gs : Groups) (ns : List Node) → AllAfter id gs → Beside P gs ns → Beside Q gs ns
+    nodes_after [] [] after all = tt
+    nodes_after [] (n ∷ ns) after all = all
+    nodes_after (e ∷ es) [] after all = all
+    nodes_after (e ∷ es) (n ∷ ns) after all = (
+      other e.0 n (λ same. omega (arith, after.0, same)) all.0,
+      nodes_after es ns after.1 all.1,
+    )
+
+    -- the node of one group changes
+    pub node_set : (gs : Groups) (ns : List Node) (i : ℕ) (new : Node) → AreRising gs
+        → StandsAt gs id i → (P id (node_at ns i) → Q id new) → Beside P gs ns
+        → Beside Q gs (slice_set ns i new)
+    node_set [] ns i new up at own all = absurd (omega (arith, at.within))
+    node_set (e ∷ es) [] i new up at own all = absurd all
+    node_set (e ∷ es) (n ∷ ns) zero new up at own all =
+        let same : id ≡ e.0 = eqb-true id e.0 at.here in (
+          subst (λ k. Q k new) same (own (subst (λ k. P k n) (sym same) all.0)),
+          nodes_after es ns (subst (λ k. AllAfter k es) (sym same) up.0) all.1,
+        )
+    node_set (e ∷ es) (n ∷ ns) (suc i) new up at own all =
+        let apart : eqb id e.0 ≡ false = at.before 0 (omega arith) in (
+          other e.0 n
+              (λ same. let clash : true ≡ false = sym (eq-eqb id e.0 (sym same)) ∙ apart in
+              absurd (cc)) all.0,
+          node_set es ns i new up.1 (stands_later e es id i at) own all.1,
+        )
+
+-- what is known of each node but that of a group which is not there
+others_left : (P : ℕ → Node → Type 0) (id : ℕ) (gs : Groups) (ns : List Node)
+    → group_at gs id ≡ None → AllZip (λ e n. e.0 ≢ id → P e.0 n) gs ns
+    → AllZip (λ e n. P e.0 n) gs ns
+others_left P id [] [] none all = tt
+others_left P id [] (n ∷ ns) none all = all
+others_left P id (e ∷ es) [] none all = all
+others_left P id (e ∷ es) (n ∷ ns) none all =
+    by (eqb_tells id e.0) (λ rest. others_left P id es ns rest all.1)
+  where
+    by : ((eqb id e.0 ≡ true) × (id ≡ e.0)) ⊎ ((eqb id e.0 ≡ false) × (id ≢ e.0))
+        → (group_at es id ≡ None → AllZip (λ e n. P e.0 n) es ns)
+        → P e.0 n × AllZip (λ e n. P e.0 n) es ns
+    by (inl same) later = let wrong : Some e.1 ≡ None =
+        sym (ap (λ b. cond b (Some e.1) (group_at es id)) same.0) ∙ none in
+        absurd (cc)
+    by (inr apart) later = (
+      all.0 (λ same. apart.1 (sym same)),
+      later (sym (ap (λ b. cond b (Some e.1) (group_at es id)) apart.0) ∙ none),
+    )
+
+-- where there is a child, there is a group that is one
+child_there : (gs : Groups) (p : ℕ) → AreRising gs → has_children gs p ≡ true
+    → (q : ℕ) × (h : GroupFields) × (group_at gs q ≡ Some h) × (h.parent ≡ Some p)
+child_there [] p up has = cc
+child_there (e ∷ es) p up has = by (is_parent e.1.parent p) refl has (child_there es p up.1)
+  where
+    parent_is : (o : _) → is_parent o p ≡ true → o ≡ Some p
+    parent_is None is = cc
+    parent_is (Some q) is = ap Some (eqb-true q p is)
+
+    by : (b : Bool) → is_parent e.1.parent p ≡ b → (b || has_children es p) ≡ true
+        → (has_children es p ≡ true
+        → (q : ℕ) × (h : GroupFields) × (group_at es q ≡ Some h) × (h.parent ≡ Some p))
+        → (q : ℕ) × (h : GroupFields) × (group_at (e ∷ es) q ≡ Some h) × (h.parent ≡ Some p)
+    by true is has rest = (
+      e.0,
+      e.1,
+      ap (λ b. cond b (Some e.1) (group_at es e.0)) (eq-eqb e.0 e.0 refl),
+      parent_is e.1.parent is,
+    )
+    by false is has rest = let h = rest has in
+        (h.0, h.1, at_more e es h.0 h.1 up.0 h.2, h.3)
+
+-- no group has a parent that is none
+pub childless : (t : TreeState) → IsTree t → (p : ℕ) → has_group t.groups p ≡ false
+    → has_children t.groups p ≡ false
+childless t ok p none = by (has_children t.groups p) refl
+  where
+    by : (b : Bool) → has_children t.groups p ≡ b → has_children t.groups p ≡ false
+    by false is = is
+    by true is =
+        let h = child_there t.groups p ok.rising is in
+        let clash : true ≡ false = sym (ok.parents h.0 p h.1 h.2 h.3).1 ∙ none in
+        absurd (cc)
+
+pub none_counted : (gs : Groups) (p : ℕ) → has_children gs p ≡ false → children_count gs p ≡ 0
+none_counted gs p none = not_positive (children_count gs p) (count_has gs p ∙ none)
+
+-- a count of which one group is told
+counted_by : (b : Bool) (gs : Groups) (p k : ℕ) (g : GroupFields) → is_parent g.parent p ≡ b
+    → children_count (gs ++ (k, g) ∷ []) p ≡ cond b (suc (children_count gs p)) (children_count gs p)
+counted_by b gs p k g is =
+    count_push gs k p g
+    ∙ ap (λ (x : Bool). cond x (suc (children_count gs p)) (children_count gs p)) is
+
+left_by : (b : Bool) (gs : Groups) (id p : ℕ) (g : GroupFields) → group_at gs id ≡ Some g
+    → is_parent g.parent p ≡ b
+    → children_count gs p ≡ cond b (suc (children_count (remove_entry (eqb id) gs) p))
+    (children_count (remove_entry (eqb id) gs) p)
+left_by b gs id p g at is =
+    count_removed id g gs p at
+    ∙ ap (λ (x : Bool). cond x (suc (children_count (remove_entry (eqb id) gs) p))
+    (children_count (remove_entry (eqb id) gs) p)) is
+
+-- a way up stays where its steps stay
+pub above_kept : (gs hs : Groups) (W : ℕ → Type 0)
+    → ((q p : ℕ) → W q → parent_of (group_at gs q) ≡ Some p
+    → (parent_of (group_at hs q) ≡ Some p) × W p)
+    → (levels id top : ℕ) → W id → above gs levels id ≡ Some top → above hs levels id ≡ Some top
+above_kept gs hs W step zero id top w at = above_here hs id ∙ sym (above_here gs id) ∙ at
+above_kept gs hs W step (suc levels) id top w at =
+    by (parent_of (group_at gs id)) refl (λ p. above_kept gs hs W step levels p top)
+  where
+    by : (o : Option ℕ) → parent_of (group_at gs id) ≡ o
+        → ((p : ℕ) → W p → above gs levels p ≡ Some top → above hs levels p ≡ Some top)
+        → above hs (suc levels) id ≡ Some top
+    by None up higher =
+        let wrong : None ≡ Some top = sym (above_more gs levels id None up) ∙ at in absurd (cc)
+    by (Some p) up higher =
+        let next = step id p w up in
+        above_more hs levels id (Some p) next.0
+        ∙ higher p next.1 (sym (above_more gs levels id (Some p) up) ∙ at)
+
+-- above the end of a way nothing lies
+above_ends : (gs : Groups) (levels more id : ℕ) → above gs levels id ≡ None
+    → above gs (levels + more) id ≡ None
+above_ends gs zero more id none = let wrong : Some id ≡ None = sym (above_here gs id) ∙ none in
+    absurd (cc)
+above_ends gs (suc levels) more id none =
+    let e : suc levels + more ≡ suc (levels + more) = omega arith in
+    ap (λ n. above gs n id) e
+    ∙ by (parent_of (group_at gs id)) refl (λ p. above_ends gs levels more p)
+  where
+    by : (o : Option ℕ) → parent_of (group_at gs id) ≡ o
+        → ((p : ℕ) → above gs levels p ≡ None → above gs (levels + more) p ≡ None)
+        → above gs (suc (levels + more)) id ≡ None
+    by None up higher = above_more gs (levels + more) id None up
+    by (Some p) up higher = above_more gs (levels + more) id (Some p) up
+        ∙ higher p (sym (above_more gs levels id (Some p) up) ∙ none)
+
+-- nor above one that has no parent
+above_top : (gs : Groups) (levels more id top : ℕ) → above gs levels id ≡ Some top
+    → parent_of (group_at gs top) ≡ None → above gs (levels + suc more) id ≡ None
+above_top gs zero more id top at none =
+    let same : id ≡ top = inside (sym (above_here gs id) ∙ at) in
+    let e : zero + suc more ≡ suc more = omega arith in
+    ap (λ n. above gs n id) e
+    ∙ above_more gs more id None (ap (λ k. parent_of (group_at gs k)) same ∙ none)
+above_top gs (suc levels) more id top at none =
+    let e : suc levels + suc more ≡ suc (levels + suc more) = omega arith in
+    ap (λ n. above gs n id) e
+    ∙ by (parent_of (group_at gs id)) refl (λ p is. above_top gs levels more p top is none)
+  where
+    by : (o : Option ℕ) → parent_of (group_at gs id) ≡ o
+        → ((p : ℕ) → above gs levels p ≡ Some top → above gs (levels + suc more) p ≡ None)
+        → above gs (suc (levels + suc more)) id ≡ None
+    by None up higher =
+        let wrong : None ≡ Some top = sym (above_more gs levels id None up) ∙ at in absurd (cc)
+    by (Some p) up higher = above_more gs (levels + suc more) id (Some p) up
+        ∙ higher p (sym (above_more gs levels id (Some p) up) ∙ at)
+
+-- a depth is below each number of levels that leads nowhere
+pub depth_below : (gs : Groups) (depth levels id top : ℕ) → above gs depth id ≡ Some top
+    → above gs levels id ≡ None → depth < levels
+depth_below gs depth levels id top at none = by (cases_lt depth levels)
+  where
+    by : (depth < levels) ⊎ (levels ≤ depth) → depth < levels
+    by (inl lt) = lt
+    by (inr le) =
+        let e : depth ≡ levels + (depth - levels) = omega (arith, le) in
+        let wrong : Some top ≡ None = sym at ∙ ap (λ n. above gs n id) e
+        ∙ above_ends gs levels (depth - levels) id none in
+        absurd (cc)
+
+-- a group lies so deep where so many levels lead to a group
+pub deep_enough : (gs : Groups) (depth levels id top : ℕ) → above gs depth id ≡ Some top
+    → parent_of (group_at gs top) ≡ None
+    → leb levels depth ≡ is_some (above gs levels id)
+deep_enough gs depth levels id top at none = by (above gs levels id) refl
+  where
+    by : (o : Option ℕ) → above gs levels id ≡ o → leb levels depth ≡ is_some o
+    by None is = let lt = depth_below gs depth levels id top at is in
+        lt-leb levels depth lt
+    by (Some k) is = onto (cases_lt depth levels)
+      where
+        onto : (depth < levels) ⊎ (levels ≤ depth) → leb levels depth ≡ true
+        onto (inr le) = le-leb levels depth le
+        onto (inl lt) =
+            let e : levels ≡ depth + suc (levels - depth - 1) = omega (arith, lt) in
+            let wrong : Some k ≡ None = sym is ∙ ap (λ n. above gs n id) e
+            ∙ above_top gs depth (levels - depth - 1) id top at none in
+            absurd (cc)
+
+-- one group more
+module _ (gs : Groups) (k parent i : ℕ) (g : GroupFields) (up : g.parent ≡ Some parent)
+    (rising : AreRising gs) (absent : group_at gs k ≡ None) (apart : parent ≢ k)
+    (none : has_children gs k ≡ false) (at : StandsAt gs parent i) where
+  old_way : (levels id top : ℕ) → above gs levels id ≡ Some top
+      → above (gs ++ (k, g) ∷ []) levels id ≡ Some top
+  old_way levels id top is =
+      above_kept gs (gs ++ (k, g) ∷ []) (λ _. Unit {0}) step levels id top tt is
+    where
+      step : (q p : ℕ) → Unit {0} → parent_of (group_at gs q) ≡ Some p
+          → (parent_of (group_at (gs ++ (k, g) ∷ []) q) ≡ Some p) × Unit {0}
+      step q p w above_it =
+          let found = parent_found (group_at gs q) p above_it in (
+            ap parent_of (look_push_other gs k q g (ne_eqb q k (λ same.
+                let wrong : Some found.0 ≡ None = sym found.1 ∙ ap (group_at gs) same ∙ absent in
+                absurd (cc)))) ∙ above_it,
+            tt,
+          )
+
+  pub nodes_pushed : (ns : List Node) → AreNodesOf gs ns
+      → AreNodesOf (gs ++ (k, g) ∷ [])
+      (slice_set ns i (one_child_more (node_at ns i)) ++ leaf_below (node_at ns i) ∷ [])
+  nodes_pushed ns all =
+      node_push (IsNodeOf hs) gs _ (k, g) (leaf_below (node_at ns i))
+      (node_set (IsNodeOf gs) (IsNodeOf hs) parent other gs ns i (one_child_more (node_at ns i))
+      rising at own all)
+      (record {
+        children = sym (counted_by false gs k k g
+            (ap (λ o. is_parent o k) up ∙ ne_eqb parent k apart) ∙ none_counted gs k none);
+        depth = lowest;
+      })
+    where
+      hs : Groups
+      hs = gs ++ (k, g) ∷ []
+
+      other : (id : ℕ) (n : Node) → id ≢ parent → IsNodeOf gs id n → IsNodeOf hs id n
+      other id n else_where is = record {
+        children = is.children ∙ sym (counted_by false gs id k g
+            (ap (λ o. is_parent o id) up ∙ ne_eqb parent id (λ same. else_where (sym same))));
+        depth = old_way n.depth id 0 is.depth;
+      }
+
+      own : IsNodeOf gs parent (node_at ns i) → IsNodeOf hs parent (one_child_more (node_at ns i))
+      own is =
+          let more = counted_by true gs parent k g
+          (ap (λ o. is_parent o parent) up ∙ eq-eqb parent parent refl) in
+          record {
+            children = omega (arith, is.children, more);
+            depth = old_way (node_at ns i).depth parent 0 is.depth;
+          }
+
+      lowest : above hs ((node_at ns i).depth + 1) k ≡ Some 0
+      lowest =
+          let is = node_read (IsNodeOf gs) gs ns parent i at all in
+          let e : (node_at ns i).depth + 1 ≡ suc (node_at ns i).depth = omega arith in
+          ap (λ n. above hs n k) e
+          ∙ above_more hs (node_at ns i).depth k (Some parent)
+          (ap parent_of (look_push_same gs k g absent) ∙ up)
+          ∙ old_way (node_at ns i).depth parent 0 is.depth
+
+-- one group less
+module _ (gs : Groups) (id parent i j : ℕ) (g : GroupFields) (at : group_at gs id ≡ Some g)
+    (up : g.parent ≡ Some parent) (whole : AreRising gs) (lone : has_children gs id ≡ false)
+    (place : StandsAt gs id i) (higher : StandsAt (remove_entry (eqb id) gs) parent j) where
+  pub nodes_taken : (ns : List Node) → AreNodesOf gs ns
+      → AreNodesOf (remove_entry (eqb id) gs)
+      (slice_set (remove ns i) j (one_child_less (node_at (remove ns i) j)))
+  nodes_taken ns all =
+      others_left (IsNodeOf hs) id hs _ (look_removed_same id gs whole)
+      (node_set (IsNodeOf gs) (λ q n. q ≢ id → IsNodeOf hs q n) parent other hs (remove ns i) j
+      (one_child_less (node_at (remove ns i) j)) (rising_removed id gs whole) higher own
+      (node_removed (IsNodeOf gs) gs ns id i place all))
+    where
+      hs : Groups
+      hs = remove_entry (eqb id) gs
+
+      step : (q p : ℕ) → q ≢ id → parent_of (group_at gs q) ≡ Some p
+          → (parent_of (group_at hs q) ≡ Some p) × (p ≢ id)
+      step q p w above_it =
+          let found = parent_found (group_at gs q) p above_it in (
+            ap parent_of (look_removed_other id gs q (ne_eqb q id w)) ∙ above_it,
+            λ same. let wrong : true ≡ false =
+                sym (children_found gs q p found.0 found.1 found.2) ∙ ap (has_children gs) same
+                ∙ lone in
+                absurd (cc),
+          )
+
+      way : (n : Node) (q : ℕ) → q ≢ id → IsNodeOf gs q n → above hs n.depth q ≡ Some 0
+      way n q w is = above_kept gs hs (λ k. k ≢ id) step n.depth q 0 w is.depth
+
+      other : (q : ℕ) (n : Node) → q ≢ parent → IsNodeOf gs q n → q ≢ id → IsNodeOf hs q n
+      other q n else_where is w = record {
+        children = is.children ∙ left_by false gs id q g at
+            (ap (λ o. is_parent o q) up ∙ ne_eqb parent q (λ same. else_where (sym same)));
+        depth = way n q w is;
+      }
+
+      own : IsNodeOf gs parent (node_at (remove ns i) j)
+          → parent ≢ id → IsNodeOf hs parent (one_child_less (node_at (remove ns i) j))
+      own is w =
+          let less = left_by true gs id parent g at
+          (ap (λ o. is_parent o parent) up ∙ eq-eqb parent parent refl) in
+          record {
+            children = omega (arith, is.children, less);
+            depth = way (node_at (remove ns i) j) parent w is;
+          }
+
+  -- the parent of the group that is removed had a child
+  pub some_child : (ns : List Node) → AreNodesOf gs ns → 0 < (node_at (remove ns i) j).children
+  some_child ns all =
+      let own = node_read (IsNodeOf gs) (remove_entry (eqb id) gs) (remove ns i) parent j higher
+      (node_removed (IsNodeOf gs) gs ns id i place all) in
+      let less = left_by true gs id parent g at
+      (ap (λ o. is_parent o parent) up ∙ eq-eqb parent parent refl) in
+      omega (arith, own.children, less)
+
+  -- and its node is left
+  pub node_left : (ns : List Node) → AreNodesOf gs ns → j < length (remove ns i)
+  node_left ns all =
+      let long : length (remove ns i) ≡ length (remove_entry (eqb id) gs) =
+      AllZip-long (λ (e : ℕ × GroupFields) (n : Node). IsNodeOf gs e.0 n)
+      (remove_entry (eqb id) gs) (remove ns i)
+      (node_removed (IsNodeOf gs) gs ns id i place all) in
+      omega (arith, higher.within, long)
+
+keys_changed : (f : GroupFields → GroupFields) (id : ℕ) (g : GroupFields) (gs : Groups)
+    → keys_of (set_value (eqb id) gs g) ≡ keys_of gs
+keys_changed f id g [] = refl
+keys_changed f id g (e ∷ es) = onto (eqb id e.0) (keys_changed f id g es)
+  where
+    onto : (b : Bool) → keys_of (set_value (eqb id) es g) ≡ keys_of es
+        → keys_of (cond b ((e.0, g) ∷ es) (e ∷ set_value (eqb id) es g)) ≡ e.0 ∷ keys_of es
+    onto true rest = refl
+    onto false rest = ap (λ (ks : List ℕ). e.0 ∷ ks) rest
+
+-- a group that is changed, and keeps its parent
+pub nodes_set : (f : GroupFields → GroupFields) (gs : Groups) (id : ℕ) (ns : List Node)
+    → ((g : GroupFields) → (f g).parent ≡ g.parent) → AreNodesOf gs ns
+    → AreNodesOf (changed_at f gs id) ns
+nodes_set f gs id ns same all = by (group_at gs id) refl
+  where
+    by : (o : _) → group_at gs id ≡ o → AreNodesOf (changed f gs id o) ns
+    by None at = all
+    by (Some g) at =
+        nodes_alike (IsNodeOf gs) (IsNodeOf (set_value (eqb id) gs (f g))) gs
+        (set_value (eqb id) gs (f g)) ns (keys_changed f id (f g) gs)
+        (λ p n is. record {
+          children = is.children ∙ sym (count_set id (f g) g (same g) gs p at);
+          depth = above_kept gs (set_value (eqb id) gs (f g)) (λ _. Unit {0})
+              (λ q k w up. (stays g at q ∙ up, tt)) n.depth p 0 tt is.depth;
+        })
+        all
+      where
+        stays : (g : GroupFields) → group_at gs id ≡ Some g → (q : ℕ)
+            → parent_of (group_at (set_value (eqb id) gs (f g)) q) ≡ parent_of (group_at gs q)
+        stays g at q = onto (eqb_tells q id)
+          where
+            onto : ((eqb q id ≡ true) × (q ≡ id)) ⊎ ((eqb q id ≡ false) × (q ≢ id))
+                → parent_of (group_at (set_value (eqb id) gs (f g)) q)
+                ≡ parent_of (group_at gs q)
+            onto (inl here) =
+                ap (λ k. parent_of (group_at (set_value (eqb id) gs (f g)) k)) here.1
+                ∙ ap parent_of (look_set_same id (f g) gs g at) ∙ same g
+                ∙ sym (ap parent_of at) ∙ ap (λ k. parent_of (group_at gs k)) (sym here.1)
+            onto (inr apart) = ap parent_of (look_set_other id (f g) gs q apart.0)
