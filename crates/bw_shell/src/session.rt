@@ -175,8 +175,8 @@ impl<'a, G: Gate> Session<'a, G> {
         if self.line.is_empty() {
             return Ok(());
         }
-        self.responder
-            .reply(rt, Piece::Bytes(self.line.as_slice()), writer)
+        let line = Piece::Bytes(self.line.as_slice());
+        self.responder.reply(rt, line, writer)
     }
 
     /// Answers a last line without a newline, and flushes the writer.
