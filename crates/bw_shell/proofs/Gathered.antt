@@ -1,6 +1,6 @@
 -- Calls that answer into the buffer, one after another.
 use Rattle.std.proofs.Common.{◌≡◌, ℕ, List, [], ◌++◌, refl, sym, ◌∙◌, ap, subst, append_assoc}
-use Rattle.std.proofs.Common.{append-nil, Option, Result, Ok, Err}
+use Rattle.std.proofs.Common.{append-nil, Option, Result, Err}
 use Rattle.std.specs.Io.KnownBytes.{Appends}
 use Rattle.bw_shell.specs.Gathers.{Gathers}
 use Rattle.bw_streams.specs.Fronts.{AppendsFront}

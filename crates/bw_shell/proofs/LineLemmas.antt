@@ -1,6 +1,6 @@
 -- The lines of a text, from a front without newlines.
 use Rattle.std.proofs.Common.{◌≡◌, ◌<◌, ℕ, zero, suc, List, [], ◌∷◌, ◌++◌, ◌==◌, false, length}
-use Rattle.std.proofs.Common.{take, drop, refl, ap, subst, arith, inl, inr}
+use Rattle.std.proofs.Common.{take, drop, slice_index, refl, ap, subst, arith, inl, inr}
 use Rattle.std.proofs.lemmas.Bool.{cases_Bool}
 use Rattle.std.proofs.lemmas.Bool.Decides.{eqb_tells}
 use Rattle.memchr.specs.Find.{Nowhere, NoneBefore, Passes, is_byte}
@@ -46,6 +46,13 @@ pub whole_lines_of-newline : (cur xs : List ℕ) → NoNewline cur
 unfolding whole_lines_of
 whole_lines_of-newline [] xs n = refl
 whole_lines_of-newline (b ∷ bs) xs n = rw (n.0, whole_lines_of-newline bs xs n.1) refl
+
+-- ---- what stands behind a place
+
+pub first_of_drop : (n : ℕ) (xs : List ℕ) → slice_index (drop n xs) 0 ≡ slice_index xs n
+first_of_drop zero xs = refl
+first_of_drop (suc n) [] = refl
+first_of_drop (suc n) (x ∷ xs) = first_of_drop n xs
 
 -- ---- where the first newline stands
 

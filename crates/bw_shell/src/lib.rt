@@ -4,6 +4,7 @@
 
 mod keys;
 mod laws;
+mod piece;
 mod responder;
 mod script;
 mod session;

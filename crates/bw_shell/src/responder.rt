@@ -7,8 +7,10 @@ ghost use Rattle.bw_commands.specs.Parsed.{request_of};
 ghost use Rattle.bw_commands.specs.Script.{kept_of, request_of_kept};
 ghost use Rattle.bw_streams.specs.Watched.{is_flushed, HasNoFault};
 ghost use Rattle.bw_shell.specs.Gathers.{Gathers};
+ghost use Rattle.bw_shell.specs.Piece.{bytes_of};
 ghost use Rattle.bw_commands.specs.declared.refusal.TheConstants.{REFUSAL_BYTES};
 
+use crate::piece::Piece;
 use crate::session::LINE_BYTES;
 use crate::waiting::{WAITING_BYTES, flush_waiting, gather, send_waiting};
 use bw_commands::{Command, REFUSAL_BYTES, Script, ScriptFault, put_error};
@@ -23,23 +25,26 @@ use std::sync::Wait;
 use std::thread::Threads;
 
 // The text of a line, or the refusal of the line.
-fn text_of(line: &[u8]) -> Result<&str, ScriptFault>
+fn text_of(line: Piece<'_>) -> Result<&str, ScriptFault>
     ensures { MatchResult result
-        (λ text. request_of_kept (kept_of line.now) ≡ command_of_line text.now)
-        (λ fault. request_of_kept (kept_of line.now) ≡ Err fault) }
+        (λ text. request_of_kept (kept_of (bytes_of line.entry)) ≡ command_of_line text.now)
+        (λ fault. request_of_kept (kept_of (bytes_of line.entry)) ≡ Err fault) }
 {
-    if line.len() > LINE_BYTES {
+    if line.bytes().len() > LINE_BYTES {
         return Err(ScriptFault::LineTooLong);
     }
-    match str::from_utf8(line) {
-        Ok(text) => Ok(text),
-        Err(_) => Err(ScriptFault::BadText),
+    match line {
+        Piece::Text(text) => Ok(text),
+        Piece::Bytes(bytes) => match str::from_utf8(bytes) {
+            Ok(text) => Ok(text),
+            Err(_) => Err(ScriptFault::BadText),
+        },
     }
 }
 
 // The command that a line asks for, or the refusal of the line.
-fn command_of(line: &[u8]) -> Result<Command<'_>, ScriptFault>
-    ensures { request_of result ≡ request_of_kept (kept_of line.now) }
+fn command_of(line: Piece<'_>) -> Result<Command<'_>, ScriptFault>
+    ensures { request_of result ≡ request_of_kept (kept_of (bytes_of line.entry)) }
 {
     match text_of(line) {
         Ok(text) => Command::parse(text),
@@ -105,6 +110,7 @@ impl<'a, G: Gate> Responder<'a, G> {
     ghost use Rattle.bw_commands.specs.Script.{outcome_of_request, IsAnswer, IsOutcome};
     ghost use Rattle.bw_commands.specs.State.{State, start};
     ghost use Rattle.bw_shell.specs.Gathers.{Gathers};
+    ghost use Rattle.bw_shell.specs.Piece.{bytes_of};
     ghost use Rattle.bw_shell.specs.Responder.{responder_state, responder_waits};
     ghost use Rattle.bw_streams.specs.Watched.{is_flushed, HasNoFault};
     ghost use Rattle.bw_streams.specs.Writes.{Writes};
@@ -164,16 +170,16 @@ impl<'a, G: Gate> Responder<'a, G> {
     pub fn reply<H: Threads + Wait + Clock + Sync, W: Write>(
         &mut self,
         rt: &H,
-        line: &[u8],
+        line: Piece<'_>,
         writer: &mut Watched<W>,
     ) -> Result<(), RunFault>
         requires { HasNoFault writer.old }
         ensures { Gathers W.contents writer.old writer.new (responder_waits self.old)
             (responder_waits self.new) result
-            (λ answer. IsAnswer (responder_state G.used self.old) line.now answer
+            (λ answer. IsAnswer (responder_state G.used self.old) (bytes_of line.entry) answer
             (responder_state G.used self.new))
             (λ answer. (t : State)
-            × IsAnswer (responder_state G.used self.old) line.now answer t) }
+            × IsAnswer (responder_state G.used self.old) (bytes_of line.entry) answer t) }
     {
         let asked = command_of(line);
         match flush_before(asked, writer, &mut self.waiting) {

@@ -5,6 +5,7 @@ ghost use Rattle.std.specs.Vec.{vec_capacity};
 ghost use Rattle.bw_streams.specs.Watched.{is_flushed, HasNoFault};
 ghost use Rattle.bw_streams.specs.Writes.{Writes};
 
+use crate::piece::Piece;
 use crate::responder::Responder;
 use bw_model::HostShape;
 use bw_streams::{RunFault, Watched};
@@ -40,6 +41,7 @@ impl<'a, G: Gate> Session<'a, G> {
     ghost use Rattle.bw_commands.specs.State.{start};
     ghost use Rattle.bw_shell.specs.Scan.{Scan, begin, kept_after, TakesLine, TakesBytes, Finishes};
     ghost use Rattle.bw_shell.specs.Gathers.{Gathers};
+    ghost use Rattle.bw_shell.specs.Piece.{bytes_of};
     ghost use Rattle.bw_shell.specs.Session.{scan_of, session_waits};
     ghost use Rattle.bw_streams.specs.Watched.{is_flushed, HasNoFault};
     ghost use Rattle.bw_streams.specs.Writes.{Writes};
@@ -82,20 +84,23 @@ impl<'a, G: Gate> Session<'a, G> {
     fn end_line<H: Threads + Wait + Clock + Sync, W: Write>(
         &mut self,
         rt: &H,
-        front: &[u8],
+        front: Piece<'_>,
         writer: &mut Watched<W>,
     ) -> Result<(), RunFault>
         requires { HasNoFault writer.old }
         ensures { Gathers W.contents writer.old writer.new (session_waits self.old)
             (session_waits self.new) result
-            (λ text. TakesLine (scan_of G.used self.old) front.now text (scan_of G.used self.new))
-            (λ text. (t : Scan) × TakesLine (scan_of G.used self.old) front.now text t) }
+            (λ text. TakesLine (scan_of G.used self.old) (bytes_of front.entry) text
+            (scan_of G.used self.new))
+            (λ text. (t : Scan)
+            × TakesLine (scan_of G.used self.old) (bytes_of front.entry) text t) }
     {
         if self.line.is_empty() {
             return self.responder.reply(rt, front, writer);
         }
-        self.keep(front);
-        match self.responder.reply(rt, self.line.as_slice(), writer) {
+        self.keep(front.bytes());
+        let line = Piece::Bytes(self.line.as_slice());
+        match self.responder.reply(rt, line, writer) {
             Ok(()) => {
                 self.line.clear();
                 Ok(())
@@ -117,16 +122,16 @@ impl<'a, G: Gate> Session<'a, G> {
             (λ text. TakesBytes (scan_of G.used self.old) piece.now text (scan_of G.used self.new))
             (λ text. (t : Scan) × TakesBytes (scan_of G.used self.old) piece.now text t) }
     {
-        let mut rest = piece;
-        while let Some(end) = memchr(b'\n', rest) {
-            let (front, behind) = rest.split_at(end);
+        let mut rest = Piece::new(piece);
+        while let Some(end) = memchr(b'\n', rest.bytes()) {
+            let (front, behind) = rest.split_line(end);
             match self.end_line(rt, front, writer) {
                 Ok(()) => {}
                 Err(fault) => return Err(fault),
             }
-            rest = behind.split_at(1).1;
+            rest = behind;
         }
-        self.keep(rest);
+        self.keep(rest.bytes());
         Ok(())
     }
 
@@ -170,7 +175,8 @@ impl<'a, G: Gate> Session<'a, G> {
         if self.line.is_empty() {
             return Ok(());
         }
-        self.responder.reply(rt, self.line.as_slice(), writer)
+        let line = Piece::Bytes(self.line.as_slice());
+        self.responder.reply(rt, line, writer)
     }
 
     /// Answers a last line without a newline, and flushes the writer.

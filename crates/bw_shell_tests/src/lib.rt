@@ -10,4 +10,6 @@ mod stream_cases;
 #[cfg(test)]
 mod streams;
 #[cfg(test)]
+mod text_cases;
+#[cfg(test)]
 mod watched_cases;

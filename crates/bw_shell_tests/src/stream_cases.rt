@@ -80,7 +80,7 @@ fn answers_within(alloc: Global, bytes: usize) -> Result<String, AllocError> {
 }
 
 // A run without a fault.
-fn assert_ran(rt: &impl Abort, ran: &Result<(), RunFault>) {
+pub(crate) fn assert_ran(rt: &impl Abort, ran: &Result<(), RunFault>) {
     assert!(rt; ran.is_ok());
     assert!(rt; status_of_run(ran) == 0);
 }

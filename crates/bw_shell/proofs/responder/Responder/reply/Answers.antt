@@ -3,6 +3,7 @@ use Rattle.std.proofs.Common.{◌++◌, ap, sym, subst, ◌∙◌}
 use Rattle.bw_commands.specs.Script.{IsAnswer, IsOutcome, outcome_of, outcome_of_kept}
 use Rattle.bw_commands.specs.Script.{outcome_of_request}
 use Rattle.bw_commands.specs.State.{State}
+use Rattle.bw_shell.specs.Piece.{bytes_of}
 use Rattle.bw_shell.specs.Responder.{responder_state}
 use Rattle.bw_shell.proofs.Gathered.{Gathers-err, Gathers-first, Gathers-map}
 use Rattle.bw_shell.proofs.Scanning.{answered}
@@ -11,12 +12,13 @@ use Rattle.bw_shell.proofs.responder.Responder.reply.Goals as goal
 pub returns-in-Err : goal.returns-in-Err
 returns-in-Err g c =
     let s = responder_state g.G.Gate.used c.args.self.now in
-    let any = answered s (outcome_of s c.args.line.now) in
+    let line = bytes_of c.args.line in
+    let any = answered s (outcome_of s line) in
     Gathers-err g.W.Write.contents c.args.writer.now c.flush_before.new.writer
     c.args.self.now.waiting.items c.flush_before.new.waiting.items _ c.in-Err.fault
     (λ text e. (
       any.0,
-      subst (λ l. (t : State) × IsAnswer s c.args.line.now (l ++ any.0) t) (sym e) (any.1, any.2),
+      subst (λ l. (t : State) × IsAnswer s line (l ++ any.0) t) (sym e) (any.1, any.2),
     ))
     c.in-Err.ensures.gathers
 
@@ -24,10 +26,11 @@ pub returns : goal.returns
 unfolding outcome_of_kept
 returns g c =
     let s = responder_state g.G.Gate.used c.args.self.now in
+    let line = bytes_of c.args.line in
     let t = responder_state g.G.Gate.used c.perform.new.self in
     let none = c.in-Ok.ensures.gathers.ok in
     let answer = c.perform.new.self.answer.items in
-    let is : IsAnswer s c.args.line.now answer t =
+    let is : IsAnswer s line answer t =
     subst (λ asked. IsOutcome s (outcome_of_request s asked) answer t) c.command_of-asked.ensures
     c.perform.ensures.outcome in
     Gathers-first g.W.Write.contents c.args.writer.now c.flush_before.new.writer c.gather.new.writer
@@ -36,7 +39,7 @@ returns g c =
     (none.4 ∙ ap (λ l. none.1 ++ l) (sym c.perform.ensures.waits)) none.2
     (Gathers-map g.W.Write.contents c.flush_before.new.writer c.gather.new.writer
     c.perform.new.self.waiting.items c.gather.new.waiting.items c.gather.result
-    (λ text e. subst (λ l. IsAnswer s c.args.line.now l t) (sym (e ∙ c.as_slice.ensures.value)) is)
+    (λ text e. subst (λ l. IsAnswer s line l t) (sym (e ∙ c.as_slice.ensures.value)) is)
     (λ text e.
-    (t, subst (λ l. IsAnswer s c.args.line.now l t) (sym (e ∙ c.as_slice.ensures.value)) is))
+    (t, subst (λ l. IsAnswer s line l t) (sym (e ∙ c.as_slice.ensures.value)) is))
     c.gather.ensures)

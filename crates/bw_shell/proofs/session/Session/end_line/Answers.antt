@@ -3,6 +3,7 @@ use Rattle.std.proofs.Common.{rules, ◌≡◌, ◌∙◌, ◌++◌, [], Some, E
 use Rattle.std.proofs.Common.{append-nil}
 use Rattle.std.proofs.lemmas.List.{nil_from_length}
 use Rattle.bw_commands.specs.Script.{kept_of, IsAnswer}
+use Rattle.bw_shell.specs.Piece.{bytes_of}
 use Rattle.bw_shell.specs.Responder.{responder_state}
 use Rattle.bw_shell.specs.Scan.{Scan, kept_after}
 use Rattle.bw_shell.proofs.Scanning.{TakesLine-kept, kept_after-kept_of}
@@ -16,14 +17,15 @@ returns-then-is_empty g c =
     let line = c.args.self.now.line.items in
     let zero : length line ≡ 0 = search rules in
     let empty = nil_from_length line zero in
-    let same : kept_of c.args.front.now ≡ kept_after (kept_of line) c.args.front.now =
-    rw empty (sym (kept_after-kept_of [] c.args.front.now)) in
+    let front = bytes_of c.args.front in
+    let same : kept_of front ≡ kept_after (kept_of line) front =
+    rw empty (sym (kept_after-kept_of [] front)) in
     Gathers-map g.W.Write.contents c.args.writer.now c.reply.new.writer
     c.args.self.now.responder.waiting.items c.reply.new.self.waiting.items c.reply.result
-    (λ text p. TakesLine-kept s t c.args.front.now line line c.args.front.now text same empty p)
+    (λ text p. TakesLine-kept s t front line line front text same empty p)
     (λ text p. (
       record { state = p.0; kept = Some [] },
-      TakesLine-kept s p.0 c.args.front.now line [] c.args.front.now text same refl p.1,
+      TakesLine-kept s p.0 front line [] front text same refl p.1,
     ))
     c.reply.ensures
 
@@ -34,15 +36,17 @@ returns-in-Err g c =
     let whole = c.as_slice.result.now in
     let state : responder_state g.G.Gate.used c.keep.new.self.responder ≡ s =
     ap (λ (m : Scan). m.state) c.keep.ensures.scan in
-    let same : kept_of whole ≡ kept_after (kept_of line) c.args.front.now =
-    ap kept_of c.as_slice.ensures.value ∙ ap (λ (m : Scan). m.kept) c.keep.ensures.scan in
+    let front = bytes_of c.args.front in
+    let same : kept_of whole ≡ kept_after (kept_of line) front =
+    ap kept_of c.as_slice.ensures.value ∙ ap (λ (m : Scan). m.kept) c.keep.ensures.scan
+    ∙ ap (kept_after (kept_of line)) c.bytes.ensures in
     Gathers-err g.W.Write.contents c.args.writer.now c.reply-2.new.writer
     c.args.self.now.responder.waiting.items c.reply-2.new.self.waiting.items _ c.in-Err.fault
     (λ text p. (
       [],
       (
         record { state = p.0; kept = Some [] },
-        TakesLine-kept s p.0 whole line [] c.args.front.now (text ++ []) same refl
+        TakesLine-kept s p.0 whole line [] front (text ++ []) same refl
             (subst (λ l. IsAnswer s whole l p.0) (sym (append-nil text))
             (subst (λ r. IsAnswer r whole text p.0) state p.1)),
       ),

@@ -1,8 +1,10 @@
 -- The goals of `Session::take_bytes` that are answered by hand.
 use Rattle.std.proofs.Common.{◌≡◌, ◌++◌, ◌∙◌, ℕ, List, [], ◌∷◌, take, drop, ap, sym, subst}
-use Rattle.std.proofs.Common.{append_assoc, append-nil, refl, rules}
-use Rattle.std.proofs.lemmas.List.{take-append-drop}
-use Rattle.bw_shell.specs.Scan.{Scan, TakesBytes, TakesLine}
+use Rattle.std.proofs.Common.{append_assoc, append-nil, Some, None}
+use Rattle.std.proofs.lemmas.List.{take-append-drop, drop-drop}
+use Rattle.memchr.specs.Find.{IsFirstByte, is_byte}
+use Rattle.bw_shell.specs.Piece.{bytes_of}
+use Rattle.bw_shell.specs.Scan.{Scan, TakesBytes, TakesLine, kept_after}
 use Rattle.bw_shell.specs.Session.{scan_of, session_waits}
 use Rattle.bw_streams.proofs.CallerLemmas.{Appends-nil, Appends-trans}
 use Rattle.bw_shell.proofs.LineLemmas.{first_newline-front, first_newline-rest, no_newline}
@@ -23,26 +25,29 @@ parted piece input rest front behind p r b =
 pub loop-end-init : goal.loop-end-init
 loop-end-init g c =
     record {
-      taken = ([], [], [], TakesBytes-nil _, Appends-nil _, append-nil _, refl);
+      taken = ([], [], [], TakesBytes-nil _, Appends-nil _, append-nil _, sym c.new-rest.ensures);
       quiet = c.requires;
     }
 
 pub loop-end-preserved : goal.loop-end-preserved
 loop-end-preserved g c =
     let t = c.loop-end.invariant.taken in
-    let xs = c.loop-end.rest.now in
+    let xs = bytes_of c.loop-end.rest in
     let n = c.in-Some.end in
     let front = take n xs in
     let behind = drop n xs in
-    let clean = first_newline-front xs n c.in-Some.ensures.0 in
-    let newline = first_newline-rest xs n c.in-Some.ensures.0 c.in-Some.ensures.1 in
+    let found : IsFirstByte (is_byte 10) xs (Some n) =
+    subst (λ l. IsFirstByte (is_byte 10) l (Some n)) c.bytes.ensures c.in-Some.ensures in
+    let clean = first_newline-front xs n found.0 in
+    let newline = first_newline-rest xs n found.0 found.1 in
     let line = c.in-Ok.ensures.ok in
-    let front_is : c.split_at.result.0.now ≡ front = c.split_at.ensures.front in
+    let front_is : bytes_of c.split_line.result.0 ≡ front = c.split_line.ensures.front in
     let takes : TakesLine (scan_of g.G.Gate.used c.loop-end.self) front line.0
     (scan_of g.G.Gate.used c.end_line.new.self) =
     subst (λ l. TakesLine (scan_of g.G.Gate.used c.loop-end.self) l line.0
     (scan_of g.G.Gate.used c.end_line.new.self)) front_is line.2 in
-    let rest_is : c.split_at-in-Some.result.1.now ≡ drop 1 behind = search rules in
+    let rest_is : bytes_of c.split_line.result.1 ≡ drop 1 behind =
+    c.split_line.ensures.behind ∙ sym (drop-drop 1 n xs) in
     record {
       taken = (
         t.0 ++ (front ++ 10 ∷ []),
@@ -61,13 +66,15 @@ loop-end-preserved g c =
 pub returns-in-Err : goal.returns-in-Err
 returns-in-Err g c =
     let t = c.loop-end.invariant.taken in
-    let xs = c.loop-end.rest.now in
+    let xs = bytes_of c.loop-end.rest in
     let n = c.in-Some.end in
     let front = take n xs in
     let behind = drop n xs in
-    let clean = first_newline-front xs n c.in-Some.ensures.0 in
-    let newline = first_newline-rest xs n c.in-Some.ensures.0 c.in-Some.ensures.1 in
-    let front_is : c.split_at.result.0.now ≡ front = c.split_at.ensures.front in
+    let found : IsFirstByte (is_byte 10) xs (Some n) =
+    subst (λ l. IsFirstByte (is_byte 10) l (Some n)) c.bytes.ensures c.in-Some.ensures in
+    let clean = first_newline-front xs n found.0 in
+    let newline = first_newline-rest xs n found.0 found.1 in
+    let front_is : bytes_of c.split_line.result.0 ≡ front = c.split_line.ensures.front in
     let whole = parted c.args.piece.now t.0 xs front behind t.6 (sym (take-append-drop n xs))
     newline in
     Gathers-fails g.W.Write.contents c.args.writer.now c.loop-end.writer c.end_line.new.writer
@@ -95,13 +102,18 @@ returns-in-Err g c =
 pub returns : goal.returns
 returns g c =
     let t = c.loop-end.invariant.taken in
-    let rest = c.loop-end.rest.now in
+    let rest = bytes_of c.loop-end.rest in
     let a = scan_of g.G.Gate.used c.args.self.now in
     let b = scan_of g.G.Gate.used c.loop-end.self in
     let d = scan_of g.G.Gate.used c.keep.new.self in
-    let clean = no_newline rest (λ k low high. c.in_default.ensures k low high) in
+    let none : IsFirstByte (is_byte 10) rest None =
+    subst (λ l. IsFirstByte (is_byte 10) l None) c.bytes.ensures c.in_default.ensures in
+    let clean = no_newline rest (λ k low high. none k low high) in
+    let whole : d ≡ record b { kept = kept_after b.kept rest } =
+    c.keep.ensures.scan
+    ∙ ap (λ l. record b { kept = kept_after b.kept l }) c.bytes-2.ensures in
     let kept : TakesBytes b rest [] d =
-    subst (λ m. TakesBytes b rest [] m) (sym c.keep.ensures.scan) (TakesBytes-clean rest b clean) in
+    subst (λ m. TakesBytes b rest [] m) (sym whole) (TakesBytes-clean rest b clean) in
     let all : TakesBytes a c.args.piece.now (t.1 ++ []) d =
     subst (λ l. TakesBytes a l (t.1 ++ []) d) (sym t.6)
     (TakesBytes-append t.0 rest t.1 [] a b d t.3 kept) in
