@@ -109,22 +109,23 @@ fn share_among(
 {
     // its contract says that the weights are in range
     let _rows = instance.rows();
-    let mosts = child_values(alloc, instance, most, g)?;
+    let mut mosts = child_values(alloc, instance, most, g)?;
     let amount = amounts[g as usize];
     if fits_in(mosts.as_slice(), amount) {
         give(instance, g, mosts.as_slice(), amounts);
         return Ok(());
     }
     let weights = child_weights(alloc, instance, g)?;
-    let parts = split_scarce(alloc, amount, weights.as_slice(), mosts.as_slice())?;
-    give(instance, g, parts.as_slice(), amounts);
+    // each part takes the place of its child's most
+    split_scarce(amount, weights.as_slice(), mosts.as_mut_slice());
+    give(instance, g, mosts.as_slice(), amounts);
     Ok(())
 }
 
 /// Shares out what a group has among its children, in place.
 ///
-/// It takes memory only if the group has something and several children, and these can be given
-/// more than that or are more than eight.
+/// It takes memory only if the group has something and more than eight children: for one list, and
+/// for a second one if the children can be given more than the group has.
 ///
 /// # Errors
 /// `AllocError` if memory was refused.

@@ -1,18 +1,18 @@
 -- The rest of an amount, a slice each to the first children that take one more a step above the
 -- level.
-use Rattle.std.proofs.Common.{◌≡◌, ◌≢◌, ℕ, ◌+◌, ◌-◌, ◌*◌, ◌<◌, ◌≤◌, ◌⊎◌, List, length, get_or, set}
-use Rattle.std.proofs.Common.{sym, ap, ◌∙◌, arith, inl, inr}
-use Rattle.std.specs.Prelude.{sum}
+use Rattle.std.proofs.Common.{◌≡◌, ℕ, ◌+◌, ◌-◌, ◌*◌, ◌<◌, ◌≤◌, ◌⊎◌, List, length, get_or, set}
+use Rattle.std.proofs.Common.{refl, sym, ap, ◌∙◌, arith, inl, inr}
+use Rattle.std.specs.Prelude.{Bool, true, false, IsTrue, sum}
+use mir.Val.{bool_byte}
 use Rattle.std.proofs.lemmas.Bool.{cases_lt, cases_eq}
 use Rattle.std.proofs.lemmas.List.{get_or-set_same, get_or-set_other}
-use Rattle.std.proofs.lemmas.List.Sums.{sum_by-set}
 use Rattle.std.proofs.Math.ListN.{length-set}
 use Rattle.bw_model.specs.Split.{IsBestSplit}
 use Rattle.bw_model.proofs.CallerLemmas.{IsPairwise, pairwise-IsBestSplit, cross_lt_right}
 use Rattle.bw_model.proofs.CallerLemmas.{sum_below, sum_below-ap, sum-is}
-use Rattle.bw_split.specs.Levels.{taken_by_all, AreTaken, TakesMore, NoneTakesMore}
+use Rattle.bw_split.specs.Levels.{taken_by_all}
 use Rattle.bw_split.proofs.Takes.{IsTaken, taken-is, taken-mono, taken-step, each_takes, same_cost}
-use Rattle.bw_split.proofs.Takes.{by_all-is}
+use Rattle.bw_split.proofs.Takes.{by_all-is, sum_below-more}
 use Rattle.bw_model.specs.declared.limits.TheConstants.{MIN_WEIGHT, MAX_WEIGHT}
 use Rattle.bw_split.specs.declared.limits.TheConstants.{STEPS}
 
@@ -26,87 +26,199 @@ pub record IsGiven (level given from : ℕ) (weights most parts : List ℕ) : Ty
   pub unseen : (k : ℕ) → from ≤ k → k < length weights
       → get_or parts k 0 ≡ each_takes level weights most k
 
-pub given-none : (level : ℕ) (weights most parts : List ℕ) → length parts ≡ length weights →
-    AreTaken level weights most parts → IsGiven level 0 0 weights most parts
-given-none level weights most parts lengths taken = record {
-  lengths = lengths;
-  sums =
-      let each : sum_below (length weights) (λ k. get_or parts k 0)
-      ≡ sum_below (length weights) (each_takes level weights most) =
-      sum_below-ap (length weights) (λ k. get_or parts k 0) (each_takes level weights most) taken in
-      let all : sum_below (length parts) (λ k. get_or parts k 0)
-      ≡ sum_below (length weights) (λ k. get_or parts k 0) =
-      ap (λ n. sum_below n (λ k. get_or parts k 0)) lengths in
-      omega (arith, sum-is parts, all, each, by_all-is level weights most);
+-- The parts of the children before a place are written over their maxima: of the slices that were
+-- left over, each of the first ones has one, while some are left.
+pub record IsWritten (level rest left at : ℕ) (weights most parts : List ℕ) : Type 0 where
+  pub from : ℕ
+  pub inside : from ≤ at
+  pub lengths : length parts ≡ length most
+  pub sums : sum_below at (λ k. get_or parts k 0) + left
+      ≡ sum_below at (each_takes level weights most) + rest
+  pub going : 0 < left → from ≡ at
+  pub seen : (k : ℕ) → k < from → get_or parts k 0 ≡ each_takes (level + 1) weights most k
+  pub unseen : (k : ℕ) → from ≤ k → k < at → get_or parts k 0 ≡ each_takes level weights most k
+  pub unwritten : (k : ℕ) → at ≤ k → get_or parts k 0 ≡ get_or most k 0
+
+pub written-none : (level rest : ℕ) (weights most : List ℕ)
+    → IsWritten level rest rest 0 weights most most
+written-none level rest weights most = record {
+  from = 0;
+  inside = omega arith;
+  lengths = refl;
+  sums = refl;
+  going = λ _. refl;
   seen = λ k below. absurd (omega arith);
-  unseen = λ k _ below. taken k below;
+  unseen = λ k _ below. absurd (omega arith);
+  unwritten = λ k _. refl;
 }
+
+module _ (level rest left at : ℕ) (weights most parts : List ℕ)
+    (so_far : IsWritten level rest left at weights most parts) (x : ℕ)
+    (here : at < length most) where
+  -- the sum with one part more
+  sums_more : sum_below (at + 1) (λ k. get_or (set parts at x) k 0)
+      ≡ sum_below at (λ k. get_or parts k 0) + x
+  sums_more =
+      let front : sum_below at (λ k. get_or (set parts at x) k 0)
+      ≡ sum_below at (λ k. get_or parts k 0) =
+      sum_below-ap at (λ k. get_or (set parts at x) k 0) (λ k. get_or parts k 0)
+      (λ k below. get_or-set_other parts at k x 0 (λ e. omega (arith, e, below))) in
+      let own : get_or (set parts at x) at 0 ≡ x =
+      get_or-set_same parts at x 0 (omega (arith, so_far.lengths, here)) in
+      omega (arith, sum_below-more at (λ k. get_or (set parts at x) k 0), front, own)
+
+  own_is : (k : ℕ) → k ≡ at → get_or (set parts at x) k 0 ≡ x
+  own_is k e = rw e (get_or-set_same parts at x 0 (omega (arith, so_far.lengths, here)))
+
+  -- one of the first children that take one more has a slice that was left
+  pub written-one_more : get_or weights at 0 ≤ MAX_WEIGHT → 0 < left
+      → x ≡ each_takes level weights most at + 1
+      → each_takes level weights most at < each_takes (level + 1) weights most at
+      → IsWritten level rest (left - 1) (at + 1) weights most (set parts at x)
+  written-one_more light some is more =
+      let step : each_takes (level + 1) weights most at ≤ each_takes level weights most at + 1 =
+      taken-step level (get_or weights at 0) (get_or most at 0) light in
+      let all : so_far.from ≡ at = so_far.going some in
+      record {
+        from = at + 1;
+        inside = omega arith;
+        lengths = length-set parts at x ∙ so_far.lengths;
+        sums = omega (
+          arith,
+          sums_more,
+          so_far.sums,
+          sum_below-more at (each_takes level weights most),
+          is,
+          some,
+        );
+        going = λ _. refl;
+        seen = λ k below. elim (cases_eq k at) [
+          | inl same ↦ rw same (own_is at refl ∙ omega (arith, step, more, is))
+          | inr other ↦ get_or-set_other parts at k x 0 other
+              ∙ so_far.seen k (omega (arith, other, below, all))
+        ];
+        unseen = λ k above below. absurd (omega (arith, above, below));
+        unwritten = λ k above. get_or-set_other parts at k x 0 (λ e. omega (arith, e, above))
+            ∙ so_far.unwritten k (omega (arith, above));
+      }
+
+  -- a child that takes no more a step above the level, or none is left
+  pub written-same : x ≡ each_takes level weights most at
+      → (0 < left → each_takes (level + 1) weights most at ≤ each_takes level weights most at)
+      → IsWritten level rest left (at + 1) weights most (set parts at x)
+  written-same is no_more = elim (cases_lt 0 left) [
+    | inl some ↦ record {
+      from = at + 1;
+      inside = omega arith;
+      lengths = length-set parts at x ∙ so_far.lengths;
+      sums = sums_same;
+      going = λ _. refl;
+      seen = λ k below. elim (cases_eq k at) [
+        | inl same ↦ rw same (own_is at refl ∙ omega (arith, up, no_more some, is))
+        | inr other ↦ get_or-set_other parts at k x 0 other
+            ∙ so_far.seen k (omega (arith, other, below, so_far.going some))
+      ];
+      unseen = λ k above below. absurd (omega (arith, above, below));
+      unwritten = unwritten_more;
+    }
+    | inr none ↦ record {
+      from = so_far.from;
+      inside = omega (arith, so_far.inside);
+      lengths = length-set parts at x ∙ so_far.lengths;
+      sums = sums_same;
+      going = λ some. absurd (omega (arith, some, none));
+      seen = λ k below.
+          get_or-set_other parts at k x 0 (λ e. omega (arith, e, below, so_far.inside))
+          ∙ so_far.seen k below;
+      unseen = λ k above below. elim (cases_eq k at) [
+        | inl same ↦ rw same (own_is at refl ∙ is)
+        | inr other ↦ get_or-set_other parts at k x 0 other
+            ∙ so_far.unseen k above (omega (arith, other, below))
+      ];
+      unwritten = unwritten_more;
+    }
+  ]
+    where
+      sums_same : sum_below (at + 1) (λ k. get_or (set parts at x) k 0) + left
+          ≡ sum_below (at + 1) (each_takes level weights most) + rest
+      sums_same = omega (
+        arith,
+        sums_more,
+        so_far.sums,
+        sum_below-more at (each_takes level weights most),
+        is,
+      )
+
+      up : each_takes level weights most at ≤ each_takes (level + 1) weights most at
+      up = taken-mono level (level + 1) (get_or weights at 0) (get_or most at 0) (omega arith)
+
+      unwritten_more : (k : ℕ) → at + 1 ≤ k → get_or (set parts at x) k 0 ≡ get_or most k 0
+      unwritten_more k above = get_or-set_other parts at k x 0 (λ e. omega (arith, e, above))
+          ∙ so_far.unwritten k (omega (arith, above))
+
+-- one part more, with a slice that was left or without one
+pub written-next : (level rest left at : ℕ) (weights most parts : List ℕ)
+    → IsWritten level rest left at weights most parts → at < length most
+    → get_or weights at 0 ≤ MAX_WEIGHT → (more : Bool) (given x : ℕ) → given ≡ bool_byte more
+    → (IsTrue more → x ≡ each_takes level weights most at + 1)
+    → ((IsTrue more → ⊥) → x ≡ each_takes level weights most at)
+    → (IsTrue more → (0 < left)
+    × (each_takes level weights most at < each_takes (level + 1) weights most at))
+    → ((IsTrue more → ⊥) → 0 < left
+    → each_takes (level + 1) weights most at ≤ each_takes level weights most at)
+    → IsWritten level rest (left - given) (at + 1) weights most (set parts at x)
+written-next level rest left at weights most parts so_far here light true given x given_is with_one
+    without takes_one takes_none =
+    let e : given ≡ 1 = given_is in
+    rw e (written-one_more level rest left at weights most parts so_far x here light
+    (takes_one refl).0 (with_one refl) (takes_one refl).1)
+written-next level rest left at weights most parts so_far here light false given x given_is with_one
+    without takes_one takes_none =
+    let no' : IsTrue false → ⊥ = λ h. let f : ⊥ = cc in f in
+    let e : left - given ≡ left = omega (arith, given_is) in
+    rw e (written-same level rest left at weights most parts so_far x here (without no')
+    (takes_none no'))
+
+-- Once all parts are written, all slices are given.
+pub written-IsGiven : (level rest left amount : ℕ) (weights most parts : List ℕ)
+    → length most ≡ length weights → rest + taken_by_all level weights most ≡ amount
+    → amount ≤ taken_by_all (level + 1) weights most →
+    (w : IsWritten level rest left (length weights) weights most parts)
+    → IsGiven level rest w.from weights most parts
+written-IsGiven level rest left amount weights most parts each whole enough w =
+    let n = length weights in
+    let lower = by_all-is level weights most in
+    let none : left ≡ 0 = elim (cases_lt 0 left) [
+      | inr h ↦ omega (arith, h)
+      | inl some ↦ absurd
+          (let full : sum_below n (λ k. get_or parts k 0)
+          ≡ sum_below n (each_takes (level + 1) weights most) =
+          sum_below-ap n (λ k. get_or parts k 0) (each_takes (level + 1) weights most)
+          (λ k below. w.seen k (omega (arith, below, w.going some))) in
+          omega (
+            arith,
+            full,
+            w.sums,
+            lower,
+            by_all-is (level + 1) weights most,
+            whole,
+            enough,
+            some,
+          ))
+    ] in
+    let long : length parts ≡ length weights = w.lengths ∙ each in
+    let all : sum_below (length parts) (λ k. get_or parts k 0)
+    ≡ sum_below n (λ k. get_or parts k 0) =
+    ap (λ (m : ℕ). sum_below m (λ k. get_or parts k 0)) long in
+    record {
+      lengths = long;
+      sums = omega (arith, sum-is parts, all, w.sums, none, lower);
+      seen = w.seen;
+      unseen = w.unseen;
+    }
 
 module _ (level given from : ℕ) (weights most parts : List ℕ)
     (so_far : IsGiven level given from weights most parts) where
-  -- where no child from the place on takes more than its part, each has what it takes one step
-  -- above the level
-  all_seen : (end : ℕ) → end ≤ length weights
-      → NoneTakesMore (level + 1) weights most parts from end → (k : ℕ) → k < end →
-      get_or parts k 0 ≡ each_takes (level + 1) weights most k
-  all_seen end inside none k below = elim (cases_lt k from) [
-    | inl earlier ↦ so_far.seen k earlier
-    | inr later ↦
-        let up : each_takes level weights most k ≤ each_takes (level + 1) weights most k =
-        taken-mono level (level + 1) (get_or weights k 0) (get_or most k 0) (omega arith) in
-        omega (arith, up, none k later below, so_far.unseen k later (omega arith))
-  ]
-
-  -- the next slice goes to the first child from the place on that takes more than its part
-  pub given-more : (i x : ℕ) → from ≤ i → i < length weights → get_or weights i 0 ≤ MAX_WEIGHT →
-      TakesMore (level + 1) weights most parts i
-      → NoneTakesMore (level + 1) weights most parts from i → x ≡ get_or parts i 0 + 1 →
-      IsGiven level (given + 1) (i + 1) weights most (set parts i x)
-  given-more i x later inside light more none is =
-      let here : get_or parts i 0 ≡ each_takes level weights most i =
-      so_far.unseen i later inside in
-      let step : each_takes (level + 1) weights most i ≤ each_takes level weights most i + 1 =
-      taken-step level (get_or weights i 0) (get_or most i 0) light in
-      let i_in : i < length parts = omega (arith, so_far.lengths, inside) in
-      record {
-        lengths = length-set parts i x ∙ so_far.lengths;
-        sums = let s : sum (set parts i x) + get_or parts i 0
-            ≡ sum parts + x = sum_by-set (λ y. y) parts i x 0 i_in in
-            omega (arith, s, so_far.sums, is);
-        seen = λ k below. elim (cases_eq k i) [
-          | inl same ↦ rw (same, get_or-set_same parts i x 0 i_in)
-              (omega (arith, here, step, more, is))
-          | inr other ↦ get_or-set_other parts i k x 0 other
-              ∙ all_seen i (omega arith) none k (omega arith)
-        ];
-        unseen = λ k above below.
-            let other : k ≢ i = λ e. omega arith in
-            get_or-set_other parts i k x 0 other ∙ so_far.unseen k (omega arith) below;
-      }
-
-  -- while the rest is not given, some child takes more than its part
-  pub not_given : (rest amount : ℕ) → rest + taken_by_all level weights most ≡ amount
-      → amount ≤ taken_by_all (level + 1) weights most →
-      given < rest → NoneTakesMore (level + 1) weights most parts from (length weights) → ⊥
-  not_given rest amount whole enough left none =
-      let full : sum_below (length weights) (λ k. get_or parts k 0)
-      ≡ sum_below (length weights) (each_takes (level + 1) weights most) =
-      sum_below-ap (length weights) (λ k. get_or parts k 0) (each_takes (level + 1) weights most)
-      (all_seen (length weights) (omega arith) none) in
-      let all : sum_below (length parts) (λ k. get_or parts k 0)
-      ≡ sum_below (length weights) (λ k. get_or parts k 0) =
-      ap (λ n. sum_below n (λ k. get_or parts k 0)) so_far.lengths in
-      omega (
-        arith,
-        sum-is parts,
-        all,
-        full,
-        so_far.sums,
-        by_all-is (level + 1) weights most,
-        whole,
-        enough,
-      )
-
   -- a part is what its child takes at the level or one step above
   one_of : (k : ℕ) → k < length weights →
       (get_or parts k 0 ≡ each_takes level weights most k)

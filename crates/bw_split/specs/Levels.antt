@@ -1,5 +1,5 @@
 -- The slices that the children take at a level.
-use Rattle.std.specs.Prelude.{◌≡◌, ℕ, ◌+◌, ◌*◌, ◌/◌, ◌<◌, ◌≤◌, List, length, sum_by, slice_index}
+use Rattle.std.specs.Prelude.{ℕ, ◌+◌, ◌*◌, ◌/◌, List, length, sum_by, slice_index}
 use Rattle.std.specs.Prelude.{min}
 use Rattle.std.specs.List.{range_with_len}
 use Rattle.bw_split.specs.declared.limits.TheConstants.{STEPS}
@@ -15,19 +15,3 @@ unfoldable pub taken_by_all : ℕ → List ℕ → List ℕ → ℕ
 taken_by_all level weights most =
     sum_by (λ k. taken level (slice_index weights k) (slice_index most k))
     (range_with_len 0 (length weights))
-
--- each child's part is what it takes at a level
-abbrev pub AreTaken : ℕ → List ℕ → List ℕ → List ℕ → Type 0
-AreTaken level weights most parts =
-    (k : ℕ) → k < length weights → slice_index parts k
-    ≡ taken level (slice_index weights k) (slice_index most k)
-
--- a child takes more at a level than its part
-abbrev pub TakesMore : ℕ → List ℕ → List ℕ → List ℕ → ℕ → Type 0
-TakesMore level weights most parts k =
-    slice_index parts k < taken level (slice_index weights k) (slice_index most k)
-
--- from one place up to another no child takes more at a level than its part
-abbrev pub NoneTakesMore : ℕ → List ℕ → List ℕ → List ℕ → ℕ → ℕ → Type 0
-NoneTakesMore level weights most parts from end = (k : ℕ) → from ≤ k → k < end
-    → taken level (slice_index weights k) (slice_index most k) ≤ slice_index parts k

@@ -1,12 +1,11 @@
 //! The slices that children take at a level of cost.
-ghost use Rattle.std.specs.Prelude.{◌≡◌, ◌+◌, ◌≤◌, length, IfOk};
+ghost use Rattle.std.specs.Prelude.{◌≡◌, ◌+◌, ◌≤◌, length};
 ghost use Rattle.bw_split.specs.Conditions.{AreWeights};
-ghost use Rattle.bw_split.specs.Levels.{taken, taken_by_all, AreTaken};
+ghost use Rattle.bw_split.specs.Levels.{taken, taken_by_all};
 
 use crate::counted::Tally;
 use crate::limits::{GREATEST_LEVEL, MAX_CHILDREN, MOST_TAKEN, STEPS};
 use bw_model::limits::MAX_WEIGHT;
-use std::alloc::{AllocError, Global};
 
 /// The slices that a child takes at a level: as many as have their mark `(2k - 1) / weight` at or
 /// below the level, and at most its maximum. A level is a number of steps of the cost `1 / STEPS`.
@@ -38,24 +37,4 @@ pub(crate) fn test_level(level: u64, weights: &[u64], most: &[u64], work: &mut T
         total += takes(level, weights[i], most[i]);
     }
     total
-}
-
-/// The slices that each child takes at a level.
-pub(crate) fn parts_at(
-    alloc: Global,
-    level: u64,
-    weights: &[u64],
-    most: &[u64],
-) -> Result<Vec<u64>, AllocError>
-    requires level_in_range { level ≤ GREATEST_LEVEL }
-    requires one_each { length most.now ≡ length weights.now }
-    requires weights_in_range { AreWeights weights.now }
-    ensures lengths { IfOk result (λ parts. length parts.items ≡ length weights.now) }
-    ensures taken { IfOk result (λ parts. AreTaken level weights.now most.now parts.items) }
-{
-    let mut parts = vec![in alloc; 0u64; weights.len()]?;
-    for i in 0..weights.len() {
-        parts[i] = takes(level, weights[i], most[i]);
-    }
-    Ok(parts)
 }

@@ -7,7 +7,7 @@ ghost use Rattle.bw_model.specs.Split.{IsBestSplit};
 ghost use Rattle.bw_split.specs.Conditions.{CanSplit, NeedsNoSearch};
 
 use crate::count::Count;
-use crate::level_search::{split_by_level, split_with};
+use crate::level_search::{share_by_level, split_with};
 use crate::limits::MAX_ROUNDS;
 use std::alloc::{AllocError, Global};
 use std::marker::Model;
@@ -139,17 +139,11 @@ pub fn split(
 
 /// [`split`] of an amount that is known to be below the sum of the maxima, without adding them up.
 ///
-/// # Errors
-/// `AllocError` if memory was refused.
-pub fn split_scarce(
-    alloc: Global,
-    amount: u64,
-    weights: &[u64],
-    most: &[u64],
-) -> Result<Vec<u64>, AllocError>
-    requires can { CanSplit amount weights.now most.now }
-    requires scarce { amount < sum most.now }
-    ensures best { IfOk result (λ parts. IsBestSplit amount weights.now most.now parts.items) }
+/// The parts are written in the place of the maxima, so they take no memory.
+pub fn split_scarce(amount: u64, weights: &[u64], most: &mut [u64])
+    requires can { CanSplit amount weights.now most.old }
+    requires scarce { amount < sum most.old }
+    ensures best { IsBestSplit amount weights.now most.old most.new }
 {
-    split_by_level(alloc, amount, weights, most, &mut Tally::new())
+    share_by_level(amount, weights, most, &mut Tally::new())
 }

@@ -1,10 +1,11 @@
-//! The split by a level of cost: a search for the level in rounds, then one slice each of the rest.
-ghost use Rattle.std.specs.Prelude.{◌≡◌, ◌+◌, ◌*◌, ◌<◌, ◌≤◌, length, sum, IfOk, IfSome, IfNone};
+//! The split by a level of cost: a search for the level in rounds, then the parts, with one slice
+//! each of the rest.
+ghost use Rattle.std.specs.Prelude.{◌≡◌, ◌+◌, ◌*◌, ◌<◌, ◌≤◌, length, sum, IfOk, IsTrue};
 ghost use Rattle.bw_model.specs.Split.{IsBestSplit};
 ghost use Rattle.bw_split.specs.Conditions.{AreWeights, CanSplit, NeedsNoSearch};
-ghost use Rattle.bw_split.specs.Levels.{taken_by_all, TakesMore, NoneTakesMore};
+ghost use Rattle.bw_split.specs.Levels.{taken_by_all};
 
-use crate::at_level::{parts_at, takes, test_level};
+use crate::at_level::{takes, test_level};
 use crate::conditions::fits_in;
 use crate::counted::Tally;
 use crate::guess::{counted_on, even_guess, guess_after, weakened_where};
@@ -14,17 +15,6 @@ use crate::limits::{
 use crate::pair::first_of_two;
 use bw_model::limits::MAX_CAPACITY;
 use std::alloc::{AllocError, Global};
-
-// One slice more than a part. Only this function adds a pick.
-fn with_one_more(part: u64, work: &mut Tally) -> u64
-    requires { part ≤ MOST_TAKEN }
-    ensures part { result ≡ part + 1 }
-    ensures rounds { work.new.rounds ≡ work.old.rounds }
-    ensures picks { work.new.picks ≡ work.old.picks + 1 }
-{
-    work.add_pick();
-    part + 1
-}
 
 // The children filled up to their shares at a ratio of slices to weight.
 #[derive(Clone, Copy)]
@@ -215,71 +205,74 @@ fn find_level(amount: u64, weights: &[u64], most: &[u64], work: &mut Tally) -> F
     search_level(amount, weights, most, work)
 }
 
-// The first child, from a place on, that takes more at a level than its part: of several with a
-// tie the earliest sibling.
-fn first_taker(
-    from: usize,
-    level: u64,
-    parts: &[u64],
-    weights: &[u64],
-    most: &[u64],
-) -> Option<usize>
-    requires level_in_range { level ≤ GREATEST_LEVEL }
-    requires part_each { length parts.now ≡ length weights.now }
-    requires one_each { length most.now ≡ length weights.now }
-    requires weights_in_range { AreWeights weights.now }
-    ensures takes { IfSome result (λ child. (from ≤ child) × (child < length weights.now)
-        × TakesMore level weights.now most.now parts.now child) }
-    ensures first { IfSome result
-        (λ child. NoneTakesMore level weights.now most.now parts.now from child) }
-    ensures none { IfNone result
-        (NoneTakesMore level weights.now most.now parts.now from (length weights.now)) }
+// One slice more than a part, where it is given one. Only this function adds a pick.
+fn part_with(part: u64, more: bool, work: &mut Tally) -> u64
+    requires { part ≤ MOST_TAKEN }
+    ensures more { IsTrue more → result ≡ part + 1 }
+    ensures same { (IsTrue more → ⊥) → result ≡ part }
+    ensures rounds { work.new.rounds ≡ work.old.rounds }
+    ensures picks { work.new.picks ≤ work.old.picks + 1 }
+    ensures counted { work.old.picks ≤ work.new.picks }
 {
-    (from..weights.len()).find(|i| takes(level, weights[*i], most[*i]) > parts[*i])
+    if more {
+        work.add_pick();
+        part + 1
+    } else {
+        part
+    }
 }
 
-/// The best split of an amount below the sum of the maxima, with the rounds and picks added to a
-/// count.
-pub(crate) fn split_by_level(
-    alloc: Global,
-    amount: u64,
-    weights: &[u64],
-    most: &[u64],
-    work: &mut Tally,
-) -> Result<Vec<u64>, AllocError>
-    requires can { CanSplit amount weights.now most.now }
-    requires scarce { amount < sum most.now }
-    ensures best { IfOk result (λ parts. IsBestSplit amount weights.now most.now parts.items) }
-    ensures rounds { work.new.rounds ≤ work.old.rounds + MAX_ROUNDS }
+// Writes in the place of each maximum what its child takes at a level.
+//
+// The rest goes, one slice each, to the first children in order that take one more a step above the
+// level. Their next marks are equal in cost, a tie, which goes to the earlier sibling.
+fn write_parts(found: Found, amount: u64, weights: &[u64], most: &mut [u64], work: &mut Tally)
+    requires can { CanSplit amount weights.now most.old }
+    requires in_range { found.level < GREATEST_LEVEL }
+    requires rest { found.rest + taken_by_all found.level weights.now most.old ≡ amount }
+    requires enough { amount ≤ taken_by_all (found.level + 1) weights.now most.old }
+    ensures best { IsBestSplit amount weights.now most.old most.new }
+    ensures rounds { work.new.rounds ≡ work.old.rounds }
     ensures picks { work.new.picks ≤ work.old.picks + length weights.now }
-    ensures counted { (work.old.rounds ≤ work.new.rounds) × (work.old.picks ≤ work.new.picks) }
-    ensures no_search { NeedsNoSearch amount weights.now most.now
-        → work.new.rounds ≡ work.old.rounds }
-    ensures searched { (NeedsNoSearch amount weights.now most.now → ⊥)
-        → work.old.rounds < work.new.rounds }
+    ensures counted { work.old.picks ≤ work.new.picks }
 {
-    if weights.len() == 1 {
-        return [amount].to_vec(alloc);
+    let mut left = found.rest;
+    for i in 0..weights.len() {
+        let part = takes(found.level, weights[i], most[i]);
+        let more = left > 0 && takes(found.level + 1, weights[i], most[i]) > part;
+        left -= u64::from(more);
+        most[i] = part_with(part, more, work);
     }
+}
+
+// Writes the split of an amount among at most two children in the place of their maxima.
+fn share_among_few(amount: u64, weights: &[u64], most: &mut [u64])
+    requires can { CanSplit amount weights.now most.old }
+    requires scarce { amount < sum most.old }
+    requires few { length weights.now ≤ 2 }
+    ensures { IsBestSplit amount weights.now most.old most.new }
+{
     if weights.len() == 2 {
         let first = first_of_two(amount, weights, most);
-        return [first, amount - first].to_vec(alloc);
+        most[0] = first;
+        most[1] = amount - first;
+    } else {
+        most[0] = amount;
     }
-    let found = find_level(amount, weights, most, work);
-    let mut parts = parts_at(alloc, found.level, weights, most)?;
-    // The rest goes, one slice each, to the first children in order that take one more a step above
-    // the level. Their next marks are equal in cost, a tie, which goes to the earlier sibling.
-    let mut from = 0;
-    for _slice in 0..found.rest {
-        match first_taker(from, found.level + 1, &parts, weights, most) {
-            Some(i) => {
-                parts[i] = with_one_more(parts[i], work);
-                from = i + 1;
-            }
-            None => unreachable!(),
-        }
+}
+
+/// Writes the best split of an amount below the sum of the maxima in their place.
+pub(crate) fn share_by_level(amount: u64, weights: &[u64], most: &mut [u64], work: &mut Tally)
+    requires can { CanSplit amount weights.now most.old }
+    requires scarce { amount < sum most.old }
+    ensures { IsBestSplit amount weights.now most.old most.new }
+{
+    if weights.len() <= 2 {
+        share_among_few(amount, weights, most);
+        return;
     }
-    Ok(parts)
+    let reached = find_level(amount, weights, most, work);
+    write_parts(reached, amount, weights, most, work);
 }
 
 /// [`split`](crate::split), with the rounds and picks added to a count.
@@ -303,5 +296,13 @@ pub(crate) fn split_with(
     if fits_in(most, amount) {
         return most.to_vec(alloc);
     }
-    split_by_level(alloc, amount, weights, most, work)
+    if weights.len() <= 2 {
+        let mut parts = most.to_vec(alloc)?;
+        share_among_few(amount, weights, parts.as_mut_slice());
+        return Ok(parts);
+    }
+    let found = find_level(amount, weights, most, work);
+    let mut parts = most.to_vec(alloc)?;
+    write_parts(found, amount, weights, parts.as_mut_slice(), work);
+    Ok(parts)
 }

@@ -46,14 +46,14 @@ split_scarce-requires-clause-can c =
     c.index-amount.ensures ∙ get_or_within before c.args.g c.index-amount.result.now here in
     rw read (children-CanSplit c.args.instance.now c.rows-rows.ensures.valid c.args.most.now
     c.args.g (get_or before c.args.g 0)
-    c.as_slice-2.result.now c.as_slice-3.result.now (c.as_slice-2.ensures ∙ c.in_ok-weights.ensures)
-    (c.as_slice-3.ensures ∙ c.in_ok-mosts.ensures)
+    c.as_slice-2.result.now c.as_mut_slice.result.now (c.as_slice-2.ensures ∙ c.in_ok-weights.ensures)
+    (c.as_mut_slice.ensures.value ∙ c.in_ok-mosts.ensures)
     (c.requires.can_share.enough c.requires.inner) c.requires.can_share.small)
 
 pub split_scarce-requires-clause-scarce : goal.split_scarce-requires-clause-scarce
 split_scarce-requires-clause-scarce c =
-    let same : sum c.as_slice-3.result.now ≡ sum c.as_slice.result.now =
-    ap sum (c.as_slice-3.ensures ∙ sym c.as_slice.ensures) in
+    let same : sum c.as_mut_slice.result.now ≡ sum c.as_slice.result.now =
+    ap sum (c.as_mut_slice.ensures.value ∙ sym c.as_slice.ensures) in
     elim (cases_lt c.index-amount.result.now (sum c.as_slice.result.now)) [
       | inl less ↦ omega (arith, less, same)
       | inr fits ↦ absurd (let held = c.fits_in.ensures.1 fits in let wrong : ⊥ = cc in wrong)

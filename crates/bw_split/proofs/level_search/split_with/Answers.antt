@@ -1,5 +1,5 @@
 -- The goals of `split_with` that are answered by hand.
-use Rattle.std.proofs.Common.{◌≡◌, ◌≤◌, arith, inl, inr, rules}
+use Rattle.std.proofs.Common.{◌≡◌, ◌<◌, ◌≤◌, ℕ, List, arith, inl, inr, rules}
 use Rattle.std.specs.Prelude.{sum, IfOk}
 use Rattle.std.proofs.lemmas.Bool.{cases_lt}
 use Rattle.std.proofs.lemmas.Result.{IfOk-weaker}
@@ -7,10 +7,11 @@ use Rattle.bw_model.specs.Split.{IsBestSplit}
 use Rattle.bw_split.proofs.Search.{all-IsBestSplit}
 use Rattle.bw_split.proofs.level_search.split_with.Goals as goal
 
-pub split_by_level-requires-clause-scarce : goal.split_by_level-requires-clause-scarce
-split_by_level-requires-clause-scarce c = elim (cases_lt c.args.amount (sum c.args.most.now)) [
+-- an amount that not all maxima fit in is below their sum
+scarce : (amount : ℕ) (most : List ℕ) → (sum most ≤ amount → ⊥) → amount < sum most
+scarce amount most not_all = elim (cases_lt amount (sum most)) [
   | inl less ↦ less
-  | inr fits ↦ absurd (let held = c.if-fits_in.ensures.1 fits in let wrong : ⊥ = cc in wrong)
+  | inr fits ↦ absurd (not_all fits)
 ]
 
 pub returns-then-fits_in-clause-best : goal.returns-then-fits_in-clause-best
