@@ -5,27 +5,13 @@ use Rattle.std.specs.Prelude.{sum, take, min}
 use Rattle.std.proofs.lemmas.Grind.{div_ceil_times}
 use Rattle.std.proofs.lemmas.Bool.{cases_lt}
 use Rattle.std.proofs.lemmas.List.Sums.{sum_by_more, sum_by-take-le}
-use Rattle.std.proofs.Math.Nat.{mul-le-mul_left, pow-suc}
+use Rattle.std.proofs.Math.Nat.{mul-le-mul_left, mul-le-mul_right, pow-suc}
+use Rattle.bw_split.specs.Levels.{taken}
 use Rattle.bw_model.specs.Split.{IsBestSplit}
-use Rattle.bw_model.proofs.CallerLemmas.{pairwise-IsBestSplit, sum_below, sum_below-le, sum-cons}
-use Rattle.bw_split.proofs.Takes.{taken-ge, taken-mono, each_takes, sum_below-more}
+use Rattle.bw_model.proofs.CallerLemmas.{pairwise-IsBestSplit, sum-cons}
+use Rattle.bw_split.proofs.Takes.{taken-ge}
 use Rattle.bw_model.specs.declared.limits.TheConstants.{MAX_CAPACITY}
 use Rattle.bw_split.specs.declared.limits.TheConstants.{STEPS, GREATEST_LEVEL, MAX_ROUNDS}
-
--- a level that is raised where a part asks for it takes that part too
-pub raised : (low high total part i : ℕ) (weights most : List ℕ) → low ≤ high
-    → part ≤ get_or most i 0 →
-    (2 * STEPS) * part ≤ high * get_or weights i 0 + STEPS
-    → total ≤ sum_below i (each_takes low weights most) →
-    total + part ≤ sum_below (i + 1) (each_takes high weights most)
-raised low high total part i weights most up within reached so_far =
-    let here : part ≤ each_takes high weights most i =
-    taken-ge high (get_or weights i 0) (get_or most i 0) part within reached in
-    let front : sum_below i (each_takes low weights most)
-    ≤ sum_below i (each_takes high weights most) =
-    sum_below-le i (each_takes low weights most) (each_takes high weights most)
-    (λ k _. taken-mono low high (get_or weights k 0) (get_or most k 0) up) in
-    omega (arith, here, front, so_far, sum_below-more i (each_takes high weights most))
 
 -- a round halves the reach, with nothing over
 pub next_reach : (round reach : ℕ) → round < MAX_ROUNDS → reach ≡ 2 ^ (MAX_ROUNDS - round) →
@@ -84,24 +70,28 @@ past_bound xs i left bound below so_far over fits =
       fits,
     )
 
--- the least level that reaches a mark above a lower level
-pub mark_level : (part weight level d : ℕ) → 0 < weight → part ≤ MAX_CAPACITY
-    → level * weight + STEPS < 2 * part * STEPS →
-    d ≡ (2 * part * STEPS - STEPS) / weight + min 1 ((2 * part * STEPS - STEPS) % weight) →
-    (level ≤ d) × (d ≤ GREATEST_LEVEL) × ((2 * STEPS) * part ≤ d * weight + STEPS)
-mark_level part weight level d pos small over is =
-    let t : (2 * part * STEPS - STEPS ≤ d * weight)
-    × (d * weight < (2 * part * STEPS - STEPS) + weight) =
-    rw is (div_ceil_times (2 * part * STEPS - STEPS) weight pos) in
+-- The level of the last mark of the greatest part at the least weight is in range, and at it each
+-- child takes its maximum or the greatest part.
+pub upper_reaches : (greatest least d : ℕ) → 0 < least → greatest ≤ MAX_CAPACITY →
+    d ≡ (2 * greatest * STEPS - STEPS) / least + min 1 ((2 * greatest * STEPS - STEPS) % least) →
+    (d ≤ GREATEST_LEVEL) × ((weight most x : ℕ) → least ≤ weight → x ≤ greatest → x ≤ most
+    → x ≤ taken d weight most)
+upper_reaches greatest least d pos small is =
+    let t : (2 * greatest * STEPS - STEPS ≤ d * least)
+    × (d * least < (2 * greatest * STEPS - STEPS) + least) =
+    rw is (div_ceil_times (2 * greatest * STEPS - STEPS) least pos) in
     let lower = t.0 in
     let upper = t.1 in (
-      elim (cases_lt d level) [
-        | inl less ↦ absurd (omega (arith, mul-le-mul_left weight less, lower, over))
-        | inr h ↦ h
-      ],
       elim (cases_lt GREATEST_LEVEL d) [
-        | inl more ↦ absurd (omega (arith, mul-le-mul_left weight more, upper, over, small, pos))
+        | inl more ↦ absurd (omega (
+          arith,
+          mul-le-mul_right least more,
+          upper,
+          small,
+          mul-le-mul_left GREATEST_LEVEL pos,
+        ))
         | inr h ↦ h
       ],
-      omega (arith, lower),
+      λ weight most x heavy below within. taken-ge d weight most x within
+          (omega (arith, lower, mul-le-mul_left d heavy, below)),
     )

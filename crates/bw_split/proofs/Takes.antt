@@ -7,7 +7,7 @@ use Rattle.std.proofs.lemmas.Bool.{cases_order}
 use Rattle.bw_model.proofs.CallerLemmas.{sum_below, sum-is, sum_below-le}
 use Rattle.bw_model.proofs.CallerLemmas.{sum_below-zero, sum_by-range}
 use Rattle.bw_split.specs.Levels.{taken, taken_by_all}
-use Rattle.bw_model.specs.declared.limits.TheConstants.{MAX_WEIGHT, MAX_CAPACITY}
+use Rattle.bw_model.specs.declared.limits.TheConstants.{MAX_WEIGHT}
 use Rattle.bw_split.specs.declared.limits.TheConstants.{STEPS, GREATEST_LEVEL, MOST_TAKEN}
 
 -- what taking x at a level says: the last mark is at or below the level, and a next one below the
@@ -86,31 +86,26 @@ by_all-one weights most light = by_all-is 1 weights most ∙
 pub sum_below-more : (n : ℕ) (f : ℕ → ℕ) → sum_below (n + 1) f ≡ sum_below n f + f n
 sum_below-more n f = rw add-one refl
 
-capped : (n : ℕ) (f g : ℕ → ℕ) → ((k : ℕ) → k < n → min MAX_CAPACITY (g k) ≤ f k)
-    → min MAX_CAPACITY (sum_below n g) ≤ sum_below n f
-capped zero f g h = omega arith
-capped (suc n) f g h =
-    let a : min MAX_CAPACITY (sum_below n g) ≤ sum_below n f =
-    capped n f g (λ k below. h k (omega arith)) in
-    let b : min MAX_CAPACITY (g n) ≤ f n = h n (omega arith) in omega (arith, a, b)
+capped : (amount n : ℕ) (f g : ℕ → ℕ) → ((k : ℕ) → k < n → min amount (g k) ≤ f k)
+    → min amount (sum_below n g) ≤ sum_below n f
+capped amount zero f g h = omega arith
+capped amount (suc n) f g h =
+    let a : min amount (sum_below n g) ≤ sum_below n f =
+    capped amount n f g (λ k below. h k (omega arith)) in
+    let b : min amount (g n) ≤ f n = h n (omega arith) in omega (arith, a, b)
 
--- at the greatest level the children take every amount that they can
-pub by_all-top : (amount : ℕ) (weights most : List ℕ) → length most ≡ length weights →
-    ((k : ℕ) → k < length weights → 0 < get_or weights k 0) → amount ≤ MAX_CAPACITY
+-- where each child takes its maximum or the amount, they take every amount that they can
+pub by_all-enough : (amount level : ℕ) (weights most : List ℕ) → length most ≡ length weights →
+    ((k : ℕ) → k < length weights → min amount (get_or most k 0) ≤ each_takes level weights most k)
     → amount ≤ sum most →
-    amount ≤ taken_by_all GREATEST_LEVEL weights most
-by_all-top amount weights most e positive small enough = rw (by_all-is GREATEST_LEVEL weights most)
+    amount ≤ taken_by_all level weights most
+by_all-enough amount level weights most e each enough = rw (by_all-is level weights most)
     (let s : sum most ≡ sum_below (length most) (λ k. get_or most k 0) = sum-is most in
     let s' : sum most ≡ sum_below (length weights) (λ k. get_or most k 0) = rw e at s in
-    let c : min MAX_CAPACITY (sum_below (length weights) (λ k. get_or most k 0))
-    ≤ sum_below (length weights) (each_takes GREATEST_LEVEL weights most) =
-    capped (length weights) (each_takes GREATEST_LEVEL weights most) (λ k. get_or most k 0)
-    (λ k below. taken-ge GREATEST_LEVEL (get_or weights k 0) (get_or most k 0)
-    (min MAX_CAPACITY (get_or most k 0)) (omega arith)
-    (let p : 0 < get_or weights k 0 = positive k below in
-    let q : GREATEST_LEVEL * 1 ≤ GREATEST_LEVEL * get_or weights k 0 =
-    mul-le-mul_left GREATEST_LEVEL p in omega (arith, q)))
-    in omega (arith, s', c, small, enough))
+    let c : min amount (sum_below (length weights) (λ k. get_or most k 0))
+    ≤ sum_below (length weights) (each_takes level weights most) =
+    capped amount (length weights) (each_takes level weights most) (λ k. get_or most k 0) each
+    in omega (arith, s', c, enough))
 
 -- two marks that lie between two levels a step apart are of one cost
 not_less : (t a p b q : ℕ) → 0 < q → p ≤ MAX_WEIGHT → q ≤ MAX_WEIGHT → t * p < STEPS * a

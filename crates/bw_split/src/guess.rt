@@ -4,19 +4,7 @@ ghost use Rattle.bw_split.specs.Conditions.{AreWeights};
 
 use crate::at_level::takes;
 use crate::limits::{GREATEST_LEVEL, STEPS};
-use bw_model::limits::{MAX_CAPACITY, MAX_WEIGHT, MIN_WEIGHT};
-
-/// The level at which the amount lies if the total grows evenly between two levels, by how far the
-/// total at each end is from the amount.
-pub(crate) fn even_guess(level: u64, above: u64, short_by: u64, over_by: u64) -> u64
-    requires apart { level ≤ above }
-    requires in_range { above ≤ GREATEST_LEVEL }
-    requires small { short_by ≤ MAX_CAPACITY }
-    ensures { result ≤ above }
-{
-    let share = short_by.saturating_add(over_by).max(1);
-    (level + (above - level) * short_by / share).min(above)
-}
+use bw_model::limits::{MAX_WEIGHT, MIN_WEIGHT};
 
 // A mark of a child between two levels: its last one up to the guess, or else its next one. If
 // neither lies between them, the step below the upper level.
@@ -85,21 +73,4 @@ pub(crate) fn guess_after(
         Some(i) => mark_near(guess, level, above, weights[i], most[i]),
         None => above - 1,
     }
-}
-
-/// The distance from the amount that an end has in the next guess. It is less if the end stayed
-/// twice, by the ratio at which the other end's distance fell.
-pub(crate) fn weakened_where(stayed: bool, distance: u64, before: u64, now: u64) -> u64
-    ensures { result ≤ distance }
-{
-    if stayed {
-        (distance.saturating_mul(before) / before.saturating_add(now).max(1)).min(distance)
-    } else {
-        distance
-    }
-}
-
-/// The number of repeats in a row, after one more or none.
-pub(crate) fn counted_on(repeats: u64, again: bool) -> u64 {
-    if again { repeats.saturating_add(1) } else { 0 }
 }

@@ -8,103 +8,42 @@ ghost use Rattle.bw_split.specs.Levels.{taken_by_all};
 use crate::at_level::{takes, test_level};
 use crate::conditions::fits_in;
 use crate::counted::Tally;
-use crate::guess::{counted_on, even_guess, guess_after, weakened_where};
-use crate::limits::{
-    FILLINGS, GREATEST_LEVEL, GREATEST_RATIO, MAX_ROUNDS, MOST_TAKEN, RATIO_UNITS, STEPS, WIDEST,
-};
+use crate::ends::Ends;
+use crate::guess::guess_after;
+use crate::limits::{COARSE, GREATEST_LEVEL, MAX_ROUNDS, MOST_TAKEN, STEPS, WIDEST};
 use crate::pair::first_of_two;
-use bw_model::limits::MAX_CAPACITY;
+use bw_model::limits::MAX_WEIGHT;
 use std::alloc::{AllocError, Global};
-
-// The children filled up to their shares at a ratio of slices to weight.
-#[derive(Clone, Copy)]
-struct Filling {
-    // The least level, in steps, that is at or above all their last marks.
-    level: u64,
-    // The slices that they take, at most as many as at the level.
-    sum: u64,
-    // The weight of the children that could take more.
-    open: u64,
-}
-
-// The weight of a child if it could take more than its share, else 0.
-fn open_weight(weight: u64, share: u64, bound: u64) -> u64
-    ensures { result ≤ weight }
-{
-    if share < bound { weight } else { 0 }
-}
-
-// Fills each child up to its share by weight at a ratio and one slice more, but not above its
-// maximum or the amount.
-fn fill(ratio: u64, amount: u64, weights: &[u64], most: &[u64]) -> Filling
-    requires can { CanSplit amount weights.now most.now }
-    requires ratio { ratio ≤ (FILLINGS + 1) * GREATEST_RATIO }
-    ensures in_range { result.level ≤ GREATEST_LEVEL }
-    ensures reached { result.sum ≤ taken_by_all result.level weights.now most.now }
-{
-    let mut level = 1;
-    let mut sum = 0;
-    let mut open: u64 = 0;
-    for i in 0..weights.len() {
-        let share = weights[i] * ratio / RATIO_UNITS + 1;
-        let bound = most[i].min(amount);
-        open += open_weight(weights[i], share, bound);
-        let part = share.min(bound);
-        sum += part;
-        // The last mark of the part is `(mark - STEPS) / weight`. The level rises to it.
-        let mark = 2 * part * STEPS;
-        if mark > level * weights[i] + STEPS {
-            level = (mark - STEPS).div_ceil(weights[i]);
-        }
-    }
-    Filling { level, sum, open }
-}
-
-// One and a half times the ratio of an amount to a weight, in units of `1 / RATIO_UNITS`.
-fn ratio_of(amount: u64, weight: u64) -> u64
-    requires { amount ≤ MAX_CAPACITY }
-    ensures { result ≤ GREATEST_RATIO }
-{
-    3 * amount * (RATIO_UNITS / 2) / weight.max(1)
-}
 
 // The upper end of a search, in steps.
 #[derive(Clone, Copy)]
 struct Upper {
     level: u64,
-    // About how many slices the children take there above the amount.
+    // About how many slices the children would take there above the amount, if they had no maxima.
     over: u64,
 }
 
-// A level at which the children take the amount or more.
-//
-// The children are filled up to one and a half times their shares. If that is less than the amount,
-// since some have reached their maxima, the others are filled up again with what is missing. After
-// `FILLINGS` fillings it is the greatest level.
+// A level at which the children take the amount or more: the last mark of the greatest maximum, or
+// of the amount, at the least weight.
 fn upper_level(amount: u64, weights: &[u64], most: &[u64]) -> Upper
     requires can { CanSplit amount weights.now most.now }
-    requires some { 0 < amount }
     ensures in_range { result.level ≤ GREATEST_LEVEL }
     ensures enough { amount ≤ taken_by_all result.level weights.now most.now }
 {
     let mut whole: u64 = 0;
-    for weight in weights {
-        whole += *weight;
+    let mut least = MAX_WEIGHT;
+    let mut greatest = 0;
+    for i in 0..weights.len() {
+        whole += weights[i];
+        least = least.min(weights[i]);
+        greatest = greatest.max(most[i]);
     }
-    let mut ratio = ratio_of(amount, whole);
-    for _filling in 0..FILLINGS {
-        let filling = fill(ratio, amount, weights, most);
-        if filling.sum >= amount {
-            return Upper {
-                level: filling.level,
-                over: filling.sum - amount,
-            };
-        }
-        ratio += ratio_of(amount - filling.sum, filling.open);
-    }
+    let mark = 2 * greatest.min(amount) * STEPS;
+    let level = mark.saturating_sub(STEPS).div_ceil(least);
+    let unbounded = (level / COARSE).saturating_mul(whole) / (2 * STEPS / COARSE);
     Upper {
-        level: GREATEST_LEVEL,
-        over: amount,
+        level,
+        over: unbounded.saturating_sub(amount),
     }
 }
 
@@ -133,9 +72,7 @@ fn trial(level: u64, above: u64, reach: u64, guess: u64) -> u64
 // A level at which the children take at most the amount, and one step above it the amount or more.
 //
 // Each trial is a guess by how far the two ends are off, moved so far that halving would still end
-// within the rounds left. If an end stays twice, its distance counts less in the next guess, so
-// that it moves too: the false position in its Pegasus form. If a test finds a total that an end
-// had already, the next guess goes to a mark.
+// within the rounds left.
 fn search_level(amount: u64, weights: &[u64], most: &[u64], work: &mut Tally) -> Found
     requires can { CanSplit amount weights.now most.now }
     requires some { 0 < amount }
@@ -150,11 +87,7 @@ fn search_level(amount: u64, weights: &[u64], most: &[u64], work: &mut Tally) ->
     let mut rest = amount;
     let upper = upper_level(amount, weights, most);
     let mut above = upper.level;
-    let mut over = upper.over;
-    let mut over_by = over;
-    let mut short_by = rest;
-    let mut level_moved = false;
-    let mut repeats = 0;
+    let mut ends = Ends::new(amount, upper.over);
     let mut reach = WIDEST;
     for round in 0..MAX_ROUNDS {
         if above - level == 1 {
@@ -164,24 +97,17 @@ fn search_level(amount: u64, weights: &[u64], most: &[u64], work: &mut Tally) ->
             return Found { level, rest };
         }
         reach /= 2;
-        let even = even_guess(level, above, short_by, over_by);
-        let guess = guess_after(repeats, even, level, above, weights, most, round);
+        let even = ends.even_guess(level, above);
+        let guess = guess_after(ends.repeats(), even, level, above, weights, most, round);
         let middle = trial(level, above, reach, guess);
         let total = test_level(middle, weights, most, work);
         if total > amount {
-            repeats = counted_on(repeats, total - amount == over);
+            ends = ends.after_lowering(total - amount);
             above = middle;
-            over = total - amount;
-            short_by = weakened_where(!level_moved, short_by, over_by, over);
-            over_by = over;
-            level_moved = false;
         } else {
-            repeats = counted_on(repeats, amount - total == rest);
+            ends = ends.after_raising(amount - total, middle - level, above - middle);
             level = middle;
             rest = amount - total;
-            over_by = weakened_where(level_moved, over_by, short_by, rest);
-            short_by = rest;
-            level_moved = true;
         }
     }
     Found { level, rest }

@@ -10,6 +10,7 @@ mod by_marks;
 mod conditions;
 mod count;
 mod counted;
+mod ends;
 mod guess;
 mod laws;
 mod level;

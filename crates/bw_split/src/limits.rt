@@ -11,15 +11,6 @@ pub const MAX_ROUNDS: u64 = 44;
 /// Number of steps that [`MAX_ROUNDS`] halvings bring down to one.
 pub const WIDEST: u64 = 1 << MAX_ROUNDS;
 
-/// Number of fillings tried for the upper end of a search, before it is the greatest level.
-pub const FILLINGS: u64 = 3;
-
-/// Units in a ratio of one slice to a weight of one.
-pub const RATIO_UNITS: u64 = 65536;
-
-/// One and a half times the ratio of the greatest amount to the least weight, in units.
-pub const GREATEST_RATIO: u64 = 3 * MAX_CAPACITY * (RATIO_UNITS / 2);
-
 /// Steps of a level in a cost of one: a power of two, so that a division by it is a shift.
 ///
 /// Two costs that differ are at least a step apart. They have two weights below them, so they
@@ -27,6 +18,9 @@ pub const GREATEST_RATIO: u64 = 3 * MAX_CAPACITY * (RATIO_UNITS / 2);
 pub const STEPS: u64 = 1 << 27;
 
 const _: () = prove!(MAX_WEIGHT * MAX_WEIGHT <= STEPS);
+
+/// Steps in which the first guess of a search is reckoned, so that its products fit in 64 bits.
+pub const COARSE: u64 = 4096;
 
 /// Level, in steps, at which each child takes its maximum: the last mark of the greatest amount at
 /// the least weight.

@@ -2,7 +2,7 @@
 use Rattle.std.proofs.Common.{◌≤◌, ◌<◌, ◌+◌, ℕ, List, length, get_or, arith, refl, ◌∙◌, inl}
 use Rattle.std.proofs.Common.{inr}
 use Rattle.std.proofs.lemmas.Bool.{cases_lt}
-use Rattle.bw_model.specs.declared.limits.TheConstants.{MAX_CAPACITY, MAX_WEIGHT}
+use Rattle.bw_model.specs.declared.limits.TheConstants.{MAX_WEIGHT}
 use Rattle.bw_split.specs.Levels.{taken_by_all}
 use Rattle.bw_split.proofs.Takes.{by_all-zero, by_all-one, by_all-mono}
 use Rattle.bw_split.proofs.Search.{next_reach}
@@ -14,9 +14,8 @@ loop-round-preserved c =
     let inv = c.loop-round.invariant in
     let both = next_reach c.loop-round.round c.loop-round.reach c.loop-round-test.true inv.reach in
     let half = both.0 in
-    let small : c.args.amount ≤ MAX_CAPACITY = c.requires.can.small in
     elim c.if-total-amount.branch [
-      | then-total-amount w ↦ rw (w.level-is, w.rest-is, w.above-is, w.short_by-is) (record {
+      | then-total-amount w ↦ rw (w.level-is, w.rest-is, w.above-is) (record {
         apart = omega (arith, c.trial-middle.ensures.inside);
         in_range = omega (arith, inv.in_range, c.trial-middle.ensures.inside);
         rest_is = inv.rest_is;
@@ -24,12 +23,11 @@ loop-round-preserved c =
         width = omega (arith, c.trial-middle.ensures.from_level, half);
         reach = half;
         narrow = omega (arith, inv.narrow);
-        near = omega (arith, w.weakened_where-short_by.ensures, inv.near);
         rounds = omega (arith, c.test_level-total.ensures.rounds, inv.rounds);
         picks = c.test_level-total.ensures.picks ∙ inv.picks;
         first = λ none. absurd (omega (arith, none));
       })
-      | else-total-amount w ↦ rw (w.level-is, w.rest-is, w.above-is, w.short_by-is) (record {
+      | else-total-amount w ↦ rw (w.level-is, w.rest-is, w.above-is) (record {
         apart = omega (arith, c.trial-middle.ensures.inside);
         in_range = inv.in_range;
         rest_is = omega (arith, c.test_level-total.ensures.all, w.if-total-amount.false);
@@ -37,7 +35,6 @@ loop-round-preserved c =
         width = omega (arith, c.trial-middle.ensures.from_above, half);
         reach = half;
         narrow = omega (arith, inv.narrow);
-        near = omega (arith, small, inv.rest_is);
         rounds = omega (arith, c.test_level-total.ensures.rounds, inv.rounds);
         picks = c.test_level-total.ensures.picks ∙ inv.picks;
         first = λ none. absurd (omega (arith, none));
@@ -84,7 +81,6 @@ loop-round-init c = record {
   width = omega (arith, c.upper_level-upper.ensures.in_range);
   reach = refl;
   narrow = omega arith;
-  near = c.requires.can.small;
   rounds = omega arith;
   picks = omega arith;
   first = λ _. (

@@ -2,7 +2,6 @@
 use Rattle.std.proofs.Common.{◌≡◌, ◌+◌, ◌-◌, ◌^◌, ◌<◌, ◌≤◌}
 use Rattle.bw_split.specs.Levels.{taken_by_all}
 use Rattle.bw_split.proofs.level_search.search_level.Given as goal
-use Rattle.bw_model.specs.declared.limits.TheConstants.{MAX_CAPACITY}
 use Rattle.bw_split.specs.declared.limits.TheConstants.{GREATEST_LEVEL, MAX_ROUNDS, WIDEST}
 
 abbrev pub invariant-loop-round : goal.invariant-loop-round
@@ -14,7 +13,6 @@ invariant-loop-round l = record {
   width : l.above ≤ l.level + 2 ^ (MAX_ROUNDS - l.round);
   reach : l.reach ≡ 2 ^ (MAX_ROUNDS - l.round);
   narrow : l.reach ≤ WIDEST;
-  near : l.short_by ≤ MAX_CAPACITY;
   rounds : l.work.rounds ≡ l.fn.work.rounds + l.round;
   picks : l.work.picks ≡ l.fn.work.picks;
   first : l.round ≡ 0 → (l.level + 1 < l.above) × (0 < l.rest);
