@@ -7,10 +7,11 @@ use crate::limits::{GREATEST_LEVEL, STEPS};
 use bw_model::limits::{MAX_WEIGHT, MIN_WEIGHT};
 
 // A mark of a child between two levels: its last one up to the guess, or else its next one. If
-// neither lies between them, the step below the upper level.
+// neither lies between them, the level in the middle.
 fn mark_near(guess: u64, level: u64, above: u64, weight: u64, most: u64) -> u64
     requires guess { guess ≤ GREATEST_LEVEL }
-    requires above { 0 < above }
+    requires apart { level < above }
+    requires in_range { above ≤ GREATEST_LEVEL }
     requires weight_in_range { (MIN_WEIGHT ≤ weight) × (weight ≤ MAX_WEIGHT) }
     ensures { result < above }
 {
@@ -22,7 +23,7 @@ fn mark_near(guess: u64, level: u64, above: u64, weight: u64, most: u64) -> u64
     } else if next < above {
         next
     } else {
-        above - 1
+        level + (above - level) / 2
     }
 }
 
@@ -46,8 +47,8 @@ fn undecided(level: u64, above: u64, weights: &[u64], most: &[u64]) -> Option<us
 /// The guess after so many tests in a row that found no new total; after none, the even guess.
 ///
 /// Children of one weight, as all with the default weight, have their marks at the same levels. No
-/// even guess finds a place between two of these. So the guess goes to a mark of some child, then
-/// to a mark of an undecided child. Without one, it is the step below the upper level.
+/// even guess finds a place between two of these. So the guess goes to a mark of an undecided
+/// child. Without one, it is the step below the upper level.
 pub(crate) fn guess_after(
     repeats: u64,
     guess: u64,
@@ -55,7 +56,6 @@ pub(crate) fn guess_after(
     above: u64,
     weights: &[u64],
     most: &[u64],
-    round: u64,
 ) -> u64
     requires guess { guess ≤ above }
     requires apart { level < above }
@@ -64,12 +64,10 @@ pub(crate) fn guess_after(
     requires weights_in_range { AreWeights weights.now }
     ensures { result ≤ above }
 {
-    let child = match repeats {
-        0 => return guess,
-        1 => (round as usize).checked_rem(weights.len()),
-        _ => undecided(level, above, weights, most),
-    };
-    match child {
+    if repeats == 0 {
+        return guess;
+    }
+    match undecided(level, above, weights, most) {
         Some(i) => mark_near(guess, level, above, weights[i], most[i]),
         None => above - 1,
     }

@@ -89,7 +89,7 @@ fn search_level(amount: u64, weights: &[u64], most: &[u64], work: &mut Tally) ->
     let mut above = upper.level;
     let mut ends = Ends::new(amount, upper.over);
     let mut reach = WIDEST;
-    for round in 0..MAX_ROUNDS {
+    for _round in 0..MAX_ROUNDS {
         if above - level == 1 {
             return Found { level, rest };
         }
@@ -98,7 +98,7 @@ fn search_level(amount: u64, weights: &[u64], most: &[u64], work: &mut Tally) ->
         }
         reach /= 2;
         let even = ends.even_guess(level, above);
-        let guess = guess_after(ends.repeats(), even, level, above, weights, most, round);
+        let guess = guess_after(ends.repeats(), even, level, above, weights, most);
         let middle = trial(level, above, reach, guess);
         let total = test_level(middle, weights, most, work);
         if total > amount {

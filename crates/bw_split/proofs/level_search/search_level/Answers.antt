@@ -12,7 +12,7 @@ use Rattle.bw_split.proofs.level_search.search_level.Goals.{then-total-amount, e
 pub loop-round-preserved : goal.loop-round-preserved
 loop-round-preserved c =
     let inv = c.loop-round.invariant in
-    let both = next_reach c.loop-round.round c.loop-round.reach c.loop-round-test.true inv.reach in
+    let both = next_reach c.loop-round._round c.loop-round.reach c.loop-round-test.true inv.reach in
     let half = both.0 in
     elim c.if-total-amount.branch [
       | then-total-amount w ↦ rw (w.level-is, w.rest-is, w.above-is) (record {
@@ -44,7 +44,7 @@ loop-round-preserved c =
 pub trial-middle-requires-clause-wide : goal.trial-middle-requires-clause-wide
 trial-middle-requires-clause-wide c =
     let inv = c.loop-round.invariant in
-    let half = next_reach c.loop-round.round c.loop-round.reach c.loop-round-test.true inv.reach in
+    let half = next_reach c.loop-round._round c.loop-round.reach c.loop-round-test.true inv.reach in
     omega (arith, half.1, inv.reach, inv.width)
 
 pub trial-middle-requires-clause-short : goal.trial-middle-requires-clause-short

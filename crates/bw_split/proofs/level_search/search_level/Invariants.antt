@@ -10,10 +10,10 @@ invariant-loop-round l = record {
   in_range : l.above ≤ GREATEST_LEVEL;
   rest_is : l.rest + taken_by_all l.level l.weights l.most ≡ l.amount;
   enough : l.amount ≤ taken_by_all l.above l.weights l.most;
-  width : l.above ≤ l.level + 2 ^ (MAX_ROUNDS - l.round);
-  reach : l.reach ≡ 2 ^ (MAX_ROUNDS - l.round);
+  width : l.above ≤ l.level + 2 ^ (MAX_ROUNDS - l._round);
+  reach : l.reach ≡ 2 ^ (MAX_ROUNDS - l._round);
   narrow : l.reach ≤ WIDEST;
-  rounds : l.work.rounds ≡ l.fn.work.rounds + l.round;
+  rounds : l.work.rounds ≡ l.fn.work.rounds + l._round;
   picks : l.work.picks ≡ l.fn.work.picks;
-  first : l.round ≡ 0 → (l.level + 1 < l.above) × (0 < l.rest);
+  first : l._round ≡ 0 → (l.level + 1 < l.above) × (0 < l.rest);
 }
