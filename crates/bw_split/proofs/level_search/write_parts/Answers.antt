@@ -37,8 +37,7 @@ loop-i-preserved c =
           (λ same. c.part_with.ensures.same same ∙ part_is)
           (elim c.if-left-gt0.branch [
             | then-left-gt0 w ↦ λ more.
-                let above : c.takes-part.result < w.takes.result =
-                ltb-true c.takes-part.result w.takes.result (sym w.more-is ∙ more) in
+                let above = ltb-true _ w.takes.result (sym w.more-is ∙ more) in
                 let next_is : w.takes.result ≡ next =
                 w.takes.ensures.taken
                 ∙ ap (λ (m : ℕ). taken (c.args.found.level + 1) weight m) unwritten in
@@ -54,7 +53,7 @@ loop-i-preserved c =
                 ∙ ap (λ (m : ℕ). taken (c.args.found.level + 1) weight m) unwritten in
                 elim (cases_lt c.takes-part.result w.takes.result) [
                   | inl above ↦ absurd (not_more
-                      (w.more-is ∙ lt-ltb c.takes-part.result w.takes.result above))
+                      (w.more-is ∙ lt-ltb _ w.takes.result (omega (arith, above))))
                   | inr below ↦ omega (arith, below, part_is, next_is)
                 ]
             | else-left-gt0 w ↦ λ not_more some. absurd (omega (arith, w.if-left-gt0.false, some))
