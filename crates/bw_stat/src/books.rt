@@ -256,7 +256,8 @@ fn add_withheld(stat: &mut Stat, slices: u64, slice_us: u64)
 fn add_drawn(stat: &mut Stat, slice_us: u64, row: &Row, quota: Option<u64>, drawn: u64)
     ensures { stat.new ≡ record stat.old {
       usage_usec = cut (stat.old.usage_usec + drawn * slice_us);
-      nr_bursts = cut (stat.old.nr_bursts + periods_if (nat_lt 0 (burst row.now.parent quota drawn)));
+      nr_bursts =
+          cut (stat.old.nr_bursts + periods_if (nat_lt 0 (burst row.now.parent quota drawn)));
       burst_usec = cut (stat.old.burst_usec + burst row.now.parent quota drawn * slice_us);
     } }
 {
