@@ -1,5 +1,5 @@
 -- A limit only cuts: with it a group has what it has without, or the limit if that is less.
-use Rattle.std.proofs.Common.{◌≡◌, ◌≢◌, ℕ, ◌<◌, ◌≤◌, List, Option, true, false, None, Some, length}
+use Rattle.std.proofs.Common.{◌≡◌, ◌≢◌, ℕ, ◌<◌, ◌≤◌, List, true, false, None, Some, length}
 use Rattle.std.proofs.Common.{get_or, refl, ap, sym, ◌∙◌, arith, inl, inr}
 use Rattle.std.specs.Prelude.{map, min, sum, slice_index}
 use Rattle.std.proofs.lemmas.Bool.{cases_eq, cases_lt}
@@ -13,9 +13,8 @@ use Rattle.bw_model.specs.Split.{IsBestSplit}
 use Rattle.bw_model.proofs.CallerLemmas.{strong, from_the_last, capped, mosts, mosts-capped}
 use Rattle.bw_model.proofs.CallerLemmas.{parent_lt, parent_not_leaf, listed_child, child_at}
 use Rattle.bw_model.proofs.CallerLemmas.{get_or-map, is_under-self}
-use Rattle.bw_plan.specs.Shared.{IsPlanning}
 use Rattle.bw_split_laws.proofs.CallerLemmas.{find_greater}
-use Rattle.bw_plan_laws.specs.Cut.{IsLimitedAt, LimitOnlyCuts}
+use Rattle.bw_plan_laws.specs.Cut.{LimitOnlyCuts}
 use Rattle.bw_plan_laws.specs.Room.{IsRoomierAt}
 use Rattle.bw_plan_laws.proofs.Above.{parent_above, one_above}
 use Rattle.bw_plan_laws.proofs.BusyLaw.{uncut, all_full}

@@ -1,6 +1,6 @@
 -- A group that could be given more, in an instance and in a roomier one of the same weights.
 use Rattle.std.proofs.Common.{◌≡◌, ◌≢◌, ℕ, ◌<◌, ◌≤◌, List, true, false, None, Some, length, get_or}
-use Rattle.std.proofs.Common.{refl, ap, sym, ◌∙◌, arith, inl, inr, eqb}
+use Rattle.std.proofs.Common.{refl, sym, ◌∙◌, arith, inl, inr, eqb}
 use Rattle.std.specs.Prelude.{map, slice_index}
 use Rattle.std.proofs.lemmas.Bool.{cases_eq, eqb-true, or_cases, or_right}
 use Rattle.std.proofs.lemmas.List.{length-map}

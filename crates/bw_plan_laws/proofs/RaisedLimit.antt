@@ -1,14 +1,11 @@
 -- A limit that is raised by a slice gives the slice, or is no longer what holds the group.
-use Rattle.std.proofs.Common.{◌≡◌, ℕ, ◌+◌, ◌<◌, ◌≤◌, ◌⊎◌, List, Some, length, get_or, ap, ◌∙◌}
-use Rattle.std.proofs.Common.{arith, inl, inr, sym}
+use Rattle.std.proofs.Common.{◌≡◌, ◌+◌, ◌<◌, ◌≤◌, length, get_or, ap, ◌∙◌}
+use Rattle.std.proofs.Common.{arith, inl, inr}
 use Rattle.std.specs.Prelude.{min}
 use Rattle.std.proofs.lemmas.Bool.{cases_lt}
-use Rattle.bw_model.specs.Groups.{Groups, IsInstance, parent_of, limit_of}
-use Rattle.bw_model.specs.Demand.{AreMaxTotals, want_of}
-use Rattle.bw_model.specs.Plan.{IsPlan}
-use Rattle.bw_model.proofs.CallerLemmas.{capped, mosts, AreMaxTotals-capped}
+use Rattle.bw_model.specs.Demand.{want_of}
+use Rattle.bw_model.proofs.CallerLemmas.{capped, AreMaxTotals-capped}
 use Rattle.bw_plan_laws.specs.Cut.{LimitGivesOrLetsGo}
-use Rattle.bw_plan_laws.specs.Room.{IsRoomierAt}
 use Rattle.bw_plan_laws.proofs.HostLaws.{mosts_less, wants_less}
 use Rattle.bw_plan_laws.proofs.Lacking.{within_most, most_is}
 use Rattle.bw_plan_laws.proofs.RoomLaw.{more_room_takes}
