@@ -176,7 +176,8 @@ none_counted gs p none = not_positive (children_count gs p) (count_has gs p ∙ 
 
 -- a count of which one group is told
 counted_by : (b : Bool) (gs : Groups) (p k : ℕ) (g : GroupFields) → is_parent g.parent p ≡ b
-    → children_count (gs ++ (k, g) ∷ []) p ≡ cond b (suc (children_count gs p)) (children_count gs p)
+    → children_count (gs ++ (k, g) ∷ []) p
+    ≡ cond b (suc (children_count gs p)) (children_count gs p)
 counted_by b gs p k g is =
     count_push gs k p g
     ∙ ap (λ (x : Bool). cond x (suc (children_count gs p)) (children_count gs p)) is

@@ -1,5 +1,6 @@
 -- A group at its place: read, written and removed there.
-use Rattle.std.proofs.Common.{◌≡◌, ℕ, zero, suc, ◌<◌, Bool, true, false, cond, List, [], ◌∷◌, length}
+use Rattle.std.proofs.Common.{◌≡◌, ℕ, zero, suc, ◌<◌, Bool, true, false, cond, List, [], ◌∷◌}
+use Rattle.std.proofs.Common.{length}
 use Rattle.std.proofs.Common.{get_or, Option, Some, None, position, refl, sym, ap, ◌∙◌, eqb, arith}
 use Rattle.std.proofs.Common.{◌+◌, is_some, ltb, not}
 use Rattle.std.proofs.lemmas.Bool.{lt-ltb}

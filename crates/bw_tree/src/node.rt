@@ -2,7 +2,8 @@
 ghost use Rattle.std.specs.Prelude.{◌≡◌, ◌<◌, ◌+◌, ◌^◌, ◌++◌, [], ◌∷◌, length, slice_set};
 ghost use Rattle.std.specs.Prelude.{vec_len, vec_capacity};
 ghost use Rattle.std.specs.List.{remove};
-ghost use Rattle.bw_tree.specs.Nodes.{root_node, leaf_below, node_at, one_child_more, one_child_less};
+ghost use Rattle.bw_tree.specs.Nodes.{root_node, leaf_below, node_at, one_child_more};
+ghost use Rattle.bw_tree.specs.Nodes.{one_child_less};
 
 // Node of a group in the tree.
 #[derive(Clone, Copy, Debug)]

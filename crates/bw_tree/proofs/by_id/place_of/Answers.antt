@@ -1,5 +1,6 @@
 -- The goals of `place_of` that are answered by hand.
-use Rattle.std.proofs.Common.{◌≡◌, ◌<◌, ℕ, Some, length, is_some, position, arith, sym, ap, ◌∙◌, eqb}
+use Rattle.std.proofs.Common.{◌≡◌, ◌<◌, ℕ, Some, length, is_some, position, arith, sym, ap, ◌∙◌}
+use Rattle.std.proofs.Common.{eqb}
 use Rattle.std.proofs.lemmas.List.{length-map}
 use Rattle.std.specs.Map.{keys_of}
 use Rattle.bw_tree.specs.Groups.{GroupFields}

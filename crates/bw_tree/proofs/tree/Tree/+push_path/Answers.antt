@@ -16,8 +16,10 @@ use Rattle.bw_tree.proofs.tree.Tree.+push_path.Goals.{else-parent-ne0}
 pub returns-in_default-parent : goal.returns-in_default-parent
 returns-in_default-parent t c =
     let tree : IsTree c.args.self.now = c.group.ensures.valid in
-    let at : group_at c.args.self.now.groups c.args.id ≡ Some c.in-Some.group.now = sym c.in-Some.ensures.group in
-    let up = sym (ap (λ g. g.parent) c.group-2.view_is) ∙ no_parent _ c.in_default-parent.not-Some in
+    let at : group_at c.args.self.now.groups c.args.id ≡ Some c.in-Some.group.now =
+    sym c.in-Some.ensures.group in
+    let up = sym (ap (λ g. g.parent) c.group-2.view_is)
+    ∙ no_parent _ c.in_default-parent.not-Some in
     sym (ap (λ n. string_bytes c.args.path.now ++ n)
     (joined_none c.args.self.now tree c.args.id c.in-Some.group.now at up)
     ∙ append-nil (string_bytes c.args.path.now))
@@ -25,7 +27,8 @@ returns-in_default-parent t c =
 pub push_path-requires : goal.push_path-requires
 push_path-requires t c =
     let tree : IsTree c.args.self.now = c.group.ensures.valid in
-    let at : group_at c.args.self.now.groups c.args.id ≡ Some c.in-Some.group.now = sym c.in-Some.ensures.group in
+    let at : group_at c.args.self.now.groups c.args.id ≡ Some c.in-Some.group.now =
+    sym c.in-Some.ensures.group in
     let up = sym (ap (λ g. g.parent) c.group-2.view_is) ∙ c.in-Some-parent.is in
     let above_it = tree.parents c.args.id c.in-Some-parent.parent c.in-Some.group.now at up in
     (omega (arith, above_it.0, c.decreases), above_it.1)
@@ -40,7 +43,8 @@ pub returns : goal.returns
 unfolding lib.Utf8.encode
 returns t c =
     let tree : IsTree c.args.self.now = c.group.ensures.valid in
-    let at : group_at c.args.self.now.groups c.args.id ≡ Some c.in-Some.group.now = sym c.in-Some.ensures.group in
+    let at : group_at c.args.self.now.groups c.args.id ≡ Some c.in-Some.group.now =
+    sym c.in-Some.ensures.group in
     let up = sym (ap (λ g. g.parent) c.group-2.view_is) ∙ c.in-Some-parent.is in
     let name = c.as_str.ensures.value ∙ ap (λ g. g.name) c.group-2.view_is in
     let old = string_bytes c.args.path.now in

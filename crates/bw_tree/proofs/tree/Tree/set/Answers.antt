@@ -23,6 +23,7 @@ invariant_of-self c =
     (record {
       tree = setting_IsTree t c.args.id c.self.invariant.tree s can c.requires;
       index = kept;
-      nodes = nodes_set (changed_by s) t.groups c.args.id c.self.inside.nodes.items (same_parent_by s)
+      nodes = nodes_set (changed_by s) t.groups c.args.id c.self.inside.nodes.items
+          (same_parent_by s)
           c.self.invariant.nodes;
     })
