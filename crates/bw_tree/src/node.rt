@@ -1,7 +1,6 @@
 //! What is kept beside each group, in the same order: the number of its children, and its depth.
 ghost use Rattle.std.specs.Prelude.{◌≡◌, ◌<◌, ◌+◌, ◌^◌, ◌++◌, [], ◌∷◌, length, slice_set};
 ghost use Rattle.std.specs.Prelude.{vec_len, vec_capacity};
-ghost use Rattle.std.specs.List.{remove};
 ghost use Rattle.bw_tree.specs.Nodes.{root_node, leaf_below, node_at, one_child_more};
 ghost use Rattle.bw_tree.specs.Nodes.{one_child_less};
 
