@@ -1,5 +1,5 @@
 -- A tree carried into another one: the wants, the splits and the amounts of its groups.
-use Rattle.std.proofs.Common.{◌≡◌, ℕ, zero, suc, ◌<◌, List, [], ◌∷◌, ◌++◌, Bool}
+use Rattle.std.proofs.Common.{◌≡◌, ℕ, ◌<◌, List, [], ◌∷◌, ◌++◌, Bool}
 use Rattle.std.proofs.Common.{cond, true, false, Some, length, get_or, refl, ap, sym}
 use Rattle.std.proofs.Common.{◌∙◌, ◌⊎◌, arith, inl, inr}
 use Rattle.std.specs.Prelude.{map, sum, sum_by, slice_index}
@@ -8,7 +8,7 @@ use Rattle.std.proofs.lemmas.Bool.{cases_eq, cases_Bool}
 use Rattle.std.proofs.lemmas.List.{length-map, map-append}
 use Rattle.std.proofs.lemmas.List.Sums.{sum-map}
 use Rattle.bw_model.specs.declared.row.Row.{Row}
-use Rattle.bw_model.specs.Groups.{Groups, IsInstance, row_of, parent_of, is_child, children_of}
+use Rattle.bw_model.specs.Groups.{IsInstance, row_of, parent_of, is_child, children_of}
 use Rattle.bw_model.specs.Groups.{is_leaf, weight_of, demand_of, limit_of, sum_of_children}
 use Rattle.bw_model.specs.Host.{Shape}
 use Rattle.bw_model.specs.Demand.{want_of}

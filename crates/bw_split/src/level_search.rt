@@ -2,7 +2,7 @@
 //! each of the rest.
 ghost use Rattle.std.specs.Prelude.{◌≡◌, ◌+◌, ◌*◌, ◌<◌, ◌≤◌, length, sum, IfOk, IsTrue};
 ghost use Rattle.bw_model.specs.Split.{IsBestSplit};
-ghost use Rattle.bw_split.specs.Conditions.{AreWeights, CanSplit, NeedsNoSearch};
+ghost use Rattle.bw_split.specs.Conditions.{CanSplit, NeedsNoSearch};
 ghost use Rattle.bw_split.specs.Levels.{taken_by_all};
 
 use crate::at_level::{takes, test_level};
