@@ -46,7 +46,8 @@ split_scarce-requires-clause-can c =
     c.index-amount.ensures ∙ get_or_within before c.args.g c.index-amount.result.now here in
     rw read (children-CanSplit c.args.instance.now c.rows-rows.ensures.valid c.args.most.now
     c.args.g (get_or before c.args.g 0)
-    c.as_slice-2.result.now c.as_mut_slice.result.now (c.as_slice-2.ensures ∙ c.in_ok-weights.ensures)
+    c.as_slice-2.result.now c.as_mut_slice.result.now
+    (c.as_slice-2.ensures ∙ c.in_ok-weights.ensures)
     (c.as_mut_slice.ensures.value ∙ c.in_ok-mosts.ensures)
     (c.requires.can_share.enough c.requires.inner) c.requires.can_share.small)
 

@@ -4,7 +4,8 @@ use Rattle.std.proofs.Common.{inl, inr}
 use Rattle.std.proofs.lemmas.Bool.{cases_lt, ltb-true, lt-ltb}
 use Rattle.bw_split.specs.Levels.{taken}
 use Rattle.bw_split.proofs.Takes.{each_takes}
-use Rattle.bw_split.proofs.Picks.{IsWritten, written-none, written-next, written-IsGiven, given-IsBestSplit}
+use Rattle.bw_split.proofs.Picks.{IsWritten, written-none, written-next, written-IsGiven}
+use Rattle.bw_split.proofs.Picks.{given-IsBestSplit}
 use Rattle.bw_split.proofs.level_search.write_parts.Goals as goal
 use Rattle.bw_split.proofs.level_search.write_parts.Goals.{then-left-gt0, else-left-gt0}
 
