@@ -1,10 +1,10 @@
-//! How far the two ends of a search are off the amount, for its next guess.
+//! Distances of the two ends of a search from the amount, for its next guess.
 ghost use Rattle.std.specs.Prelude.{◌≤◌};
 
 use crate::limits::GREATEST_LEVEL;
 use bw_model::limits::MAX_CAPACITY;
 
-/// How far the two ends of a search are off the amount, in slices.
+/// Distances of the two ends of a search from the amount, in slices.
 ///
 /// A guess by both ends is the false position. If an end stays twice, its distance counts less in
 /// the next guess, so that it moves too: the Pegasus form.
