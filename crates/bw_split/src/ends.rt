@@ -14,7 +14,7 @@ pub(crate) struct Ends {
     rest: u64,
     // The slices above the amount that they take at the upper end: an estimate until it was tested.
     over: u64,
-    // What the two count as in the next guess.
+    // Both distances as they count in the next guess.
     rest_counts: u64,
     over_counts: u64,
     upper_tested: bool,

@@ -1,4 +1,4 @@
--- What is kept beside each group: the number of its children, and its depth.
+-- The nodes of a tree: beside each group the number of its children, and its depth.
 use Rattle.std.specs.Prelude.{◌≡◌, ℕ, ◌+◌, ◌-◌, List, Some}
 use Rattle.std.specs.List.{AllZip, slice_index_or}
 use Rattle.bw_tree.specs.declared.node.Node.{Node}

@@ -1,4 +1,4 @@
-//! What is kept beside each group, in the same order: the number of its children, and its depth.
+//! Nodes of the tree: the number of children and the depth of each group, in their order.
 ghost use Rattle.std.specs.Prelude.{◌≡◌, ◌<◌, ◌+◌, ◌^◌, ◌++◌, [], ◌∷◌, length, slice_set};
 ghost use Rattle.std.specs.Prelude.{vec_len, vec_capacity};
 ghost use Rattle.bw_tree.specs.Nodes.{root_node, leaf_below, node_at, one_child_more};
