@@ -95,6 +95,7 @@ read_ends text i n e within some short leading is r =
     let rest : drop i text ≡ e ∷ drop (i + 1) text = rw is (drop_more text i 0 within) in
     sym (take-append-drop i text) ∙ rw (spelled, rest) refl
 
+-- a row's words before a text
 pub row_text : (p w l d rest : List ℕ) → p ++ 32 ∷ (w ++ 32 ∷ (l ++ 32 ∷ (d ++ 32 ∷ rest)))
     ≡ (p ++ codes " " ++ w ++ codes " " ++ l ++ codes " " ++ d ++ codes " ") ++ rest
 row_text p w l d rest = simp append_assoc

@@ -19,12 +19,6 @@ pub head_text : (old p us s n : List ℕ)
     ≡ old ++ line (codes "bw" ∷ codes "1" ∷ p ∷ us ∷ s ∷ n ∷ [])
 head_text old p us s n = simp append_assoc
 
--- a row's words before a text
-pub row_before_text : (p w l d text : List ℕ)
-    → p ++ 32 ∷ (w ++ 32 ∷ (l ++ 32 ∷ (d ++ 32 ∷ text)))
-    ≡ (p ++ codes " " ++ w ++ codes " " ++ l ++ codes " " ++ d ++ codes " ") ++ text
-row_before_text p w l d text = simp append_assoc
-
 pub group_text : (p w l d a f m : List ℕ)
     → (p ++ codes " " ++ w ++ codes " " ++ l ++ codes " " ++ d ++ codes " ")
     ++ (a ++ 32 ∷ (f ++ 32 ∷ (m ++ 10 ∷ [])))

@@ -2,7 +2,7 @@
 use Rattle.std.specs.Prelude.{drop}
 use Rattle.std.specs.Fmt.{decimal}
 use Rattle.bw_cert.specs.Spelling.{parent_word, limit_word}
-use Rattle.bw_cert.proofs.Written.{row_before_text}
+use Rattle.bw_cert.proofs.OnePass.{row_text}
 use Rattle.bw_cert.proofs.writing.write_row.Goals as goal
 
 pub returns-clause-written : goal.returns-clause-written
@@ -13,6 +13,6 @@ returns-clause-written c =
       c.write_limit-end.ensures.written,
       c.write_number-end.ensures.written,
     )
-    (row_before_text (parent_word c.args.row.parent) (decimal c.args.row.weight)
+    (row_text (parent_word c.args.row.parent) (decimal c.args.row.weight)
     (limit_word c.args.row.limit) (decimal c.args.row.demand)
     (drop c.args.end c.args.buffer.now))
