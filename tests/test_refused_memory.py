@@ -202,7 +202,8 @@ def test_lines_that_take_no_memory(program, refusing):
         return refused_run(program, refusing, words, given, TELL_ALL=1)[1].count(b"m")
 
     same(allocations(script + NO_MEMORY_LINES), allocations(script))
-    assert allocations(script + b"mkdir more\n") > allocations(script)
+    # a name of more than 24 bytes is not stored in its group
+    assert allocations(script + b"mkdir " + b"m" * 25 + b"\n") > allocations(script)
 
 
 def sweep_of_answer(program, refusing, job, words, given, status):
