@@ -14,20 +14,22 @@ fn weights_of(alloc: Global, rows: &[Row], places: &[u32]) -> Result<ChildValues
     requires { All (λ place. place < length rows.now) places.now }
     ensures { IfOk result (λ weights. weights.items ≡ map (weight_of rows.now) places.now) }
 {
-    places
-        .iter()
-        .map(|place| rows[*place as usize].weight)
-        .collect(alloc)
+    let mut weights = SmallVec::with_capacity(alloc, places.len())?;
+    for place in places {
+        weights.push_reserved(rows[*place as usize].weight);
+    }
+    Ok(weights)
 }
 
 fn values_at(alloc: Global, values: &[u64], places: &[u32]) -> Result<ChildValues, AllocError>
     requires { All (λ place. place < length values.now) places.now }
     ensures { IfOk result (λ picked. picked.items ≡ map (slice_index values.now) places.now) }
 {
-    places
-        .iter()
-        .map(|place| values[*place as usize])
-        .collect(alloc)
+    let mut picked = SmallVec::with_capacity(alloc, places.len())?;
+    for place in places {
+        picked.push_reserved(values[*place as usize]);
+    }
+    Ok(picked)
 }
 
 /// The weights of the children of a group, 1 to 10,000 each.
