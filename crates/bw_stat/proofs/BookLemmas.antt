@@ -1,14 +1,20 @@
 -- What books hold after each call.
 use Rattle.std.proofs.Common.{◌≡◌, ◌≢◌, ◌⊎◌, inl, inr, ℕ, suc, ◌<◌, Bool, true, false, cond, List}
-use Rattle.std.proofs.Common.{[], ◌∷◌, length, drop, get_or, Option, Some, None, refl, sym}
-use Rattle.std.proofs.Common.{ap, ap₂, ◌∙◌, eqb}
+use Rattle.std.proofs.Common.{[], ◌∷◌, ◌++◌, length, drop, get_or, slice_get, Option, Some, None}
+use Rattle.std.proofs.Common.{refl, sym, ap, ap₂, ◌∙◌, eqb, arith}
 use Rattle.std.proofs.Math.Seq.{drop-cons}
 use Rattle.std.proofs.lemmas.Bool.{eq-eqb, ne_eqb}
-use Rattle.std.proofs.lemmas.Bool.Decides.{eqb_tells}
-use Rattle.std.specs.Map.{remove_entry}
-use Rattle.std.specs.List.{IsDistinct, AllByRecursion}
+use Rattle.std.proofs.lemmas.Bool.Decides.{Decides-eqb, eqb_tells}
+use Rattle.std.proofs.lemmas.Option.{get_or_from_slice_get, slice_get-get_or, slice_get-map}
+use Rattle.std.proofs.lemmas.Slice.Eq.{starts_is}
+use Rattle.std.specs.Cmp.{nat_eq_equiv}
+use Rattle.std.specs.Map.{keys_of, values_of, remove_entry}
+use Rattle.std.specs.Option.{option_map}
+use Rattle.std.specs.List.{IsDistinct, AllByRecursion, starts_with}
 use Rattle.std.proofs.lemmas.Map.Keys.{IsDistinct-head, IsDistinct-tail}
-use Rattle.indexmap.specs.IndexMap.{insert_entry}
+use Rattle.indexmap.specs.IndexMap.{insert_entry, set_value_at}
+use Rattle.indexmap.proofs.MapLemmas.{Found-position, index-first, insert_entry-first}
+use Rattle.indexmap.proofs.RemoveLemmas.{own_first}
 use Rattle.bw_model.specs.declared.row.Row.{Row}
 use Rattle.bw_model.specs.declared.stat.Stat.{Stat}
 use Rattle.bw_stat.specs.Books.{Share, added, or_zeros, share_of, shares_of, stat_at, with_share}
@@ -40,6 +46,46 @@ shares_more s i rows ids qs ws ds row hr hi hq hw hd is =
     ∙ ap (λ r. (get_or ids i 0, share_of s r (get_or qs i None) (get_or ws i 0) (get_or ds i 0))
     ∷ shares_of s (drop (suc i) rows) (drop (suc i) ids) (drop (suc i) qs) (drop (suc i) ws)
     (drop (suc i) ds)) (sym is)
+
+-- counters at their place, once a share is added, are the books with that share
+pub add_at : (es : List (ℕ × Stat)) (i : ℕ) (v : Stat) (share : Share)
+    → IsDistinct eqb (keys_of es) → i < length es → slice_get (values_of es) i ≡ Some v
+    → set_value_at es i (added v share) ≡ with_share es (get_or (keys_of es) i 0) share
+add_at es i v share distinct within at =
+    let e = get_or es i (0, v) in
+    let here : slice_get es i ≡ Some e = slice_get-get_or es i (0, v) within in
+    let key : get_or (keys_of es) i 0 ≡ e.0 =
+        get_or_from_slice_get (keys_of es) i e.0 0
+        (slice_get-map (λ (p : ℕ × Stat). p.0) es i ∙ ap (option_map (λ (p : ℕ × Stat). p.0)) here) in
+    let first = own_first eqb nat_eq_equiv es i e.0 e.1 distinct here in
+    let found = Found-position (eqb e.0) es i (index-first (eqb e.0) es i first) in
+    sym (insert_entry-first eqb e.0 (added v share) es i first)
+    ∙ ap (λ o. insert_entry eqb es e.0 (added (or_zeros o) share)) (sym (found.value ∙ at))
+    ∙ ap (λ k. with_share es k share) (sym key)
+
+-- ids behind those of the rows change no share
+shares_front : (s : ℕ) (rows : List Row) (ids more : List ℕ) (qs : List (Option ℕ))
+    (ws ds : List ℕ)
+    → length ids ≡ length rows
+    → shares_of s rows (ids ++ more) qs ws ds ≡ shares_of s rows ids qs ws ds
+shares_front s [] ids more qs ws ds same = refl
+shares_front s (r ∷ rs) [] more qs ws ds same = absurd (omega (arith, same))
+shares_front s (r ∷ rs) (i ∷ is) more [] ws ds same = refl
+shares_front s (r ∷ rs) (i ∷ is) more (q ∷ qs) [] ds same = refl
+shares_front s (r ∷ rs) (i ∷ is) more (q ∷ qs) (w ∷ ws) [] same = refl
+shares_front s (r ∷ rs) (i ∷ is) more (q ∷ qs) (w ∷ ws) (d ∷ ds) same =
+    ap (λ xs. (i, share_of s r q w d) ∷ xs)
+    (shares_front s rs is more qs ws ds (omega (arith, same)))
+
+-- where the books begin with the ids of the rows, the shares go by the books' ids
+pub shares_in_place : (s : ℕ) (rows : List Row) (keys ids : List ℕ) (qs : List (Option ℕ))
+    (ws ds : List ℕ)
+    → starts_with eqb keys ids ≡ true → length ids ≡ length rows
+    → shares_of s rows keys qs ws ds ≡ shares_of s rows ids qs ws ds
+shares_in_place s rows keys ids qs ws ds front same =
+    ap (λ ks. shares_of s rows ks qs ws ds)
+    ((starts_is Decides-eqb keys ids (starts_with eqb keys ids) refl).0 front)
+    ∙ shares_front s rows ids (drop (length ids) keys) qs ws ds same
 
 -- no id stands twice
 abbrev pub AreApart : List (ℕ × Stat) → Type 0

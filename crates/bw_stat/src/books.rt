@@ -2,7 +2,7 @@
 ghost use Rattle.std.specs.Prelude.{◌≡◌, ◌+◌, ◌*◌, ◌<◌, ◌≤◌, [], ◌∷◌, ℕ, List, length, position};
 ghost use Rattle.std.specs.Prelude.{OnOk, OnErr, IfOk, nat_eq, nat_lt, true, Some};
 ghost use Rattle.std.specs.Option.{option_copied};
-ghost use Rattle.std.specs.List.{IsDistinct};
+ghost use Rattle.std.specs.List.{IsDistinct, starts_with};
 ghost use Rattle.std.specs.Map.{keys_of};
 ghost use Rattle.indexmap.specs.IndexMap.{spare};
 ghost use Rattle.bw_stat.specs.Books.{withheld_slices, burst, cut, periods_if, added, share_of};
@@ -85,16 +85,13 @@ impl Books {
     {
         let slice_us = instance.shape().slice_us();
         let rows = instance.rows();
-        self.stats.reserve(rows.len())?;
-        book_rows(
-            &mut self.stats,
-            slice_us,
-            rows,
-            ids,
-            base,
-            gathered.want.as_slice(),
-            drawn,
-        );
+        let wants = gathered.want.as_slice();
+        if are_in_place(&self.stats, ids) {
+            add_rows(&mut self.stats, slice_us, rows, base, wants, drawn);
+        } else {
+            self.stats.reserve(rows.len())?;
+            book_rows(&mut self.stats, slice_us, rows, ids, base, wants, drawn);
+        }
         Ok(())
     }
 
@@ -103,6 +100,38 @@ impl Books {
         ensures { self.new ≡ forgotten self.old id }
     {
         let _removed = self.stats.shift_remove(&id);
+    }
+}
+
+// Whether the counters of each row are at its number. They are if every booked instance had all
+// groups in order of creation, and each removed group was forgotten.
+fn are_in_place(stats: &IndexMap<u64, Stat>, ids: &[u64]) -> bool
+    ensures in_place { result ≡ starts_with nat_eq (keys_of stats.now.entries) ids.now }
+    ensures distinct { IsDistinct nat_eq (keys_of stats.now.entries) }
+{
+    stats.keys().as_slice().starts_with(ids)
+}
+
+// Counts a period for each row, whose counters are at its number.
+fn add_rows(
+    stats: &mut IndexMap<u64, Stat>,
+    slice_us: u64,
+    rows: &[Row],
+    base: &[Option<u64>],
+    wants: &[u64],
+    drawn: &[u64],
+)
+    requires distinct { IsDistinct nat_eq (keys_of stats.old.entries) }
+    requires stats { length rows.now ≤ length stats.old.entries }
+    requires base { length base.now ≡ length rows.now }
+    requires wants { length wants.now ≡ length rows.now }
+    requires drawn { length drawn.now ≡ length rows.now }
+    ensures { stats.new.entries ≡ booked stats.old.entries
+        (shares_of slice_us rows.now (keys_of stats.old.entries) base.now wants.now drawn.now) }
+{
+    for i in 0..rows.len() {
+        let stat = &mut stats[i];
+        add(stat, slice_us, &rows[i], base[i], wants[i], drawn[i]);
     }
 }
 
@@ -131,8 +160,8 @@ fn book_rows(
     }
 }
 
-// Counts a period for one group. Its counters are at `likely`, the number of its row, if every
-// booked instance had all groups in order of creation, and each removed group was forgotten.
+// Counts a period for one group. Its counters are mostly at `likely`, the number of its row, since
+// a new group is the last.
 fn book_row(
     stats: &mut IndexMap<u64, Stat>,
     likely: usize,
@@ -173,17 +202,8 @@ fn book_by_id(
         ≡ with_share stats.old.entries id (share_of slice_us row.now quota want drawn) }
     ensures room { spare stats.old ≤ spare stats.new + 1 }
 {
-    match stats.get_index_of(&id) {
-        Some(place) => {
-            let stat = &mut stats[place];
-            add(stat, slice_us, row, quota, want, drawn);
-        }
-        None => {
-            let mut stat = or_zeros(None);
-            add(&mut stat, slice_us, row, quota, want, drawn);
-            let _none = stats.insert(id, stat).unwrap();
-        }
-    }
+    let stat = stats.entry(id).unwrap().or_insert(or_zeros(None));
+    add(stat, slice_us, row, quota, want, drawn);
 }
 
 // Whether the counters at a place belong to this group.
