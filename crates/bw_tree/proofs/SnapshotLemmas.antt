@@ -144,6 +144,14 @@ next_value f (e ∷ es) zero x lt is = ap (λ (y : ℕ × GroupFields). f y.1 �
 next_value {X} f (e ∷ es) (suc i) x lt is =
     ap (λ (xs : List X). f e.1 ∷ xs) (next_value f es i x (omega (arith, lt)) is)
 
+-- the id of one group more
+pub next_key : (gs : List (ℕ × GroupFields)) (i : ℕ) (x : ℕ × GroupFields) → i < length gs
+    → x ≡ get_or gs i x → keys_of (take i gs) ++ x.0 ∷ [] ≡ keys_of (take (suc i) gs)
+next_key [] i x lt is = absurd (omega (arith, lt))
+next_key (e ∷ es) zero x lt is = ap (λ (y : ℕ × GroupFields). y.0 ∷ []) is
+next_key (e ∷ es) (suc i) x lt is =
+    ap (λ (xs : List ℕ). e.0 ∷ xs) (next_key es i x (omega (arith, lt)) is)
+
 -- ids that rise are distinct
 pub rising_distinct : (gs : List (ℕ × GroupFields)) → AreRising gs → IsDistinct eqb (keys_of gs)
 unfolding IsDistinct

@@ -27,8 +27,13 @@ pub struct Snapshot {
     pub quotas: Vec<Option<u64>>,
 }
 
-// Rows and quotas in slices, one each for a group.
-type Rows = (Vec<Row>, Vec<Option<u64>>);
+// Id, row and quota in slices of each group.
+#[derive(Drop)]
+struct Columns {
+    ids: Vec<GroupId>,
+    rows: Vec<Row>,
+    quotas: Vec<Option<u64>>,
+}
 
 impl Tree {
     /// Takes a snapshot of the groups on a host: rows, ids and quotas, in order of creation.
@@ -51,8 +56,7 @@ impl Tree {
         let alloc = *self.groups.allocator();
         // its contract says that the host is in range
         let _slice_us = shape.slice_us();
-        let ids = self.ids()?;
-        let (rows, quotas) = self.rows(ids.as_slice(), shape)?;
+        let Columns { ids, rows, quotas } = self.columns(shape)?;
         let instance = Instance::of_valid(alloc, rows, shape)?;
         Ok(Snapshot {
             instance,
@@ -61,45 +65,36 @@ impl Tree {
         })
     }
 
-    fn ids(&self) -> Result<Vec<GroupId>, AllocError>
-        ensures keys { IfOk result (λ ids. ids.items ≡ keys_of self.now.groups) }
-        ensures distinct { IsDistinct nat_eq (keys_of self.now.groups) }
-    {
-        self.groups
-            .iter()
-            .map(|(id, _)| *id)
-            .collect(*self.groups.allocator())
-    }
-
-    // Row and quota in whole slices of each group. Each quota is divided once.
-    fn rows(&self, ids: &[GroupId], shape: HostShape) -> Result<Rows, AllocError>
-        requires { ids.now ≡ keys_of self.now.groups }
-        ensures rows { IfOk result (λ r. r.0.items ≡ rows_of self.now.groups shape) }
-        ensures base { IfOk result (λ r. r.1.items ≡ base_of self.now.groups shape) }
+    // Reads each group once, and divides its quota once.
+    fn columns(&self, shape: HostShape) -> Result<Columns, AllocError>
+        ensures ids { IfOk result (λ c. c.ids.items ≡ keys_of self.now.groups) }
+        ensures rows { IfOk result (λ c. c.rows.items ≡ rows_of self.now.groups shape) }
+        ensures quotas { IfOk result (λ c. c.quotas.items ≡ base_of self.now.groups shape) }
     {
         let alloc = *self.groups.allocator();
-        let mut rows = Vec::with_capacity(alloc, self.groups.len())?;
-        let mut base = Vec::with_capacity(alloc, self.groups.len())?;
-        for (_, group) in &self.groups {
+        let count = self.groups.len();
+        let mut ids = Vec::with_capacity(alloc, count)?;
+        let mut rows = Vec::with_capacity(alloc, count)?;
+        let mut quotas = Vec::with_capacity(alloc, count)?;
+        for (id, group) in &self.groups {
             let quota = quota_slices(group, shape);
-            let row = self.row_of(group, quota, ids, shape);
-            rows.push(row)?;
-            base.push(quota)?;
+            ids.push_reserved(*id);
+            rows.push_reserved(self.row_of(group, quota, shape));
+            quotas.push_reserved(quota);
         }
-        Ok((rows, base))
+        Ok(Columns { ids, rows, quotas })
     }
 
     // Row of a group with this quota in whole slices.
-    fn row_of(&self, group: &Group, quota: Option<u64>, ids: &[GroupId], shape: HostShape) -> Row
+    fn row_of(&self, group: &Group, quota: Option<u64>, shape: HostShape) -> Row
         requires sound { IsSound group.now }
         requires quota { quota ≡ quota_slices shape group.now }
         requires bound { IfSome quota (λ n. n ≤ MAX_QUOTA_US) }
-        requires ids { ids.now ≡ keys_of self.now.groups }
         ensures { result ≡ row_of self.now.groups shape group.now }
     {
         let parent = match group.parent {
             None => None,
-            Some(id) => self.place_of(ids, id),
+            Some(id) => self.row_number(id),
         };
         Row {
             parent,
@@ -109,18 +104,11 @@ impl Tree {
         }
     }
 
-    // Row number of a group. Looked up only if a group before it was removed; otherwise the number
-    // is the id.
-    fn place_of(&self, ids: &[GroupId], id: GroupId) -> Option<u32>
-        requires { ids.now ≡ keys_of self.now.groups }
+    // Number of the row of the group with this id.
+    fn row_number(&self, id: GroupId) -> Option<u32>
         ensures { result ≡ row_above self.now.groups (Some id) }
     {
-        if id < self.groups.len() as u64 && ids[id as usize] == id {
-            return Some(id as u32);
-        }
-        match place_of(&self.groups, id) {
-            None => None,
-            Some(place) => Some(place as u32),
-        }
+        let place = place_of(&self.groups, id)?;
+        Some(place as u32)
     }
 }
