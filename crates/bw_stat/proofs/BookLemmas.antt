@@ -55,8 +55,8 @@ add_at es i v share distinct within at =
     let e = get_or es i (0, v) in
     let here : slice_get es i ≡ Some e = slice_get-get_or es i (0, v) within in
     let key : get_or (keys_of es) i 0 ≡ e.0 =
-        get_or_from_slice_get (keys_of es) i e.0 0
-        (slice_get-map (λ (p : ℕ × Stat). p.0) es i ∙ ap (option_map (λ (p : ℕ × Stat). p.0)) here) in
+    get_or_from_slice_get (keys_of es) i e.0 0
+    (slice_get-map (λ (p : ℕ × Stat). p.0) es i ∙ ap (option_map (λ (p : ℕ × Stat). p.0)) here) in
     let first = own_first eqb nat_eq_equiv es i e.0 e.1 distinct here in
     let found = Found-position (eqb e.0) es i (index-first (eqb e.0) es i first) in
     sym (insert_entry-first eqb e.0 (added v share) es i first)
