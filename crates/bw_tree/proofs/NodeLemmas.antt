@@ -1,22 +1,23 @@
 -- What is kept beside each group, after each change of the groups.
 use Rattle.std.proofs.Common.{◌≡◌, ◌≢◌, ℕ, suc, zero, ◌<◌, Bool, true, false, cond}
-use Rattle.std.proofs.Common.{◌||◌, List, [], ◌∷◌, ◌++◌, length, Some, None}
+use Rattle.std.proofs.Common.{◌||◌, List, [], ◌∷◌, ◌++◌, length, get_or, position, Some, None}
 use Rattle.std.proofs.Common.{refl, sym, ap, subst, ◌∙◌, arith, eqb}
 use Rattle.std.specs.Prelude.{slice_set}
 use Rattle.std.proofs.lemmas.Bool.{eq-eqb, ne_eqb, eqb-true}
+use Rattle.std.proofs.lemmas.List.{get_or_default}
 use Rattle.std.proofs.lemmas.Slice.Zip.{AllZip-long}
 use Rattle.std.specs.List.{AllZip, remove}
 use Rattle.std.specs.Map.{keys_of, remove_entry, set_value}
 use Rattle.bw_tree.specs.declared.node.Node.{Node}
 use Rattle.bw_tree.specs.Groups.{GroupFields, TreeState, group_at, has_group, has_children}
 use Rattle.bw_tree.specs.Groups.{is_parent, children_count, IsTree, AllAfter, AreRising}
-use Rattle.bw_tree.specs.Nodes.{leaf_below, node_at, one_child_more, one_child_less}
+use Rattle.bw_tree.specs.Nodes.{root_node, leaf_below, node_at, one_child_more, one_child_less}
 use Rattle.bw_tree.specs.Nodes.{IsNodeOf, AreNodesOf}
 use Rattle.bw_tree.specs.Tree.{changed, changed_at}
 use Rattle.bw_tree.proofs.CountLemmas.{count_push, count_removed, count_set, count_has}
 use Rattle.bw_tree.proofs.GroupLemmas.{not_positive}
 use Rattle.bw_tree.proofs.IndexLemmas.{at_more}
-use Rattle.bw_tree.proofs.PlaceLemmas.{StandsAt, stands_later}
+use Rattle.bw_tree.proofs.PlaceLemmas.{StandsAt, stands_at, stands_later}
 use Rattle.bw_tree.specs.Groups.{above, parent_of}
 use Rattle.bw_tree.proofs.GroupLemmas.{above_here, above_more, look_push_other, look_push_same}
 use Rattle.bw_tree.proofs.GroupLemmas.{parent_found}
@@ -71,6 +72,15 @@ module _ (P : ℕ → Node → Type 0) where
 pub as_many : (gs : Groups) (ns : List Node) → AreNodesOf gs ns → length ns ≡ length gs
 as_many gs ns =
     AllZip-long (λ (e : ℕ × GroupFields) (n : Node). IsNodeOf gs e.0 n) gs ns
+
+-- what is read at the place of a group is its node
+pub node_found : (gs : Groups) (ns : List Node) (id i : ℕ) (node : Node) → AreNodesOf gs ns
+    → position (eqb id) (keys_of gs) ≡ Some i → node ≡ get_or ns i node → IsNodeOf gs id node
+node_found gs ns id i node all place is =
+    let at = stands_at gs id i place in
+    let within : i < length ns = omega (arith, at.within, as_many gs ns all) in
+    subst (IsNodeOf gs id) (sym (is ∙ get_or_default ns i node root_node within))
+    (node_read (IsNodeOf gs) gs ns id i at all)
 
 module _ (P Q : ℕ → Node → Type 0) where
   -- other groups with the same ids

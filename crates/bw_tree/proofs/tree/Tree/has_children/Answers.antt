@@ -1,12 +1,8 @@
 -- The goals of `Tree::has_children` that are answered by hand.
-use Rattle.std.proofs.Common.{◌≡◌, ◌<◌, length, is_some, false, sym, ap, ◌∙◌, arith, ltb}
-use Rattle.std.proofs.lemmas.List.{get_or_default}
-use Rattle.bw_tree.specs.declared.node.Node.{Node}
+use Rattle.std.proofs.Common.{◌≡◌, length, is_some, false, sym, ap, ◌∙◌, arith, ltb}
 use Rattle.bw_tree.specs.Groups.{TreeState, has_group, has_children}
-use Rattle.bw_tree.specs.Nodes.{IsNodeOf, root_node, node_at}
 use Rattle.bw_tree.proofs.CountLemmas.{count_has}
-use Rattle.bw_tree.proofs.NodeLemmas.{as_many, childless, node_read}
-use Rattle.bw_tree.proofs.PlaceLemmas.{stands_at}
+use Rattle.bw_tree.proofs.NodeLemmas.{as_many, childless, node_found}
 use Rattle.bw_tree.proofs.tree.Tree.has_children.Goals as goal
 
 pub index-requires : goal.index-requires
@@ -28,14 +24,8 @@ returns-in-None c =
 pub returns-in-Some : goal.returns-in-Some
 returns-in-Some c =
     let gs = c.self.inside.groups.items in
-    let ns = c.self.inside.nodes.items in
-    let long : length ns ≡ length gs = as_many gs ns c.self.invariant.nodes in
-    let within : c.in-Some.place < length ns = omega (arith, c.in-Some.ensures.within, long) in
-    let own = node_read (IsNodeOf gs) gs ns c.args.id c.in-Some.place
-    (stands_at gs c.args.id c.in-Some.place (sym c.place_of.ensures.place ∙ c.in-Some.is))
-    c.self.invariant.nodes in
-    let read : c.index.result.now ≡ node_at ns c.in-Some.place =
-    c.index.ensures ∙ get_or_default ns c.in-Some.place c.index.result.now root_node within in
-    ap (λ (n : Node). ltb 0 n.children) read ∙ ap (ltb 0) own.children
+    let own = node_found gs c.self.inside.nodes.items c.args.id c.in-Some.place c.index.result.now
+    c.self.invariant.nodes (sym c.place_of.ensures.place ∙ c.in-Some.is) c.index.ensures in
+    ap (ltb 0) own.children
     ∙ count_has gs c.args.id
     ∙ ap (λ (s : TreeState). has_children s.groups c.args.id) c.self.view_is
