@@ -371,6 +371,22 @@ def test_interrupted_build_goes_on(copy, send):
     copy.is_native("after it")
 
 
+def test_one_build_at_a_time(copy):
+    """A second build of a clone is refused with the process of the first, and goes on after it."""
+    copy.write("../kit/while", f"echo begun >{copy.top}/begun\n"
+               f"until [ -e {copy.top}/go ]; do sleep 0.1; done\n")
+    with subprocess.Popen(["./build"], cwd=copy.top, stdin=subprocess.DEVNULL,
+                          stdout=subprocess.PIPE, stderr=subprocess.PIPE,
+                          env=copy.environment()) as process:
+        wait_for(copy, "begun")
+        told = f"build: another build runs in this clone, pid {process.pid}\n"
+        same(copy.call(["./build"]), (1, "", told), "a second build")
+        copy.write("go", "")
+        err = process.communicate(timeout=30)[1]
+    holds(f"build: linking {PROGRAM}\n".encode(), err, "it says when it links")
+    holds(f"build: {PROGRAM} is up to date", copy.build(), "a build after it")
+
+
 def test_build_that_fails_shows_the_crate(copy):
     """What the kit says of a crate that failed is shown, and of no other."""
     copy.write("../kit/while", "printf '== bw_model\\nfine\\n== bw_plan\\nsum is wrong\\n'\n"
@@ -500,6 +516,26 @@ def test_test_anew(copy, keeps, during, called, less, noted):
     first = out.split("\n")[0]
     same("; less where" in first, less, first)
     same(copy.there("../cache/arbiter/time of test"), noted, "whether the time is noted")
+
+
+def test_test_quick(copy):
+    """The gate sees no must-fail edit, and its program is that of the clone. What is left out is
+    said, and the time is that of a quick run."""
+    copy.write("crates/bw_text/must-fail/a.edit", "file: src/lib.rt\nold: a\nnew: b\n")
+    copy.write("crates/bw_plan/must-fail/b.edit", "file: src/lib.rt\nold: a\nnew: b\n")
+    seen = f"find . -name '*.edit' -o -name '*.rt' >{copy.kit}/seen; {WHOLE}"
+    with_gate(copy, "5 passed, 0 failed", during=seen)
+    copy.log()
+    status, out, err = copy.call(["./test", "--quick"], stdin=subprocess.DEVNULL)
+    same(status, 0, f"{out}{err}")
+    same(out.split("\n")[-3:-1], ["test: left out 2 must-fail edits; ./test, the gate, tries them",
+                                  "16 passed, 0 failed"], "its end")
+    seen = copy.read("../kit/seen").split()
+    holds(f"./{sources('bw_text')[0]}", seen, "the sources that the gate sees")
+    same([name for name in seen if name.endswith(".edit")], [], "the edits that the gate sees")
+    copy.is_native("after ./test --quick")
+    times = {kind: copy.there(f"../cache/arbiter/time of {kind}") for kind in ("quick", "test")}
+    same(times, {"quick": True, "test": False}, "the times that are noted")
 
 
 def test_test_installs_what_it_needs(copy):
