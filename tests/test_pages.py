@@ -10,6 +10,7 @@ from pathlib import Path
 
 import pytest
 
+import indexes
 import support
 from support import ROOT, run, same
 
@@ -101,21 +102,7 @@ def test_functions_of_the_walk():
 
 def function_clauses(text: str, name: str) -> list:
     """The clauses of each function of this name: kind and label, "" for one without a label."""
-    lines, found = text.splitlines(), []
-    for at, line in enumerate(lines):
-        head = re.match(rf'( *)(?:pub(?:\(\w+\))? )?(?:[\w"]+ )*fn {name}\b', line)
-        if head is None:
-            continue
-        # The contract is indented. Its end is the brace of the body, or the next item. Type
-        # parameters and parameters that have lines of their own end by `>` and `)`.
-        ends = re.compile(rf" {{0,{len(head[1])}}}[^ )>]")
-        labels = []
-        for later in [] if line.endswith("{") else lines[at + 1:]:
-            if ends.match(later):
-                break
-            labels += re.findall(r"^ *(ensures|requires)(?: (\w+))? \{", later)
-        found.append(labels)
-    return found
+    return [each.clauses for each in indexes.contracts(text) if each.name == name]
 
 
 def is_in_code(text: str, name: str, clause: str) -> bool:
@@ -202,31 +189,6 @@ def test_references_are_refused():
     assert not is_there("bw_model", "Plan.antt", "antt", "IsPlan", "worst")
     assert not is_there("bw_model", "Plan.antt", "antt", "IsPlans", None)
     assert not is_there("bw_model", "Planned.antt", "antt", "IsPlan", None)
-
-
-def definitions() -> list:
-    """The definitions that DEFINITIONS names: crates, file and name."""
-    found, crates_here = [], []
-    for line in text_of("docs/DEFINITIONS.md").splitlines():
-        if line.startswith("#"):
-            crates_here = [crate for crate in crates() if f"`{crate}`" in line]
-        cells = line.strip("|").split("|")
-        if len(cells) == 2 and re.match(r" `(?:\w+ )?[A-Z]\w+\.", cells[1]):
-            file, where = "", crates_here
-            for crate, first, name in re.findall(r"`(?:(\w+) )?(?:(\w+)\.)?(\w+)`", cells[1]):
-                file = first or file
-                where = [crate] if crate else where
-                found.append((where, file, name))
-    return found
-
-
-def test_definitions():
-    """Each definition that DEFINITIONS names is in its file."""
-    found = definitions()
-    assert len(found) >= 200
-    wrong = [(file, name) for where, file, name in found
-             if not any(is_there(crate, f"{file}.antt", "antt", name, None) for crate in where)]
-    same(wrong, [], "definitions that are not")
 
 
 def test_one_time_of_the_first_run():
@@ -342,9 +304,97 @@ def test_loop_is_found(text):
     same(len(loops_in(text)), 1)
 
 
-def test_proofs_are_listed():
-    """PROOFS is what its script prints."""
-    same(run([ROOT / "scripts/proofs"]).out.decode(), text_of("docs/PROOFS.md"), "scripts/proofs")
+# Pages that are made of the sources
+
+
+def test_indexes_are_up_to_date():
+    """DEFINITIONS, CLAUSES and PROOFS are as scripts/indexes.py writes them."""
+    same(indexes.stale(), [], "pages to write anew by scripts/indexes.py")
+
+
+# Rows that a reader looks for, read off the sources by hand.
+ROWS = {
+    "DEFINITIONS.md": ("| `Plan.IsPlan` | the amounts are the totals of the best allocation |",
+                       "| `Demand.AreMaxTotals` | the most that each group can be given |",
+                       "| `History.replay` | the machine after all calls of the history, played by "
+                       "one thread |"),
+    "CLAUSES.md": ("| `opening.rt` | `open` (range lock seats each err) |",
+                   "| `by_depth.rt` | `gather` |", "| `gate.rt` | `uses` |"),
+    "PROOFS.md": ("| `allocation/Limiting.antt` | The limiting groups give the greatest total. |",),
+}
+
+
+@pytest.mark.parametrize("page", ROWS)
+def test_rows_of_indexes(page):
+    lines = text_of(f"docs/{page}").splitlines()
+    same([row for row in ROWS[page] if row not in lines], [], "rows that are not there")
+
+
+CONTRACTS = """pub trait Gate {
+    fn uses(&self) -> bool
+        ensures { True }
+}
+
+impl Tree {
+    /// A group more.
+    pub unsafe extern "C" fn mkdir<
+        T,
+    >(
+        name: T,
+    ) -> u32
+        requires { 1 ≤ next }
+        ensures made { IsMade }
+        // ensures nothing { IsNothing }
+        ensures err { IsErr }
+    {
+    pub(crate) fn hidden() ensures { True } {
+        run()
+    }
+}
+
+fn alone()
+    ensures left { IsLeft }
+{}
+"""
+
+
+def test_contracts_are_read():
+    """Traits, clauses without a label, a contract behind parameters on lines of their own."""
+    found = [(each.name, each.is_public, each.clauses) for each in indexes.contracts(CONTRACTS)]
+    both = [("requires", ""), ("ensures", "made"), ("ensures", "err")]
+    same(found, [("uses", True, [("ensures", "")]), ("mkdir", True, both), ("hidden", False, []),
+                 ("alone", False, [("ensures", "left")])], "contracts")
+    words = [each.words for each in indexes.contracts(CONTRACTS)]
+    assert "IsMade" in words[1] and "IsNothing" not in words[1]
+
+
+def test_definitions_are_read(tmp_path):
+    """A definition with a comment, also in a module; no field, and none without a comment."""
+    path = tmp_path / "Some.antt"
+    path.write_text("-- The head.\nuse A.{b}\n\n-- all of\n-- it\nabbrev pub IsAll : N\n"
+                    "pub record Bare : Type 0 where\n  -- a part\n  pub part : N\n"
+                    "module _ where\n  -- some of it\n  abbrev pub some : N\n")
+    same(list(indexes.definitions(path)), [("IsAll", "all of it"), ("some", "some of it")])
+    same(indexes.head_line(path), "The head.")
+
+
+def test_late_index_is_told(tmp_path):
+    """A page that is not as the sources have it is named."""
+    words = ["git", "ls-files", "-z", "crates", "crates.txt", "scripts/indexes.py"]
+    for name in run(words, cwd=ROOT).out.decode().split("\0"):
+        if name and "/must-fail/" not in name and (ROOT / name).is_file():
+            (tmp_path / name).parent.mkdir(parents=True, exist_ok=True)
+            shutil.copy(ROOT / name, tmp_path / name)
+    (tmp_path / "docs").mkdir()
+    script = tmp_path / "scripts/indexes.py"
+    same(run([script]).status, 0)
+    same(run([script, "--check"]), (0, b"", b""), "pages that were just written")
+    plan = tmp_path / "crates/bw_model/specs/Plan.antt"
+    plan.write_text(plan.read_text(encoding="utf-8").replace("of the best allocation\n", "\n"))
+    ended = run([script, "--check"])
+    late = b"docs/DEFINITIONS.md: not up to date; scripts/indexes.py writes it\n"
+    same(ended, (1, b"", late), "a comment was changed")
+    same(run([script, "other"]).status, 2)
 
 
 # Prose

@@ -1,0 +1,258 @@
+#!/usr/bin/env python3
+"""Writes the pages that are made of the sources: docs/DEFINITIONS.md, docs/CLAUSES.md and
+docs/PROOFS.md. With --check it writes nothing, and ends with 1 where a page is not up to date.
+
+    scripts/indexes.py [--check]
+"""
+import re
+import sys
+from dataclasses import dataclass
+from pathlib import Path
+from typing import Dict, Iterator, List, Set, Tuple
+
+ROOT = Path(__file__).resolve().parent.parent
+
+# Comments
+
+
+def comment_above(lines: List[str], at: int) -> str:
+    """The comment that ends right above a line."""
+    words: List[str] = []
+    while at > 0 and lines[at - 1].lstrip().startswith("--"):
+        at -= 1
+        words.insert(0, lines[at].lstrip()[2:].strip())
+    return " ".join(words)
+
+
+def head_line(path: Path) -> str:
+    """The comment that begins a file, up to its first line that is no comment."""
+    lines = path.read_text(encoding="utf-8").splitlines()
+    ends = [at for at, line in enumerate(lines) if not line.startswith("--")]
+    return comment_above(lines, ends[0] if ends else len(lines))
+
+
+def crates() -> List[str]:
+    """The crates of crates.txt, in its order."""
+    lines = (ROOT / "crates.txt").read_text(encoding="utf-8").splitlines()
+    return [line.split(":")[0].split()[0] for line in lines if line and not line.startswith("#")]
+
+
+# Contracts
+
+
+@dataclass
+class Contract:
+    """A function's contract: each clause's kind and label, "" for none, and all of its words."""
+
+    name: str
+    is_public: bool
+    clauses: List[Tuple[str, str]]
+    words: Set[str]
+
+    def promises(self) -> List[str]:
+        """The labels of what it ensures."""
+        return [label for kind, label in self.clauses if kind == "ensures"]
+
+
+FUNCTION = re.compile(r'( *)(pub(?:\(\w+\))? )?(?:[\w"]+ )*fn (\w+)')
+CLAUSE = re.compile(r"^ *(ensures|requires)(?: (\w+))? \{")
+# Parts whose functions are as public as what they belong to.
+TRAIT = re.compile(r"(?:pub )?trait\b|impl\b.* for ")
+
+
+def contract_lines(lines: List[str], at: int, indent: int) -> List[str]:
+    """The lines of the contract below the head of a function."""
+    if lines[at].endswith("{"):
+        return []
+    # The contract is indented. Its end is the brace of the body, or the next item. Type
+    # parameters and parameters that have lines of their own end by `>` and `)`.
+    end = re.compile(rf" {{0,{indent}}}[^ )>]")
+    found: List[str] = []
+    for line in lines[at + 1:]:
+        if end.match(line):
+            break
+        found.append(line.split("//")[0])
+    return found
+
+
+def contracts(text: str) -> Iterator[Contract]:
+    """The contract of each function of a source file, in its order."""
+    lines, part = text.splitlines(), ""
+    for at, line in enumerate(lines):
+        if line[:1] not in ("", " "):
+            part = line
+        head = FUNCTION.match(line)
+        if head:
+            own = contract_lines(lines, at, len(head[1]))
+            clauses = [(found[1], found[2] or "") for found in map(CLAUSE.match, own) if found]
+            is_public = head[2] == "pub " or TRAIT.match(part) is not None
+            yield Contract(head[3], is_public, clauses, set(re.findall(r"\w+", " ".join(own))))
+
+
+def sources(crate: str) -> List[Path]:
+    return sorted((ROOT / "crates" / crate / "src").rglob("*.rt"))
+
+
+def public_contracts(path: Path) -> List[Contract]:
+    """The contracts of a file's public functions that ensure something."""
+    found = contracts(path.read_text(encoding="utf-8"))
+    return [each for each in found if each.is_public and each.promises()]
+
+
+CLAUSES_HEAD = """# The clauses of each public function
+
+Made by `scripts/indexes.py` of the contracts in the sources; a test holds it to them. \
+The claims in plain words are in [PROVED.md](PROVED.md).
+Each function has the labels of what it ensures behind it. One without labels has one clause.
+Methods of traits are among them. What a function asks for (`requires`) is proved at its calls.
+"""
+
+
+def promised(contract: Contract) -> str:
+    """A function's name, and the labels of what it ensures."""
+    labels = " ".join(label for label in contract.promises() if label)
+    return f"`{contract.name}`" + (f" ({labels})" if labels else "")
+
+
+def clauses_page() -> str:
+    text = CLAUSES_HEAD
+    for crate in crates():
+        top, rows = ROOT / "crates" / crate / "src", ""
+        for path in sources(crate):
+            found = "; ".join(promised(each) for each in public_contracts(path))
+            rows += f"| `{path.relative_to(top)}` | {found} |\n" if found else ""
+        text += f"\n## {crate}\n\n| File | Clauses |\n|---|---|\n{rows}" if rows else ""
+    return text
+
+
+# Definitions
+
+# Fields of records are indented, too, and have none of these words.
+DEFINITION = re.compile(
+    r"(?: *(?:abbrev|unfoldable|foldable) pub | *pub (?:record|data) |pub )(\w+)")
+IMPORT = re.compile(r"^(?:ghost )?use Rattle\.(\w+)\.specs\.([\w.]+)\.\{([^}]*)\}", re.M)
+# Crates whose functions are there beside their predicates and records.
+WHOLE = ("bw_model", "bw_machine")
+# Functions of a refusal that say no more than their names.
+PLAIN = re.compile(r"_fault_(?:number|name)$")
+DEFINITIONS_HEAD = """# Definitions
+
+Made by `scripts/indexes.py` of the comments in `specs/`; a test holds it to them.
+Below are the predicates and records that a clause of a public function names \
+([CLAUSES.md](CLAUSES.md)), or another crate. `Plan.IsPlan` is in `specs/Plan.antt` of its crate.
+Of bw_model each predicate is there. The functions of bw_model and bw_machine are among them; \
+those of other crates are in the same files, each with a comment.
+Numbers in definitions are whole numbers without bound. Words: [GLOSSARY.md](GLOSSARY.md).
+"""
+
+
+def imports(path: Path) -> Iterator[Tuple[str, str, str, str]]:
+    """The definitions that a file imports: crate, file, name, and the name that it gives."""
+    for crate, file, names in IMPORT.findall(path.read_text(encoding="utf-8")):
+        for each in names.split(","):
+            name, _, other = each.strip().partition(" as ")
+            yield crate, file.replace(".", "/"), name, other or name
+
+
+def named() -> Set[Tuple[str, str, str]]:
+    """The definitions that a clause of a public function or another crate names."""
+    found = set()
+    for crate in crates():
+        for path in sources(crate):
+            words = {word for each in public_contracts(path) for word in each.words}
+            found |= {each[:3] for each in imports(path) if each[3] in words or each[0] != crate}
+        for path in (ROOT / "crates" / crate / "specs").rglob("*.antt"):
+            found |= {each[:3] for each in imports(path) if each[0] != crate}
+    return found
+
+
+def definitions(path: Path) -> Iterator[Tuple[str, str]]:
+    """The definitions of a file that have a comment: name and comment."""
+    lines = path.read_text(encoding="utf-8").splitlines()
+    for at, line in enumerate(lines):
+        head = DEFINITION.match(line)
+        comment = comment_above(lines, at)
+        if head and head[1] != "mod" and comment:
+            yield head[1], comment
+
+
+def is_listed(crate: str, file: str, name: str, known: Set[Tuple[str, str, str]]) -> bool:
+    """Whether the page has a definition."""
+    if name[0].isupper():
+        return crate == WHOLE[0] or (crate, file, name) in known
+    return crate in WHOLE and not PLAIN.search(name) and (crate, file, name) in known
+
+
+def definitions_page() -> str:
+    text, known = DEFINITIONS_HEAD, named()
+    for crate in crates():
+        top, rows = ROOT / "crates" / crate / "specs", ""
+        for path in sorted(top.rglob("*.antt")):
+            file = str(path.relative_to(top).with_suffix(""))
+            for name, comment in definitions(path):
+                if is_listed(crate, file, name, known):
+                    rows += f"| `{file}.{name}` | {comment} |\n"
+        text += f"\n## {crate}\n\n| Definition | In words |\n|---|---|\n{rows}" if rows else ""
+    return text
+
+
+# Lemma files
+
+# Files of a function, whose head would say no more than their name, and lists of files. A file
+# beside a folder of its name lists that folder.
+LEFT_OUT = {"Answers.antt", "Invariants.antt", "Proof.antt", "Lib.antt", "CallerLemmas.antt"}
+PROOFS_HEAD = """# Index of the lemma files
+
+Made by `scripts/indexes.py` of the head line of each file; a test holds it to the sources.
+Proofs of functions are not listed. Those of `f` in `src/m.rt` are in `proofs/m/f/`, in two files:
+
+- `Invariants.antt`: what each loop keeps.
+- `Answers.antt`: one term for each goal that the prover's search left open.
+
+A function without a folder was proved by the search alone.
+What a crate offers to the crates above is in its `proofs/CallerLemmas.antt`.
+"""
+
+
+def proofs_page() -> str:
+    text = PROOFS_HEAD
+    for crate in crates():
+        top = ROOT / "crates" / crate / "proofs"
+        files = sorted(path for path in top.rglob("*.antt")
+                       if path.name not in LEFT_OUT and not path.with_suffix("").is_dir())
+        if files:
+            text += f"\n## {crate}\n\n| File | What it proves |\n|---|---|\n"
+            for path in files:
+                text += f"| `{path.relative_to(top)}` | {head_line(path)} |\n"
+    return text
+
+
+def pages() -> Dict[str, str]:
+    """The text of each page, by its name in docs/."""
+    return {"DEFINITIONS.md": definitions_page(), "CLAUSES.md": clauses_page(),
+            "PROOFS.md": proofs_page()}
+
+
+def stale() -> List[str]:
+    """The pages that are not as the sources have them."""
+    return [name for name, text in pages().items()
+            if not (ROOT / "docs" / name).is_file()
+            or (ROOT / "docs" / name).read_text(encoding="utf-8") != text]
+
+
+def main(words: List[str]) -> int:
+    if words not in ([], ["--check"]):
+        print("usage: scripts/indexes.py [--check]", file=sys.stderr)
+        return 2
+    if words:
+        late = stale()
+        for name in late:
+            print(f"docs/{name}: not up to date; scripts/indexes.py writes it", file=sys.stderr)
+        return 1 if late else 0
+    for name, text in pages().items():
+        (ROOT / "docs" / name).write_text(text, encoding="utf-8")
+    return 0
+
+
+if __name__ == "__main__":
+    sys.exit(main(sys.argv[1:]))
