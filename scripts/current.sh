@@ -105,14 +105,33 @@ stamp_now() (
   sources_now && cat -- "${made[@]}" | sha256sum
 )
 
-# Tests whether the made files are there, and made by this kit from these sources.
+# Prints the kit's line, and the inode, size and time of change of each file that a stamp speaks of.
+# The kernel alone sets that time. So an equal text means equal files, without reading them.
+files_now() {
+  find_kit
+  find_crates
+  printf '%s\n' "$kit" "${crate_lines[@]}" "${linked[@]}"
+  find -L "${folders[@]}" "${lists[@]}" "${made[@]}" "$stamp" -type f -printf '%p %i %s %C@\n'
+}
+
+# Tests whether the made files are there, and made by this kit from these sources. The hashes are
+# compared only if a file is another than at the last comparison, which $stamp.files has.
 is_current() {
-  local now
-  [ -x "${made[0]}" ] && [ -f "$stamp" ] && now=$(stamp_now) && [ "$now" = "$(<"$stamp")" ]
+  local now files beside
+  [ -x "${made[0]}" ] && [ -f "$stamp" ] && files=$(files_now) || return 1
+  [ -f "$stamp.files" ] && [ "$files" = "$(<"$stamp.files")" ] && return
+  now=$(stamp_now) && [ "$now" = "$(<"$stamp")" ] || return 1
+  # a folder that cannot be written costs the hashes at each call, and nothing else
+  if beside=$(mktemp "$stamp.XXXXXX" 2>/dev/null); then
+    if ! { printf "%s\n" "$files" >"$beside" && mv -fT "$beside" "$stamp.files"; }; then
+      rm -f "$beside"
+    fi
+  fi
+  return 0
 }
 
 forget_stamp() {
-  rm -f "$stamp"
+  rm -f "$stamp" "$stamp.files"
 }
 
 # Stamps the files that were just made, unless sources were changed meanwhile.

@@ -284,8 +284,23 @@ def test_runs_at_once(copy):
     copy.build()
     with concurrent.futures.ThreadPoolExecutor(8) as pool:
         same(set(pool.map(lambda _: copy.runs(), range(16))), {"native"}, "16 calls at once")
-    names = ["arbiter", "arbiter.sources", "build.log"]
+    names = ["arbiter", "arbiter.sources", "arbiter.sources.files", "build.log"]
     same(sorted(os.listdir(f"{copy.top}/{OUT}")), names, "what is in out/")
+
+
+def test_hashes_once(copy):
+    """The second call hashes no file. A file that was written since is hashed, as all are."""
+    copy.build()
+    path = sources("bw_stat")[1]
+    copy.is_native("the first call")
+    copy.log()
+    copy.is_native("the second call")
+    same(copy.log(), [], "what the second call hashed")
+    copy.write(path, copy.read(path))
+    copy.is_native("a file that was written as it was")
+    same("sha256sum" in copy.log(), True, "whether its hash was compared")
+    copy.write(path, copy.read(path).upper())
+    copy.is_checked("a file of the same length and another text")
 
 
 def test_builds_where_needed(copy):
