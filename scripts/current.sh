@@ -105,13 +105,15 @@ stamp_now() (
   sources_now && cat -- "${made[@]}" | sha256sum
 )
 
-# Prints the kit's line, and the inode, size and time of change of each file that a stamp speaks of.
-# The kernel alone sets that time. So an equal text means equal files, without reading them.
+# Prints a hash of the kit's line, and of the inode, size and time of change of each file that a
+# stamp speaks of. The kernel alone sets that time. So an equal hash means equal files, unread.
 files_now() {
   find_kit
   find_crates
-  printf '%s\n' "$kit" "${crate_lines[@]}" "${linked[@]}"
-  find -L "${folders[@]}" "${lists[@]}" "${made[@]}" "$stamp" -type f -printf '%p %i %s %C@\n'
+  {
+    printf '%s\n' "$kit" "${crate_lines[@]}" "${linked[@]}"
+    find -L "${folders[@]}" "${lists[@]}" "${made[@]}" "$stamp" -type f -printf '%p %i %s %C@\n'
+  } | sha256sum
 }
 
 # Tests whether the made files are there, and made by this kit from these sources. The hashes are
@@ -123,7 +125,7 @@ is_current() {
   now=$(stamp_now) && [ "$now" = "$(<"$stamp")" ] || return 1
   # a folder that cannot be written costs the hashes at each call, and nothing else
   if beside=$(mktemp "$stamp.XXXXXX" 2>/dev/null); then
-    if ! { printf "%s\n" "$files" >"$beside" && mv -fT "$beside" "$stamp.files"; }; then
+    if ! { echo "$files" >"$beside" && mv -fT "$beside" "$stamp.files"; }; then
       rm -f "$beside"
     fi
   fi
