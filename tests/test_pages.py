@@ -20,7 +20,7 @@ PAGES = TOP_PAGES + [f"docs/{path.name}" for path in sorted((ROOT / "docs").glob
 SHORT = ("README.md", "docs/ARCHITECTURE.md", "docs/USING.md")
 GREATEST_WORDS = 30
 # Pages whose references to clauses and definitions are held to the sources.
-REFERRING = ("docs/PROVED.md", "docs/ARCHITECTURE.md")
+REFERRING = ("docs/PROVED.md", "docs/ARCHITECTURE.md", "docs/LAWS.md")
 REFERENCE = re.compile(r"`(?:(\w+)/)?((?:\w+/)*\w+\.(rt|antt)):(\w+)(?:\.(\w+))?`(?: of (\w+))?")
 LINK = re.compile(r"\]\(([^)#\s]+)(#[^)]*)?\)")
 # A heading of another page: [USING.md](USING.md), 'The files'
@@ -159,7 +159,7 @@ def is_function(crate, file, kind, name, clause) -> bool:
 def test_references(page):
     """Each clause and each definition that a page names is in the file that it names."""
     found = references(page)
-    assert len(found) >= 40
+    assert len(found) >= 20
     wrong = [(reference[0], reference[-1]) for reference in found
              if not is_there(*reference[:-1])
              and not (page == "docs/ARCHITECTURE.md" and is_function(*reference[:-1]))]
