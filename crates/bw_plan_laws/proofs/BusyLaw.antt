@@ -1,12 +1,12 @@
 -- Where the others ask for more, a group has no more.
 use Rattle.std.proofs.Common.{◌≡◌, ℕ, ◌<◌, ◌≤◌, ◌⊎◌, List, Option, true, false, None, Some, length}
 use Rattle.std.proofs.Common.{get_or, refl, ap, sym, ◌∙◌, arith, inl, inr, eqb}
-use Rattle.std.specs.Prelude.{map, sum, slice_index}
+use Rattle.std.specs.Prelude.{map, min, sum, slice_index}
 use Rattle.std.proofs.lemmas.Bool.{cases_eq, cases_lt, or_right}
 use Rattle.std.proofs.lemmas.List.{length-map}
 use Rattle.std.proofs.lemmas.List.Sums.{sum-map}
 use Rattle.bw_model.specs.Groups.{Groups, IsInstance, parent_of, children_of, is_leaf, weight_of}
-use Rattle.bw_model.specs.Groups.{limit_of, is_under, sum_of_children}
+use Rattle.bw_model.specs.Groups.{limit_of, demand_of, is_under, sum_of_children}
 use Rattle.bw_model.specs.Demand.{want_of}
 use Rattle.bw_model.specs.Plan.{IsPlan, child_weights}
 use Rattle.bw_model.specs.Split.{IsBestSplit}
@@ -16,8 +16,9 @@ use Rattle.bw_model.proofs.CallerLemmas.{is_under-self, is_under-step}
 use Rattle.bw_plan.specs.Shared.{IsPlanning}
 use Rattle.bw_plan.proofs.CallerLemmas.{plan-IsPlanning, at_most}
 use Rattle.bw_split_laws.proofs.CallerLemmas.{find_greater, no_more_with_room}
+use Rattle.bw_plan_laws.specs.Asked.{IsBusier}
 use Rattle.bw_plan_laws.specs.Host.{IsRoomier}
-use Rattle.bw_plan_laws.specs.Room.{IsBusierAround, OthersDemandsGiveNothing}
+use Rattle.bw_plan_laws.specs.Room.{OthersDemandsGiveNothing}
 use Rattle.bw_plan_laws.proofs.Above.{parent_above}
 use Rattle.bw_plan_laws.proofs.HostLaws.{mosts_less}
 use Rattle.bw_plan_laws.proofs.Siblings.{no_less_at}
@@ -28,6 +29,12 @@ pub uncut : (limit : Option ℕ) (want greater : ℕ) → capped limit want < ca
     → capped limit want ≡ want
 uncut None want greater h = refl
 uncut (Some limit) want greater h = omega (arith, h)
+
+-- What is within a limit is within the lesser of the limit and a demand, cut at that demand.
+less_of_capped : (limit : Option ℕ) (demand want x y : ℕ) → x ≡ capped limit demand
+    → y ≤ capped limit want → min demand y ≤ x
+less_of_capped None demand want x y is within = omega (arith, is, within)
+less_of_capped (Some limit) demand want x y is within = omega (arith, is, within)
 
 -- Parts within their maxima that make up the sum of these are the maxima.
 pub all_full : (parts most : List ℕ) → length parts ≡ length most
@@ -42,8 +49,8 @@ all_full parts most long within whole = elim (find_greater most parts (sym long)
 ]
 
 module _ (a b : Groups) (group : ℕ) (xs ys : List ℕ) (va : IsInstance a) (vb : IsInstance b)
-    (busier : IsBusierAround a b group) (is_plan : IsPlan a xs) (is_other : IsPlan b ys) where
-  roomier : IsRoomier a b
+    (busier : IsBusier a b) (is_plan : IsPlan a xs) (is_other : IsPlan b ys) where
+  pub roomier : IsRoomier a b
   roomier = record {
     tree = busier.tree;
     demands = busier.demands;
@@ -69,10 +76,12 @@ module _ (a b : Groups) (group : ℕ) (xs ys : List ℕ) (va : IsInstance a) (vb
   most_less h below = mosts_less a b va vb roomier h below
 
   -- The group can be given as much as before.
-  most_same : (h : ℕ) → h < length a.rows → is_under a.rows group h ≡ true
+  most_same : ((h : ℕ) → is_under a.rows group h ≡ true
+      → demand_of b.rows h ≡ demand_of a.rows h)
+      → (h : ℕ) → h < length a.rows → is_under a.rows group h ≡ true
       → get_or mb h 0 ≡ get_or ma h 0
   unfolding ma mb
-  most_same = from_the_last (length a.rows)
+  most_same inside = from_the_last (length a.rows)
       (λ h. is_under a.rows group h ≡ true
       → get_or (mosts b vb.tree) h 0 ≡ get_or (mosts a va.tree) h 0)
       (λ h below later under.
@@ -80,7 +89,7 @@ module _ (a b : Groups) (group : ℕ) (xs ys : List ℕ) (va : IsInstance a) (vb
       ∙ ap (λ l. capped l (want_of b (mosts b vb.tree) h)) (busier.limits h)
       ∙ ap (capped (limit_of a h))
       (want_same a b va vb busier.tree (mosts a va.tree) (mosts b vb.tree) h
-      (busier.inside h under)
+      (inside h under)
       (λ c c_in e. later c (parent_lt a.rows va.tree c h e) c_in
       (is_under-step a.rows va.tree group c h e
       ∙ or_right (eqb c group) (is_under a.rows group h) under)))
@@ -205,9 +214,36 @@ module _ (a b : Groups) (group : ℕ) (xs ys : List ℕ) (va : IsInstance a) (vb
             ]
       ])
 
-  group_no_more : group < length a.rows → get_or ys group 0 ≤ get_or xs group 0
+  -- A leaf has no more of what it asked for before.
+  pub leaf_no_more : group < length a.rows → is_leaf a.rows group ≡ true
+      → min (demand_of a.rows group) (get_or ys group 0) ≤ get_or xs group 0
+  unfolding NoMore ma mb
+  leaf_no_more below leaf =
+      let rule_a : get_or (mosts a va.tree) group 0
+      ≡ capped (limit_of a group) (demand_of a.rows group) =
+      mosts-capped a va.tree group below
+      ∙ ap (capped (limit_of a group))
+      (let want : want_of a (mosts a va.tree) group ≡ demand_of a.rows group = rw leaf refl in
+      want) in
+      let rule_b : get_or (mosts b vb.tree) group 0
+      ≡ capped (limit_of a group) (want_of b (mosts b vb.tree) group) =
+      mosts-capped b vb.tree group (omega (arith, below, busier.tree.as_many))
+      ∙ ap (λ l. capped l (want_of b (mosts b vb.tree) group)) (busier.limits group) in
+      elim (no_more group below (is_under-self a.rows va.tree group)) [
+        | inl less ↦ omega (arith, less)
+        | inr full ↦
+            less_of_capped (limit_of a group) (demand_of a.rows group)
+            (want_of b (mosts b vb.tree) group) (get_or xs group 0) (get_or ys group 0)
+            (full ∙ rule_a)
+            (let fits : get_or ys group 0 ≤ get_or (mosts b vb.tree) group 0 =
+            within_b group below in omega (arith, fits, rule_b))
+      ]
+
+  group_no_more : ((h : ℕ) → is_under a.rows group h ≡ true
+      → demand_of b.rows h ≡ demand_of a.rows h)
+      → group < length a.rows → get_or ys group 0 ≤ get_or xs group 0
   unfolding NoMore
-  group_no_more below =
+  group_no_more inside below =
       elim (no_more group below (is_under-self a.rows va.tree group)) [
         | inl less ↦ less
         | inr full ↦
@@ -215,10 +251,15 @@ module _ (a b : Groups) (group : ℕ) (xs ys : List ℕ) (va : IsInstance a) (vb
               arith,
               full,
               within_b group below,
-              most_same group below (is_under-self a.rows va.tree group),
+              most_same inside group below (is_under-self a.rows va.tree group),
             )
       ]
 
 pub others_demands_give : OthersDemandsGiveNothing
 others_demands_give a b group xs ys va vb busier below is_plan is_other =
-    group_no_more a b group xs ys va vb busier is_plan is_other below
+    group_no_more a b group xs ys va vb (record {
+      tree = busier.tree;
+      weights = busier.weights;
+      limits = busier.limits;
+      demands = busier.demands;
+    }) is_plan is_other busier.inside below

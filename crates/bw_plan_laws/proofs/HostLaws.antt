@@ -29,7 +29,7 @@ below_want : (limit : Option ℕ) (w v : ℕ) → w ≤ v → capped limit w ≤
 below_want None w v h = h
 below_want (Some limit) w v h = omega (arith, h)
 
-sums_less : (cs ma mb : List ℕ)
+pub sums_less : (cs ma mb : List ℕ)
     → ((k : ℕ) → k < length cs → get_or ma (get_or cs k 0) 0 ≤ get_or mb (get_or cs k 0) 0)
     → sum_by (slice_index ma) cs ≤ sum_by (slice_index mb) cs
 sums_less [] ma mb h = omega arith

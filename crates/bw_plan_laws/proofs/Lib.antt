@@ -1,5 +1,6 @@
 -- The files of lemmas.
 mod Above
+mod AskedLaw
 mod BusyLaw
 pub mod CallerLemmas
 mod CutLaw

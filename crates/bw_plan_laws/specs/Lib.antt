@@ -1,4 +1,5 @@
 -- The files of definitions.
+pub mod Asked
 pub mod Cut
 pub mod Host
 pub mod Inside
