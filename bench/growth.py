@@ -1,5 +1,5 @@
 #!/usr/bin/env python3
-"""Measures the native program by itself and prints the tables of docs/MEASURED.md.
+"""Measures the native program by itself and prints the tables of bench/growth.md.
 
     bench/growth.py                          all: some minutes
     bench/growth.py --quick                  1024 and 4096 groups, fewer repeats
@@ -281,7 +281,7 @@ def parts(options):
 
 
 def read_words():
-    about = "Measures the native program and prints the tables of docs/MEASURED.md."
+    about = "Measures the native program and prints the tables of bench/growth.md."
     asked = argparse.ArgumentParser(prog="growth.py", description=about)
     asked.add_argument("--quick", action="store_true", help="1024 and 4096 groups, fewer repeats")
     asked.add_argument("--shapes", default="", help=f"some of {', '.join(SHAPES)}, with commas")

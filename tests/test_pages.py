@@ -125,7 +125,7 @@ def is_in_specs(text: str, name: str, field: str) -> bool:
 
 
 def references(page: str) -> list:
-    """The references of a page: crate, file, kind, name, clause or field, and as written."""
+    """The references of a page or table: crate, file, kind, name, clause or field, as written."""
     crate, found = "", []
     known = crates()
     for line in text_of(page).splitlines():

@@ -1,4 +1,4 @@
-"""Wrong bodies and must-fail edits stand in the sources, and MUTATION names what is there.
+"""Wrong bodies and must-fail edits fit the sources, and planted_by_hand.tsv names what is there.
 
 A text that its file has no more, or twice, makes a BAD EDIT, which fails nothing in the gate.
 """
@@ -11,7 +11,7 @@ from support import ROOT, same
 from test_pages import is_there, references, text_of
 from wrong_bodies import BODIES, Body, changed_files
 
-PAGE = "docs/MUTATION.md"
+PLANTED = "tests/planted_by_hand.tsv"
 EDITS = sorted(ROOT.glob("crates/*/must-fail/*.edit"))
 
 
@@ -66,14 +66,21 @@ def is_case(crate: str, module: str, name: str) -> bool:
     return path.is_file() and f"\n#[test]\nfn {name}(" in path.read_text(encoding="utf-8")
 
 
+@pytest.mark.parametrize("table, cells", [("planted.tsv", 5), ("planted_by_hand.tsv", 3)])
+def test_tables_have_all_cells(table, cells):
+    lines = (ROOT / "tests" / table).read_text(encoding="utf-8").splitlines()
+    assert len(lines) >= 30 and lines[0].startswith("# crate\t")
+    same([line for line in lines if line.count("\t") != cells - 1], [], "rows of other cells")
+
+
 def test_clauses_are_there():
-    found = references(PAGE)
+    found = references(PLANTED)
     assert len(found) >= 20
     same([name for *reference, name in found if not is_there(*reference)], [], "clauses")
 
 
 def test_tests_are_there():
-    text = text_of(PAGE)
+    text = text_of(PLANTED)
     tests = re.findall(r"(test_\w+\.py) `(test_\w+)", text)
     assert len(tests) >= 20
     same([each for each in tests if not is_test(*each)], [], "tests")
@@ -83,8 +90,8 @@ def test_tests_are_there():
 
 
 def test_edits_are_there():
-    """Each edit that the page names is one of the gate, or a body beside it."""
-    named = re.findall(r"\b(?:edit|body) `(\w+)`", text_of(PAGE))
+    """Each edit that a row names is one of the gate, or a body beside it."""
+    named = re.findall(r"\b(?:edit|body) `(\w+)`", text_of(PLANTED))
     assert len(named) >= 10
     there = {path.stem for path in [*EDITS, *BODIES.glob("*.body")]}
     same([name for name in named if name not in there], [], "edits")
