@@ -9,7 +9,7 @@ import pytest
 
 from support import ROOT, same
 from test_pages import is_there, references, text_of
-from wrong_bodies import BODIES, Body, changed_files
+from wrong_bodies import BODIES, Body, changed_files, missing
 
 PLANTED = "tests/planted_by_hand.tsv"
 EDITS = sorted(ROOT.glob("crates/*/must-fail/*.edit"))
@@ -48,10 +48,21 @@ def test_stale_edit_is_found():
 
 @pytest.mark.parametrize("path", sorted(BODIES.glob("*.body")), ids=lambda path: path.stem)
 def test_body_applies(path):
-    """`wrong_bodies.py` can put the body and the right one into the sources."""
+    """`wrong_bodies.py` can put the body and the right one into the sources, and run its tests."""
     body = Body(path)
+    same(missing(ROOT, body), [], "what its command names")
     for kind in ("new", "neutral"):
         assert changed_files(ROOT, body, kind)
+
+
+def test_missing_crate_is_found(tmp_path):
+    """A body whose command names a crate that is gone."""
+    path = tmp_path / "stale.body"
+    path.write_text("what: x\nby: y\ntry: bw_gone_tests\nfile: README.md\nold: a\nnew: b\n")
+    same(missing(ROOT, Body(path)), ["bw_gone_tests"])
+    path.write_text("what: x\nby: y\ncheck: bw_text bw_text::gone\nfile: a\nold: a\nnew: b\n")
+    with pytest.raises(SystemExit, match="unknown line"):
+        Body(path)
 
 
 def is_test(file: str, name: str) -> bool:

@@ -7,8 +7,7 @@ CLONE is made from this repository if it does not exist. What is proved in it is
 body. A body is a file of lines:
 
   what: the wrong body in a sentence
-  by: the clause or test that refuses it
-  check: CRATE PATH..     `rt check --only PATH ..` in crates/CRATE has to end with status 1, or
+  by: the test that refuses it. A body that a clause refuses is an edit in must-fail/ of its crate
   try: CRATE              `rt try --test` in crates/CRATE has to fail, or
   tests: FILE..           the body is proved, and after `./build` a test of these files of tests/
                           has to fail, or
@@ -67,7 +66,7 @@ class Body:
             rest = rest.strip()
             if word in ("what", "by", "says"):
                 setattr(self, word, rest)
-            elif word in ("check", "try", "tests", "run"):
+            elif word in ("try", "tests", "run"):
                 self.kind, self.words = word, rest.split()
             elif word == "in":
                 self.lines.append(rest)
@@ -87,6 +86,12 @@ class Body:
         return self.kind == "run" or any(edit.neutral is not None for edit in self.edits)
 
 
+def missing(clone: Path, body: Body) -> list:
+    """The crates and files of tests that the body's command names and that are not there."""
+    folder = {"try": "crates", "tests": "tests"}.get(body.kind)
+    return [word for word in body.words if folder and not (clone / folder / word).exists()]
+
+
 def changed_files(clone: Path, body: Body, kind: str) -> dict:
     """The texts of the body's files with its changes, `new` or `neutral` ones, by their paths."""
     texts = {}
@@ -103,9 +108,6 @@ def changed_files(clone: Path, body: Body, kind: str) -> dict:
 
 def command_of(body: Body):
     """The command of a body, and the folder in which it runs."""
-    if body.kind == "check":
-        only = [word for path in body.words[1:] for word in ("--only", path)]
-        return ["rt", "check", *only], f"crates/{body.words[0]}"
     if body.kind == "try":
         return ["rt", "try", "--test"], f"crates/{body.words[0]}"
     if body.kind == "run":
