@@ -1,25 +1,28 @@
 """Applies the settings of a model to a host, and undoes that.
 
-The old settings are in a synced file before the first change. Steps are in an order that the
-kernel takes: a burst is never above the quota that stands beside it.
+Each group that changes is open from the first reading to the last writing. The old settings are in
+a synced file before the first change. Steps are in an order that the kernel takes: a burst is never
+above the quota that stands beside it.
 """
 from __future__ import annotations
 
 import json
 import os
 import re
+import secrets
 import shlex
 import subprocess
-from collections.abc import Iterator, Sequence
-from dataclasses import asdict, dataclass
+from collections.abc import Container, Iterator, Sequence
+from contextlib import suppress
+from dataclasses import asdict, dataclass, field, replace
 from fractions import Fraction
 from typing import Any
 
 from arbiter_host import units
-from arbiter_host.beneath import Gone, Root
+from arbiter_host.beneath import Gone, Identity, Root, check_path, parts_of
 from arbiter_host.faults import HostFault, strerror
 from arbiter_host.model import Group, Model, check_settings
-from arbiter_host.names import shown
+from arbiter_host.names import NOWHERE, raw_path, shown
 from arbiter_host.sources import data
 
 UNIT = re.compile(r"[A-Za-z0-9:_.\\@-]+\.(service|slice|scope)")
@@ -49,6 +52,8 @@ class Change:
     folder: str
     before: Settings
     after: Settings
+    # The folder that BEFORE was read from, if it was read from a tree.
+    identity: Identity | None = None
 
 
 @dataclass(frozen=True)
@@ -76,25 +81,47 @@ def settings_of(group: Group) -> Settings:
 
 
 def folder_of(group: Group, root: Root) -> str:
-    """The folder of a group below the root: its place, else its path."""
-    place = group.place or group.path
-    if place.startswith("/"):
-        place = os.path.relpath(place, root.path)
+    """The folder of a group below the root: its place on the host, else what its path says."""
+    place: str | None = group.place
+    if group.place.startswith("/"):
+        place = os.path.relpath(group.place, root.path)
+        if place.split("/")[0] in (".", ".."):
+            raise HostFault(f"{shown(group.place)}: not below --root {shown(root.path)}")
+    elif group.place == NOWHERE:
+        raise HostFault(f"{shown(group.path)}: its place on the host is not known")
+    elif not group.place:
+        place = raw_path(group.path)
+    if place is None:
+        raise HostFault(f"{shown(group.path)}: which group of the host this is cannot be told: no"
+                        " import writes a name so (`%` is %25)")
+    parts_of(place)
     return place
+
+
+def change_of(one: Group, two: Group, root: Root) -> Change:
+    """The change of one group, which both sources found at one place if both say it."""
+    check_settings(two)
+    if None not in (one.identity, two.identity) and one.identity != two.identity:
+        raise HostFault(f"{shown(one.path)}: BEFORE and AFTER were read from two groups")
+    return Change(folder_of(one, root), settings_of(one), settings_of(two),
+                  one.identity or two.identity)
 
 
 def changes(before: Model, after: Model, root: Root) -> tuple[list[Change], list[str]]:
     """The groups whose settings differ, and what is left alone, in words."""
-    found, left = [], []
+    found: dict[str, Change] = {}
+    left = []
     for path in {**before.groups, **after.groups}:
         one, two = before.groups.get(path), after.groups.get(path)
         if one is None or two is None:
             which = "after" if one is None else "before"
             left.append(f"{path}: only {which}: groups are neither made nor removed")
         elif settings_of(one) != settings_of(two):
-            check_settings(two)
-            found.append(Change(folder_of(one, root), settings_of(one), settings_of(two)))
-    return found, left
+            change = change_of(one, two, root)
+            if change.folder in found:
+                raise HostFault(f"{shown(path)}: another group has the place {change.folder}")
+            found[change.folder] = change
+    return list(found.values()), left
 
 
 def number(text: str) -> int:
@@ -136,9 +163,23 @@ def unlike(root: Root, wanted: Sequence[tuple[str, Settings]]) -> list[str]:
     return found
 
 
+def keep(root: Root, found: Sequence[Change]) -> list[str]:
+    """Opens the groups that change, to be kept. Returns those that are not there, in words."""
+    wrong = []
+    for change in found:
+        try:
+            root.keep(change.folder, change.identity)
+        except Gone:
+            wrong.append(f"{shown(change.folder)}: is gone")
+        except HostFault as fault:
+            wrong.append(fault.message)
+    return wrong
+
+
 def check_host(root: Root, found: Sequence[Change]) -> None:
-    """A fault that names each group whose files do not hold what they held before."""
-    wrong = unlike(root, [(change.folder, change.before) for change in found])
+    """Keeps the groups; a fault that names each whose files do not hold what they held before."""
+    wrong = (keep(root, found)
+             or unlike(root, [(change.folder, change.before) for change in found]))
     if wrong:
         raise HostFault("\n".join(["the host is not what BEFORE says, so nothing is changed:",
                                    *wrong]))
@@ -197,32 +238,40 @@ def do(step: Step, root: Root) -> None:
     if not step.unit:
         root.write(step.folder, step.file, step.new)
         return
-    try:
-        ended = subprocess.run(command_of(step), capture_output=True, text=True, check=False,
-                               stdin=subprocess.DEVNULL, timeout=SECONDS)
-    except OSError as error:
-        raise HostFault(f"systemctl: {strerror(error)}") from error
-    except subprocess.TimeoutExpired as error:
-        raise HostFault(f"systemctl: no answer in {SECONDS} seconds") from error
-    if ended.returncode:
-        raise HostFault(f"systemctl: {shown(ended.stderr.strip()[:400])}")
+    systemctl(command_of(step)[1:])
 
 
 def undo_text(root: Root, found: Sequence[Change], is_systemd: bool) -> str:
-    """The old settings of all groups that change."""
-    groups = [{"folder": change.folder, **asdict(change.before)} for change in found]
+    """The old settings of all groups that change, and the new ones."""
+    groups = [{"folder": change.folder, **asdict(change.before), "after": asdict(change.after)}
+              for change in found]
     return json.dumps({"arbiter_undo": VERSION, "root": root.path, "systemd": is_systemd,
                        "groups": groups}, indent=1) + "\n"
 
 
+def write_new(path: str, text: str) -> None:
+    """Writes a new file, and returns when it is on the disk."""
+    descriptor = os.open(path, os.O_WRONLY | os.O_CREAT | os.O_EXCL | os.O_CLOEXEC, 0o600)
+    with os.fdopen(descriptor, "w", encoding="utf-8") as file:
+        file.write(text)
+        file.flush()
+        os.fsync(file.fileno())
+
+
 def write_synced(path: str, text: str) -> None:
-    """Writes a new file, and returns when it is on the disk with its name."""
+    """Writes a new file that has its name when it is whole, and returns when both are on the disk.
+
+    A fault or a kill leaves no file of this name that is cut.
+    """
+    check_path(path)
+    part = f"{path}.{secrets.token_hex(8)}"
     try:
-        descriptor = os.open(path, os.O_WRONLY | os.O_CREAT | os.O_EXCL | os.O_CLOEXEC, 0o600)
-        with os.fdopen(descriptor, "w", encoding="utf-8") as file:
-            file.write(text)
-            file.flush()
-            os.fsync(file.fileno())
+        try:
+            write_new(part, text)
+            os.link(part, path)
+        finally:
+            with suppress(FileNotFoundError):
+                os.unlink(part)
         folder = os.open(os.path.dirname(os.path.abspath(path)), os.O_RDONLY | os.O_DIRECTORY)
         try:
             os.fsync(folder)
@@ -245,22 +294,79 @@ def planned_steps(found: Sequence[Change], is_systemd: bool) -> list[Step]:
     return [step for change in found for step in steps_of(change, change.before, is_systemd)]
 
 
-def make(root: Root, found: Sequence[Change], is_systemd: bool, undo: str) -> None:
-    """Makes the changes: the host is looked at, the undo file written, the result read back."""
+def systemctl(words: Sequence[str]) -> str:
+    """What systemctl prints; a fault with its own words."""
+    try:
+        ended = subprocess.run(["systemctl", *words], capture_output=True, text=True, check=False,
+                               errors="replace", stdin=subprocess.DEVNULL, timeout=SECONDS)
+    except OSError as error:
+        raise HostFault(f"systemctl: {strerror(error)}") from error
+    except subprocess.TimeoutExpired as error:
+        raise HostFault(f"systemctl: no answer in {SECONDS} seconds") from error
+    if ended.returncode:
+        raise HostFault(f"systemctl: {shown(ended.stderr.strip()[:400])}")
+    return ended.stdout
+
+
+def false_units(steps: Sequence[Step]) -> dict[str, str]:
+    """The folders that are not the group of their unit, and why: a name is no place."""
+    found = {}
+    for unit, folder in {step.unit: step.folder for step in steps if step.unit}.items():
+        group = systemctl(["show", "--property=ControlGroup", "--value", "--", unit]).strip("\n")
+        if group != f"/{folder}":
+            found[folder] = (f"{shown(folder)}: the unit {shown(unit)} has the group"
+                             f" {shown(group[:200]) or '(none)'}: --by files writes to this one")
+    return found
+
+
+def check_units(steps: Sequence[Step]) -> None:
+    """A fault where the group of a unit is not the folder that changes."""
+    wrong = false_units(steps)
+    if wrong:
+        raise HostFault("\n".join([*wrong.values(), "so nothing is changed"]))
+
+
+def make(root: Root, found: Sequence[Change], is_systemd: bool, undo: str,
+         done: list[Step]) -> None:
+    """Makes the changes: the host is looked at, the undo file written, the result read back.
+
+    `done` gets the steps that were made.
+    """
+    steps = planned_steps(found, is_systemd)
     check_host(root, found)
+    check_units(steps)
     write_synced(undo, undo_text(root, found, is_systemd))
     try:
-        for step in planned_steps(found, is_systemd):
+        for step in steps:
             do(step, root)
+            done.append(step)
         check_after(root, found)
     except HostFault as fault:
         raise HostFault(f"{fault.message}\nto undo: arbiterctl undo {shlex.quote(undo)} --yes"
                         ) from fault
 
 
+@dataclass
+class Back:
+    """The way back of an undo file from what the host holds now."""
+
+    root: Root
+    is_systemd: bool
+    changes: list[Change] = field(default_factory=list)
+    # What is left alone, in words: groups that are gone, and values that somebody else set.
+    left: list[str] = field(default_factory=list)
+
+    def steps(self, by_files: Container[str] = ()) -> list[Step]:
+        """All steps. `by_files` are folders that are written without their unit."""
+        return [step for change in self.changes for step in
+                steps_of(change, change.before, self.is_systemd and change.folder not in by_files)]
+
+
 def settings_from(entry: dict[str, Any]) -> Settings:
     """The settings of an entry of an undo file."""
     quota = entry.get("quota")
+    if not isinstance(entry.get("burst"), int):
+        raise HostFault("an entry of the undo file has no burst")
     group = Group("x", data.number(entry, "weight"), None if quota is None else
                   data.number(entry, "quota"), data.number(entry, "period"),
                   data.number(entry, "burst"))
@@ -268,33 +374,62 @@ def settings_from(entry: dict[str, Any]) -> Settings:
     return settings_of(group)
 
 
-def read_undo(content: bytes, name: str) -> tuple[Root, list[Change], list[str], bool]:
-    """The root, the changes that bring the old settings back from what holds now, and the groups
-    that are gone."""
+def wanted_back(now: Settings, old: Settings, new: Settings) -> Settings:
+    """The old settings, but what is neither old nor new stays: somebody else set it.
+
+    A limit is one setting with its burst, since one bounds the other.
+    """
+    wanted = old
+    if now.weight not in (old.weight, new.weight):
+        wanted = replace(wanted, weight=now.weight)
+    if now.maximum not in (old.maximum, new.maximum) or now.burst not in (old.burst, new.burst):
+        wanted = replace(wanted, quota=now.quota, period=now.period, burst=now.burst)
+    return wanted
+
+
+def take_back(back: Back, entry: dict[str, Any], is_forced: bool) -> bool:
+    """Takes an entry of an undo file. Returns whether its group is there."""
+    folder, old = str(entry.get("folder", "")), settings_from(entry)
+    after = data.table(entry, "after")
+    new = settings_from(after) if after else old
+    try:
+        back.root.keep(folder)
+        now = current(back.root, folder)
+    except Gone:
+        back.left.append(f"{folder}: the group is gone, nothing of it is undone")
+        return False
+    wanted = old if is_forced else wanted_back(now, old, new)
+    if wanted != old:
+        back.left.append(f"{folder}: holds {told(now)}, which is neither what `apply` found"
+                         f" ({told(old)}) nor what it wrote: what differs is left (--force)")
+    if wanted != now:
+        back.changes.append(Change(folder, now, wanted))
+    return True
+
+
+def read_undo(content: bytes, name: str, is_forced: bool = False) -> Back:
+    """The way back of an undo file. `is_forced`: also over what somebody set since."""
     found = data.loads(content, name)
     if data.number(found, "arbiter_undo") != VERSION or not data.text(found, "root"):
         raise HostFault(f"{name}: no undo file of `arbiterctl apply`")
-    root, back, gone = Root(found["root"]), [], []
-    entries = data.tables(found, "groups")
-    for entry in entries:
-        folder, old = str(entry.get("folder", "")), settings_from(entry)
-        now = standing(root, folder)
-        if now is None:
-            gone.append(folder)
-        elif now != old:
-            back.append(Change(folder, now, old))
-    if gone and len(gone) == len(entries):
-        raise HostFault(f"{shown(root.path)}: none of the groups of {name} is there")
-    return root, back, gone, found.get("systemd") is True
+    back = Back(Root(found["root"]), found.get("systemd") is True)
+    are_there = [take_back(back, entry, is_forced) for entry in data.tables(found, "groups")]
+    if are_there and not any(are_there):
+        raise HostFault(f"{shown(back.root.path)}: none of the groups of {name} is there")
+    return back
 
 
-def undo(root: Root, back: Sequence[Change], is_systemd: bool) -> list[str]:
-    """Brings the old settings back, and reads them. Returns the groups that went meanwhile."""
-    for step in planned_steps(back, is_systemd):
-        try:
-            do(step, root)
-        except Gone:
-            continue
-    gone = [change.folder for change in back if standing(root, change.folder) is None]
-    check_after(root, [change for change in back if change.folder not in gone])
-    return gone
+def undo(back: Back, done: list[Step]) -> None:
+    """Brings the old settings back, and reads them. `done` gets the steps that were made.
+
+    A group that goes meanwhile is told in `back.left`.
+    """
+    by_files = false_units(back.steps())
+    for step in back.steps(by_files):
+        with suppress(Gone):
+            do(step, back.root)
+            done.append(step)
+    there = [change for change in back.changes if standing(back.root, change.folder)]
+    back.left += [f"{change.folder}: the group is gone, nothing of it is undone"
+                  for change in back.changes if change not in there]
+    check_after(back.root, there)

@@ -1,55 +1,128 @@
-"""Reads and writes files below one folder. No symbolic link is followed, and no file is made."""
+"""Reads and writes files below one folder. No symbolic link is followed, and no file is made.
+
+A folder that is kept is open from the first reading to the last writing. So what is written is the
+group that was read, whatever has its name meanwhile.
+"""
 from __future__ import annotations
 
 import errno
 import os
+import resource
 import stat
 from collections.abc import Iterator
-from contextlib import contextmanager
+from contextlib import contextmanager, suppress
 
 from arbiter_host.faults import HostFault, strerror
 from arbiter_host.names import shown
 
 MAX_TEXT = 4096
-FOLDER = os.O_RDONLY | os.O_DIRECTORY | os.O_NOFOLLOW | os.O_CLOEXEC
+FOLDER = os.O_PATH | os.O_DIRECTORY | os.O_NOFOLLOW | os.O_CLOEXEC
 FILE = os.O_NOFOLLOW | os.O_CLOEXEC | os.O_NONBLOCK
 # What a file of a removed group answers: by its name, and where it was open before.
 REMOVED = (errno.ENOENT, errno.ENODEV)
+
+# Device and inode of a folder: no other folder has them while it is open.
+Identity = tuple[int, int]
 
 
 class Gone(HostFault):
     """A file that is not there, or whose group was removed while it was open."""
 
 
+def identity_of(descriptor: int) -> Identity:
+    """The identity of what a descriptor is open at."""
+    found = os.fstat(descriptor)
+    return found.st_dev, found.st_ino
+
+
+def open_more_files() -> None:
+    """Lets this process have as many files open as it may."""
+    with suppress(OSError, ValueError):
+        _, most = resource.getrlimit(resource.RLIMIT_NOFILE)
+        resource.setrlimit(resource.RLIMIT_NOFILE, (most, most))
+
+
 class Root:
     """A folder whose files are changed. The folder itself may be reached by links."""
 
     def __init__(self, path: str) -> None:
-        self.path = os.path.abspath(path)
+        check_path(path)
+        self.path = os.path.realpath(path)
+        self.top: int | None = None
+        # The folders that are kept, by their paths.
+        self.kept: dict[str, int] = {}
+
+    def close(self) -> None:
+        """Closes all folders that are kept."""
+        for each in [*self.kept.values(), *([] if self.top is None else [self.top])]:
+            os.close(each)
+        self.kept, self.top = {}, None
 
     def name(self, folder: str, file: str) -> str:
         """The whole path of a file."""
         return os.path.join(self.path, folder, file)
 
     @contextmanager
-    def opened(self, folder: str, file: str, flags: int) -> Iterator[int]:
-        """A plain file below the root, opened part by part."""
-        descriptors: list[int] = []
+    def faults(self, folder: str, file: str = "") -> Iterator[None]:
+        """Errors of the system as faults that name the file."""
         try:
-            descriptors.append(os.open(self.path, os.O_RDONLY | os.O_DIRECTORY | os.O_CLOEXEC))
-            for part in parts_of(folder):
-                descriptors.append(os.open(part, FOLDER, dir_fd=descriptors[-1]))
-            descriptors.append(os.open(file, FILE | flags, dir_fd=descriptors[-1]))
-            found = os.fstat(descriptors[-1])
-            if not stat.S_ISREG(found.st_mode) or found.st_nlink != 1:
-                raise HostFault(f"{shown(self.name(folder, file))}: no plain file")
-            yield descriptors[-1]
+            yield
         except OSError as error:
             kind = Gone if error.errno in REMOVED else HostFault
-            raise kind(f"{shown(self.name(folder, file))}: {strerror(error)}") from error
+            name = self.name(folder, file).rstrip("/")
+            raise kind(f"{shown(name)}: {strerror(error)}") from error
+
+    def descend(self, folder: str) -> int:
+        """Opens a folder, part by part from the top, which stays open."""
+        if self.top is None:
+            self.top = os.open(self.path, os.O_PATH | os.O_DIRECTORY | os.O_CLOEXEC)
+        found = os.dup(self.top)
+        for part in parts_of(folder):
+            above = found
+            try:
+                found = os.open(part, FOLDER, dir_fd=above)
+            finally:
+                os.close(above)
+        return found
+
+    def keep(self, folder: str, identity: Identity | None = None) -> None:
+        """Opens a folder that stays open. A fault where it is another one than was read."""
+        if folder in self.kept:
+            raise HostFault(f"{shown(folder)}: named twice")
+        parts_of(folder)
+        if not self.kept:
+            open_more_files()
+        with self.faults(folder):
+            found = self.descend(folder)
+        self.kept[folder] = found
+        if identity is not None and identity_of(found) != identity:
+            raise HostFault(f"{shown(folder)}: is another group than the one that was read")
+
+    @contextmanager
+    def at(self, folder: str) -> Iterator[int]:
+        """A folder: the one that is kept, else the one that is there."""
+        if folder in self.kept:
+            yield self.kept[folder]
+            return
+        found = self.descend(folder)
+        try:
+            yield found
         finally:
-            for each in reversed(descriptors):
-                os.close(each)
+            os.close(found)
+
+    @contextmanager
+    def opened(self, folder: str, file: str, flags: int) -> Iterator[int]:
+        """A plain file below the root."""
+        parts_of(folder)
+        with self.faults(folder, file), self.at(folder) as above:
+            descriptor = os.open(file, FILE | flags, dir_fd=above)
+            try:
+                found = os.fstat(descriptor)
+                if not stat.S_ISREG(found.st_mode) or found.st_nlink != 1:
+                    raise HostFault(f"{shown(self.name(folder, file))}: no plain file")
+                yield descriptor
+            finally:
+                os.close(descriptor)
 
     def read(self, folder: str, file: str) -> str:
         """The text of a file."""
@@ -70,9 +143,20 @@ class Root:
                 os.ftruncate(descriptor, len(line))
 
 
+def check_path(path: str) -> None:
+    """A fault where a text is no path that the system can hold."""
+    try:
+        data = os.fsencode(path)
+    except UnicodeEncodeError as error:
+        raise HostFault(f"{shown(path)}: no path") from error
+    if not data or b"\0" in data:
+        raise HostFault(f"{shown(path)}: no path")
+
+
 def parts_of(folder: str) -> list[str]:
     """The names of a folder's path; a fault where one leads elsewhere."""
+    check_path(folder)
     parts = folder.split("/")
-    if folder == "" or any(part in ("", ".", "..") or "\0" in part for part in parts):
+    if any(part in ("", ".", "..") for part in parts):
         raise HostFault(f"{shown(folder)}: no path below the root")
     return parts

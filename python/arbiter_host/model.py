@@ -71,7 +71,9 @@ class Group:
 
     `demand` is in thousandths of a CPU and 0 for a group with children. `tasks` bounds it: that
     many CPUs at most are used at once. `saved` is what the group has left of earlier limits, in
-    slices. `title` is a name for people, `place` where the group is set on its host.
+    slices. `title` is a name for people. `place` is the group's folder on its host, absolute or
+    below the top of the tree. It is `names.NOWHERE` where that is not known, and empty where the
+    path says it. `identity` is the device and inode of the folder that it was read from.
     """
 
     path: str
@@ -84,6 +86,7 @@ class Group:
     saved: int = 0
     title: str = ""
     place: str = ""
+    identity: tuple[int, int] | None = None
 
     @property
     def usable(self) -> Fraction:

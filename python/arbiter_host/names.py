@@ -1,9 +1,14 @@
 """Names of groups: what a path can hold, and what a terminal or a page can show."""
 from __future__ import annotations
 
+import hashlib
+import itertools
 import os
 import re
 import unicodedata
+from collections.abc import Container
+
+from arbiter_host.faults import HostFault
 
 HEX_ID = re.compile(r"[0-9a-f]{64}")
 UID = r"[0-9a-f]{8}([-_])[0-9a-f]{4}\1[0-9a-f]{4}\1[0-9a-f]{4}\1[0-9a-f]{12}"
@@ -15,6 +20,13 @@ SCOPE_UNIT = re.compile(r"(?:cri-containerd|crio|docker|libpod)-([0-9a-f]{12})[0
 # Letters of a long identifier that are shown.
 KEPT = 12
 MAX_NAME = 255
+# Groups of one folder that a source may give one name.
+MOST_ALIKE = 1000
+# The place of a group that is not known to be a folder of its host.
+NOWHERE = "."
+# What a path of a script cannot hold, and what begins an escape.
+RESERVED = re.compile(r"[ \t\n/\0%]")
+ESCAPE = re.compile(rb"%([0-9A-F]{2})")
 
 
 def is_raw(letter: str) -> bool:
@@ -90,35 +102,74 @@ def padded(text: str, cells: int) -> str:
     return text + " " * max(cells - width(text), 0)
 
 
-def path_name(raw: str, taken: set[str]) -> str:
-    """A name that a path of a script can hold, unlike those taken.
+def escaped_bytes(letter: str) -> str:
+    """A letter as %XX of each byte; one that stands for a byte that is no UTF-8 is that byte."""
+    return "".join(f"%{byte:02X}" for byte in letter.encode("utf-8", "surrogateescape"))
 
-    Blanks, newlines, slashes and bytes that are not UTF-8 become %XX.
-    """
+
+def in_path(raw: str) -> str:
+    """A name with %XX for what a path of a script or a terminal cannot hold, and for `%`."""
+    if raw.isascii() and raw.isprintable() and not RESERVED.search(raw):
+        return raw
     try:
-        os.fsencode(raw).decode()
-        name = re.sub(r"[ \t\n/\0]", lambda found: f"%{ord(found.group()):02X}", raw)
-    except (UnicodeDecodeError, UnicodeEncodeError):
-        data = raw.encode("utf-8", "surrogateescape" if is_escaped(raw) else "replace")
-        name = "".join(chr(byte) if 32 < byte < 127 else f"%{byte:02X}" for byte in data)
+        data = os.fsencode(raw)
+    except UnicodeEncodeError:
+        data = raw.encode("utf-8", "replace")
+    letters = data.decode("utf-8", "surrogateescape")
+    return "".join(escaped_bytes(each) if is_raw(each) or RESERVED.match(each) else each
+                   for each in letters)
+
+
+def place_text(place: str) -> str:
+    """A folder of a host as a script or a host file can hold it. `place_of` reads it back."""
+    return "/".join(map(in_path, place.split("/")))
+
+
+def place_of(text: str) -> str:
+    """The folder that `place_text` writes so; `NOWHERE` where it writes none so."""
+    found = [each if each in ("", NOWHERE) else raw_name(each) for each in text.split("/")]
+    known = [each for each in found if each is not None]
+    return "/".join(known) if len(known) == len(found) else NOWHERE
+
+
+def shortened(name: str, mark: str) -> str:
+    """The beginning of a name with a mark behind it. `raw_name` reads no such name."""
+    kept = name.encode()[:MAX_NAME - len(mark) - 2].decode(errors="ignore")
+    return f"{kept}%~{mark}"
+
+
+def path_name(raw: str, taken: Container[str]) -> str:
+    """A name that a path of a script can hold, unlike those taken. `raw_name` reads it back.
+
+    A name that is too long or taken is marked: which group it is cannot be told.
+    """
+    name = in_path(raw)
     if name in ("", ".", ".."):
         name = "%" + name
-    name = within_bytes(name)
-    while name in taken:
-        name += "%"
-    return name
+    if len(name.encode()) > MAX_NAME:
+        name = shortened(name, hashlib.sha256(name.encode()).hexdigest()[:KEPT])
+    marked = (shortened(name, str(number)) for number in range(2, MOST_ALIKE + 1))
+    for each in itertools.chain([name], marked):
+        if each not in taken:
+            return each
+    raise HostFault(f"{shown(name)}: more than {MOST_ALIKE} groups of one name")
 
 
-def is_escaped(raw: str) -> bool:
-    """Whether a text holds the marks of bytes that were not UTF-8, and no other surrogate."""
-    return all(not 0xD800 <= ord(each) < 0xE000 or 0xDC80 <= ord(each) <= 0xDCFF for each in raw)
+def raw_name(name: str) -> str | None:
+    """The name on the host that `path_name` writes so; None where it writes none so."""
+    try:
+        raw = os.fsdecode(ESCAPE.sub(lambda found: bytes.fromhex(found.group(1).decode()),
+                                     name.encode()))
+    except UnicodeEncodeError:
+        return None
+    return raw if path_name(raw, ()) == name and "/" not in raw and "\0" not in raw else None
 
 
-def within_bytes(name: str) -> str:
-    """The beginning of a name, where it has more bytes than a script's name may have."""
-    if len(name.encode()) <= MAX_NAME - 8:
-        return name
-    return name.encode()[:MAX_NAME - 8].decode(errors="ignore") + "%"
+def raw_path(path: str) -> str | None:
+    """The folder whose names are those of a path; None where a name cannot be told."""
+    found = [raw_name(each) for each in path.split("/")]
+    known = [each for each in found if each is not None]
+    return "/".join(known) if len(known) == len(found) else None
 
 
 def joined(parent: str, name: str) -> str:

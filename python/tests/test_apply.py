@@ -108,7 +108,8 @@ def test_by_systemctl(ctl, tree):
     """Units are set by systemctl, whose fault ends the command; the undo file is there."""
     before, bin_ = imported(ctl, tree), tree.parent / "bin"
     bin_.mkdir()
-    (bin_ / "systemctl").write_text(f'#!/bin/sh\necho "$@" >> {bin_}/log\necho 200 > '
+    (bin_ / "systemctl").write_text(f'#!/bin/sh\n[ "$1" = show ] && exec echo "/$5"\n'
+                                    f'echo "$@" >> {bin_}/log\necho 200 > '
                                     f"{tree}/web.service/cpu.weight\n")
     (bin_ / "systemctl").chmod(0o755)
     ctl.environment["PATH"] = f"{bin_}:{os.environ['PATH']}"
@@ -116,7 +117,8 @@ def test_by_systemctl(ctl, tree):
     ctl.run(*words, "--undo", tree.parent / "u1")
     assert (bin_ / "log").read_text() == "set-property --runtime -- web.service CPUWeight=200\n"
     trees.group2(tree / "web.service", OLD.weight, OLD.maximum, OLD.burst)
-    (bin_ / "systemctl").write_text("#!/bin/sh\necho Access denied >&2\nexit 1\n")
+    (bin_ / "systemctl").write_text('#!/bin/sh\n[ "$1" = show ] && exec echo "/$5"\n'
+                                    "echo Access denied >&2\nexit 1\n")
     _, err = ctl.run(*words, "--undo", tree.parent / "u2", status=1)
     assert "systemctl: Access denied" in err and "to undo: arbiterctl undo" in err
     assert (tree.parent / "u2").exists()
@@ -193,13 +195,15 @@ def test_interrupted_anywhere_and_undone(tmp_path_factory, pairs, stop, late):
     host(folder / "t", [(f"g{place}", old) for place, (old, _) in enumerate(pairs)])
     found = [Change(f"g{place}", old, new) for place, (old, new) in enumerate(pairs)]
     try:
-        apply.make(Kernel(str(folder / "t"), stop, late), found, False, str(folder / "undo"))
+        apply.make(Kernel(str(folder / "t"), stop, late), found, False, str(folder / "undo"), [])
         assert [holds(folder / "t", change.folder) for change in found] == [
             change.after for change in found]
     except Stop:
         pass
-    _, back, gone, _ = apply.read_undo((folder / "undo").read_bytes(), "undo")
-    assert gone == [] and apply.undo(Kernel(str(folder / "t")), back, False) == []
+    back = apply.read_undo((folder / "undo").read_bytes(), "undo")
+    back.root = Kernel(str(folder / "t"))
+    apply.undo(back, [])
+    assert back.left == []
     assert [holds(folder / "t", change.folder) for change in found] == [
         change.before for change in found]
 
@@ -225,10 +229,9 @@ def test_stopped_inside_a_write_and_undone(folder, monkeypatch, call, late, want
         patched.setattr(os, call, stop)
         with pytest.raises(Stop):
             apply.make(beneath.Root(str(folder)), [Change("a", old, new)], False,
-                       str(folder / "undo"))
+                       str(folder / "undo"), [])
     assert holds(folder, "a").weight == wanted
-    root, back, _, _ = apply.read_undo((folder / "undo").read_bytes(), "undo")
-    apply.undo(root, back, False)
+    apply.undo(apply.read_undo((folder / "undo").read_bytes(), "undo"), [])
     assert holds(folder, "a") == old
     assert (folder / "a/cpu.weight").read_text() == "10000\n"
 
@@ -261,9 +264,9 @@ def test_group_that_goes_while_others_are_undone(folder):
     host(folder / "t", [("a", OLD), ("b", OLD)])
     new = Settings(7, 50000, 100000, 20000)
     found = [Change(name, OLD, new) for name in "ab"]
-    apply.make(beneath.Root(str(folder / "t")), found, False, str(folder / "undo"))
-    _, back, gone, _ = apply.read_undo((folder / "undo").read_bytes(), "undo")
-    assert gone == []
+    apply.make(beneath.Root(str(folder / "t")), found, False, str(folder / "undo"), [])
+    back = apply.read_undo((folder / "undo").read_bytes(), "undo")
+    assert back.left == []
 
     class Going(beneath.Root):
         """A tree from which the first group goes when it is written."""
@@ -273,7 +276,9 @@ def test_group_that_goes_while_others_are_undone(folder):
                 shutil.rmtree(f"{self.path}/a")
             super().write(folder, file, text)
 
-    assert apply.undo(Going(str(folder / "t")), back, False) == ["a"]
+    back.root = Going(str(folder / "t"))
+    apply.undo(back, [])
+    assert back.left == ["a: the group is gone, nothing of it is undone"]
     assert holds(folder / "t", "b") == OLD
 
 
@@ -294,7 +299,7 @@ def test_idle_group(folder):
     (folder / "t/a/cpu.weight").write_text("0\n")
     found = [Change("a", Settings(1, 100000, 100000, 20000), OLD)]
     with pytest.raises(HostFault, match="idle"):
-        apply.make(beneath.Root(str(folder / "t")), found, False, str(folder / "undo"))
+        apply.make(beneath.Root(str(folder / "t")), found, False, str(folder / "undo"), [])
 
 
 def test_quota_that_systemd_cannot_hold():
@@ -321,6 +326,9 @@ def test_places_of_an_import(folder):
 # Sets the properties of a unit as systemd would, and kills its caller at one of its calls.
 SYSTEMCTL = """#!/usr/bin/python3 -SE
 import os, signal, sys
+if sys.argv[1] == "show":
+    print("/" + sys.argv[-1])
+    sys.exit()
 tree, count, stop, late = {tree!r}, {count!r}, {stop}, {late}
 made = int(open(count).read()) + 1
 open(count, "w").write(str(made))

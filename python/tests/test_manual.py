@@ -112,8 +112,9 @@ def examples(ctl, folder):
             folder / "host.script")
     (folder / "bin").mkdir()
     for name, text in (("arbiterctl", f'exec {sys.executable} {PACKAGE}/arbiterctl "$@"'),
-                       ("systemctl", f"[ \"$1\" = show ] && exec cat {fixtures}/units.show\n"
-                        f"echo 200 > {folder}/cgroup/web.service/cpu.weight")):
+                       ("systemctl", "case \"$*\" in 'show --property=ControlGroup '*) echo /web.service;;"
+                        f" show*) cat {fixtures}/units.show;;"
+                        f" *) echo 200 > {folder}/cgroup/web.service/cpu.weight;; esac")):
         (folder / "bin" / name).write_text(f"#!/bin/sh\n{text}\n")
         (folder / "bin" / name).chmod(0o755)
     ctl.environment["PATH"] = f"{folder}/bin:{os.environ['PATH']}"
@@ -151,7 +152,8 @@ def test_example_of_undo(ctl, examples):
                  for _, command in each.examples if "--yes" in command)
     for command, holds in ((apply, "200"), (undo, "100")):
         systemctl = examples / "bin/systemctl"
-        systemctl.write_text(f"#!/bin/sh\necho {holds} > {weight}\n")
+        systemctl.write_text('#!/bin/sh\n[ "$1" = show ] && exec echo /web.service\n'
+                             f"echo {holds} > {weight}\n")
         subprocess.run(["bash", "-c", example_command(command, examples)], cwd=examples,
                        env=ctl.environment, timeout=60, check=True, capture_output=True)
         assert weight.read_text().strip() == holds

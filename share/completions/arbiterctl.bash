@@ -308,7 +308,7 @@ _arbiterctl() {
         undo)
             case $given in
                 *)
-                    [[ $word == -* ]] && mapfile -t COMPREPLY < <(compgen -W "--yes -h --help" -- "$word")
+                    [[ $word == -* ]] && mapfile -t COMPREPLY < <(compgen -W "--force --yes -h --help" -- "$word")
                     ;;
             esac
             ;;

@@ -287,6 +287,7 @@ complete -c arbiterctl -n '__fish_seen_subcommand_from apply' -l driver -x -a 's
 complete -c arbiterctl -n '__fish_seen_subcommand_from apply' -l strict -d 'refused lines of a script end the command with status 4'
 complete -c arbiterctl -n '__fish_seen_subcommand_from apply' -s h -l help -d 'print help'
 
+complete -c arbiterctl -n '__fish_seen_subcommand_from undo' -l force -d 'also over what somebody set since `apply`'
 complete -c arbiterctl -n '__fish_seen_subcommand_from undo' -l yes -d 'do it'
 complete -c arbiterctl -n '__fish_seen_subcommand_from undo' -s h -l help -d 'print help'
 

@@ -45,7 +45,7 @@ class Files:
 
     def settings(self, node: Node, notes: list[str]) -> None:
         """Reads shares, quota, period and burst; tells what is missing or out of range."""
-        shares, most = number_in(file_text(node.folder, "cpu.shares")), self.most(parent(node))
+        shares, most = number_in(file_text(node.handle, "cpu.shares")), self.most(parent(node))
         if shares is None:
             notes.append(f"{node.group.path}: no cpu.shares: 1024 is taken")
         node.group.weight = min(scaled(1024 if shares is None else shares, most), units.MAX_WEIGHT)
@@ -56,7 +56,7 @@ class Files:
 
     def maximum(self, node: Node, notes: list[str]) -> None:
         """Sets quota, period and burst. A quota below 0 is none."""
-        quota, period, burst = (file_text(node.folder, f"cpu.cfs_{each}_us")
+        quota, period, burst = (file_text(node.handle, f"cpu.cfs_{each}_us")
                                 for each in ("quota", "period", "burst"))
         if period is not None:
             bounds = (units.MIN_PERIOD, units.MAX_PERIOD)

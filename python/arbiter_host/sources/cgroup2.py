@@ -26,7 +26,7 @@ class Files:
 
     def settings(self, node: Node, notes: list[str]) -> None:
         """Reads cpu.weight, cpu.max and cpu.max.burst; tells what is missing or out of range."""
-        weight, burst = (file_text(node.folder, name) for name in ("cpu.weight", "cpu.max.burst"))
+        weight, burst = (file_text(node.handle, name) for name in ("cpu.weight", "cpu.max.burst"))
         if weight is None:
             notes.append(f"{node.group.path}: no cpu.weight: 100 is taken")
         elif weight.strip() == "0":
@@ -35,7 +35,7 @@ class Files:
         else:
             bounds = (units.MIN_WEIGHT, units.MAX_WEIGHT)
             set_number(node, "weight", number_in(weight), bounds, "cpu.weight", notes)
-        self.maximum(node, file_text(node.folder, "cpu.max"), notes)
+        self.maximum(node, file_text(node.handle, "cpu.max"), notes)
         if burst is not None:
             most = units.MAX_QUOTA if node.group.quota is None else node.group.quota
             set_number(node, "burst", number_in(burst), (0, most), "cpu.max.burst", notes)

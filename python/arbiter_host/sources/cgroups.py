@@ -6,13 +6,14 @@ enabled are told by name and cost no run.
 from __future__ import annotations
 
 import os
+import stat
 import time
 from collections.abc import Iterator
 from dataclasses import dataclass, field
 from fractions import Fraction
 from typing import Protocol
 
-from arbiter_host import demands, names, progress, units
+from arbiter_host import beneath, demands, names, progress, units
 from arbiter_host.demands import Measured, Reading
 from arbiter_host.faults import HostFault, strerror
 from arbiter_host.model import MAX_DEPTH, OWN, Group, Host, Model
@@ -22,11 +23,12 @@ MAX_FILE = 1 << 20
 
 @dataclass
 class Node:
-    """One folder of the tree."""
+    """One folder of the tree. `handle` is open while its settings are read."""
 
     folder: str
     group: Group
     depth: int = 0
+    handle: int = -1
     children: list[Node] = field(default_factory=list)
     measured: Measured = field(default_factory=Measured)
 
@@ -63,13 +65,19 @@ class Wish:
     want: str = "usage"
 
 
-def file_text(folder: str, name: str) -> str | None:
-    """The text of a file; None where there is none or it cannot be read."""
+def file_text(folder: str | int, name: str) -> str | None:
+    """The text of a plain file of a folder, given by its path or a descriptor; None where there is
+    none or it cannot be read."""
+    above = folder if isinstance(folder, int) else None
     try:
-        with open(os.path.join(folder, name), "rb") as file:
-            return file.read(MAX_FILE).decode(errors="replace")
+        descriptor = os.open(name if isinstance(folder, int) else os.path.join(folder, name),
+                             os.O_RDONLY | os.O_NONBLOCK | os.O_CLOEXEC, dir_fd=above)
+        with os.fdopen(descriptor, "rb") as file:
+            if stat.S_ISREG(os.fstat(descriptor).st_mode):
+                return file.read(MAX_FILE).decode(errors="replace")
     except (OSError, ValueError):
-        return None
+        pass
+    return None
 
 
 def number_in(text: str | None) -> int | None:
@@ -153,17 +161,23 @@ class Walk:
     def child(self, node: Node, raw: str, taken: set[str]) -> None:
         """Adds one group and those below it."""
         folder = os.path.join(node.folder, raw)
-        if not os.path.isdir(folder):
+        try:
+            handle = os.open(folder, beneath.FOLDER)
+        except OSError:
             self.model.notes.append(f"{names.joined(node.group.path, names.shown(raw))}: gone while"
                                     " the tree was read")
             return
         name = names.path_name(raw, taken)
         taken.add(name)
-        group = Group(names.joined(node.group.path, name), place=folder)
+        group = Group(names.joined(node.group.path, name), place=folder,
+                      identity=beneath.identity_of(handle))
         if name != raw:
             self.model.notes.append(f"{group.path}: its name on the host is {raw!r}")
-        child = Node(folder, group, node.depth + 1)
-        self.version.settings(child, self.model.notes)
+        child = Node(folder, group, node.depth + 1, handle)
+        try:
+            self.version.settings(child, self.model.notes)
+        finally:
+            os.close(handle)
         self.model.add(group)
         node.children.append(child)
         self.nodes.append(child)
@@ -218,7 +232,7 @@ def tell_own(root: Node, walk: Walk, seconds: Fraction) -> None:
         if 2 * used * host.period < 1000 * host.slice_usec:
             continue
         if walk.wish.own:
-            child = walk.model.add(Group(names.joined(path, OWN)))
+            child = walk.model.add(Group(names.joined(path, OWN), place=names.NOWHERE))
             child.demand = used
         else:
             amount = units.decimal(used, 0)
@@ -251,13 +265,14 @@ def read(version: Version, folder: str, host: Host, wish: Wish) -> Model:
     """The model of a tree."""
     model = Model(host.checked())
     model.notes += version.told(folder)
-    root = Node(folder, Group(".", place=folder))
-    root.measured.readings.append(version.reading(folder))
+    top = os.path.realpath(folder)
+    root = Node(top, Group("."))
+    root.measured.readings.append(version.reading(top))
     walk = Walk(version, model, wish)
     walk.below(root)
     if not walk.nodes:
         model.notes.append("no groups with the cpu controller are below this folder")
-    seconds = sample(folder, root, walk) if needs_samples(wish) else wish.seconds
+    seconds = sample(top, root, walk) if needs_samples(wish) else wish.seconds
     tell_gone(walk)
     found = {node.group.path: node.measured for node in walk.nodes}
     demands.set_demands(model, found, wish.want, seconds)

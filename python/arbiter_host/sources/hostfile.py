@@ -123,6 +123,11 @@ def text(value: Any) -> str:
     return value
 
 
+def place(value: Any) -> str:
+    """A folder of the host."""
+    return names.place_of(text(value))
+
+
 def set_max(group: Group, value: Any) -> None:
     """Sets a limit: a CPU amount of its period, `max`, or the two words of `cpu.max`."""
     if value is None or value == "max":
@@ -147,7 +152,7 @@ def set_key(group: Group, key: str, value: Any) -> None:
         set_max(group, value)
     else:
         take: Callable[[Any], Any] = {"weight": whole, "tasks": whole, "demand": cpu, "title": text,
-                                      "place": text}.get(key, time)
+                                      "place": place}.get(key, time)
         setattr(group, key, take(value))
 
 
@@ -280,9 +285,10 @@ def group_data(group: Group) -> dict[str, Any]:
         found["demand"] = units.cpu_text(group.demand)
     if group.tasks is not None:
         found["tasks"] = group.tasks
-    for key in ("title", "place"):
-        if getattr(group, key):
-            found[key] = getattr(group, key)
+    if group.title:
+        found["title"] = group.title
+    if group.place:
+        found["place"] = names.place_text(group.place)
     return found
 
 

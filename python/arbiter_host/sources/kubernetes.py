@@ -16,7 +16,7 @@ from arbiter_host import demands, names, units
 from arbiter_host.demands import Measured
 from arbiter_host.faults import HostFault
 from arbiter_host.model import Group, Host, Model
-from arbiter_host.names import shown
+from arbiter_host.names import NOWHERE, shown
 from arbiter_host.sources.data import loads, table, tables, text
 
 TOP = "kubepods"
@@ -197,9 +197,9 @@ def folder_of(pod: Pod, driver: str) -> str:
 
 
 def scope_of(folder: str, container: Container, driver: str) -> str:
-    """The folder of a container; empty where its identifier is not known."""
+    """The folder of a container, if its identifier is known."""
     if not container.identifier:
-        return ""
+        return NOWHERE
     if driver == "cgroupfs":
         return f"{folder}/{container.identifier.rpartition('-')[2]}"
     return f"{folder}/{container.identifier}.scope"
@@ -289,7 +289,7 @@ class Builder:
             group.quota = units.quota_of_thousandths(pod.amounts.limit)
         self.model.add(group)
         pause = self.name(path, "pause")
-        self.model.add(Group(pause, weight=1, title=f"{pod.title}/pause"))
+        self.model.add(Group(pause, weight=1, title=f"{pod.title}/pause", place=NOWHERE))
         self.measured[pause] = Measured(request=Fraction(0), tasks=0)
         for container in pod.containers:
             self.container(pod, path, folder, container)

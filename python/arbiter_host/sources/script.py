@@ -16,6 +16,7 @@ from arbiter_host.faults import HostFault
 from arbiter_host.model import MAX_DEPTH, MAX_GROUPS, Group, Host, Model
 
 HEAD = re.compile(r"^#\s*(?:\./)?arbiter run((?:\s+--[a-z]+[ =][0-9]{1,9})+)\s*(?:<.*)?$")
+# Above a `mkdir` stands `# at FOLDER`, where the path does not say the group's place.
 # Above a `demand`: the tasks that bound it, and what is asked where they cut it.
 TASKS = re.compile(r"# tasks ([0-9]{1,9})(?:, asks ([0-9]{1,30}[a-z]{0,3}))?")
 OPTION = re.compile(r"--([a-z]+)[ =]([0-9]+)")
@@ -246,6 +247,15 @@ def take_tasks(model: Model, before: bytes, line: bytes) -> None:
         model.groups[path] = told
 
 
+def take_place(model: Model, before: bytes, line: bytes) -> None:
+    """Takes what the comment above a `mkdir` says of the group's place on its host."""
+    words = line.split()
+    if not before.startswith(b"# at ") or words[:1] != [b"mkdir"] or len(words) != 2:
+        return
+    group = model.groups[words[1].decode().removeprefix("./")]
+    group.place = names.place_of(before[5:].decode(errors="replace"))
+
+
 def slices_of(group: Group, host: Host) -> int:
     """The slices that a group's tasks can use of its demand."""
     return units.demand_slices(group.usable, host.period, host.slice_usec)
@@ -276,6 +286,7 @@ def read(data: bytes, name: str, host: Host | None = None, engine: Engine | None
         try:
             take_line(reader, line)
             take_tasks(model, before, line)
+            take_place(model, before, line)
         except RefusedLine as refused:
             text = names.shown(names.cut(line[:400].decode(errors="replace"), 120))
             model.refused.append(f"{name}:{number}: error {refused.number} {refused}: {text}")
@@ -301,6 +312,8 @@ def comments(group: Group) -> list[str]:
     found = []
     if group.title:
         found.append(f"# {names.shown(group.path)} is {names.shown(group.title)}")
+    if not group.place.startswith("/") and group.place not in ("", names.raw_path(group.path)):
+        found.append(f"# at {names.place_text(group.place)}")
     return found
 
 

@@ -4,17 +4,35 @@ from __future__ import annotations
 import argparse
 import sys
 import time
-from collections.abc import Iterable, Sequence
+from collections.abc import Iterable, Iterator, Sequence
+from contextlib import contextmanager, suppress
 
 from arbiter_host import apply, beneath, change, engine, load, names
-from arbiter_host.faults import UsageFault
+from arbiter_host.faults import HostFault, UsageFault
 from arbiter_host.output import emit
 from arbiter_host.subcommands.base import Subcommand, add_reading_options
 
 
 def print_steps(root: beneath.Root, steps: Sequence[apply.Step]) -> None:
-    """Prints what is done, one line a step."""
+    """Prints steps, one line each."""
     emit("".join(f"{names.shown(step.words(root))}\n" for step in steps) or "# no change\n")
+
+
+@contextmanager
+def printing(root: beneath.Root) -> Iterator[list[apply.Step]]:
+    """A list whose steps are printed at the end: those that were made, also where a fault ends it.
+
+    Nothing is printed before: a reader that goes away stops no change halfway.
+    """
+    done: list[apply.Step] = []
+    try:
+        yield done
+    except HostFault:
+        if done:
+            with suppress(HostFault, BrokenPipeError):
+                print_steps(root, done)
+        raise
+    print_steps(root, done)
 
 
 def warn(found: Iterable[str]) -> None:
@@ -33,10 +51,12 @@ def run_apply(options: argparse.Namespace) -> None:
     root, is_systemd = beneath.Root(options.root), options.by == "systemd"
     found, left = apply.changes(models[0], after, root)
     warn(left)
-    print_steps(root, apply.planned_steps(found, is_systemd))
-    if options.yes and found:
-        undo = options.undo or f"arbiter-undo-{time.strftime('%Y%m%d-%H%M%S')}.json"
-        apply.make(root, found, is_systemd, undo)
+    if not options.yes or not found:
+        print_steps(root, apply.planned_steps(found, is_systemd))
+        return
+    undo = options.undo or f"arbiter-undo-{time.strftime('%Y%m%d-%H%M%S')}.json"
+    with printing(root) as done:
+        apply.make(root, found, is_systemd, undo, done)
         print(f"arbiterctl: done and read back; to undo: arbiterctl undo {names.shown(undo)} --yes",
               file=sys.stderr)
 
@@ -44,11 +64,15 @@ def run_apply(options: argparse.Namespace) -> None:
 def run_undo(options: argparse.Namespace) -> None:
     """Prints the steps back; with --yes makes them."""
     name = names.shown(options.file)
-    root, back, gone, is_systemd = apply.read_undo(load.file_bytes(options.file), name)
-    print_steps(root, apply.planned_steps(back, is_systemd))
-    if options.yes:
-        gone += apply.undo(root, back, is_systemd)
-    warn(f"{folder}: the group is gone, nothing of it is undone" for folder in gone)
+    back = apply.read_undo(load.file_bytes(options.file), name, options.force)
+    try:
+        if not options.yes:
+            print_steps(back.root, back.steps())
+            return
+        with printing(back.root) as done:
+            apply.undo(back, done)
+    finally:
+        warn(back.left)
 
 
 def add_apply_words(parser: argparse.ArgumentParser) -> None:
@@ -72,15 +96,24 @@ def add_apply_words(parser: argparse.ArgumentParser) -> None:
 def add_undo_words(parser: argparse.ArgumentParser) -> None:
     """The words of `undo`."""
     parser.add_argument("file", metavar="FILE", help="the undo file")
+    parser.add_argument("--force", action="store_true",
+                        help="also over what somebody set since `apply`")
     parser.add_argument("--yes", action="store_true", help="do it")
 
 
 DETAILS = (
     "Each file is read first. If one does not hold what BEFORE says, nothing is changed. The undo"
     " file is written and synced before the first change. A burst is lowered before its quota, and"
-    " raised after it. An interruption at any point can be undone.",
+    " raised after it. An interruption at any point can be undone. With --yes the steps are printed"
+    " that were made.",
     "Nothing outside --root is opened for writing, no symbolic link is followed below it, and no"
-    " file is made there.",
+    " file is made there. Each group is open from the first reading to the last writing. If BEFORE"
+    " is a tree, a group that was made again since it was read is refused. A unit is set only if"
+    " its group is the folder that changes.",
+)
+UNDO_DETAILS = (
+    "A value that is neither what `apply` found nor what it wrote was set by somebody since. It is"
+    " told and left; --force sets it back too.",
 )
 APPLY_EXAMPLES = (
     ("what would be done", "arbiterctl apply host.script --set web.service.weight=200"),
@@ -95,4 +128,4 @@ APPLY = Subcommand("apply", "set weights and limits on a host; without --yes onl
                    APPLY_EXAMPLES)
 UNDO = Subcommand("undo", "bring the settings before `apply` back",
                   "Prints how the settings of an undo file come back. With --yes it is done and"
-                  " read back.", add_undo_words, run_undo, (), UNDO_EXAMPLES)
+                  " read back.", add_undo_words, run_undo, UNDO_DETAILS, UNDO_EXAMPLES)
