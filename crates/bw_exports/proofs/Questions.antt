@@ -11,9 +11,9 @@ use Rattle.bw_model.specs.declared.instance_fault.InstanceFault.TheVariants.{Dem
 use Rattle.bw_model.specs.declared.instance_fault.InstanceFault.TheVariants.{RootLimited}
 use Rattle.bw_model.specs.declared.instance_fault.InstanceFault.TheVariants.{OutOfMemory}
 use Rattle.bw_model.specs.Groups.{Groups}
-use Rattle.bw_guarantee.specs.declared.fault.GuaranteeFault.{GuaranteeFault}
-use Rattle.bw_guarantee.specs.declared.fault.GuaranteeFault.TheVariants as of_group
-use Rattle.bw_guarantee.specs.Fault.{guarantee_fault_number, IsRefused}
+use Rattle.bw_questions.specs.declared.guaranteed.fault.GuaranteeFault.{GuaranteeFault}
+use Rattle.bw_questions.specs.declared.guaranteed.fault.GuaranteeFault.TheVariants as of_group
+use Rattle.bw_questions.specs.Fault.{guarantee_fault_number, IsRefused}
 use Rattle.bw_exports.specs.declared.asked_instance.Host.{Host}
 use Rattle.bw_exports.specs.declared.columns.Columns.{Columns}
 use Rattle.bw_exports.specs.declared.refusal.Refusal.{Refusal}

@@ -2,8 +2,8 @@
 use Rattle.std.proofs.Common.{◌≡◌, List, length}
 use Rattle.std.specs.Prelude.{slice_index_or}
 use Rattle.std.proofs.lemmas.List.FromFn.{length-map-range_with_len}
-use Rattle.bw_reasons.specs.declared.reason.Reason.{Reason}
-use Rattle.bw_reasons.specs.declared.reason.Reason.TheVariants.{NothingAsked}
+use Rattle.bw_questions.specs.declared.why.reason.Reason.{Reason}
+use Rattle.bw_questions.specs.declared.why.reason.Reason.TheVariants.{NothingAsked}
 use Rattle.bw_exports.specs.Reasoned.{blamed_row, blamed_rows}
 
 pub blamed_long : (reasons : List Reason) → length (blamed_rows reasons) ≡ length reasons

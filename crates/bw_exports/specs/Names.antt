@@ -4,7 +4,7 @@ use Rattle.std.specs.Prelude.{if◌then◌else◌}
 use Rattle.bw_cert.specs.Faults.{cert_fault_number, cert_fault_name}
 use Rattle.bw_files.specs.Faults.{file_fault_number, file_fault_name}
 use Rattle.bw_check.specs.Faults.{check_fault_number, check_fault_name}
-use Rattle.bw_guarantee.specs.Fault.{guarantee_fault_number, guarantee_fault_name}
+use Rattle.bw_questions.specs.Fault.{guarantee_fault_number, guarantee_fault_name}
 use Rattle.bw_exports.specs.declared.fault.Fault.{Fault}
 use Rattle.bw_exports.specs.declared.fault.Fault.TheVariants.{Asked, Written, Claimed, Group}
 

@@ -1,7 +1,7 @@
 -- The numbers that are answered.
 use Rattle.std.specs.Prelude.{ℕ}
 use Rattle.bw_model.specs.Faults.{host_fault_number, instance_fault_number}
-use Rattle.bw_guarantee.specs.Fault.{guarantee_fault_number}
+use Rattle.bw_questions.specs.Fault.{guarantee_fault_number}
 use Rattle.bw_exports.specs.declared.refusal.Refusal.{Refusal}
 use Rattle.bw_exports.specs.declared.refusal.Refusal.TheVariants.{WrongLength, Host, Instance}
 use Rattle.bw_exports.specs.declared.refusal.Refusal.TheVariants.{Group}

@@ -4,8 +4,8 @@ use Rattle.std.specs.Prelude.{if◌then◌else◌}
 use Rattle.bw_model.specs.declared.limits.TheConstants.{MIN_WEIGHT, MAX_WEIGHT, MAX_PROCESSORS}
 use Rattle.bw_model.specs.Host.{Shape}
 use Rattle.bw_model.specs.Groups.{Groups}
-use Rattle.bw_least.specs.Change.{with_weight, with_processors}
-use Rattle.bw_least.specs.Least.{Reaches, IsLeast, IsLeastLimit}
+use Rattle.bw_questions.specs.Change.{with_weight, with_processors}
+use Rattle.bw_questions.specs.Least.{Reaches, IsLeast, IsLeastLimit}
 use Rattle.bw_exports.specs.declared.asked_instance.Host.{Host}
 use Rattle.bw_exports.specs.declared.columns.Columns.{Columns}
 use Rattle.bw_exports.specs.declared.columns.TheConstants.{NO_LIMIT}

@@ -4,10 +4,10 @@ use Rattle.std.specs.List.{range_with_len}
 use Rattle.bw_model.specs.Groups.{Groups}
 use Rattle.bw_model.specs.Plan.{IsPlan}
 use Rattle.bw_demand.specs.Demands.{Demands, IsGathered}
-use Rattle.bw_reasons.specs.Reasons.{AreReasons}
-use Rattle.bw_reasons.specs.declared.reason.Reason.{Reason}
-use Rattle.bw_reasons.specs.declared.reason.Reason.TheVariants.{NothingAsked, AllWanted, OwnLimit}
-use Rattle.bw_reasons.specs.declared.reason.Reason.TheVariants.{LimitAbove, HostFull}
+use Rattle.bw_questions.specs.Reasons.{AreReasons}
+use Rattle.bw_questions.specs.declared.why.reason.Reason.{Reason}
+use Rattle.bw_questions.specs.declared.why.reason.Reason.TheVariants.{NothingAsked, AllWanted, OwnLimit}
+use Rattle.bw_questions.specs.declared.why.reason.Reason.TheVariants.{LimitAbove, HostFull}
 
 -- the number of a reason
 abbrev pub reason_number : Reason → ℕ

@@ -7,8 +7,8 @@ ghost use Rattle.bw_exports.specs.Questions.{question_refusal_of};
 use crate::asked_instance::{Host, instance_of};
 use crate::columns::Columns;
 use crate::refusal::Refusal;
-use bw_guarantee::GuaranteeFault;
 use bw_model::Instance;
+use bw_questions::GuaranteeFault;
 use std::alloc::Global;
 
 /// The instance of a host and its rows, of which the group is one.

@@ -5,8 +5,8 @@ ghost use Rattle.bw_exports.specs.Names.{number_of_fault, name_of_fault, IsNoFau
 use bw_cert::CertFault;
 use bw_check::CheckFault;
 use bw_files::FileFault;
-use bw_guarantee::GuaranteeFault;
 use bw_model::{HostFault, InstanceFault};
+use bw_questions::GuaranteeFault;
 
 /// A fault of an instance or a certified text, of a value of a file, of claimed amounts, or of a
 /// question about a group.

@@ -1,6 +1,6 @@
 //! `arbiter_guarantee`: the least that a group gets, called from C.
 ghost use Rattle.std.specs.Prelude.{◌≡◌, ◌<◌, IfOk, IfErr, OnOk};
-ghost use Rattle.bw_guarantee.specs.Guarantee.{IsGuaranteed};
+ghost use Rattle.bw_questions.specs.Guarantee.{IsGuaranteed};
 ghost use Rattle.bw_exports.specs.Asked.{groups_asked, Answers};
 ghost use Rattle.bw_exports.specs.Asked.{asked_host, asked_table, groups_in};
 ghost use Rattle.bw_exports.specs.Numbers.{number_of_refusal};
@@ -9,7 +9,7 @@ ghost use Rattle.bw_exports.specs.Questions.{question_number, question_refusal_o
 use crate::asked_instance::{Host, instance_of};
 use crate::columns::Columns;
 use crate::refusal::Refusal;
-use bw_guarantee::guarantee;
+use bw_questions::guarantee;
 use std::alloc::Global;
 
 // The guarantee of a group of a host and its rows.

@@ -10,8 +10,8 @@ use crate::asked_group::instance_with;
 use crate::asked_instance::Host;
 use crate::columns::{Columns, NO_LIMIT};
 use crate::refusal::Refusal;
-use bw_least::least_limit;
 use bw_model::InstanceFault;
+use bw_questions::least_limit;
 use std::alloc::Global;
 
 fn limit_number(limit: Option<u64>) -> u64

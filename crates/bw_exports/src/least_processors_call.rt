@@ -11,7 +11,7 @@ use crate::asked_group::instance_with;
 use crate::asked_instance::Host;
 use crate::columns::Columns;
 use crate::refusal::Refusal;
-use bw_least::least_processors;
+use bw_questions::least_processors;
 use std::alloc::Global;
 
 // The least number of processors with which a group of a host and its rows reaches an amount, 0

@@ -10,7 +10,7 @@ use crate::asked_group::instance_with;
 use crate::asked_instance::Host;
 use crate::columns::Columns;
 use crate::refusal::Refusal;
-use bw_least::least_weight;
+use bw_questions::least_weight;
 use std::alloc::Global;
 
 // The least weight with which a group of a host and its rows reaches an amount, 0 for none.

@@ -3,7 +3,7 @@ ghost use Rattle.std.specs.Prelude.{◌≡◌, ◌≤◌, length, map, IfOk};
 ghost use Rattle.bw_exports.specs.Reasoned.{reason_number, blamed_row, blamed_rows};
 
 use bw_model::limits::MAX_GROUPS;
-use bw_reasons::Reason;
+use bw_questions::Reason;
 use std::alloc::{AllocError, Global};
 
 fn reason_number(reason: Reason) -> u8

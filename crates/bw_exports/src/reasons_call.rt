@@ -12,7 +12,7 @@ use crate::reason_columns::{blamed_rows, reason_numbers};
 use crate::refusal::Refusal;
 use bw_demand::gather_rows;
 use bw_plan::plan_rows;
-use bw_reasons::reasons;
+use bw_questions::reasons;
 use std::alloc::Global;
 
 // Reasons, by column.

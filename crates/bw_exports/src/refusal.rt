@@ -2,8 +2,8 @@
 ghost use Rattle.std.specs.Prelude.{◌≡◌};
 ghost use Rattle.bw_exports.specs.Numbers.{number_of_refusal};
 
-use bw_guarantee::GuaranteeFault;
 use bw_model::{HostFault, InstanceFault};
+use bw_questions::GuaranteeFault;
 use std::alloc::AllocError;
 
 /// The refusals of a call, in the order of the tests.

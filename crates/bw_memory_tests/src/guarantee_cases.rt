@@ -1,7 +1,7 @@
 //! Guarantees of groups.
 use crate::instances::{Group, instance};
-use bw_guarantee::{GuaranteeFault, guarantee};
 use bw_model::Instance;
+use bw_questions::{GuaranteeFault, guarantee};
 use std::alloc::Global;
 use std::process::Abort;
 use std::test::Fail;

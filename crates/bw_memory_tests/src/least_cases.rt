@@ -2,8 +2,8 @@
 ghost use Rattle.std.specs.Prelude.{◌<◌, length};
 
 use crate::instances::{Group, instance};
-use bw_least::{least_limit, least_processors, least_weight};
 use bw_model::Instance;
+use bw_questions::{least_limit, least_processors, least_weight};
 use std::alloc::{AllocError, Global};
 use std::test::Fail;
 

@@ -3,7 +3,7 @@ use crate::instances::{Group, instance};
 use bw_demand::gather_rows;
 use bw_model::Instance;
 use bw_plan::plan;
-use bw_reasons::{Reason, reasons};
+use bw_questions::{Reason, reasons};
 use std::alloc::{AllocError, Global};
 use std::test::Fail;
 

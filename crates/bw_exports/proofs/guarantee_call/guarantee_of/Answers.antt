@@ -1,7 +1,7 @@
 -- The goals of `guarantee_of` that are answered by hand.
 use Rattle.std.proofs.Common.{rules, ◌<◌, length, subst}
 use Rattle.bw_model.specs.Groups.{Groups}
-use Rattle.bw_guarantee.specs.Fault.{IsRefused}
+use Rattle.bw_questions.specs.Fault.{IsRefused}
 use Rattle.bw_exports.specs.Asked.{groups_asked, refusal_of, Answers}
 use Rattle.bw_exports.specs.Numbers.{number_of_refusal}
 use Rattle.bw_exports.specs.Questions.{question_refusal_of}

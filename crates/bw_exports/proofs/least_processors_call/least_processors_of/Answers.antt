@@ -2,8 +2,8 @@
 use Rattle.std.proofs.Common.{rules, subst}
 use Rattle.bw_model.specs.declared.limits.TheConstants.{MAX_PROCESSORS}
 use Rattle.bw_model.specs.Groups.{Groups}
-use Rattle.bw_least.specs.Change.{with_processors}
-use Rattle.bw_least.specs.Least.{Reaches, IsLeast}
+use Rattle.bw_questions.specs.Change.{with_processors}
+use Rattle.bw_questions.specs.Least.{Reaches, IsLeast}
 use Rattle.bw_exports.proofs.least_processors_call.least_processors_of.Goals as goal
 
 pub returns-clause-least : goal.returns-clause-least

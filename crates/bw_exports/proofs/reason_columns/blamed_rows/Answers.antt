@@ -3,8 +3,8 @@ use Rattle.std.proofs.Common.{rules, arith, ◌≡◌, ◌<◌, length, get_or}
 use Rattle.std.specs.Prelude.{slice_index_or}
 use Rattle.std.proofs.lemmas.List.{get_or_default}
 use Rattle.std.proofs.lemmas.List.FromFn.{map-range_with_len_more}
-use Rattle.bw_reasons.specs.declared.reason.Reason.{Reason}
-use Rattle.bw_reasons.specs.declared.reason.Reason.TheVariants.{NothingAsked}
+use Rattle.bw_questions.specs.declared.why.reason.Reason.{Reason}
+use Rattle.bw_questions.specs.declared.why.reason.Reason.TheVariants.{NothingAsked}
 use Rattle.bw_exports.specs.Reasoned.{blamed_row}
 use Rattle.bw_exports.proofs.reason_columns.blamed_rows.Goals as goal
 

@@ -2,7 +2,7 @@
 use Rattle.std.proofs.Common.{◌≡◌, map}
 use Rattle.std.specs.Prelude.{slice_index_or}
 use Rattle.std.specs.List.{range_with_len}
-use Rattle.bw_reasons.specs.declared.reason.Reason.TheVariants.{NothingAsked}
+use Rattle.bw_questions.specs.declared.why.reason.Reason.TheVariants.{NothingAsked}
 use Rattle.bw_exports.specs.Reasoned.{blamed_row}
 use Rattle.bw_exports.proofs.reason_columns.blamed_rows.Given as goal
 

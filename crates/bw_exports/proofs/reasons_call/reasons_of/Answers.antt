@@ -1,7 +1,7 @@
 -- The goals of `reasons_of` that are answered by hand.
 use Rattle.std.proofs.Common.{◌≡◌, ℕ, List, length, map, ap, ◌∙◌}
 use Rattle.bw_model.specs.Groups.{Groups}
-use Rattle.bw_reasons.specs.declared.reason.Reason.{Reason}
+use Rattle.bw_questions.specs.declared.why.reason.Reason.{Reason}
 use Rattle.bw_exports.specs.Asked.{table_of}
 use Rattle.bw_exports.specs.Reasoned.{reason_number, blamed_rows}
 use Rattle.bw_exports.proofs.Asked.{rows_length}

@@ -1,3 +1,0 @@
--- The files of lemmas.
-mod BusyRows
-mod Least
