@@ -1,5 +1,6 @@
 -- The files of lemmas.
 pub mod CallerLemmas
+mod EmptyStruct
 mod Histories
 mod ListsByPlace
 mod Numbers

@@ -1,6 +1,5 @@
 -- The files of lemmas.
 pub mod CallerLemmas
-mod EmptyStruct
 mod Filling
 mod LastMarks
 mod NextMarks

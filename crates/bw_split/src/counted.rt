@@ -6,9 +6,9 @@ ghost use Rattle.std.specs.Prelude.{◌≡◌, ◌+◌, ◌<◌, ◌≤◌, leng
 ghost use Rattle.bw_model.specs.Split.{IsBestSplit};
 ghost use Rattle.bw_split.specs.Conditions.{CanSplit, NeedsNoSearch};
 
-use crate::count::Count;
 use crate::level_search::{share_by_level, split_with};
 use crate::limits::MAX_ROUNDS;
+use bw_machine::Count;
 use std::alloc::{AllocError, Global};
 use std::marker::Model;
 

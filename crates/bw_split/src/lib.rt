@@ -8,7 +8,6 @@
 mod at_level;
 mod by_marks;
 mod conditions;
-mod count;
 mod counted;
 mod ends;
 mod guess;

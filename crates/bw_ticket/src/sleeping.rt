@@ -10,13 +10,12 @@ ghost use Rattle.bw_ticket.specs.Rule.{Each, wake_word};
 ghost use Rattle.bw_ticket.specs.Seats.{IsBoard, IsSeat};
 
 use crate::board::{SERVING, SlotValue, View};
-use crate::count::Count;
 use crate::limits::MOST_AWAKE;
 use crate::lock::{Board, Token};
 use crate::patience::Patience;
 use crate::steps::wait_turn;
 use atomic_table::Play;
-use bw_machine::Machine;
+use bw_machine::{Count, Machine};
 use std::hint::spin_loop;
 use std::marker::Model;
 use std::rt::Clock;

@@ -6,8 +6,8 @@ use std::marker::Model;
 
 /// Number of times that something was done, from one point on.
 #[derive(Drop)]
-pub(crate) struct Count {
-    pub(crate) ghost steps: { ℕ },
+pub struct Count {
+    pub ghost steps: { ℕ },
 }
 
 impl Model for Count {
@@ -16,14 +16,14 @@ impl Model for Count {
 
 impl Count {
     /// A count of 0.
-    pub(crate) fn none() -> Count
+    pub fn none() -> Count
         ensures { result.steps ≡ 0 }
     {
         Count {}
     }
 
     /// One more.
-    pub(crate) fn one_more(&self) -> Count
+    pub fn one_more(&self) -> Count
         ensures { result.steps ≡ self.now.steps + 1 }
     {
         Count {}

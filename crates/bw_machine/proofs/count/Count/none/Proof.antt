@@ -9,11 +9,11 @@ use types.ByLocal.{alloc_all, pass_all, free_all, look_at, sets}
 use denote.Steps.{nothing}
 use denote.Triple.Entry.{alive}
 use denote.Triple.Walked.{Stays, walk_of, says, ends_at}
-use Rattle.bw_split.proofs.EmptyStruct.{empty, empty_made}
-use Rattle.bw_split.specs.contracts.count.Count as Count
-use Rattle.bw_split.specs.contracts.count.Count.none as F
-use Rattle.bw_split.proofs.count.Count.none.Statement.{statement}
-use Rattle.bw_split.proofs.count.Count.none.Code as code
+use Rattle.bw_machine.proofs.EmptyStruct.{empty, empty_made}
+use Rattle.bw_machine.specs.contracts.count.Count as Count
+use Rattle.bw_machine.specs.contracts.count.Count.none as F
+use Rattle.bw_machine.proofs.count.Count.none.Statement.{statement}
+use Rattle.bw_machine.proofs.count.Count.none.Code as code
 
 abbrev stayed : Stays F.ended.signature.params F.ended.kept
 stayed = tt

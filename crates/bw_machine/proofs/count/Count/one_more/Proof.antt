@@ -25,11 +25,11 @@ use denote.Triple.Entry.{alive}
 use denote.Triple.Spec.{Meets, triple_of}
 use denote.Triple.Table.{entered}
 use denote.Triple.Walked.{says, Stays, stay_dropped, walk_of, ends_at, walk_Meets, Goes-dropped}
-use Rattle.bw_ticket.proofs.EmptyStruct.{empty, empty_made}
-use Rattle.bw_ticket.specs.contracts.count.Count as Count
-use Rattle.bw_ticket.specs.contracts.count.Count.one_more as F
-use Rattle.bw_ticket.proofs.count.Count.one_more.Statement.{statement}
-use Rattle.bw_ticket.proofs.count.Count.one_more.Code as code
+use Rattle.bw_machine.proofs.EmptyStruct.{empty, empty_made}
+use Rattle.bw_machine.specs.contracts.count.Count as Count
+use Rattle.bw_machine.specs.contracts.count.Count.one_more as F
+use Rattle.bw_machine.proofs.count.Count.one_more.Statement.{statement}
+use Rattle.bw_machine.proofs.count.Count.one_more.Code as code
 
 abbrev stayed : Stays F.ended.signature.params F.ended.kept
 stayed = (stay_dropped (RefOf (0 ∷ []) tt (plain (λ _. Count.the_row)) (λ _. tt)) yes, tt)
