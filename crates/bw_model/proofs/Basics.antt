@@ -1,11 +1,11 @@
 -- Sums, lists, options and tests of numbers: what the other proofs use, and what stands on none of
 -- them.
 use Rattle.std.proofs.Common.{◌≡◌, ℕ, zero, suc, ◌+◌, ◌*◌, ◌<◌, ◌≤◌, List, [], ◌∷◌, Bool, cond}
-use Rattle.std.proofs.Common.{refl, arith, sym, ap, ◌∙◌, inl, inr, ◌-◌, ◌⊎◌, ◌≢◌, length}
-use Rattle.std.proofs.Common.{get_or, true, false, Option, None, Some, ◌||◌, eqb, ◌==◌, ◌++◌, ◌&&◌}
+use Rattle.std.proofs.Common.{refl, arith, sym, ap, ◌∙◌, inl, inr, ◌-◌, length}
+use Rattle.std.proofs.Common.{get_or, true, false, Option, None, Some, ◌||◌, eqb, ◌++◌, ◌&&◌}
 use Rattle.std.proofs.Common.{true≢false, replicate, bytes_eq}
 use Rattle.std.proofs.lemmas.Bool.{cases_eq, cond_both, eq-eqb, eqb-true, or_cases, or_right}
-use Rattle.std.proofs.lemmas.Bool.{false_from_ne_true, ne_eqb, cases_Bool, or_left, false≢true}
+use Rattle.std.proofs.lemmas.Bool.{false_from_ne_true, cases_Bool, or_left, false≢true}
 use Rattle.std.specs.Prelude.{sum, sum_by, filter, map}
 use Rattle.std.specs.List.{range_with_len, list_any}
 use Rattle.std.proofs.lemmas.List.Sums.{sum_by-cons}

@@ -1,10 +1,10 @@
 -- The most of a group is not above its bound.
-use Rattle.std.proofs.Common.{◌≡◌, ℕ, ◌<◌, ◌≤◌, List, Bool, true, false, cond, Option, None, Some}
-use Rattle.std.proofs.Common.{length, get_or, arith, ◌∙◌}
+use Rattle.std.proofs.Common.{ℕ, ◌≤◌, Bool, true, false, Option, None, Some}
+use Rattle.std.proofs.Common.{length, get_or, arith}
 use Rattle.std.specs.Prelude.{slice_index, unwrap_or, if◌then◌else◌}
-use Rattle.bw_model.specs.Groups.{Groups, IsInstance, is_leaf, demand_of, limit_of, sum_of_children}
-use Rattle.bw_model.specs.Certificate.{Certified, AreBounds, is_flagged}
-use Rattle.bw_model.specs.Demand.{AreMaxTotals, want_of}
+use Rattle.bw_model.specs.Groups.{is_leaf, demand_of, limit_of, sum_of_children}
+use Rattle.bw_model.specs.Certificate.{is_flagged}
+use Rattle.bw_model.specs.Demand.{want_of}
 use Rattle.bw_model.specs.Laws.{BoundsCoverMosts}
 use Rattle.bw_model.proofs.Basics.{from_the_last}
 use Rattle.bw_model.proofs.tree.Under.{parent_lt}
