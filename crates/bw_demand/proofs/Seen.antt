@@ -1,4 +1,4 @@
--- Which groups a walk from the deepest level up has seen.
+-- Which groups a walk from the deepest groups up has seen.
 use Rattle.std.proofs.Common.{◌≡◌, ℕ, zero, suc, ◌+◌, ◌<◌, ◌≤◌, ◌==◌, ◌||◌, Bool, true, false, not}
 use Rattle.std.proofs.Common.{true≢false, eqb, ltb, List, [], ◌∷◌, take, length, get_or}
 use Rattle.std.proofs.Common.{Some, Vec, refl, sym, ap, ◌∙◌, arith, inl, inr}
@@ -13,7 +13,7 @@ use Rattle.bw_model.specs.declared.row.Row.{Row}
 use Rattle.bw_model.specs.Groups.{AreTreeRows, parent_of, depth_of}
 use Rattle.bw_model.proofs.CallerLemmas.{parent_lt, depth_of-step}
 use Rattle.bw_demand.specs.ByDepth.{rows_of_depth, AreByDepth}
-use Rattle.bw_demand.proofs.ByDepth.{level_row, level_rises, level_has}
+use Rattle.bw_demand.proofs.ByDepth.{depth_row, depth_rises, depth_has}
 
 -- the groups from this depth on
 abbrev pub seen_from : List Row → ℕ → ℕ → Bool
@@ -36,22 +36,22 @@ among (x ∷ xs) (suc k) c e = elim (or_cases (x == c) (list_any (λ h. h == c) 
       (suc r.0, omega (arith, r.1), omega (arith, r.2), r.3)
 ]
 
--- before the deepest level
-pub none_seen : (rows : List Row) (levels : List (Vec ℕ Global)) (d : ℕ) → AreByDepth rows levels
-    → d ≡ length levels →
+-- before the deepest groups
+pub none_seen : (rows : List Row) (depths : List (Vec ℕ Global)) (d : ℕ) → AreByDepth rows depths
+    → d ≡ length depths →
     (c : ℕ) → c < length rows → seen_from rows d c ≡ false
-none_seen rows levels d known is c below =
-    rw is (ap not (lt-ltb (depth_of rows c) (length levels) (known.all c below)))
+none_seen rows depths d known is c below =
+    rw is (ap not (lt-ltb (depth_of rows c) (length depths) (known.all c below)))
 
 -- after the root
 pub all_seen : (rows : List Row) (d c : ℕ) → d ≡ 0 → seen_from rows d c ≡ true
 all_seen rows d c is = rw is (ap not (le-ltb (depth_of rows c) 0 (omega arith)))
 
--- before the first of a level
+-- before the first of a depth
 pub first_seen : (rows : List Row) (d c : ℕ) → seen_at rows d 0 c ≡ seen_from rows (d + 1) c
 first_seen rows d c = or-false (seen_from rows (d + 1) c)
 
--- after the last of a level
+-- after the last of a depth
 pub last_seen : (rows : List Row) (d k c : ℕ) → c < length rows → length (rows_of_depth rows d) ≤ k
     → seen_from rows d c ≡ seen_at rows d k c
 last_seen rows d k c below le =
@@ -63,19 +63,19 @@ last_seen rows d k c below le =
           let r : (j : ℕ) × (j < k) × (j < length (rows_of_depth rows d))
           × (get_or (rows_of_depth rows d) j 0 ≡ c) =
           among (rows_of_depth rows d) k c (rw whole e) in
-          let at : depth_of rows c ≡ d = rw r.3 at (level_row rows d r.0 r.2).depth in
+          let at : depth_of rows c ≡ d = rw r.3 at (depth_row rows d r.0 r.2).depth in
           omega (arith, at, lt))))
       | inr ge ↦ ap not (le-ltb (depth_of rows c) d ge) ∙ sym (elim (cases_eq (depth_of rows c) d) [
         | inl same ↦ rw (lt-ltb (depth_of rows c) (d + 1) (omega (arith, same)))
             (let r : (k : ℕ) × (k < length (rows_of_depth rows d))
-            × (get_or (rows_of_depth rows d) k 0 ≡ c) = level_has rows d c below same in
+            × (get_or (rows_of_depth rows d) k 0 ≡ c) = depth_has rows d c below same in
             list_any_at (λ h. h == c) (rows_of_depth rows d) r.0 0 r.1
             (eq-eqb (get_or (rows_of_depth rows d) r.0 0) c r.2))
         | inr other ↦ rw (le-ltb (depth_of rows c) (d + 1) (omega (arith, ge, other))) refl
       ])
     ])
 
--- one more of a level
+-- one more of a depth
 pub next_seen : (rows : List Row) (d k g c : ℕ) → k < length (rows_of_depth rows d)
     → g ≡ get_or (rows_of_depth rows d) k 0 →
     seen_at rows d (k + 1) c ≡ (seen_at rows d k c || eqb g c)
@@ -90,25 +90,25 @@ next_seen rows d k g c lt is =
 pub fresh : (rows : List Row) (d k g : ℕ) → k < length (rows_of_depth rows d)
     → g ≡ get_or (rows_of_depth rows d) k 0 → seen_at rows d k g ≡ false
 fresh rows d k g lt is =
-    let at : depth_of rows g ≡ d = ap (depth_of rows) is ∙ (level_row rows d k lt).depth in
+    let at : depth_of rows g ≡ d = ap (depth_of rows) is ∙ (depth_row rows d k lt).depth in
     rw (lt-ltb (depth_of rows g) (d + 1) (omega (arith, at))) (false_from_ne_true _ (λ e.
     let r : (j : ℕ) × (j < k) × (j < length (rows_of_depth rows d))
     × (get_or (rows_of_depth rows d) j 0 ≡ g) = among (rows_of_depth rows d) k g e in
     let up : get_or (rows_of_depth rows d) r.0 0 < get_or (rows_of_depth rows d) k 0 =
-    level_rises rows d r.0 k r.1 lt in
+    depth_rises rows d r.0 k r.1 lt in
     omega (arith, up, r.3, is)))
 
 pub parent_unseen : (rows : List Row) → AreTreeRows rows → (d k g p : ℕ)
     → k < length (rows_of_depth rows d) → g ≡ get_or (rows_of_depth rows d) k 0 →
     parent_of rows g ≡ Some p → seen_at rows d k p ≡ false
 parent_unseen rows tree d k g p lt is e =
-    let at : depth_of rows g ≡ d = ap (depth_of rows) is ∙ (level_row rows d k lt).depth in
+    let at : depth_of rows g ≡ d = ap (depth_of rows) is ∙ (depth_row rows d k lt).depth in
     let up : depth_of rows g ≡ depth_of rows p + 1 = depth_of-step rows tree g p e in
     rw (lt-ltb (depth_of rows p) (d + 1) (omega (arith, at, up))) (false_from_ne_true _ (λ f.
     let r : (j : ℕ) × (j < k) × (j < length (rows_of_depth rows d))
     × (get_or (rows_of_depth rows d) j 0 ≡ p) = among (rows_of_depth rows d) k p f in
-    let level : depth_of rows p ≡ d = rw r.3 at (level_row rows d r.0 r.2).depth in
-    omega (arith, level, at, up)))
+    let beside : depth_of rows p ≡ d = rw r.3 at (depth_row rows d r.0 r.2).depth in
+    omega (arith, beside, at, up)))
 
 -- the groups from this row on
 abbrev pub rows_from : ℕ → ℕ → Bool

@@ -10,21 +10,21 @@ use bw_model::Instance;
 use std::alloc::{AllocError, Global};
 
 // Gathers the rows of each depth, the deepest first.
-fn gather_levels(
+fn gather_depths(
     alloc: Global,
     instance: &Instance,
-    levels: &[Vec<u32>],
+    depths: &[Vec<u32>],
 ) -> Result<Gathered, AllocError>
-    requires levels { AreByDepth instance.now.rows levels.now }
+    requires depths { AreByDepth instance.now.rows depths.now }
     ensures { IfOk result (λ gathered. IsGathered instance.now (demands_of gathered)) }
 {
     let rows = instance.rows();
     let mut gathered = ungathered(alloc, rows)?;
     // the children of a row are one deeper, so each want is whole when its row comes
-    for depth in (0..levels.len()).rev() {
-        let level = levels[depth].as_slice();
-        for k in 0..level.len() {
-            gather_row(instance, level[k], &mut gathered);
+    for depth in (0..depths.len()).rev() {
+        let groups = depths[depth].as_slice();
+        for k in 0..groups.len() {
+            gather_row(instance, groups[k], &mut gathered);
         }
     }
     Ok(gathered)
@@ -39,6 +39,6 @@ fn gather_levels(
 pub fn gather(alloc: Global, instance: &Instance) -> Result<Gathered, AllocError>
     ensures { IfOk result (λ gathered. IsGathered instance.now (demands_of gathered)) }
 {
-    let levels = levels(alloc, instance)?;
-    gather_levels(alloc, instance, levels.as_slice())
+    let depths = levels(alloc, instance)?;
+    gather_depths(alloc, instance, depths.as_slice())
 }

@@ -1,4 +1,4 @@
--- What was collected from the rows of a level.
+-- What was collected from the rows of a depth.
 use Rattle.std.proofs.Common.{◌≡◌, ℕ, List, [], ◌∷◌, length, get_or, map, Ok, Err, Vec, refl, arith}
 use Rattle.std.proofs.Common.{zero, suc, ◌<◌, Bor}
 use Rattle.std.specs.Prelude.{Result, IfOk, MatchResult}
@@ -16,16 +16,16 @@ all_ok R [] (y ∷ ys) h = absurd h
 all_ok R (z ∷ zs) [] h = absurd h
 all_ok R (z ∷ zs) (y ∷ ys) h = (h.0, all_ok R zs ys h.1)
 
-pub collected : (R : ℕ → Vec ℕ Global → Type 0) (level : List ℕ) (zs : List (Bor ℕ))
+pub collected : (R : ℕ → Vec ℕ Global → Type 0) (listed : List ℕ) (zs : List (Bor ℕ))
     (xs : List (Result (Vec ℕ Global) AllocError))
-    (r : Result (Vec (Vec ℕ Global) Global) AllocError) → map (λ (z : Bor ℕ). z.now) zs ≡ level →
+    (r : Result (Vec (Vec ℕ Global) Global) AllocError) → map (λ (z : Bor ℕ). z.now) zs ≡ listed →
     AllZip (λ z x. IfOk x (λ v. R z.now v)) zs xs →
     MatchResult r (λ v. (ys : List (Vec ℕ Global)) × (xs ≡ map (λ y. Ok y) ys) × (v.items ≡ ys))
     (λ e. Contains xs (Err e)) →
-    IfOk r (λ v. AllZip R level v.items)
-collected R level zs xs (Err e) shown each found = tt
-collected R level zs xs (Ok v) shown each found =
-    rw found.2 (slice-AllZip zs level shown R found.0
+    IfOk r (λ v. AllZip R listed v.items)
+collected R listed zs xs (Err e) shown each found = tt
+collected R listed zs xs (Ok v) shown each found =
+    rw found.2 (slice-AllZip zs listed shown R found.0
     (all_ok (λ (z : Bor ℕ) y. R z.now y) zs found.0 (rw found.1 at each)))
 
 -- the answer at a place

@@ -1,4 +1,4 @@
--- Which groups a walk from the root down has done, level by level.
+-- Which groups a walk from the root down has done, depth by depth.
 use Rattle.std.proofs.Common.{◌≡◌, ℕ, ◌+◌, ◌<◌, ◌≤◌, ◌==◌, ◌||◌, Bool, true, false, eqb, List, take}
 use Rattle.std.proofs.Common.{length, get_or, Some, Vec, refl, sym, ap, ◌∙◌, arith, inl}
 use Rattle.std.proofs.Common.{inr}
@@ -13,7 +13,7 @@ use Rattle.bw_model.specs.declared.row.Row.{Row}
 use Rattle.bw_model.specs.Groups.{AreTreeRows, parent_of, is_leaf, depth_of}
 use Rattle.bw_model.proofs.CallerLemmas.{inner_has_child, depth_of-step}
 use Rattle.bw_demand.specs.ByDepth.{rows_of_depth, AreByDepth}
-use Rattle.bw_demand.proofs.CallerLemmas.{level_row, level_rises, level_has, among}
+use Rattle.bw_demand.proofs.CallerLemmas.{depth_row, depth_rises, depth_has, among}
 use Rattle.bw_plan.specs.Shared.{is_above}
 
 -- the groups above this depth, and the first k of those at it
@@ -23,14 +23,14 @@ done_at rows d k h = is_above rows d h || list_any (λ x. x == h) (take k (rows_
 pub none_above : (rows : List Row) (h : ℕ) → is_above rows 0 h ≡ false
 none_above rows h = le-ltb (depth_of rows h) 0 (omega arith)
 
--- the groups of the deepest level have no children
-pub inner_above : (rows : List Row) → AreTreeRows rows → (levels : List (Vec ℕ Global)) (d : ℕ)
-    → AreByDepth rows levels → length levels ≤ d + 1 →
+-- the groups of the greatest depth have no children
+pub inner_above : (rows : List Row) → AreTreeRows rows → (depths : List (Vec ℕ Global)) (d : ℕ)
+    → AreByDepth rows depths → length depths ≤ d + 1 →
     (h : ℕ) → is_leaf rows h ≡ false → is_above rows d h ≡ true
-inner_above rows tree levels d known le h inner =
+inner_above rows tree depths d known le h inner =
     let child : (c : ℕ) × (c < length rows) × (parent_of rows c ≡ Some h) =
     inner_has_child rows h inner in
-    let at : depth_of rows child.0 < length levels = known.all child.0 child.1 in
+    let at : depth_of rows child.0 < length depths = known.all child.0 child.1 in
     let step : depth_of rows child.0 ≡ depth_of rows h + 1 =
     depth_of-step rows tree child.0 h child.2 in
     lt-ltb (depth_of rows h) d (omega (arith, at, le, step))
@@ -50,7 +50,7 @@ last_done rows d k h below le =
         | inl same ↦ lt-ltb (depth_of rows h) (d + 1) (omega (arith, same))
             ∙ sym (rw (le-ltb (depth_of rows h) d ge)
             (let r : (k : ℕ) × (k < length (rows_of_depth rows d))
-            × (get_or (rows_of_depth rows d) k 0 ≡ h) = level_has rows d h below same in
+            × (get_or (rows_of_depth rows d) k 0 ≡ h) = depth_has rows d h below same in
             list_any_at (λ x. x == h) (rows_of_depth rows d) r.0 0 r.1
             (eq-eqb (get_or (rows_of_depth rows d) r.0 0) h r.2)))
         | inr other ↦ le-ltb (depth_of rows h) (d + 1) (omega (arith, ge, other))
@@ -58,7 +58,7 @@ last_done rows d k h below le =
             let r : (j : ℕ) × (j < k) × (j < length (rows_of_depth rows d))
             × (get_or (rows_of_depth rows d) j 0 ≡ h) =
             among (rows_of_depth rows d) k h (rw whole e) in
-            let at : depth_of rows h ≡ d = rw r.3 at (level_row rows d r.0 r.2).depth in
+            let at : depth_of rows h ≡ d = rw r.3 at (depth_row rows d r.0 r.2).depth in
             other at)))
       ]
     ])
@@ -75,12 +75,12 @@ next_done rows d k g h lt is =
 pub fresh : (rows : List Row) (d k g : ℕ) → k < length (rows_of_depth rows d)
     → g ≡ get_or (rows_of_depth rows d) k 0 → done_at rows d k g ≡ false
 fresh rows d k g lt is =
-    let at : depth_of rows g ≡ d = ap (depth_of rows) is ∙ (level_row rows d k lt).depth in
+    let at : depth_of rows g ≡ d = ap (depth_of rows) is ∙ (depth_row rows d k lt).depth in
     rw (le-ltb (depth_of rows g) d (omega (arith, at))) (false_from_ne_true _ (λ e.
     let r : (j : ℕ) × (j < k) × (j < length (rows_of_depth rows d))
     × (get_or (rows_of_depth rows d) j 0 ≡ g) = among (rows_of_depth rows d) k g e in
     let up : get_or (rows_of_depth rows d) r.0 0 < get_or (rows_of_depth rows d) k 0 =
-    level_rises rows d r.0 k r.1 lt in
+    depth_rises rows d r.0 k r.1 lt in
     omega (arith, up, r.3, is)))
 
 -- what is done is no deeper, and what is less deep is done
@@ -91,7 +91,7 @@ not_deeper rows d k h e =
       | inr here ↦
           let r : (j : ℕ) × (j < k) × (j < length (rows_of_depth rows d))
           × (get_or (rows_of_depth rows d) j 0 ≡ h) = among (rows_of_depth rows d) k h here in
-          let at : depth_of rows h ≡ d = rw r.3 at (level_row rows d r.0 r.2).depth in
+          let at : depth_of rows h ≡ d = rw r.3 at (depth_row rows d r.0 r.2).depth in
           omega (arith, at)
     ]
 
@@ -118,7 +118,7 @@ parent_above rows tree d g p at up =
     let step : depth_of rows g ≡ depth_of rows p + 1 = depth_of-step rows tree g p up in
     lt-ltb (depth_of rows p) d (omega (arith, at, step))
 
--- the rows of a level are no children of one another
+-- the rows of a depth are no children of one another
 pub no_child : (rows : List Row) → AreTreeRows rows → (d g h : ℕ) → depth_of rows g ≡ d
     → depth_of rows h ≡ d → parent_of rows h ≡ Some g → ⊥
 no_child rows tree d g h one two up =

@@ -1,9 +1,9 @@
--- What stands at each turn of the loops in `gather_levels`.
+-- What stands at each turn of the loops in `gather_depths`.
 use Rattle.std.proofs.Common.{◌≡◌}
 use Rattle.bw_demand.specs.ByDepth.{rows_of_depth}
 use Rattle.bw_demand.proofs.WantsGathered.{IsGathering}
 use Rattle.bw_demand.proofs.Seen.{seen_from, seen_at}
-use Rattle.bw_demand.proofs.by_depth.gather_levels.Given as goal
+use Rattle.bw_demand.proofs.by_depth.gather_depths.Given as goal
 
 abbrev pub invariant-loop-depth : goal.invariant-loop-depth
 invariant-loop-depth l = IsGathering l.instance (seen_from l.instance.rows l.depth)
@@ -11,7 +11,7 @@ invariant-loop-depth l = IsGathering l.instance (seen_from l.instance.rows l.dep
 
 abbrev pub invariant-loop-k : goal.invariant-loop-k
 invariant-loop-k l = record {
-  level : l.level ≡ rows_of_depth l.instance.rows l.depth;
+  groups : l.groups ≡ rows_of_depth l.instance.rows l.depth;
   gathering : IsGathering l.instance (seen_at l.instance.rows l.depth l.k) l.gathered.want.items
       l.gathered.most.items l.gathered.tight.items;
 }

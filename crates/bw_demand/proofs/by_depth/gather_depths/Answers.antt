@@ -1,22 +1,22 @@
--- The goals of `gather_levels` that are answered by hand.
-use Rattle.std.proofs.Common.{◌≡◌, ◌<◌, ◌≤◌, ◌+◌, ◌-◌, ℕ, length, get_or, refl, sym, ap, ◌∙◌, subst}
+-- The goals of `gather_depths` that are answered by hand.
+use Rattle.std.proofs.Common.{◌≡◌, ◌≤◌, ◌+◌, ◌-◌, ℕ, length, get_or, refl, sym, ap, ◌∙◌, subst}
 use Rattle.std.proofs.Common.{arith}
 use Rattle.std.proofs.lemmas.Option.{slice_get_read}
 use Rattle.bw_demand.specs.Demands.{Demands}
 use Rattle.bw_demand.specs.ByDepth.{rows_of_depth}
-use Rattle.bw_demand.proofs.ByDepth.{level_is, level_within}
+use Rattle.bw_demand.proofs.ByDepth.{IsListed, is_listed, depth_is}
 use Rattle.bw_demand.proofs.Seen.{seen_from, seen_at, none_seen, all_seen, first_seen, last_seen}
 use Rattle.bw_demand.proofs.Seen.{next_seen, fresh, parent_unseen}
 use Rattle.bw_demand.proofs.WantsGathered.{IsGathering, same_seen, nothing_gathered, row_can}
 use Rattle.bw_demand.proofs.WantsGathered.{row_gathered, all_gathered}
-use Rattle.bw_demand.proofs.by_depth.gather_levels.Goals as goal
+use Rattle.bw_demand.proofs.by_depth.gather_depths.Goals as goal
 
 pub loop-depth-init : goal.loop-depth-init
 loop-depth-init c =
     nothing_gathered c.args.instance.now c.rows-rows.ensures.valid
-    (seen_from c.args.instance.now.rows (length c.args.levels.now))
-    (none_seen c.args.instance.now.rows c.args.levels.now (length c.args.levels.now)
-    c.requires.levels refl)
+    (seen_from c.args.instance.now.rows (length c.args.depths.now))
+    (none_seen c.args.instance.now.rows c.args.depths.now (length c.args.depths.now)
+    c.requires.depths refl)
     (length c.rows-rows.result.now) (rw c.rows-rows.ensures.rows)
     c.in_ok-gathered.gathered.want.items c.in_ok-gathered.gathered.most.items
     c.in_ok-gathered.gathered.tight.items
@@ -29,13 +29,13 @@ loop-k-init c =
     let next : c.loop-depth.depth - 1 + 1 ≡ c.loop-depth.depth =
     omega (arith, c.loop-depth-test.true) in
     record {
-      level = level_is c.args.instance.now.rows c.args.levels.now (c.loop-depth.depth - 1)
-          c.index-levels-depth.result c.as_slice-level.result.now
-          c.requires.levels
-          (slice_get_read c.args.levels.now (length c.args.levels.now) (c.loop-depth.depth - 1)
-          c.index-levels-depth.result refl
-          (omega (arith, c.loop-depth-test.true, c.loop-depth.auto.depth)) c.index-levels-depth.is)
-          c.as_slice-level.ensures.value;
+      groups = depth_is c.args.instance.now.rows c.args.depths.now (c.loop-depth.depth - 1)
+          c.index-depths-depth.result c.as_slice-groups.result.now
+          c.requires.depths
+          (slice_get_read c.args.depths.now (length c.args.depths.now) (c.loop-depth.depth - 1)
+          c.index-depths-depth.result refl
+          (omega (arith, c.loop-depth-test.true, c.loop-depth.auto.depth)) c.index-depths-depth.is)
+          c.as_slice-groups.ensures.value;
       gathering = same_seen c.args.instance.now
           (seen_from c.args.instance.now.rows c.loop-depth.depth)
           (seen_at c.args.instance.now.rows (c.loop-depth.depth - 1) 0)
@@ -50,7 +50,7 @@ pub loop-depth-preserved : goal.loop-depth-preserved
 loop-depth-preserved c =
     let whole : length (rows_of_depth c.args.instance.now.rows (c.loop-depth.depth - 1))
     ≤ c.loop-k.k =
-    omega (arith, c.loop-k-test.false, ap (length {A = ℕ}) c.loop-k.invariant.level) in
+    omega (arith, c.loop-k-test.false, ap (length {A = ℕ}) c.loop-k.invariant.groups) in
     same_seen c.args.instance.now
     (seen_at c.args.instance.now.rows (c.loop-depth.depth - 1) c.loop-k.k)
     (seen_from c.args.instance.now.rows (c.loop-depth.depth - 1))
@@ -64,17 +64,15 @@ gather_row-requires c =
     let groups = c.args.instance.now in
     let rows = groups.rows in
     let d = c.loop-depth.depth - 1 in
-    let level = c.loop-k.invariant.level in
-    let g = get_or c.as_slice-level.result.now c.loop-k.k 0 in
+    let g = get_or c.as_slice-groups.result.now c.loop-k.k 0 in
     let so_far = c.loop-k.invariant.gathering in
     let tree = c.rows-rows.ensures.valid.tree in
-    let inside = level_within rows d c.loop-k.k c.as_slice-level.result.now level
+    let at : IsListed rows d c.loop-k.k g =
+    is_listed rows d c.loop-k.k c.as_slice-groups.result.now c.loop-k.invariant.groups
     c.loop-k-test.true in
-    let here : c.loop-k.k < length (rows_of_depth rows d) = rw level at c.loop-k-test.true in
-    let is : g ≡ get_or (rows_of_depth rows d) c.loop-k.k 0 = rw level refl in
-    row_can groups tree (seen_at rows d c.loop-k.k) (seen_at rows d (c.loop-k.k + 1)) g inside
-    (fresh rows d c.loop-k.k g here is) (λ r _. next_seen rows d c.loop-k.k g r here is)
-    (λ p f. parent_unseen rows tree d c.loop-k.k g p here is f)
+    row_can groups tree (seen_at rows d c.loop-k.k) (seen_at rows d (c.loop-k.k + 1)) g at.inside
+    (fresh rows d c.loop-k.k g at.here at.is) (λ r _. next_seen rows d c.loop-k.k g r at.here at.is)
+    (λ p f. parent_unseen rows tree d c.loop-k.k g p at.here at.is f)
     c.loop-k.gathered.want.items c.loop-k.gathered.most.items c.loop-k.gathered.tight.items so_far
 
 pub loop-k-preserved : goal.loop-k-preserved
@@ -82,23 +80,21 @@ loop-k-preserved c =
     let groups = c.args.instance.now in
     let rows = groups.rows in
     let d = c.loop-depth.depth - 1 in
-    let level = c.loop-k.invariant.level in
-    let g = get_or c.as_slice-level.result.now c.loop-k.k 0 in
+    let g = get_or c.as_slice-groups.result.now c.loop-k.k 0 in
     let so_far = c.loop-k.invariant.gathering in
     let tree = c.rows-rows.ensures.valid.tree in
-    let inside = level_within rows d c.loop-k.k c.as_slice-level.result.now level
+    let at : IsListed rows d c.loop-k.k g =
+    is_listed rows d c.loop-k.k c.as_slice-groups.result.now c.loop-k.invariant.groups
     c.loop-k-test.true in
-    let here : c.loop-k.k < length (rows_of_depth rows d) = rw level at c.loop-k-test.true in
-    let is : g ≡ get_or (rows_of_depth rows d) c.loop-k.k 0 = rw level refl in
     record {
-      level = level;
+      groups = c.loop-k.invariant.groups;
       gathering = subst
           (λ (e : Demands). IsGathering groups (seen_at rows d (c.loop-k.k + 1)) e.want e.most
           e.tight) (sym c.gather_row.ensures)
           (row_gathered groups tree (seen_at rows d c.loop-k.k) (seen_at rows d (c.loop-k.k + 1)) g
-          inside
-          (fresh rows d c.loop-k.k g here is) (λ r _. next_seen rows d c.loop-k.k g r here is)
-          (λ p f. parent_unseen rows tree d c.loop-k.k g p here is f)
+          at.inside (fresh rows d c.loop-k.k g at.here at.is)
+          (λ r _. next_seen rows d c.loop-k.k g r at.here at.is)
+          (λ p f. parent_unseen rows tree d c.loop-k.k g p at.here at.is f)
           c.loop-k.gathered.want.items c.loop-k.gathered.most.items c.loop-k.gathered.tight.items
           so_far);
     }
