@@ -14,6 +14,7 @@ use Rattle.bw_split.proofs.NextMarks.{popped-IsNextOf, popped-IsCheapest, given-
 use Rattle.bw_split.proofs.NextMarks.{empty-full}
 use Rattle.bw_split.proofs.NextMarks.{first-lined, back-lined}
 use Rattle.bw_split.proofs.by_marks.split_by_marks.Goals as goal
+use Rattle.bw_split.proofs.by_marks.split_by_marks.Goals.{In-Some, After-index_mut}
 use Rattle.bw_split.proofs.by_marks.split_by_marks.Goals.{then-most-i-gt0+in_ok-push}
 use Rattle.bw_split.proofs.by_marks.split_by_marks.Goals.{else-most-i-gt0}
 use Rattle.bw_split.proofs.by_marks.split_by_marks.Goals.{then-index-most+in_ok-push-in-Some}
@@ -62,76 +63,53 @@ loop-slice-init c =
       heap = c.loop-i.invariant.heap;
     }
 
+whole_of : (c : In-Some) → length c.loop-slice.parts.items ≡ length c.args.weights.now
+whole_of c = c.loop-slice.invariant.filled.split.lengths ∙ c.requires.one_each
+
+-- the mark that was taken is the next mark of its child
+top_of : (c : In-Some) → IsNextOf mark_in c.args.weights.now c.args.most.now
+    c.loop-slice.parts.items c.in-Some.field-0
+top_of c =
+    popped-IsNextOf mark_in (length c.args.weights.now) c.args.weights.now c.args.most.now
+    c.loop-slice.parts.items (heap_items c.loop-slice.heap) (heap_items c.pop.new.self)
+    c.in-Some.field-0 c.loop-slice.invariant.lined (whole_of c) c.in-Some.ensures.permutation
+
+-- what the child has so far
+read_of : (c : After-index_mut) → c.in-Some.field-0.0.place < length c.loop-slice.parts.items
+    → c.index_mut.result.now ≡ get_or c.loop-slice.parts.items c.in-Some.field-0.0.place 0
+read_of c within =
+    c.index_mut.ensures.value ∙ get_or_within c.loop-slice.parts.items c.in-Some.field-0.0.place
+    c.index_mut.result.now within
+
 pub index_mut-requires : goal.index_mut-requires
 index_mut-requires c =
-    let inv = c.loop-slice.invariant in
-    let whole : length c.loop-slice.parts.items ≡ length c.args.weights.now =
-    inv.filled.split.lengths ∙ c.requires.one_each in
-    let top : IsNextOf mark_in c.args.weights.now c.args.most.now c.loop-slice.parts.items
-    c.in-Some.field-0 =
-    popped-IsNextOf mark_in (length c.args.weights.now) c.args.weights.now c.args.most.now
-    c.loop-slice.parts.items
-    (heap_items c.loop-slice.heap) (heap_items c.pop.new.self) c.in-Some.field-0 inv.lined whole
-    c.in-Some.ensures.permutation in
+    let top = top_of (goal.at.index_mut-requires c).In-Some in
     let within : c.in-Some.field-0.0.place < length c.loop-slice.parts.items =
     top.within in search rules
 
 pub overflow_add-index_mut : goal.overflow_add-index_mut
 overflow_add-index_mut c =
-    let inv = c.loop-slice.invariant in
-    let whole : length c.loop-slice.parts.items ≡ length c.args.weights.now =
-    inv.filled.split.lengths ∙ c.requires.one_each in
-    let top : IsNextOf mark_in c.args.weights.now c.args.most.now c.loop-slice.parts.items
-    c.in-Some.field-0 =
-    popped-IsNextOf mark_in (length c.args.weights.now) c.args.weights.now c.args.most.now
-    c.loop-slice.parts.items
-    (heap_items c.loop-slice.heap) (heap_items c.pop.new.self) c.in-Some.field-0 inv.lined whole
-    c.in-Some.ensures.permutation in
-    let read : c.index_mut.result.now
-    ≡ get_or c.loop-slice.parts.items c.in-Some.field-0.0.place 0 =
-    c.index_mut.ensures.value ∙ get_or_within c.loop-slice.parts.items c.in-Some.field-0.0.place
-    c.index_mut.result.now top.within in
+    let top = top_of (goal.at.overflow_add-index_mut c).In-Some in
+    let read = read_of (goal.at.overflow_add-index_mut c).After-index_mut top.within in
     let fits = c.type_inv.most c.in-Some.field-0.0.place in
     omega (arith, read, top.room, fits)
 
 pub index-requires : goal.index-requires
 index-requires c =
-    let inv = c.loop-slice.invariant in
-    let whole : length c.loop-slice.parts.items ≡ length c.args.weights.now =
-    inv.filled.split.lengths ∙ c.requires.one_each in
-    let top : IsNextOf mark_in c.args.weights.now c.args.most.now c.loop-slice.parts.items
-    c.in-Some.field-0 =
-    popped-IsNextOf mark_in (length c.args.weights.now) c.args.weights.now c.args.most.now
-    c.loop-slice.parts.items
-    (heap_items c.loop-slice.heap) (heap_items c.pop.new.self) c.in-Some.field-0 inv.lined whole
-    c.in-Some.ensures.permutation in
+    let top = top_of (goal.at.index-requires c).In-Some in
     let within : c.in-Some.field-0.0.place < length c.loop-slice.parts.items =
     top.within in search rules
 
 pub bounds-most-i-in-Some : goal.bounds-most-i-in-Some
 bounds-most-i-in-Some c =
     let inv = c.loop-slice.invariant in
-    let whole : length c.loop-slice.parts.items ≡ length c.args.weights.now =
-    inv.filled.split.lengths ∙ c.requires.one_each in
-    let top : IsNextOf mark_in c.args.weights.now c.args.most.now c.loop-slice.parts.items
-    c.in-Some.field-0 =
-    popped-IsNextOf mark_in (length c.args.weights.now) c.args.weights.now c.args.most.now
-    c.loop-slice.parts.items
-    (heap_items c.loop-slice.heap) (heap_items c.pop.new.self) c.in-Some.field-0 inv.lined whole
-    c.in-Some.ensures.permutation in
+    let top = top_of (goal.at.bounds-most-i-in-Some c).In-Some in
     omega (arith, top.within, inv.filled.split.lengths)
 
 pub overflow_add-mark : goal.overflow_add-mark
 overflow_add-mark c =
     let inv = c.loop-slice.invariant in
-    let whole : length c.loop-slice.parts.items ≡ length c.args.weights.now =
-    inv.filled.split.lengths ∙ c.requires.one_each in
-    let top : IsNextOf mark_in c.args.weights.now c.args.most.now c.loop-slice.parts.items
-    c.in-Some.field-0 =
-    popped-IsNextOf mark_in (length c.args.weights.now) c.args.weights.now c.args.most.now
-    c.loop-slice.parts.items
-    (heap_items c.loop-slice.heap) (heap_items c.pop.new.self) c.in-Some.field-0 inv.lined whole
-    c.in-Some.ensures.permutation in
+    let top = top_of (goal.at.overflow_add-mark c).In-Some in
     let part : get_or c.loop-slice.parts.items c.in-Some.field-0.0.place 0
     ≤ sum c.loop-slice.parts.items =
     get_or-le-sum_by (λ x. x) c.loop-slice.parts.items c.in-Some.field-0.0.place 0 top.within in
@@ -140,18 +118,9 @@ overflow_add-mark c =
 pub loop-slice-preserved : goal.loop-slice-preserved
 loop-slice-preserved c =
     let inv = c.loop-slice.invariant in
-    let whole : length c.loop-slice.parts.items ≡ length c.args.weights.now =
-    inv.filled.split.lengths ∙ c.requires.one_each in
-    let top : IsNextOf mark_in c.args.weights.now c.args.most.now c.loop-slice.parts.items
-    c.in-Some.field-0 =
-    popped-IsNextOf mark_in (length c.args.weights.now) c.args.weights.now c.args.most.now
-    c.loop-slice.parts.items
-    (heap_items c.loop-slice.heap) (heap_items c.pop.new.self) c.in-Some.field-0 inv.lined whole
-    c.in-Some.ensures.permutation in
-    let read : c.index_mut.result.now
-    ≡ get_or c.loop-slice.parts.items c.in-Some.field-0.0.place 0 =
-    c.index_mut.ensures.value ∙ get_or_within c.loop-slice.parts.items c.in-Some.field-0.0.place
-    c.index_mut.result.now top.within in
+    let whole = whole_of (goal.at.loop-slice-preserved c).In-Some in
+    let top = top_of (goal.at.loop-slice-preserved c).In-Some in
+    let read = read_of (goal.at.loop-slice-preserved c).After-index_mut top.within in
     let popped = c.in-Some.ensures.heap_order inv.heap in
     let cheap : IsCheapest c.args.weights.now c.args.most.now c.loop-slice.parts.items
     c.in-Some.field-0.0.place =
