@@ -2,6 +2,7 @@
 pub mod CallerLemmas
 mod Cheapest
 mod Existence
+mod Few
 mod NoSearchNeeded
 mod Shares
 mod Backward

@@ -1,3 +1,5 @@
 -- The files of definitions.
 pub mod Shared
+pub mod Pieces
+pub mod Reached
 pub mod Laws

@@ -1,16 +1,18 @@
 //! The plan, one depth after another, with the groups of a depth side by side.
-ghost use Rattle.std.specs.Prelude.{◌≡◌, ◌+◌, ◌<◌, length, All, IfOk, OnOk};
-ghost use Rattle.bw_model.specs.Demand.{AreMaxTotals};
+ghost use Rattle.std.specs.Prelude.{◌≡◌, ◌+◌, ◌*◌, ◌<◌, ◌≤◌, ◌↔◌, None, length, All, IfOk, IfSome, OnOk};
 ghost use Rattle.bw_model.specs.Plan.{IsPlan};
 ghost use Rattle.bw_demand.specs.Demands.{demands_of, IsGathered};
 ghost use Rattle.bw_demand.specs.ByDepth.{AreByDepth, rows_of_depth};
+ghost use Rattle.bw_plan.specs.Pieces.{sharers, sharers_of_all, IsPiece, HasOnePiece};
 ghost use Rattle.bw_plan.specs.Shared.{CanShare, AreParts, ArePartsOfEach, IsPlanning, is_above};
+ghost use Rattle.bw_plan.specs.Reached.{IsReached};
 
 use crate::by_rows::plan_rows;
 use crate::plan_type::Plan;
 use crate::share::{give, parts_of, share_out};
 use bw_demand::{Gathered, gather_rows, levels};
 use bw_model::Instance;
+use bw_model::limits::MAX_GROUPS;
 use rayon::current_num_threads;
 use rayon::prelude::*;
 use std::alloc::{AllocError, Global};
@@ -24,36 +26,48 @@ const PIECE_CHILDREN: usize = 2048;
 // product in place of a branch, since which groups have several children is hard to predict.
 fn sharers(instance: &Instance, g: u32) -> usize
     requires { g < length instance.now.rows }
+    ensures is { result ≡ sharers instance.now.rows g }
+    ensures small { result ≤ MAX_GROUPS }
 {
+    // its contract bounds the number of rows
+    let _rows = instance.rows();
     let children = instance.children(g).len();
-    children.wrapping_mul(usize::from(children > 1))
+    children * usize::from(children > 1)
 }
 
 // Whether the groups below the root have enough sharers for two pieces. The root is alone at its
-// depth. Trees without them need no lists by depth. A tree of fewer groups is not looked at.
+// depth. Small trees return early, and others at the first group by which there are enough.
 fn may_be_cut(instance: &Instance) -> bool {
     if instance.group_count() as usize <= 2 * PIECE_CHILDREN {
         return false;
     }
     let mut sharing = 0usize;
     for g in 1..instance.group_count() {
-        sharing = sharing.saturating_add(sharers(instance, g));
+        sharing += sharers(instance, g);
+        if sharing >= 2 * PIECE_CHILDREN {
+            return true;
+        }
     }
-    sharing >= 2 * PIECE_CHILDREN
+    false
 }
 
 // Number of groups in each piece of work, or None if one thread is as fast as several.
 fn piece_of(instance: &Instance, groups: &[u32]) -> Option<usize>
-    requires { All (λ g. g < length instance.now.rows) groups.now }
+    requires rows { All (λ g. g < length instance.now.rows) groups.now }
+    requires each { length groups.now ≤ MAX_GROUPS }
+    ensures piece { IfSome result (IsPiece PIECE_CHILDREN (length groups.now)
+        (sharers_of_all instance.now.rows groups.now)) }
+    ensures none { HasOnePiece PIECE_CHILDREN (length groups.now)
+        (sharers_of_all instance.now.rows groups.now) ↔ (result ≡ None) }
 {
     let mut split_among = 0usize;
     for g in groups {
-        split_among = split_among.saturating_add(sharers(instance, *g));
+        split_among += sharers(instance, *g);
     }
     if groups.len() < 2 || split_among < 2 * PIECE_CHILDREN {
         return None;
     }
-    Some(groups.len().saturating_mul(PIECE_CHILDREN) / split_among)
+    Some(groups.len() * PIECE_CHILDREN / split_among)
 }
 
 // The parts of each of these groups, in order, from several threads.
@@ -101,11 +115,7 @@ fn share_in_place(
     depth: usize,
     amounts: &mut Vec<u64>,
 ) -> Result<(), AllocError>
-    requires mosts { AreMaxTotals instance.now most.now }
-    requires depths { AreByDepth instance.now.rows depths.now }
-    requires depth { depth < length depths.now }
-    requires planning { IsPlanning instance.now most.now (is_above instance.now.rows depth)
-        amounts.old.items }
+    requires { IsReached instance.now most.now depths.now depth amounts.old.items }
     ensures { OnOk result (IsPlanning instance.now most.now
         (is_above instance.now.rows (depth + 1)) amounts.new.items) }
 {
@@ -129,11 +139,7 @@ fn share_in_pieces(
     piece: usize,
     amounts: &mut Vec<u64>,
 ) -> Result<(), AllocError>
-    requires mosts { AreMaxTotals instance.now most.now }
-    requires depths { AreByDepth instance.now.rows depths.now }
-    requires depth { depth < length depths.now }
-    requires planning { IsPlanning instance.now most.now (is_above instance.now.rows depth)
-        amounts.old.items }
+    requires { IsReached instance.now most.now depths.now depth amounts.old.items }
     ensures { OnOk result (IsPlanning instance.now most.now
         (is_above instance.now.rows (depth + 1)) amounts.new.items) }
 {
@@ -157,15 +163,14 @@ fn share_depth(
     depth: usize,
     amounts: &mut Vec<u64>,
 ) -> Result<(), AllocError>
-    requires mosts { AreMaxTotals instance.now most.now }
-    requires depths { AreByDepth instance.now.rows depths.now }
-    requires depth { depth < length depths.now }
-    requires planning { IsPlanning instance.now most.now (is_above instance.now.rows depth)
-        amounts.old.items }
+    requires { IsReached instance.now most.now depths.now depth amounts.old.items }
     ensures { OnOk result (IsPlanning instance.now most.now
         (is_above instance.now.rows (depth + 1)) amounts.new.items) }
 {
-    match piece_of(instance, rows_at(instance, depths, depth)) {
+    // its contract bounds the number of rows
+    let _rows = instance.rows();
+    let groups = rows_at(instance, depths, depth);
+    match piece_of(instance, groups) {
         None => share_in_place(alloc, instance, most, depths, depth, amounts),
         Some(piece) => { share_in_pieces(rt, alloc, instance, most, depths, depth, piece, amounts) }
     }

@@ -1,5 +1,5 @@
 //! The children of a group as lists, in order of creation.
-ghost use Rattle.std.specs.Prelude.{◌≡◌, ◌<◌, length, map, slice_index, All, IfOk};
+ghost use Rattle.std.specs.Prelude.{◌≡◌, ◌<◌, length, map, max, slice_index, All, IfOk};
 ghost use Rattle.bw_model.specs.Groups.{children_of, weight_of};
 ghost use Rattle.bw_model.specs.Plan.{child_weights};
 
@@ -12,7 +12,8 @@ pub type ChildValues = SmallVec<u64, 8>;
 
 fn weights_of(alloc: Global, rows: &[Row], places: &[u32]) -> Result<ChildValues, AllocError>
     requires { All (λ place. place < length rows.now) places.now }
-    ensures { IfOk result (λ weights. weights.items ≡ map (weight_of rows.now) places.now) }
+    ensures items { IfOk result (λ weights. weights.items ≡ map (weight_of rows.now) places.now) }
+    ensures room { IfOk result (λ weights. weights.capacity ≡ max 8 (length places.now)) }
 {
     let mut weights = SmallVec::with_capacity(alloc, places.len())?;
     for place in places {
@@ -23,7 +24,8 @@ fn weights_of(alloc: Global, rows: &[Row], places: &[u32]) -> Result<ChildValues
 
 fn values_at(alloc: Global, values: &[u64], places: &[u32]) -> Result<ChildValues, AllocError>
     requires { All (λ place. place < length values.now) places.now }
-    ensures { IfOk result (λ picked. picked.items ≡ map (slice_index values.now) places.now) }
+    ensures items { IfOk result (λ picked. picked.items ≡ map (slice_index values.now) places.now) }
+    ensures room { IfOk result (λ picked. picked.capacity ≡ max 8 (length places.now)) }
 {
     let mut picked = SmallVec::with_capacity(alloc, places.len())?;
     for place in places {

@@ -4,10 +4,10 @@ use Rattle.std.proofs.Common.{arith}
 use Rattle.std.specs.declared.alloc.Global.{Global}
 use Rattle.std.proofs.lemmas.List.{get_or_default, length-map}
 use Rattle.std.specs.Prelude.{slice_index}
-use Rattle.bw_model.specs.Groups.{children_of, depth_of}
+use Rattle.bw_model.specs.Groups.{children_of}
 use Rattle.bw_model.proofs.CallerLemmas.{AreMaxTotals-capped, is_child_no}
 use Rattle.bw_demand.specs.ByDepth.{rows_of_depth}
-use Rattle.bw_demand.proofs.CallerLemmas.{level_within, level_row}
+use Rattle.bw_demand.proofs.CallerLemmas.{IsListed, is_listed, depth_within, depth_row}
 use Rattle.bw_plan.specs.Shared.{AreParts, is_above}
 use Rattle.bw_plan.proofs.Shares.{can_share, given_more, same_done}
 use Rattle.bw_plan.proofs.Done.{done_at, first_done, last_done, next_done, fresh, closed}
@@ -21,10 +21,10 @@ parts_of_each-requires-after_bounds g c = λ κs outlives k d lt.
     let valid = c.rows-rows.ensures.valid in
     let most = c.args.most.now in
     let before = c.args.amounts.now.items in
-    let level = c.rows_at-groups.ensures in
-    let here : k < length (rows_of_depth groups.rows c.args.depth) = rw level at lt in
-    let at_depth = level_row groups.rows c.args.depth k here in
-    rw (get_or_default c.rows_at-groups.result.now k d 0 lt, level, c.as_slice.ensures.value)
+    let listed = c.rows_at-groups.ensures in
+    let here : k < length (rows_of_depth groups.rows c.args.depth) = rw listed at lt in
+    let at_depth = depth_row groups.rows c.args.depth k here in
+    rw (get_or_default c.rows_at-groups.result.now k d 0 lt, listed, c.as_slice.ensures.value)
     (can_share groups valid most (AreMaxTotals-capped groups valid.tree most c.requires.mosts)
     c.requires.mosts.one_each
     (is_above groups.rows c.args.depth) (get_or (rows_of_depth groups.rows c.args.depth) k 0) before
@@ -50,9 +50,9 @@ returns g c =
     let groups = c.args.instance.now in
     let valid = c.rows-rows.ensures.valid in
     let most = c.args.most.now in
-    let level = c.rows_at-groups.ensures in
+    let listed = c.rows_at-groups.ensures in
     let whole : length (rows_of_depth groups.rows c.args.depth) ≤ c.loop-k.k =
-    omega (arith, c.loop-k-test.false, ap (length {A = ℕ}) level) in
+    omega (arith, c.loop-k-test.false, ap (length {A = ℕ}) listed) in
     same_done groups valid most (AreMaxTotals-capped groups valid.tree most c.requires.mosts)
     (done_at groups.rows c.args.depth c.loop-k.k) (is_above groups.rows (c.args.depth + 1))
     c.loop-k.amounts.items
@@ -70,8 +70,8 @@ index-requires g c =
 pub give-requires-clause-row : goal.give-requires-clause-row
 give-requires-clause-row g c =
     let groups = c.args.instance.now in
-    let level = c.rows_at-groups.ensures in
-    level_within groups.rows c.args.depth c.loop-k.k c.rows_at-groups.result.now level
+    let listed = c.rows_at-groups.ensures in
+    depth_within groups.rows c.args.depth c.loop-k.k c.rows_at-groups.result.now listed
     c.loop-k-test.true
 
 pub give-requires-clause-part_each : goal.give-requires-clause-part_each
@@ -98,15 +98,9 @@ loop-k-preserved g c =
     let most = c.args.most.now in
     let d : ℕ = c.args.depth in
     let row : ℕ = get_or c.rows_at-groups.result.now c.loop-k.k 0 in
-    let level = c.rows_at-groups.ensures in
-    let here : c.loop-k.k < length (rows_of_depth groups.rows d) = rw level at c.loop-k-test.true in
-    let is : row ≡ get_or (rows_of_depth groups.rows d) c.loop-k.k 0 =
-    ap (λ (xs : List ℕ). get_or xs c.loop-k.k 0) level in
-    let inside : row < length groups.rows =
-    level_within groups.rows d c.loop-k.k c.rows_at-groups.result.now level
+    let at : IsListed groups.rows d c.loop-k.k row =
+    is_listed groups.rows d c.loop-k.k c.rows_at-groups.result.now c.rows_at-groups.ensures
     c.loop-k-test.true in
-    let deep : depth_of groups.rows row ≡ d =
-    ap (depth_of groups.rows) is ∙ (level_row groups.rows d c.loop-k.k here).depth in
     let kept : get_or c.loop-k.amounts.items row 0 ≡ get_or c.as_slice.result.now row 0 =
     c.loop-k.invariant.held c.loop-k.k c.loop-k-test.true
     ∙ ap (λ (xs : List ℕ). get_or xs row 0) (sym c.as_slice.ensures.value) in
@@ -123,22 +117,19 @@ loop-k-preserved g c =
     record {
       planning = given_more groups valid most
           (AreMaxTotals-capped groups valid.tree most c.requires.mosts)
-          (done_at groups.rows d c.loop-k.k) (done_at groups.rows d (c.loop-k.k + 1)) row inside
-          (fresh groups.rows d c.loop-k.k row here is)
-          (λ h _. next_done groups.rows d c.loop-k.k row h here is)
+          (done_at groups.rows d c.loop-k.k) (done_at groups.rows d (c.loop-k.k + 1)) row at.inside
+          (fresh groups.rows d c.loop-k.k row at.here at.is)
+          (λ h _. next_done groups.rows d c.loop-k.k row h at.here at.is)
           (λ h p _ e up. closed groups.rows valid.tree d c.loop-k.k h p e up)
-          (λ p up. parent_done groups.rows valid.tree d c.loop-k.k row p deep up)
+          (λ p up. parent_done groups.rows valid.tree d c.loop-k.k row p at.deep up)
           c.as_slice-in-loop-k.result.now c.loop-k.amounts.items c.give.new.amounts.items
           c.loop-k.invariant.planning parts c.give.ensures;
       held = λ j lt.
           let other : ℕ = get_or c.rows_at-groups.result.now j 0 in
-          let there : j < length (rows_of_depth groups.rows d) = rw level at lt in
-          let same : other ≡ get_or (rows_of_depth groups.rows d) j 0 =
-          ap (λ (xs : List ℕ). get_or xs j 0) level in
-          let as_deep : depth_of groups.rows other ≡ d =
-          ap (depth_of groups.rows) same ∙ (level_row groups.rows d j there).depth in
+          let beside : IsListed groups.rows d j other =
+          is_listed groups.rows d j c.rows_at-groups.result.now c.rows_at-groups.ensures lt in
           c.give.ensures.others other
           (is_child_no groups.rows row other
-          (λ up. no_child groups.rows valid.tree d row other deep as_deep up))
+          (λ up. no_child groups.rows valid.tree d row other at.deep beside.deep up))
           ∙ c.loop-k.invariant.held j lt;
     }

@@ -1,9 +1,8 @@
 -- The goals of `share_in_place` that are answered by hand.
-use Rattle.std.proofs.Common.{◌≡◌, ◌<◌, ◌≤◌, ◌+◌, ℕ, List, length, get_or, ap, ◌∙◌, arith}
-use Rattle.bw_model.specs.Groups.{depth_of}
+use Rattle.std.proofs.Common.{◌≤◌, ◌+◌, ℕ, length, get_or, ap, arith}
 use Rattle.bw_model.proofs.CallerLemmas.{AreMaxTotals-capped}
 use Rattle.bw_demand.specs.ByDepth.{rows_of_depth}
-use Rattle.bw_demand.proofs.CallerLemmas.{level_within, level_row}
+use Rattle.bw_demand.proofs.CallerLemmas.{IsListed, is_listed}
 use Rattle.bw_plan.specs.Shared.{AreParts, is_above}
 use Rattle.bw_plan.proofs.Shares.{can_share, given_more, same_done}
 use Rattle.bw_plan.proofs.Done.{done_at, first_done, last_done, next_done, fresh, closed}
@@ -26,20 +25,14 @@ share_out-requires c =
     let valid = c.rows-rows.ensures.valid in
     let most = c.args.most.now in
     let d : ℕ = c.args.depth in
-    let level = c.rows_at-groups.ensures in
     let row : ℕ = get_or c.rows_at-groups.result.now c.loop-k.k 0 in
-    let here : c.loop-k.k < length (rows_of_depth groups.rows d) = rw level at c.loop-k-test.true in
-    let is : row ≡ get_or (rows_of_depth groups.rows d) c.loop-k.k 0 =
-    ap (λ (xs : List ℕ). get_or xs c.loop-k.k 0) level in
-    let inside : row < length groups.rows =
-    level_within groups.rows d c.loop-k.k c.rows_at-groups.result.now level
+    let at : IsListed groups.rows d c.loop-k.k row =
+    is_listed groups.rows d c.loop-k.k c.rows_at-groups.result.now c.rows_at-groups.ensures
     c.loop-k-test.true in
-    let deep : depth_of groups.rows row ≡ d =
-    ap (depth_of groups.rows) is ∙ (level_row groups.rows d c.loop-k.k here).depth in
     (can_share groups valid most (AreMaxTotals-capped groups valid.tree most c.requires.mosts)
     c.requires.mosts.one_each
-    (done_at groups.rows d c.loop-k.k) row c.loop-k.amounts.items inside c.loop-k.invariant
-    (λ p up. parent_done groups.rows valid.tree d c.loop-k.k row p deep up))
+    (done_at groups.rows d c.loop-k.k) row c.loop-k.amounts.items at.inside c.loop-k.invariant
+    (λ p up. parent_done groups.rows valid.tree d c.loop-k.k row p at.deep up))
 
 pub loop-k-preserved : goal.loop-k-preserved
 loop-k-preserved c =
@@ -47,24 +40,18 @@ loop-k-preserved c =
     let valid = c.rows-rows.ensures.valid in
     let most = c.args.most.now in
     let d : ℕ = c.args.depth in
-    let level = c.rows_at-groups.ensures in
     let row : ℕ = get_or c.rows_at-groups.result.now c.loop-k.k 0 in
-    let here : c.loop-k.k < length (rows_of_depth groups.rows d) = rw level at c.loop-k-test.true in
-    let is : row ≡ get_or (rows_of_depth groups.rows d) c.loop-k.k 0 =
-    ap (λ (xs : List ℕ). get_or xs c.loop-k.k 0) level in
-    let inside : row < length groups.rows =
-    level_within groups.rows d c.loop-k.k c.rows_at-groups.result.now level
+    let at : IsListed groups.rows d c.loop-k.k row =
+    is_listed groups.rows d c.loop-k.k c.rows_at-groups.result.now c.rows_at-groups.ensures
     c.loop-k-test.true in
-    let deep : depth_of groups.rows row ≡ d =
-    ap (depth_of groups.rows) is ∙ (level_row groups.rows d c.loop-k.k here).depth in
     let shared = c.in_ok-share_out.ensures in
     let parts : AreParts groups most c.loop-k.amounts.items row shared.0 = shared.1 in
     given_more groups valid most (AreMaxTotals-capped groups valid.tree most c.requires.mosts)
-    (done_at groups.rows d c.loop-k.k) (done_at groups.rows d (c.loop-k.k + 1)) row inside
-    (fresh groups.rows d c.loop-k.k row here is)
-    (λ h _. next_done groups.rows d c.loop-k.k row h here is)
+    (done_at groups.rows d c.loop-k.k) (done_at groups.rows d (c.loop-k.k + 1)) row at.inside
+    (fresh groups.rows d c.loop-k.k row at.here at.is)
+    (λ h _. next_done groups.rows d c.loop-k.k row h at.here at.is)
     (λ h p _ e up. closed groups.rows valid.tree d c.loop-k.k h p e up)
-    (λ p up. parent_done groups.rows valid.tree d c.loop-k.k row p deep up)
+    (λ p up. parent_done groups.rows valid.tree d c.loop-k.k row p at.deep up)
     shared.0 c.loop-k.amounts.items c.share_out.new.amounts.items c.loop-k.invariant parts shared.2
 
 pub returns : goal.returns

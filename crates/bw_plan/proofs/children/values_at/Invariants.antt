@@ -1,5 +1,5 @@
 -- What stands at each turn of the loop in `values_at`.
-use Rattle.std.proofs.Common.{◌≡◌, ◌≤◌, length, map, take}
+use Rattle.std.proofs.Common.{◌≡◌, length, map, max, take}
 use Rattle.std.specs.Prelude.{slice_index}
 use Rattle.smallvec.specs.SmallVec.{small_vec_len}
 use Rattle.bw_plan.proofs.children.values_at.Given as goal
@@ -8,5 +8,5 @@ abbrev pub invariant-loop-place : goal.invariant-loop-place
 invariant-loop-place l = record {
   taken : l.picked.items ≡ map (slice_index l.values) (take l.place-index l.places);
   count : small_vec_len l.picked ≡ l.place-index;
-  room : length l.places ≤ l.picked.capacity;
+  room : l.picked.capacity ≡ max 8 (length l.places);
 }

@@ -1,5 +1,5 @@
 -- What stands at each turn of the loop in `weights_of`.
-use Rattle.std.proofs.Common.{◌≡◌, ◌≤◌, length, map, take}
+use Rattle.std.proofs.Common.{◌≡◌, length, map, max, take}
 use Rattle.smallvec.specs.SmallVec.{small_vec_len}
 use Rattle.bw_model.specs.Groups.{weight_of}
 use Rattle.bw_plan.proofs.children.weights_of.Given as goal
@@ -8,5 +8,5 @@ abbrev pub invariant-loop-place : goal.invariant-loop-place
 invariant-loop-place l = record {
   taken : l.weights.items ≡ map (weight_of l.rows) (take l.place-index l.places);
   count : small_vec_len l.weights ≡ l.place-index;
-  room : length l.places ≤ l.weights.capacity;
+  room : l.weights.capacity ≡ max 8 (length l.places);
 }
