@@ -2,4 +2,5 @@
 pub mod CallerLemmas
 mod Known
 mod Quiet
+mod Counted
 mod Writing

@@ -5,3 +5,4 @@ pub mod Fronts
 pub mod Writes
 pub mod Prints
 pub mod Answers
+pub mod Reading

@@ -12,7 +12,7 @@ mod watched;
 
 pub use answer::{put, put_last_word, put_number, put_number_line, put_refusal};
 pub use fault::RunFault;
-pub use laws::read_numbers;
+pub use laws::reads_are_limited;
 pub use output::Output;
 pub use reading::{PIECE_BYTES, READ_CALLS, piece_room};
 pub use sending::{flush, send, send_line};

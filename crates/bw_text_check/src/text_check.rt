@@ -7,6 +7,7 @@ ghost use Rattle.bw_cert.specs.Spelling.{HoldsPlan};
 ghost use Rattle.bw_text_check.specs.CheckText.{line_of, verdict_line, is_accepted, IsFinding};
 ghost use Rattle.bw_text_check.specs.CheckText.{Checks, ChecksFront};
 ghost use Rattle.bw_streams.specs.Prints.{Prints};
+ghost use Rattle.bw_streams.specs.Reading.{ReadGives};
 ghost use Rattle.bw_text_check.specs.Reads.{Reads};
 ghost use Rattle.bw_streams.specs.Watched.{inner_of, has_failed, read_calls, IsFresh, HasNoFault};
 
@@ -42,6 +43,8 @@ fn take_piece<R: Read>(
     requires small { length text.old.items ≤ TEXT_BYTES }
     requires reader { HasNoFault reader.old }
     ensures reads { read_calls reader.new ≡ min (read_calls reader.old + 1) (2 ^ 64 - 1) }
+    ensures gives { ReadGives (R.remaining (inner_of reader.old))
+        (R.remaining (inner_of reader.new)) result }
     ensures ok { OnOk result ((bytes : List ℕ)
         × Consumes (R.remaining (inner_of reader.old)) (R.remaining (inner_of reader.new)) bytes
         × (text.new.items ≡ text.old.items ++ bytes)) }
