@@ -2,7 +2,6 @@
 use Rattle.std.specs.Prelude.{ℕ, ◌≡◌, ◌≤◌, ◌<◌, ◌⊎◌, List, length, Option, Result, true, OnOk}
 use Rattle.std.specs.Prelude.{IsErrOf}
 use Rattle.std.specs.Io.KnownBytes.{Consumes, IsAtEnd}
-use Rattle.bw_streams.specs.Reading.{EndIsReadOnce}
 use Rattle.bw_streams.specs.Watched.{inner_of, has_failed, read_calls, HasNoFault}
 use Rattle.bw_streams.specs.declared.fault.RunFault.{RunFault}
 use Rattle.bw_streams.specs.declared.fault.RunFault.TheVariants.{Read}
@@ -23,8 +22,6 @@ pub record Reads {R T : Type 0} (remaining : R → Option (List ℕ)) (old new :
   pub quiet : OnOk result (HasNoFault new)
   -- there are so many read calls at most
   pub calls : read_calls new ≤ READ_CALLS
-  -- each call but the last gave a byte: after the end there is no call
-  pub few : EndIsReadOnce (remaining (inner_of old)) (remaining (inner_of new)) (read_calls new)
   -- a read fault has one of three causes
   pub when : IsErrOf result Read → (has_failed new ≡ true) ⊎ (read_calls new ≡ READ_CALLS)
       ⊎ ReadsTooMuch (remaining (inner_of old)) (remaining (inner_of new))

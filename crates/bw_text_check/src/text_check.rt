@@ -1,13 +1,13 @@
 //! Reads a certified text whole, checks it, and answers by one line.
 ghost use Rattle.std.specs.Prelude.{◌≡◌, ◌≢◌, ◌⊎◌, ◌<◌, ◌≤◌, ◌+◌, ◌-◌, ◌++◌, ◌^◌, ℕ, List, min};
-ghost use Rattle.std.specs.Prelude.{length, true, false, OnOk, IfOk, IfErr, IsErrOf};
+ghost use Rattle.std.specs.Prelude.{length, true, false, OnOk, OnErr, IfOk, IfErr, IsErrOf};
 ghost use Rattle.std.specs.Io.KnownBytes.{Appends, Consumes, IsAtEnd, Keeps};
 ghost use Rattle.bw_streams.specs.Fronts.{AppendsFront};
 ghost use Rattle.bw_cert.specs.Spelling.{HoldsPlan};
 ghost use Rattle.bw_text_check.specs.CheckText.{line_of, verdict_line, is_accepted, IsFinding};
 ghost use Rattle.bw_text_check.specs.CheckText.{Checks, ChecksFront};
 ghost use Rattle.bw_streams.specs.Prints.{Prints};
-ghost use Rattle.bw_streams.specs.Reading.{ReadGives};
+ghost use Rattle.bw_streams.specs.Reading.{EndIsReadOnce};
 ghost use Rattle.bw_text_check.specs.Reads.{Reads};
 ghost use Rattle.bw_streams.specs.Watched.{inner_of, has_failed, read_calls, IsFresh, HasNoFault};
 
@@ -43,12 +43,14 @@ fn take_piece<R: Read>(
     requires small { length text.old.items ≤ TEXT_BYTES }
     requires reader { HasNoFault reader.old }
     ensures reads { read_calls reader.new ≡ min (read_calls reader.old + 1) (2 ^ 64 - 1) }
-    ensures gives { ReadGives (R.remaining (inner_of reader.old))
-        (R.remaining (inner_of reader.new)) result }
+    ensures consumed { (bytes : List ℕ) × Consumes
+        (R.remaining (inner_of reader.old)) (R.remaining (inner_of reader.new)) bytes }
     ensures ok { OnOk result ((bytes : List ℕ)
         × Consumes (R.remaining (inner_of reader.old)) (R.remaining (inner_of reader.new)) bytes
         × (text.new.items ≡ text.old.items ++ bytes)) }
     ensures small { OnOk result (length text.new.items ≤ TEXT_BYTES) }
+    ensures more { IfOk result
+        (λ more. more ≡ true → length text.old.items < length text.new.items) }
     ensures quiet { OnOk result (HasNoFault reader.new) }
     ensures end { IfOk result (λ more. more ≡ false → IsAtEnd (R.remaining (inner_of reader.new))) }
     ensures read_when { IsErrOf result RunFault.Read → (has_failed reader.new ≡ true)
@@ -77,6 +79,9 @@ fn read_text<R: Read>(alloc: Global, reader: &mut Watched<R>) -> Result<Vec<u8>,
         (R.remaining (inner_of reader.new)) v.items) }
     ensures small { IfOk result (λ v. length v.items ≤ TEXT_BYTES) }
     ensures reads { Reads R.remaining reader.old reader.new result }
+    ensures few { IfOk result (λ v. read_calls reader.new ≤ length v.items + 1) }
+    ensures few_err { OnErr result (EndIsReadOnce (R.remaining (inner_of reader.old))
+        (R.remaining (inner_of reader.new)) (read_calls reader.new)) }
     ensures write { IfErr result (λ f. f ≢ RunFault.Write) }
 {
     let mut piece = piece_room(alloc)?;
@@ -189,6 +194,10 @@ pub fn check_text<R: Read, W: Write>(
         (R.remaining (inner_of reader.old)) (R.remaining (inner_of reader.new))
         (W.contents (inner_of writer.old)) (W.contents (inner_of writer.new))) }
     ensures reads { Reads R.remaining reader.old reader.new result }
+
+    // Each read call but the last gave a byte: after the end there is none.
+    ensures few { EndIsReadOnce (R.remaining (inner_of reader.old))
+        (R.remaining (inner_of reader.new)) (read_calls reader.new) }
     ensures prints { Prints writer.old writer.new result }
 
     // After a read fault nothing is written.

@@ -5,7 +5,7 @@ use Rattle.std.specs.Io.KnownBytes.{Consumes}
 use Rattle.bw_text_check.specs.Reads.{ReadsTooMuch}
 use Rattle.bw_streams.specs.declared.fault.RunFault.TheVariants.{Read}
 use Rattle.bw_text_check.specs.declared.text_check.TheConstants.{TEXT_BYTES}
-use Rattle.bw_streams.proofs.CallerLemmas.{Consumes-trans, moves_err, one_more_read, last_read}
+use Rattle.bw_streams.proofs.CallerLemmas.{Consumes-trans, moves_err, last_read}
 use Rattle.bw_text_check.proofs.text_check.read_text.Goals as goal
 
 -- a text so far, and a read that makes it too long
@@ -21,35 +21,19 @@ third : {A B C D : Type 0} → (C → D) → A ⊎ C → A ⊎ B ⊎ D
 third f (inl a) = inl a
 third f (inr d) = inr (inr (f d))
 
-pub loop-turn-preserved : goal.loop-turn-preserved
-loop-turn-preserved g c = record {
-  read = rw c.in-Ok-true.ensures.ok.2 (Consumes-trans _ _ _ _ _ c.loop-turn.invariant.read
-      c.in-Ok-true.ensures.ok.1);
-  small = c.in-Ok-true.ensures.small;
-  quiet = c.in-Ok-true.ensures.quiet;
-  calls = omega (arith, c.in-Ok-true.ensures.reads, c.loop-turn.invariant.calls);
-  few = one_more_read _ _ _ _ _ c.loop-turn.invariant.few c.in-Ok-true.ensures.gives.1
-      (c.in-Ok-true.ensures.gives.2 c.in-Ok-true.field-0-test);
-}
-
-pub returns-in-Ok-false-clause-reads : goal.returns-in-Ok-false-clause-reads
-returns-in-Ok-false-clause-reads g c = record {
-  end = c.in-Ok-false.ensures.end c.in-Ok-false.field-0-test;
-  quiet = c.in-Ok-false.ensures.quiet;
-  calls = omega (arith, c.loop-turn.invariant.calls, c.in-Ok-false.ensures.reads);
-  few = last_read _ _ _ _ _ _ c.loop-turn.invariant.few c.in-Ok-false.ensures.gives.1
-      (omega (arith, c.loop-turn.invariant.calls, c.in-Ok-false.ensures.reads));
-  when = λ h. absurd (cc);
-}
-
 pub returns-in-Err-clause-reads : goal.returns-in-Err-clause-reads
 returns-in-Err-clause-reads g c = record {
   end = tt;
   quiet = tt;
   calls = omega (arith, c.loop-turn.invariant.calls, c.in-Err.ensures.reads);
-  few = last_read _ _ _ _ _ _ c.loop-turn.invariant.few c.in-Err.ensures.gives.1
-      (omega (arith, c.loop-turn.invariant.calls, c.in-Err.ensures.reads));
   when = λ h.
       third (λ q. reads_too_much _ _ _ c.loop-turn.text.items c.loop-turn.invariant.read q)
       (c.in-Err.ensures.read_when (moves_err {U = Bool} c.in-Err.fault Read h));
 }
+
+pub returns-in-Err-clause-few_err : goal.returns-in-Err-clause-few_err
+returns-in-Err-clause-few_err g c =
+    last_read _ _ _ _ _ _
+    (c.loop-turn.text.items, c.loop-turn.invariant.read, c.loop-turn.invariant.few)
+    c.in-Err.ensures.consumed.1
+    (omega (arith, c.loop-turn.invariant.calls, c.in-Err.ensures.reads))
