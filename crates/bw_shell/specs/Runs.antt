@@ -4,6 +4,7 @@ use Rattle.std.specs.Io.KnownBytes.{IsAtEnd}
 use Rattle.bw_commands.specs.State.{State}
 use Rattle.bw_shell.specs.Lines.{lines_of, whole_lines_of}
 use Rattle.bw_shell.specs.Stream.{Transcribes, TranscribesFront}
+use Rattle.bw_streams.specs.Reading.{EndIsReadOnce}
 use Rattle.bw_streams.specs.Watched.{inner_of, has_failed, has_stalled, read_calls, is_flushed}
 use Rattle.bw_streams.specs.Watched.{HasNoFault}
 use Rattle.bw_streams.specs.declared.fault.RunFault.{RunFault}
@@ -24,9 +25,12 @@ pub record Runs {R W T : Type 0} (remaining : R → Option (List ℕ)) (contents
   pub end : OnOk result (IsAtEnd (remaining (inner_of reader_new)))
   pub reader_quiet : OnOk result (HasNoFault reader_new)
   pub writer_quiet : OnOk result (HasNoFault writer_new)
-  -- there are so many read calls at most, and no answer waits in the writer at the end or at a read
-  -- that fails
+  -- there are so many read calls at most
   pub calls : read_calls reader_new ≤ READ_CALLS
+  -- each call but the last gave a byte: after the end there is no call
+  pub few : EndIsReadOnce (remaining (inner_of reader_old)) (remaining (inner_of reader_new))
+      (read_calls reader_new)
+  -- no answer waits in the writer at the end or at a read that fails
   pub flushed : OnOk result (is_flushed writer_new ≡ true)
   pub read_flushed : IsErrOf result Read → is_flushed writer_new ≡ true
   -- after a read fault it is the transcript of the whole lines read

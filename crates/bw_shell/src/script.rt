@@ -7,6 +7,7 @@ ghost use Rattle.bw_shell.specs.Scan.{Scan, TakesBytes};
 ghost use Rattle.bw_shell.specs.Session.{scan_of, session_waits};
 ghost use Rattle.bw_shell.specs.Runs.{Runs};
 ghost use Rattle.bw_streams.specs.Fronts.{AppendsFront};
+ghost use Rattle.bw_streams.specs.Reading.{ReadGives};
 ghost use Rattle.bw_streams.specs.Watched.{inner_of, has_failed, has_stalled, read_calls};
 ghost use Rattle.bw_streams.specs.Watched.{is_flushed, IsFresh, HasNoFault};
 
@@ -36,6 +37,8 @@ fn read_some<H: Threads + Wait + Clock + Sync, G: Gate, R: Read, W: Write>(
     requires none_waits { session_waits session.old ≡ [] }
     ensures none_waits { OnOk result (session_waits session.new ≡ []) }
     ensures reads { read_calls reader.new ≡ min (read_calls reader.old + 1) (2 ^ 64 - 1) }
+    ensures gives { ReadGives (R.remaining (inner_of reader.old))
+        (R.remaining (inner_of reader.new)) result }
     ensures ok { OnOk result ((input text : List ℕ)
         × TakesBytes (scan_of G.used session.old) input text (scan_of G.used session.new)
         × Consumes (R.remaining (inner_of reader.old)) (R.remaining (inner_of reader.new)) input

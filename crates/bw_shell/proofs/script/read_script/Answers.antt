@@ -6,6 +6,7 @@ use Rattle.bw_streams.specs.declared.fault.RunFault.TheVariants.{Read, Write, Me
 use Rattle.bw_shell.specs.Session.{scan_of}
 use Rattle.bw_shell.specs.Scan.{TakesBytes, begin}
 use Rattle.bw_streams.proofs.CallerLemmas.{Appends-nil, Consumes-nil, OnOk-map, moves_err}
+use Rattle.bw_streams.proofs.CallerLemmas.{none_read, one_more_read, last_read}
 use Rattle.bw_shell.proofs.Scanning.{TakesBytes-nil}
 use Rattle.bw_shell.proofs.Running.{takes_more, takes_kept, whole_of_takes, all_of_takes}
 use Rattle.bw_shell.proofs.Running.{front_of_all, front_of_whole}
@@ -35,6 +36,7 @@ loop-turn-init g c = record {
   writer_flushed = c.requires.writer.flushed;
   none_waits = c.requires.none_waits;
   calls = c.requires.reader.no_reads;
+  few = none_read _;
 }
 
 pub loop-turn-preserved : goal.loop-turn-preserved
@@ -45,6 +47,8 @@ loop-turn-preserved g c = record {
   writer_flushed = c.in-Ok-true.ensures.writer_flushed;
   none_waits = c.in-Ok-true.ensures.none_waits;
   calls = omega (arith, c.in-Ok-true.ensures.reads);
+  few = one_more_read _ _ _ _ _ c.loop-turn.invariant.few c.in-Ok-true.ensures.gives.1
+      (c.in-Ok-true.ensures.gives.2 c.in-Ok-true.field-0-test);
 }
 
 -- a call that blames the writer alone blames nothing else
@@ -66,6 +70,8 @@ returns-in-Ok-false g c =
       reader_quiet = OnOk-map c.finish.result (λ f. c.in-Ok-false.ensures.reader_quiet) done;
       writer_quiet = writes.quiet;
       calls = omega (arith, c.in-Ok-false.ensures.reads);
+      few = last_read _ _ _ _ _ _ c.loop-turn.invariant.few c.in-Ok-false.ensures.gives.1
+          (omega (arith, c.loop-turn.invariant.calls, c.in-Ok-false.ensures.reads));
       flushed = done;
       read_flushed = λ h.
           absurd (let bad : Read ≡ Write = only_write c.finish.result Read writes.fault h in cc);
@@ -91,6 +97,8 @@ returns-in-Err g c =
       reader_quiet = tt;
       writer_quiet = tt;
       calls = omega (arith, c.in-Err.ensures.reads);
+      few = last_read _ _ _ _ _ _ c.loop-turn.invariant.few c.in-Err.ensures.gives.1
+          (omega (arith, c.loop-turn.invariant.calls, c.in-Err.ensures.reads));
       flushed = tt;
       read_flushed = λ h.
           rw (c.in-Err.ensures.read_writes
@@ -120,6 +128,8 @@ returns g c =
       reader_quiet = tt;
       writer_quiet = tt;
       calls = omega (arith, c.loop-turn.invariant.calls);
+      few = last_read _ _ _ _ _ _ c.loop-turn.invariant.few (Consumes-nil _)
+          (omega (arith, c.loop-turn.invariant.calls));
       flushed = tt;
       read_flushed = λ h. c.loop-turn.invariant.writer_flushed;
       read = λ h. whole_of_takes s _ _ _ _ _ c.loop-turn.invariant.taken;

@@ -3,6 +3,7 @@ use Rattle.std.proofs.Common.{◌≡◌, ℕ, List, [], true}
 use Rattle.std.specs.Io.KnownBytes.{Appends, Consumes}
 use Rattle.bw_shell.specs.Session.{scan_of, session_waits}
 use Rattle.bw_shell.specs.Scan.{TakesBytes, begin}
+use Rattle.bw_streams.specs.Reading.{EachReadGives}
 use Rattle.bw_streams.specs.Watched.{inner_of, read_calls, is_flushed, HasNoFault}
 use Rattle.bw_shell.proofs.script.read_script.Given as goal
 
@@ -19,4 +20,6 @@ invariant-loop-turn g l = record {
   writer_flushed : is_flushed l.writer ≡ true;
   none_waits : session_waits l.session ≡ [];
   calls : read_calls l.reader ≡ l.turn;
+  few : EachReadGives (g.R.Read.remaining (inner_of l.initial.reader))
+      (g.R.Read.remaining (inner_of l.reader)) l.turn;
 }
