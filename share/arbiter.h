@@ -89,7 +89,7 @@ uint32_t arbiter_check(uint64_t processors, uint64_t period_us, uint64_t slice_u
                        const uint64_t *nums, size_t nums_length, const uint64_t *dens, size_t dens_length,
                        const uint32_t *places, size_t places_length, uint32_t *row);
 
-/* The same for a certified text (docs/CERTIFIED.md); `row` is written for 51 to 58, and is as it was otherwise. */
+/* The same for a certified text (docs/EMBEDDING.md); `row` is written for 51 to 58, and is as it was otherwise. */
 uint32_t arbiter_check_text(const uint8_t *text, size_t text_length, uint32_t *row);
 
 /* Writes the rows of the groups whose limits hold the total down to the beginning of `groups`, how many they are to `count`, and

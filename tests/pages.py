@@ -19,9 +19,10 @@ DOCS = ROOT / "docs"
 FENCE = re.compile(r"^```(\S*) ?(.*)$")
 KINDS = ("script", "certified", "command", "python")
 # Pages that have to have something to run.
-PAGES = ("USING.md", "CERTIFIED.md", "DRIVING.md", "NODE.md", "TOOLS.md", "FLEET.md", "LAWS.md")
-# test_library.py runs its examples.
+PAGES = ("USING.md", "EMBEDDING.md", "NODE.md", "TOOLS.md", "FLEET.md", "LAWS.md")
+# test_library.py runs its examples that have files, up to their answers.
 EMBEDDING = "EMBEDDING.md"
+FILES = ("c", "toml", "rust")
 
 
 @dataclass
@@ -59,11 +60,13 @@ def fences(page: str):
 
 def blocks(page: str) -> list:
     """The blocks of a page that are run, each with its answer."""
-    waiting, found = None, []
+    waiting, found, is_example = None, [], False
     for number, kind, words, text, end in fences(page):
-        if waiting and kind != "answer" and kind != "":
+        if page == EMBEDDING and (is_example or kind in FILES or kind == "python" and words):
+            is_example = kind != "answer"
+        elif waiting and kind != "answer" and kind != "":
             raise ValueError(f"docs/{waiting.id()}: no answer follows")
-        if kind in KINDS:
+        elif kind in KINDS:
             waiting = Block(page, number, kind, words, text)
         elif kind == "answer":
             if not waiting:

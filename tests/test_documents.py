@@ -16,7 +16,7 @@ import pages
 from pages import PAGES
 from support import ROOT, run, same
 
-ALL_PAGES = [*PAGES, pages.EMBEDDING, "NUMBERS.md"]
+ALL_PAGES = [*PAGES, "NUMBERS.md"]
 # A variable that is not set on ordinary hosts.
 BARE_TMPDIR = re.compile(r"\$(TMPDIR|\{TMPDIR\})")
 
@@ -153,7 +153,7 @@ def test_numbers_are_met_by_what_the_table_says():
         same(set(row[2].split(", ")), by.get(row[0], {"crates"}), f"{row[0]} {row[1]}")
 
 
-@pytest.mark.parametrize("page", [*PAGES, pages.EMBEDDING])
+@pytest.mark.parametrize("page", PAGES)
 def test_numbers_on_page(page):
     """A number that a page names has the name that the table gives it."""
     names = {row[0]: row[1] for row in pages.table_rows()}
