@@ -99,10 +99,11 @@ uint32_t arbiter_limiting(uint64_t processors, uint64_t period_us, uint64_t slic
                           const uint64_t *limits, size_t limits_length, const uint64_t *demands, size_t demands_length,
                           uint32_t *groups, size_t groups_length, uint32_t *count, uint64_t *rest);
 
-/* Writes why each group gets what it gets to `reasons`, and the row that the reason blames to `blamed`:
+/* Writes why each group gets what it gets to `reasons`, and the row that the reason blames to `blamed`.
+ * The reason is the first of these lines that holds:
  *   ARBITER_NOTHING_ASKED  it wants nothing
  *   ARBITER_ALL_WANTED     it gets all that it wants
- *   ARBITER_OWN_LIMIT      it gets its own limit
+ *   ARBITER_OWN_LIMIT      it gets its own limit; row 0 has none
  *   ARBITER_LIMIT_ABOVE    the group above it in `blamed` gets its limit, and no group between the two does
  *   ARBITER_HOST_FULL      the host gives out its capacity, and no group from this one up gets its limit
  * `blamed` is the group's own row for each reason but ARBITER_LIMIT_ABOVE. */

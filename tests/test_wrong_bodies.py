@@ -1,6 +1,6 @@
 """Wrong bodies and must-fail edits fit the sources, and planted_by_hand.tsv names what is there.
 
-A text that its file has no more, or twice, makes a BAD EDIT, which fails nothing in the gate.
+If the old text is missing or occurs twice the edit is a BAD EDIT, and the gate does not fail.
 """
 import re
 from pathlib import Path

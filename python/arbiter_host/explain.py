@@ -64,7 +64,7 @@ class Line:
 
 
 def why(plan: Plan, group: Planned, is_wide: bool) -> str:
-    """The reason of a group, after what stands out."""
+    """The reason of a group, after its warning labels."""
     reason = plan.reason(group)
     words = reason.words if is_wide else narrow(plan, group)
     found = [each for each in marks(group) if each != "THROTTLED" or reason.name != "own limit"]

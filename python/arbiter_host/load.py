@@ -255,7 +255,7 @@ def of_bytes(options: argparse.Namespace, path: str, data: bytes, engine: Engine
         raise HostFault(f"{names.shown(path)}: a file is no tree of cgroups: `import cgroup` writes"
                         " one")
     if kind in ("docker", "systemd") and options.cpus is None:
-        raise HostFault(f"{names.shown(path)}: the number of CPUs is not told: --cpus")
+        raise HostFault(f"{names.shown(path)}: number of CPUs unknown: pass --cpus")
     return finished(options, read_files(options, kind, [(names.shown(path), data)], engine))
 
 

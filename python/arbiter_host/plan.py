@@ -176,7 +176,7 @@ def all_reason(group: Planned) -> Reason:
 
 
 def marks(group: Planned) -> list[str]:
-    """What stands out of a group, in words."""
+    """The warning labels of a group (STARVED, THROTTLED ..)."""
     found = ["STARVED"] if group.is_starved else []
     if group.is_throttled_elsewhere:
         found.append("THROTTLED, NOT BY ITS LIMIT")

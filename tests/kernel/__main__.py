@@ -154,6 +154,7 @@ def work(words: list[str]) -> int:
     lacks = packages.missing()
     if lacks:
         raise faults.KernelFault(lacks)
+    planned.program()
     setting, outcomes = setting_of(options), []
     for name in options.kernels.split(","):
         kernel = packages.kernel(name)

@@ -135,15 +135,15 @@ def extra(scenario: Scenario, path: str) -> float:
 
 
 def judge_series(scenario: Scenario, lines: list[Line]) -> None:
-    """Bounds of a series: limited groups from the plan upward, their siblings downward."""
+    """Bounds of a series: limited groups from the plan upward, all others both ways. One that
+    wakes when a limited group has spent its quota has what that group would have had."""
     above = {line.path: extra(scenario, line.path) for line in lines}
     for line in lines:
         others = sum(above.values()) - above[line.path]
         below = 0 if above[line.path] else others
         line.rule = "series"
         line.least = line.share - below - ONE_PROCESSOR
-        line.most = line.share + max(above[line.path], others if line.path == "." else 0)
-        line.most += ONE_PROCESSOR
+        line.most = line.share + max(above[line.path], others) + ONE_PROCESSOR
 
 
 def judge(scenario: Scenario, lines: list[Line], supply: Fraction) -> None:

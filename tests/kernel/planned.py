@@ -10,7 +10,9 @@ from kernel.faults import KernelFault
 from kernel.readings import KEYS
 from kernel.scenario import Scenario
 
-PROGRAM = Path(__file__).resolve().parents[2] / "crates/arbiter/out/arbiter"
+TOP = Path(__file__).resolve().parents[2]
+PROGRAM = TOP / "crates/arbiter/out/arbiter"
+LAUNCHER = TOP / "arbiter"
 SECONDS = 120
 chosen: list[Path] = []
 
@@ -21,8 +23,9 @@ def use(path: str) -> None:
 
 
 def program() -> Path:
-    """The program: the one that is chosen, $ARBITER, else the one that was built here."""
-    found = chosen[0] if chosen else Path(os.environ.get("ARBITER") or PROGRAM)
+    """The program: the one that is chosen, $ARBITER, the one that was built here, or ./arbiter."""
+    built = PROGRAM if PROGRAM.exists() else LAUNCHER
+    found = chosen[0] if chosen else Path(os.environ.get("ARBITER") or built)
     if not found.exists():
         raise KernelFault(f"{found}: not there; ./build makes it")
     return found

@@ -97,13 +97,13 @@ def test_bounds(text, path, off, is_wrong):
 
 
 def test_bounds_of_a_series():
-    """From the plan to one quota and 4 ms more in each busy stretch."""
+    """From the plan to one quota and 4 ms more in each busy stretch; the sibling both ways."""
     found = of("mkdir a\nwrite a cpu.max 20000\nmkdir b\n"
                + "demand b 100\ndemand a 0\nperiod\n" * 5
                + "demand a 100\nperiod\n" * 5)
     lines = lines_of(found, {})
     assert (lines["a"].least, lines["a"].most) == (pytest.approx(9.7), pytest.approx(12.7))
-    assert (lines["b"].least, lines["b"].most) == (pytest.approx(87.3), pytest.approx(90.3))
+    assert (lines["b"].least, lines["b"].most) == (pytest.approx(87.3), pytest.approx(92.7))
 
 
 @pytest.mark.parametrize("name", ALL)

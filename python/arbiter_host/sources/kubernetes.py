@@ -327,7 +327,7 @@ def read(files: Sequence[tuple[str, bytes]], host: Host | None, wish: Wish = Wis
                              for key in ("capacity", "allocatable"))
     if host is None:
         if not capacity:
-            raise HostFault("the number of CPUs is not told: give the node's JSON too, or --cpus")
+            raise HostFault("number of CPUs unknown: pass the node's JSON or --cpus")
         host = Host(max(capacity // 1000, 1), units.DEFAULT_PERIOD, 1000)
     model = Model(host.checked(), notes=notes, names_host=capacity is not None)
     pods = pods_on(items, name, notes)

@@ -1,4 +1,4 @@
-"""What a subcommand is, and the words and steps that several have."""
+"""The class of a subcommand, with the words and steps that several share."""
 from __future__ import annotations
 
 import argparse
