@@ -31,7 +31,7 @@ find_installed() {
 
 # Sets `modules` to the files of the package, relative to its folder.
 find_modules() {
-  modules=("$package"/*.py "$package"/*/*.py "$package/py.typed")
+  modules=("$package"/*.py "$package"/*/*.py "$package"/templates/* "$package/py.typed")
   modules=("${modules[@]#"$package/"}")
 }
 
@@ -94,7 +94,7 @@ name_package() { # DIR
     mkdir -p -- "$to/$folder" && mv -f -t "$to/$folder" -- "$package_copy/$folder"*.* || return 1
   done
   for file in "${modules[@]}"; do ours[$file]=yes; done
-  for file in "$to"/*.py "$to"/*/*.py; do
+  for file in "$to"/*.py "$to"/*/*.py "$to"/templates/*; do
     [ -n "${ours[${file#"$to/"}]-}" ] || rm -f -- "$file"
   done
   echo "build: installed $to/"

@@ -10,9 +10,9 @@ test_folders=(tests)
 [ -d python/tests ] && test_folders+=(python/tests)
 
 # Debian's packages that the tests need, and their modules.
-packages=(python3-pytest python3-pytest-xdist python3-hypothesis python3-rich python3-yaml
-  python3-distributed mypy python3-typeshed pyflakes3)
-modules='pytest, xdist, hypothesis, rich, yaml, distributed, mypy, pyflakes'
+packages=(python3-pytest python3-pytest-xdist python3-hypothesis python3-jinja2 python3-rich
+  python3-yaml python3-distributed mypy python3-typeshed pyflakes3)
+modules='pytest, xdist, hypothesis, jinja2, rich, yaml, distributed, mypy, pyflakes'
 # Packages of the same name as their command. Tests that need one that is missing are skipped.
 tools=(mandoc zsh fish chromium prometheus valgrind)
 

@@ -21,7 +21,7 @@ SECONDS = 1800
 SUITE, ARCHIVE = "bookworm", "http://deb.debian.org/debian"
 NAMES = ("arbiter", "arbiter-host", "libarbiter-dev", "libarbiter1")
 # What the packages depend on, and what a program over the library is made with.
-NEEDED = ("python3", "python3-yaml", "python3-rich", "gcc", "libc6-dev", "pkgconf")
+NEEDED = ("python3", "python3-jinja2", "python3-rich", "python3-yaml", "gcc", "libc6-dev", "pkgconf")
 # Where dpkg and apt keep their books.
 BOOKS = ("proc", "sys", "dev", "tmp", "debs", "var/log", "var/cache", "var/lib/apt", "var/lib/dpkg",
          "etc/ld.so.cache")
@@ -122,7 +122,7 @@ def test_contents(debs):
                for path in debs}
     assert "libc6 (>= " in depends["arbiter"] and "libc6 (>= " in depends["libarbiter1"]
     assert f"libarbiter1 (= {version()})" in depends["libarbiter-dev"]
-    for needed in ("python3:any (>= 3.11", "python3-yaml", "python3-rich", "libarbiter1"):
+    for needed in ("python3:any (>= 3.11", "python3-jinja2", "python3-rich", "python3-yaml", "libarbiter1"):
         assert needed in depends["arbiter-host"], needed
 
 

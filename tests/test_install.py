@@ -36,7 +36,7 @@ PACKAGE = "lib/arbiter/arbiter_host"
 MODULES = {f"lib/arbiter/{path.relative_to(ROOT / 'python')}":
            (str(path.relative_to(ROOT)), 0o644)
            for path in (ROOT / "python/arbiter_host").rglob("*")
-           if path.suffix in (".py", ".typed")}
+           if path.suffix in (".py", ".typed", ".html", ".css", ".js")}
 INSTALLED = {*FILES, *LINKS, *MODULES}
 
 

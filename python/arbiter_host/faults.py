@@ -25,8 +25,8 @@ class RefusedLines(HostFault):
 
 
 # Debian's packages of modules that are imported where they are needed.
-PACKAGES = {"rich": "python3-rich", "yaml": "python3-yaml", "dask": "python3-distributed",
-            "distributed": "python3-distributed"}
+PACKAGES = {"rich": "python3-rich", "yaml": "python3-yaml", "jinja2": "python3-jinja2",
+            "dask": "python3-distributed", "distributed": "python3-distributed"}
 
 
 def missing_module(error: ModuleNotFoundError) -> HostFault | None:

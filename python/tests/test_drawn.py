@@ -1,5 +1,6 @@
 """Pictures, the page, series over time and the live view."""
 import csv
+import html
 import http.server
 import io
 import json
@@ -118,14 +119,83 @@ def test_page_in_a_browser(ctl, folder):
         pytest.skip("no chromium here")
     ctl.run("report", ROOT / "examples/node.script", "-o", folder / "p.html")
     page = (folder / "p.html").read_text()
-    probe = ("<script>find.value='redis';find.dispatchEvent(new Event('input'));"
-             "document.title='seen '+all.filter(each=>!each.hidden).length;</script></body>")
-    (folder / "p.html").write_text(page.replace("</body>", probe))
-    words = [chromium, "--headless", "--no-sandbox", "--disable-gpu", "--dump-dom",
-             f"--user-data-dir={folder}/data", (folder / "p.html").as_uri()]
-    ended = subprocess.run(words, capture_output=True, timeout=120, check=False)
+    probe = ("find.value='redis';find.dispatchEvent(new Event('input'));"
+             "return inTree.filter(each=>!each.hidden).length")
     # The host, kubepods, burstable, pod-cache and redis.
-    assert "<title>seen 5</title>" in ended.stdout.decode(), ended.stderr.decode()[-500:]
+    assert seen_in(chromium, folder, page, probe) == 5
+    # The host and what is right below it.
+    fold = ("document.getElementById('shut').click();"
+            "return inTree.filter(each=>!each.hidden).length")
+    assert seen_in(chromium, folder, page, fold) == 4
+    # By weight, the greatest first: kubepods has 137. The third click gives the tree back.
+    click = "document.querySelectorAll('#groups thead button')[1].click();"
+    first = "return document.querySelector('#groups tbody tr .name').textContent"
+    assert seen_in(chromium, folder, page, click + first) == "kubepods"
+    assert seen_in(chromium, folder, page, click * 3 + first) == "the host"
+
+
+def seen_in(chromium, folder, page, script, width=1280, *words):
+    """What a script at the page's end returns in headless Chromium, in a frame of a width."""
+    told = f"<script>parent.document.title=JSON.stringify((()=>{{{script}}})());</script></body>"
+    inner = html.escape(page.replace("</body>", told), quote=True)
+    (folder / "seen.html").write_text(
+        '<meta charset="utf-8"><meta name="color-scheme" content="light dark">'
+        f'<iframe style="width:{width}px;height:900px;border:0" srcdoc="{inner}"></iframe>')
+    command = [chromium, "--headless", "--no-sandbox", "--disable-gpu", "--dump-dom",
+               "--window-size=1400,1000", f"--user-data-dir={folder}/data", *words,
+               (folder / "seen.html").as_uri()]
+    ended = subprocess.run(command, capture_output=True, timeout=120, check=False)
+    found = re.search(r"<title>(.*?)</title>", ended.stdout.decode(), re.S)
+    assert found, ended.stderr.decode()[-500:]
+    return json.loads(html.unescape(found.group(1)))
+
+
+# Faults of a page: it is wider than the window, a text is cut or outside, two cells of a row
+# overlap, or a text has less contrast than 4.5.
+LOOK = r"""
+const wrong=[],wide=document.documentElement;
+if(wide.scrollWidth>innerWidth)wrong.push('wider than the window: '+wide.scrollWidth);
+const light=text=>{const parts=text.match(/[0-9.]+/g).map(Number);
+ const [r,g,b]=parts.slice(0,3).map(v=>{v/=255;return v<=.03928?v/12.92:((v+.055)/1.055)**2.4});
+ return .2126*r+.7152*g+.0722*b};
+const ground=light(getComputedStyle(document.body).backgroundColor);
+for(const each of document.querySelectorAll('p,th,td,summary,label,button,.faint')){
+ const box=each.getBoundingClientRect();if(!box.width||each.closest('[hidden]'))continue;
+ const name=each.tagName+' '+each.textContent.trim().slice(0,20);
+ if(each.scrollWidth>each.clientWidth+1&&each.clientWidth)wrong.push('cut: '+name);
+ const range=document.createRange();range.selectNodeContents(each);
+ const text=range.getBoundingClientRect();
+ if(text.right>innerWidth+1||text.left<-1)wrong.push('outside: '+name);
+ if(each.tagName!=='BUTTON'&&each.textContent.trim()){
+  const own=light(getComputedStyle(each).color);
+  const contrast=(Math.max(own,ground)+.05)/(Math.min(own,ground)+.05);
+  if(contrast<4.5)wrong.push('faint: '+name);}
+}
+for(const row of document.querySelectorAll('tr:not([hidden])')){
+ const boxes=[...row.cells].map(each=>{const range=document.createRange();
+  range.selectNodeContents(each);return range.getBoundingClientRect()}).filter(each=>each.width);
+ for(let at=1;at<boxes.length;at++)for(let other=0;other<at;other++){
+  const a=boxes[at],b=boxes[other];
+  if(a.left<b.right-1&&b.left<a.right-1&&a.top<b.bottom-1&&b.top<a.bottom-1)
+   wrong.push('overlap: '+row.textContent.trim().slice(0,30));}
+}
+return {wrong,width:innerWidth,isDark:ground<.2,heads:document.querySelectorAll('th:not([scope])').length}
+"""
+
+
+@pytest.mark.parametrize("mode", ["light", "dark"])
+@pytest.mark.parametrize("width", [400, 800, 1280])
+def test_page_is_legible_in_a_browser(ctl, folder, width, mode):
+    """Nothing overlaps, is cut or too faint, on a phone and a screen, by day and by night."""
+    chromium = shutil.which("chromium")
+    if chromium is None:
+        pytest.skip("no chromium here")
+    change = ["--set", "kubepods/burstable.weight=900", "--set", "kubepods/burstable.max=1cpu"]
+    ctl.run("report", ROOT / "examples/node.script", *change, "-o", folder / "p.html")
+    page = (folder / "p.html").read_text()
+    prefers = ["--blink-settings=preferredColorScheme=0"] if mode == "dark" else []
+    found = seen_in(chromium, folder, page, LOOK, width, *prefers)
+    assert found == {"wrong": [], "width": width, "isDark": mode == "dark", "heads": 0}
 
 
 # series

@@ -1,5 +1,6 @@
 """Fleets: what is answered, what is refused, and that no host is lost, without Dask."""
 import json
+import re
 import sqlite3
 import subprocess
 import sys
@@ -577,5 +578,5 @@ def test_the_page_is_whole(ctl, fleet):
     page = fleet.parent / "fleet.html"
     ctl.run("fleet", "plan", fleet, "--workers", "0", "--html", page, status=1)
     text = page.read_text()
-    assert text.count("<tr><td>host-") == HOSTS and "a&lt;b&gt;&amp;" in text
+    assert len(re.findall(r'<tr>\s*<th scope="row" data-head="[a-z]+">host-', text)) == HOSTS and "a&lt;b&gt;&amp;" in text
     assert "http" not in text and "a<b>" not in text
