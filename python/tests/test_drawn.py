@@ -179,7 +179,8 @@ for(const row of document.querySelectorAll('tr:not([hidden])')){
   if(a.left<b.right-1&&b.left<a.right-1&&a.top<b.bottom-1&&b.top<a.bottom-1)
    wrong.push('overlap: '+row.textContent.trim().slice(0,30));}
 }
-return {wrong,width:innerWidth,isDark:ground<.2,heads:document.querySelectorAll('th:not([scope])').length}
+const heads=document.querySelectorAll('th:not([scope])').length;
+return {wrong,width:innerWidth,isDark:ground<.2,heads}
 """
 
 
