@@ -104,9 +104,11 @@ def csv_groups(head: Sequence[str]) -> list[str]:
     return list(head[1 if is_timed(head) else 0:])
 
 
-def read_csv(data: bytes, name: str, unit: str, host: Host, first: int = 0) -> list[Sample]:
+def read_csv(data: bytes, name: str, unit: str, host: Host, first: int = 0,
+             keep_holes: bool = False) -> list[Sample]:
     """The samples of a CSV: groups in the first row, a number for each in every other.
 
+    A group with an empty cell asks for nothing, or for what it asked before if holes are kept.
     Samples without a time are numbered from `first + 1` on.
     """
     rows = rows_of(decoded(data, name), name)
@@ -118,9 +120,10 @@ def read_csv(data: bytes, name: str, unit: str, host: Host, first: int = 0) -> l
     for number, row in rows[1:]:
         if len(row) != len(head):
             raise HostFault(f"{name}:{number}: {len(row)} cells and not {len(head)}")
-        demands = {column: demand_of(cell, unit, host, f"{name}:{number}")
-                   for column, cell in zip(groups, row[len(head) - len(groups):])
-                   if cell.lower() not in EMPTY}
+        cells = dict(zip(groups, row[len(head) - len(groups):]))
+        told = {column: demand_of(cell, unit, host, f"{name}:{number}")
+                for column, cell in cells.items() if cell.lower() not in EMPTY}
+        demands = told if keep_holes else {**dict.fromkeys(groups, Fraction(0)), **told}
         title = time_name(row[0]) if is_timed(head) else str(first + len(found) + 1)
         found.append(Sample(title, demands))
     return found
@@ -167,9 +170,12 @@ def fetched(url: str) -> Any:
         raise HostFault(f"{shown(url)}: {shown(str(error))}") from error
 
 
-def read_prometheus(url: str, words: dict[str, str], label: str, unit: str,
-                    host: Host) -> list[Sample]:
-    """The samples of a range query. Words are `query`, `start`, `end` and `step`."""
+def read_prometheus(url: str, words: dict[str, str], label: str, unit: str, host: Host,
+                    keep_holes: bool = False) -> list[Sample]:
+    """The samples of a range query. Words are `query`, `start`, `end` and `step`.
+
+    A series without a value asks for nothing, or for what it asked before if holes are kept.
+    """
     if not url.startswith(("http://", "https://")):
         raise HostFault(f"{shown(url)}: not http:// or https://", 2)
     where = f"{url.rstrip('/')}/api/v1/query_range?{urllib.parse.urlencode(words)}"
@@ -178,7 +184,8 @@ def read_prometheus(url: str, words: dict[str, str], label: str, unit: str,
     except (KeyError, TypeError, ValueError, AttributeError) as error:
         raise HostFault(f"{shown(url)}: no answer to a range query") from error
     times = sorted({at for values in found.values() for at, _ in values})
-    by_time: dict[float, dict[str, Fraction]] = {at: {} for at in times}
+    holes = {} if keep_holes else dict.fromkeys(found, Fraction(0))
+    by_time: dict[float, dict[str, Fraction]] = {at: dict(holes) for at in times}
     for name, values in found.items():
         for at, value in values:
             if value.lower() not in EMPTY:

@@ -289,6 +289,20 @@ def test_csv_that_is_refused(data, words):
     assert words in fault.value.message
 
 
+@pytest.mark.parametrize("holes, wants", [
+    ([], ["0.3 0.2", "0 0", "0.1 0"]), (["--holes", "keep"], ["0.3 0.2", "0.3 0.2", "0.1 0.2"]),
+], ids=["nothing asked", "kept"])
+def test_holes_of_a_series(ctl, folder, holes, wants):
+    """A pod that has ended has empty cells: it asks for nothing, unless holes are kept."""
+    (folder / "d.csv").write_text("time,web,db\n0,0.3,0.2\n1,,\n2,0.1,null\n")
+    script = b"# arbiter run --processors 1 --period 100000 --slice 10000\nmkdir web\nmkdir db\n"
+    out, _ = ctl.run("series", "-", folder / "d.csv", "--to", "csv", *holes, given=script)
+    rows = list(csv.DictReader(io.StringIO(out)))
+    found = [" ".join(str(float(row["wants"])).removesuffix(".0") for row in rows
+                      if row["sample"] == str(at)) for at in range(3)]
+    assert found == wants
+
+
 def test_unknown_column(ctl, folder):
     (folder / "d.csv").write_text("Time,nothing\n1,0.5\n")
     words = ["series", ROOT / "examples/pod.script", folder / "d.csv"]
@@ -337,13 +351,15 @@ def test_prometheus(ctl):
              "--end", "2", "--step", "5m", "--to", "csv"]
     try:
         out, _ = ctl.run(*words, given=b"mkdir web\nwrite web cpu.max 100000\n")
+        kept, _ = ctl.run(*words, "--holes", "keep", given=b"mkdir web\n")
     finally:
         server.shutdown()
         server.server_close()
     rows = list(csv.DictReader(io.StringIO(out)))
     assert [(row["sample"], row["gets"], row["wants"]) for row in rows] == [
-        ("2026-01-05 10:00:00", "0.5", "0.5"), ("2026-01-05 10:05:00", "0.5", "0.5"),
+        ("2026-01-05 10:00:00", "0.5", "0.5"), ("2026-01-05 10:05:00", "0", "0"),
         ("2026-01-05 10:10:00", "1", "1.5")]
+    assert [row["wants"] for row in csv.DictReader(io.StringIO(kept))] == ["0.5", "0.5", "1.5"]
     assert "query=sum+by+%28pod%29+%28x%29" in Prometheus.asked[0]
     _, err = ctl.run(*words, given=b"mkdir web\n", status=1)
     assert "refused" in err

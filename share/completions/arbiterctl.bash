@@ -180,6 +180,7 @@ _arbiterctl() {
                 --sample) ;;
                 --groups) ;;
                 --map) ;;
+                --holes) mapfile -t COMPREPLY < <(compgen -W "zero keep" -- "$word") ;;
                 --to) mapfile -t COMPREPLY < <(compgen -W "table csv json openmetrics svg" -- "$word") ;;
                 -o|--output) ;;
                 --prometheus) ;;
@@ -204,7 +205,7 @@ _arbiterctl() {
                 --conversion) mapfile -t COMPREPLY < <(compgen -W "linear log" -- "$word") ;;
                 --driver) mapfile -t COMPREPLY < <(compgen -W "systemd cgroupfs" -- "$word") ;;
                 *)
-                    [[ $word == -* ]] && mapfile -t COMPREPLY < <(compgen -W "--csv --unit --sample --groups --map --summary --to -o --output --prometheus --query --start --end --step --label --cpus --processors --period --slice --library --program --from --want --scale --interval --samples --later --own --depth-read --node --conversion --driver --strict -h --help" -- "$word")
+                    [[ $word == -* ]] && mapfile -t COMPREPLY < <(compgen -W "--csv --unit --sample --groups --map --holes --summary --to -o --output --prometheus --query --start --end --step --label --cpus --processors --period --slice --library --program --from --want --scale --interval --samples --later --own --depth-read --node --conversion --driver --strict -h --help" -- "$word")
                     ;;
             esac
             ;;

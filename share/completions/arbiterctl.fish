@@ -166,6 +166,7 @@ complete -c arbiterctl -n '__fish_seen_subcommand_from series' -l unit -x -a 'cp
 complete -c arbiterctl -n '__fish_seen_subcommand_from series' -l sample -x -d 'how long a sample lasts, such as 5m (default: one period)'
 complete -c arbiterctl -n '__fish_seen_subcommand_from series' -l groups -x -d 'the groups that are shown (default: those of the columns)'
 complete -c arbiterctl -n '__fish_seen_subcommand_from series' -l map -x -d 'the group of a column whose name is not the group\'s'
+complete -c arbiterctl -n '__fish_seen_subcommand_from series' -l holes -x -a 'zero keep' -d 'an empty cell asks for nothing, or keeps the demand before it (default zero)'
 complete -c arbiterctl -n '__fish_seen_subcommand_from series' -l summary -d 'the sums alone'
 complete -c arbiterctl -n '__fish_seen_subcommand_from series' -l to -x -a 'table csv json openmetrics svg' -d 'what is written (default table)'
 complete -c arbiterctl -n '__fish_seen_subcommand_from series' -s o -l output -r -F -d 'the file that is written (default: standard output)'

@@ -33,13 +33,14 @@ def read_samples(options: argparse.Namespace, host: Host) -> list[samples.Sample
         missing = [key for key, value in words.items() if not value]
         if missing or options.demands:
             raise UsageFault("--prometheus takes --query, --start, --end and --step, and no file")
-        return samples.read_prometheus(options.prometheus, words, options.label, options.unit, host)
+        return samples.read_prometheus(options.prometheus, words, options.label, options.unit, host,
+                                       options.holes == "keep")
     if not options.demands:
         raise UsageFault("a file of demands, or --prometheus")
     data, name = load.file_bytes(options.demands), names.shown(options.demands)
     is_csv = options.csv or options.demands.lower().endswith((".csv", ".tsv"))
     if is_csv:
-        return samples.read_csv(data, name, options.unit, host)
+        return samples.read_csv(data, name, options.unit, host, 0, options.holes == "keep")
     return samples.read_pairs(data, name, options.unit, host)
 
 
@@ -88,6 +89,9 @@ def add_words(parser: argparse.ArgumentParser) -> None:
                         " those of the columns)")
     parser.add_argument("--map", action="append", default=[], metavar="COLUMN=GROUP",
                         help="the group of a column whose name is not the group's")
+    parser.add_argument("--holes", choices=("zero", "keep"), default="zero",
+                        help="an empty cell asks for nothing, or keeps the demand before it"
+                        " (default zero)")
     parser.add_argument("--summary", action="store_true", help="the sums alone")
     parser.add_argument("--to", choices=("table", "csv", "json", "openmetrics", "svg"),
                         default="table", help="what is written (default table)")
