@@ -578,5 +578,6 @@ def test_the_page_is_whole(ctl, fleet):
     page = fleet.parent / "fleet.html"
     ctl.run("fleet", "plan", fleet, "--workers", "0", "--html", page, status=1)
     text = page.read_text()
-    assert len(re.findall(r'<tr>\s*<th scope="row" data-head="[a-z]+">host-', text)) == HOSTS and "a&lt;b&gt;&amp;" in text
+    hosts_told = re.findall(r'<tr>\s*<th scope="row" data-head="[a-z]+">host-', text)
+    assert len(hosts_told) == HOSTS and "a&lt;b&gt;&amp;" in text
     assert "http" not in text and "a<b>" not in text

@@ -112,7 +112,8 @@ def examples(ctl, folder):
             folder / "host.script")
     (folder / "bin").mkdir()
     for name, text in (("arbiterctl", f'exec {sys.executable} {PACKAGE}/arbiterctl "$@"'),
-                       ("systemctl", "case \"$*\" in 'show --property=ControlGroup '*) echo /web.service;;"
+                       ("systemctl",
+                        "case \"$*\" in 'show --property=ControlGroup '*) echo /web.service;;"
                         f" show*) cat {fixtures}/units.show;;"
                         f" *) echo 200 > {folder}/cgroup/web.service/cpu.weight;; esac")):
         (folder / "bin" / name).write_text(f"#!/bin/sh\n{text}\n")
