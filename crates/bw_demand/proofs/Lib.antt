@@ -4,4 +4,5 @@ mod ByDepth
 mod Seen
 mod WantsGathered
 mod LimitingListed
+mod FirstFigures
 mod Joining

@@ -9,6 +9,8 @@ mod builder_cases;
 #[cfg(test)]
 mod core_cases;
 #[cfg(test)]
+mod figure_cases;
+#[cfg(test)]
 mod guarantee_cases;
 #[cfg(test)]
 mod instances;

@@ -1,8 +1,7 @@
 -- Lists of one entry for each row.
-use Rattle.std.proofs.Common.{◌≡◌, ℕ, ◌+◌, ◌<◌, List, [], ◌∷◌, ◌++◌, true, false, Some, length}
+use Rattle.std.proofs.Common.{◌≡◌, ℕ, ◌<◌, List, true, false, Some, length}
 use Rattle.std.proofs.Common.{get_or, ap, subst, sym, ◌∙◌, arith, inl, inr, ltb}
 use Rattle.std.proofs.lemmas.Bool.{cases_eq, cases_lt, lt-ltb, le-ltb}
-use Rattle.std.proofs.lemmas.List.{get_or_push, get_or_append_left}
 use Rattle.std.proofs.lemmas.List.FromFn.{length-map-range_with_len}
 use Rattle.bw_model.specs.Allocation.{total}
 use Rattle.bw_model.specs.Groups.{Groups, IsInstance, parent_of}
@@ -18,22 +17,6 @@ pub one_each : (groups : Groups) (amounts : List ℕ) → IsPlan groups amounts
 one_each groups amounts plan =
     ap length plan.amounts_are
     ∙ length-map-range_with_len (total groups.rows plan.allocation) 0 (length groups.rows)
-
--- What holds at each place, and of one entry more at its place, holds with that entry pushed.
-pub pushed : {X : Type 0} (P : ℕ → X → Type 0) (xs ys : List X) (y d : X) (n : ℕ)
-    → ys ≡ xs ++ y ∷ [] → length xs ≡ n → ((k : ℕ) → k < n → P k (get_or xs k d)) → P n y
-    → (k : ℕ) → k < n + 1 → P k (get_or ys k d)
-pushed P xs ys y d n is long each last k below =
-    subst (λ zs. P k (get_or zs k d)) (sym is)
-    (elim (cases_eq k n) [
-      | inl here ↦ subst (λ j. P j (get_or (xs ++ y ∷ []) j d)) (sym here)
-          (subst (P n) (sym (get_or_push xs y d n long)) last)
-      | inr other ↦
-          let before : k < n = omega (arith, below, other) in
-          subst (P k)
-          (sym (get_or_append_left xs (y ∷ []) d k (omega (arith, before, long))))
-          (each k before)
-    ])
 
 -- a reason by equal numbers
 pub fits_at : (g w v a b c d : ℕ) (reason : Reason) → w ≡ v → a ≡ b → c ≡ d

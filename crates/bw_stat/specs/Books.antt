@@ -5,6 +5,7 @@ use Rattle.std.specs.Map.{lookup, remove_entry}
 use Rattle.indexmap.specs.IndexMap.{insert_entry}
 use Rattle.bw_model.specs.declared.row.Row.{Row}
 use Rattle.bw_model.specs.declared.stat.Stat.{Stat}
+use Rattle.bw_demand.specs.Figures.{withheld_slices}
 
 -- the numbers that one period adds to the counters of one group, times in microseconds
 pub record Share : Type 0 where
@@ -13,13 +14,6 @@ pub record Share : Type 0 where
   pub withheld_usec : ℕ
   pub is_burst : Bool
   pub burst_usec : ℕ
-
--- slices that a throttled group wanted above its limit, 0 for the root, which has no parent
--- (sched-bwc.rst, "Statistics")
-abbrev pub withheld_slices : Option ℕ → Option ℕ → ℕ → ℕ
-withheld_slices None limit want = 0
-withheld_slices (Some parent) None want = 0
-withheld_slices (Some parent) (Some limit) want = want - limit
 
 -- slices that a group drew above its quota, 0 for the root, which has no parent
 -- (sched-bwc.rst, "Statistics")

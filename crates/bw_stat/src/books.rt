@@ -5,10 +5,10 @@ ghost use Rattle.std.specs.Option.{option_copied};
 ghost use Rattle.std.specs.List.{IsDistinct, starts_with};
 ghost use Rattle.std.specs.Map.{keys_of};
 ghost use Rattle.indexmap.specs.IndexMap.{spare};
-ghost use Rattle.bw_stat.specs.Books.{withheld_slices, burst, cut, periods_if, added, share_of};
+ghost use Rattle.bw_stat.specs.Books.{burst, cut, periods_if, added, share_of};
 ghost use Rattle.bw_stat.specs.Books.{shares_of, stat_at, or_zeros, with_share, booked, forgotten};
 
-use bw_demand::Gathered;
+use bw_demand::{Gathered, withheld_slices};
 use bw_model::{Instance, Row, Stat};
 use indexmap::IndexMap;
 use std::alloc::{AllocError, Global};
@@ -229,17 +229,6 @@ fn or_zeros(stat: Option<Stat>) -> Stat
             burst_usec: 0,
         },
         Some(stat) => stat,
-    }
-}
-
-// Slices that a throttled group wanted above its limit, 0 for the root. sched-bwc.rst,
-// "Statistics", counts the time of a throttled group; here the slices are withheld.
-fn withheld_slices(row: &Row, want: u64) -> u64
-    ensures { result ≡ withheld_slices row.now.parent row.now.limit want }
-{
-    match (row.parent, row.limit) {
-        (Some(_), Some(limit)) => want.saturating_sub(limit),
-        _ => 0,
     }
 }
 

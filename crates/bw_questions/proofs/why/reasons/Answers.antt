@@ -2,10 +2,11 @@
 use Rattle.std.proofs.Common.{◌≡◌, ◌+◌, ◌<◌, length, get_or, ap, ◌∙◌, arith}
 use Rattle.std.proofs.lemmas.List.{get_or_read, length_push}
 use Rattle.bw_demand.specs.Demands.{demands_of}
+use Rattle.bw_demand.proofs.CallerLemmas.{pushed}
 use Rattle.bw_questions.specs.declared.why.reason.Reason.TheVariants.{NothingAsked}
 use Rattle.bw_questions.specs.Reasons.{FitsReason}
 use Rattle.bw_questions.proofs.Blame.{within_want}
-use Rattle.bw_questions.proofs.Rows.{one_each, pushed, fits_at}
+use Rattle.bw_questions.proofs.Rows.{one_each, fits_at}
 use Rattle.bw_questions.proofs.why.reasons.Goals as goal
 
 pub index-requires-in-loop-g : goal.index-requires-in-loop-g

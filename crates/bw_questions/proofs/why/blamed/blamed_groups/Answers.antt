@@ -2,8 +2,9 @@
 use Rattle.std.proofs.Common.{◌≡◌, ◌+◌, ◌<◌, length, get_or, ap, ◌∙◌, arith}
 use Rattle.std.proofs.lemmas.List.{get_or_read, length_push}
 use Rattle.bw_demand.specs.Demands.{demands_of}
+use Rattle.bw_demand.proofs.CallerLemmas.{pushed}
 use Rattle.bw_questions.specs.Reasons.{IsBlamed}
-use Rattle.bw_questions.proofs.Rows.{one_each, pushed, next_blamed}
+use Rattle.bw_questions.proofs.Rows.{one_each, next_blamed}
 use Rattle.bw_questions.proofs.why.blamed.blamed_groups.Goals as goal
 
 pub index-requires : goal.index-requires
