@@ -1,8 +1,9 @@
 #!/usr/bin/env python3
-"""Writes the pages that are made of the sources: docs/DEFINITIONS.md, docs/CLAUSES.md and
-docs/PROOFS.md. With --check it writes nothing, and ends with 1 where a page is not up to date.
+"""Writes the pages that are made of the sources: docs/DEFINITIONS.md and docs/CLAUSES.md.
 
-    scripts/indexes.py [--check]
+    scripts/indexes.py             writes them
+    scripts/indexes.py --check     writes nothing, and ends with 1 where one is not up to date
+    scripts/indexes.py --lemmas    prints the list of lemma files, with what each proves
 """
 import re
 import sys
@@ -139,9 +140,9 @@ DEFINITIONS_HEAD = """# Definitions
 
 Made by `scripts/indexes.py` of the comments in `specs/`; a test holds it to them.
 Below are the predicates and records that a clause of a public function names \
-([CLAUSES.md](CLAUSES.md)), or another crate. `Plan.IsPlan` is in `specs/Plan.antt` of its crate.
-Of bw_model each predicate is there. The functions of bw_model and bw_machine are among them; \
-those of other crates are in the same files, each with a comment.
+([CLAUSES.md](CLAUSES.md)). `Plan.IsPlan` is in `specs/Plan.antt` of its crate.
+Of bw_model and bw_machine functions are there too, and what other crates name. Those of other \
+crates are in the same files, each with a comment.
 Numbers in definitions are whole numbers without bound. Words: [GLOSSARY.md](GLOSSARY.md).
 """
 
@@ -155,14 +156,15 @@ def imports(path: Path) -> Iterator[Tuple[str, str, str, str]]:
 
 
 def named() -> Set[Tuple[str, str, str]]:
-    """The definitions that a clause of a public function or another crate names."""
+    """The definitions that a clause of a public function names, and of `WHOLE` another crate."""
     found = set()
     for crate in crates():
         for path in sources(crate):
             words = {word for each in public_contracts(path) for word in each.words}
-            found |= {each[:3] for each in imports(path) if each[3] in words or each[0] != crate}
+            found |= {each[:3] for each in imports(path)
+                      if each[3] in words or crate != each[0] and each[0] in WHOLE}
         for path in (ROOT / "crates" / crate / "specs").rglob("*.antt"):
-            found |= {each[:3] for each in imports(path) if each[0] != crate}
+            found |= {each[:3] for each in imports(path) if crate != each[0] and each[0] in WHOLE}
     return found
 
 
@@ -201,9 +203,8 @@ def definitions_page() -> str:
 # Files of a function, whose head would say no more than their name, and lists of files. A file
 # beside a folder of its name lists that folder.
 LEFT_OUT = {"Answers.antt", "Invariants.antt", "Proof.antt", "Lib.antt", "CallerLemmas.antt"}
-PROOFS_HEAD = """# Index of the lemma files
+LEMMAS_HEAD = """# Lemma files
 
-Made by `scripts/indexes.py` of the head line of each file; a test holds it to the sources.
 Proofs of functions are not listed. Those of `f` in `src/m.rt` are in `proofs/m/f/`, in two files:
 
 - `Invariants.antt`: what each loop keeps.
@@ -214,8 +215,9 @@ What a crate offers to the crates above is in its `proofs/CallerLemmas.antt`.
 """
 
 
-def proofs_page() -> str:
-    text = PROOFS_HEAD
+def lemmas() -> str:
+    """The lemma files of each crate, with their head lines."""
+    text = LEMMAS_HEAD
     for crate in crates():
         top = ROOT / "crates" / crate / "proofs"
         files = sorted(path for path in top.rglob("*.antt")
@@ -229,8 +231,7 @@ def proofs_page() -> str:
 
 def pages() -> Dict[str, str]:
     """The text of each page, by its name in docs/."""
-    return {"DEFINITIONS.md": definitions_page(), "CLAUSES.md": clauses_page(),
-            "PROOFS.md": proofs_page()}
+    return {"DEFINITIONS.md": definitions_page(), "CLAUSES.md": clauses_page()}
 
 
 def stale() -> List[str]:
@@ -241,9 +242,12 @@ def stale() -> List[str]:
 
 
 def main(words: List[str]) -> int:
-    if words not in ([], ["--check"]):
-        print("usage: scripts/indexes.py [--check]", file=sys.stderr)
+    if words not in ([], ["--check"], ["--lemmas"]):
+        print("usage: scripts/indexes.py [--check | --lemmas]", file=sys.stderr)
         return 2
+    if words == ["--lemmas"]:
+        print(lemmas(), end="")
+        return 0
     if words:
         late = stale()
         for name in late:

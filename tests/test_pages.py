@@ -308,7 +308,7 @@ def test_loop_is_found(text):
 
 
 def test_indexes_are_up_to_date():
-    """DEFINITIONS, CLAUSES and PROOFS are as scripts/indexes.py writes them."""
+    """DEFINITIONS and CLAUSES are as scripts/indexes.py writes them."""
     same(indexes.stale(), [], "pages to write anew by scripts/indexes.py")
 
 
@@ -320,14 +320,21 @@ ROWS = {
                        "one thread |"),
     "CLAUSES.md": ("| `opening.rt` | `open` (range lock seats each err) |",
                    "| `by_depth.rt` | `gather` |", "| `gate.rt` | `uses` |"),
-    "PROOFS.md": ("| `allocation/Limiting.antt` | The limiting groups give the greatest total. |",),
 }
+LEMMAS = "| `allocation/Limiting.antt` | The limiting groups give the greatest total. |"
 
 
 @pytest.mark.parametrize("page", ROWS)
 def test_rows_of_indexes(page):
     lines = text_of(f"docs/{page}").splitlines()
     same([row for row in ROWS[page] if row not in lines], [], "rows that are not there")
+
+
+def test_lemma_files_are_listed():
+    listed = run([ROOT / "scripts/indexes.py", "--lemmas"])
+    same((listed.status, listed.err), (0, b""))
+    lines = listed.out.decode().splitlines()
+    assert LEMMAS in lines and len(lines) > 200
 
 
 CONTRACTS = """pub trait Gate {

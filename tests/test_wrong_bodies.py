@@ -100,6 +100,21 @@ def test_tests_are_there():
     same([each for each in cases if not is_case(*each)], [], "cases")
 
 
+def test_what_no_run_reaches():
+    """BUILDING has each file of tests of the crates of tests, and none that is not there."""
+    page = text_of("docs/BUILDING.md")
+    table = page[page.index("## What no run reaches"):page.index("## What a test costs")]
+    there = {(path.parts[-3], path.stem) for path in ROOT.glob("crates/bw_*_tests/src/*.rt")
+             if "#[test]" in path.read_text(encoding="utf-8")}
+    assert len(there) >= 20
+    same(sorted(set(re.findall(r"(bw_\w+_tests) `(\w+)`", table))), sorted(there), "files of tests")
+    words = [*re.findall(r"`(test_\w+\.py)`", table), *re.findall(r"`(test_\w+)`", table)]
+    tests = "".join(path.read_text(encoding="utf-8") for path in (ROOT / "tests").glob("test_*.py"))
+    same([word for word in words if not (ROOT / "tests" / word).is_file()
+          and f"\ndef {word}(" not in tests], [], "tests")
+    assert '"a period of 64 processors"' in tests
+
+
 def test_edits_are_there():
     """Each edit that a row names is one of the gate, or a body beside it."""
     named = re.findall(r"\b(?:edit|body) `(\w+)`", text_of(PLANTED))
