@@ -97,15 +97,18 @@ def sources(crate: str) -> List[Path]:
 def public_contracts(path: Path) -> List[Contract]:
     """The contracts of a file's public functions that ensure something."""
     found = contracts(path.read_text(encoding="utf-8"))
-    return [each for each in found if each.is_public and each.promises()]
+    return [each for each in found if each.is_public and each.promises()
+            and each.name not in FAULTS]
 
 
+# Each fault has them: its number and its name, by one clause each.
+FAULTS = ("number", "name")
 CLAUSES_HEAD = """# The clauses of each public function
 
 Made by `scripts/indexes.py` of the contracts in the sources; a test holds it to them. \
 The claims in plain words are in [PROVED.md](PROVED.md).
 Each function has the labels of what it ensures behind it. One without labels has one clause.
-Methods of traits are among them. What a function asks for (`requires`) is proved at its calls.
+Methods of traits are among them, and `number` and `name` of a fault are not. What a function asks for (`requires`) is proved at its calls.
 """
 
 
