@@ -108,7 +108,8 @@ CLAUSES_HEAD = """# The clauses of each public function
 Made by `scripts/indexes.py` of the contracts in the sources; a test holds it to them. \
 The claims in plain words are in [PROVED.md](PROVED.md).
 Each function has the labels of what it ensures behind it. One without labels has one clause.
-Methods of traits are among them, and `number` and `name` of a fault are not. What a function asks for (`requires`) is proved at its calls.
+Methods of traits are among them; `number` and `name` of a fault are not.
+What a function asks for (`requires`) is proved at its calls.
 """
 
 
