@@ -1,0 +1,4 @@
+-- The files of lemmas.
+mod AskingRows
+mod Leaves
+mod Rounds

@@ -1,0 +1,4 @@
+-- The files of definitions.
+pub mod Laws
+pub mod Reading
+pub mod Rule
