@@ -1,4 +1,6 @@
 -- The files of lemmas.
 mod AskingRows
+mod Counts
 mod Leaves
 mod Rounds
+mod Runs

@@ -459,6 +459,20 @@ module _ (used wants : Groups) (hungry : List Bool) (demands amounts : List ℕ)
         omega (arith, admitted_is l below leaf, free.0, room)
   ]
 
+  -- A hungry leaf is admitted as far as the round plans it.
+  pub not_above : (l : ℕ) → l < length wants.rows → is_leaf wants.rows l ≡ true
+      → is_hungry hungry l ≡ true
+      → min (demand_of wants.rows l) (get_or amounts l 0) ≤ admitted_at wants limits l
+  not_above l below leaf yes' = elim (cases_at l below leaf) [
+    | inl held ↦ omega (arith, admitted_is l below leaf, held)
+    | inr free ↦ absurd
+        (both_ways _
+        (reading.flags l below leaf
+        ∙ le-ltb (demand_of used.rows l) (demand_of wants.rows l)
+        (let all : demand_of used.rows l ≡ demand_of wants.rows l = free.1 in omega (arith, all)))
+        yes')
+  ]
+
   -- A round that plans no leaf more than it wants has the plan of the wants, and admits it.
   module _ (fits : (l : ℕ) → l < length wants.rows → is_leaf wants.rows l ≡ true
       → get_or amounts l 0 ≤ demand_of wants.rows l) where

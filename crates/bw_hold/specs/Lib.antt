@@ -1,4 +1,5 @@
 -- The files of definitions.
 pub mod Laws
 pub mod Reading
+pub mod Rounds
 pub mod Rule

@@ -6,7 +6,6 @@ use Rattle.std.specs.List.{range_with_len}
 use Rattle.std.specs.Option.{option_map_or}
 use Rattle.bw_model.specs.declared.row.Row.{Row}
 use Rattle.bw_model.specs.declared.limits.TheConstants.{MAX_DEMAND}
-use Rattle.bw_model.specs.Certificate.{Certified, IsAccepted}
 use Rattle.bw_model.specs.Groups.{Groups, parent_of, weight_of, demand_of, row_of, is_leaf}
 use Rattle.bw_model.specs.Plan.{IsPlan}
 
@@ -79,8 +78,3 @@ pub record IsRound (used : Groups) (hungry : List Bool) (demands amounts : List 
   pub amounts_are : IsPlan (round_of used hungry) amounts
   pub limits_are : limits ≡ map (round_limit used hungry floors amounts)
       (range_with_len 0 (length used.rows))
-
--- a certificate of the amounts of a round
-abbrev pub IsShown : Groups → List Bool → List ℕ → Certified → Type 0
-IsShown used hungry amounts certificate =
-    IsAccepted (round_of used hungry) amounts certificate

@@ -1,6 +1,7 @@
-//! Laws of one round, each the contract of a function that does no work of its own.
+//! Laws of the rule, each the contract of a function that does no work of its own.
 ghost use Rattle.bw_hold.specs.Laws.{NoneBelowItsGuarantee, GuaranteeIsAdmitted};
 ghost use Rattle.bw_hold.specs.Laws.{NoneAboveItsLimit, LimitsAdmitThePlan};
+ghost use Rattle.bw_hold.specs.Rounds.{PlanStays, NothingElseStays, PlanIsReached};
 
 use bw_plan::there_is_one_plan;
 
@@ -28,3 +29,22 @@ pub fn none_above_its_limit()
 pub fn limits_admit_the_plan()
     ensures { LimitsAdmitThePlan }
 {}
+
+/// Law: on a host that serves what fits, a plan of the wants that was served is served again.
+pub fn plan_stays()
+    ensures { PlanStays }
+{}
+
+/// Law: on a host that serves what fits, two rounds in which each leaf used as much served the plan
+/// of the wants.
+pub fn nothing_else_stays()
+    ensures { NothingElseStays }
+{}
+
+/// Law: on a host that serves what fits, from any limits, each round from number K + 1 on serves the
+/// plan of the wants. K is the number of leaves that this plan serves whole.
+pub fn plan_is_reached()
+    ensures { PlanIsReached }
+{
+    there_is_one_plan();
+}

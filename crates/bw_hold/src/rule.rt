@@ -1,8 +1,9 @@
 //! The rule of a round.
 ghost use Rattle.std.specs.Prelude.{◌≡◌, length, IfOk};
 ghost use Rattle.bw_model.specs.Plan.{IsPlan};
-ghost use Rattle.bw_model.specs.Certificate.{certified_of};
-ghost use Rattle.bw_hold.specs.Rule.{IsRound, IsShown, everyone};
+ghost use Rattle.bw_model.specs.Certificate.{certified_of, IsAccepted};
+ghost use Rattle.bw_cert.specs.Levels.{AreTightFlags, AreLevels};
+ghost use Rattle.bw_hold.specs.Rule.{IsRound, everyone, round_of};
 
 use crate::asking::{demands_of, round_of};
 use crate::limits::limits_of;
@@ -49,7 +50,12 @@ pub fn hold(alloc: Global, reading: &Instance, hungry: &[bool]) -> Result<Held, 
     requires { length hungry.now ≡ length reading.now.rows }
     ensures round { IfOk result (λ h. IsRound reading.now hungry.now h.demands.items h.amounts.items
         h.limits.items) }
-    ensures certified { IfOk result (λ h. IsShown reading.now hungry.now h.amounts.items
+    ensures certified { IfOk result (λ h. IsAccepted (round_of reading.now hungry.now)
+        h.amounts.items (certified_of h.certificate)) }
+    ensures flags { IfOk result
+        (λ h. AreTightFlags (round_of reading.now hungry.now) (certified_of h.certificate)) }
+    ensures levels { IfOk result
+        (λ h. AreLevels (round_of reading.now hungry.now) h.amounts.items
         (certified_of h.certificate)) }
 {
     let round = round_of(alloc, reading, hungry)?;

@@ -1,5 +1,8 @@
 -- The goals of `hold` that are answered by hand.
-use Rattle.std.proofs.Common.{◌∙◌, ℕ, length, ap}
+use Rattle.std.proofs.Common.{◌∙◌, ℕ, length, ap, subst}
+use Rattle.bw_model.specs.Certificate.{certified_of}
+use Rattle.bw_model.specs.Groups.{Groups}
+use Rattle.bw_cert.specs.Levels.{AreLevels}
 use Rattle.bw_hold.specs.Rule.{demand_where, is_hungry}
 use Rattle.bw_hold.proofs.AskingRows.{amount_each, as_many}
 use Rattle.bw_hold.proofs.rule.hold.Goals as goal
@@ -16,3 +19,9 @@ limits_of-requires-clause-amounts c =
     c.in_ok-planned.planned.amounts.items c.in_ok-planned.ensures
     ∙ rw c.in_ok-round.ensures.round
     (as_many used (λ g. demand_where used.rows (is_hungry c.args.hungry.now g) g))
+
+pub returns-clause-levels : goal.returns-clause-levels
+returns-clause-levels c =
+    subst (λ (g : Groups). AreLevels g c.in_ok-planned.planned.amounts.items
+    (certified_of c.in_ok-certificate.certificate)) c.in_ok-round.ensures.round
+    c.in_ok-certificate.ensures.levels
