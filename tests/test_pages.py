@@ -203,10 +203,11 @@ def test_one_time_of_the_first_run():
 
 
 def test_each_crate_is_described():
-    """PROVED has a section for each crate, or names it in bold. ARCHITECTURE names each crate."""
-    proved, architecture = text_of("docs/PROVED.md"), text_of("docs/ARCHITECTURE.md")
+    """CLAUSES has a section for each crate, or PROVED names it in bold. ARCHITECTURE names it."""
+    clauses, proved = text_of("docs/CLAUSES.md"), text_of("docs/PROVED.md")
+    architecture = text_of("docs/ARCHITECTURE.md")
     for crate in crates():
-        assert f"\n## {crate}\n" in proved or f"**{crate}**" in proved, crate
+        assert f"\n## {crate}\n" in clauses or f"**{crate}**" in proved, crate
         assert re.search(rf"\b{crate}\b", architecture), crate
 
 

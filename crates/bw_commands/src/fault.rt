@@ -16,13 +16,13 @@ pub enum ScriptFault {
     /// The call on the hierarchy was refused.
     #[error("{0}")]
     Call(Fault),
-    /// A thread of a period was refused.
+    /// A thread of a period could not be spawned.
     #[error("NotStarted")]
     NotStarted,
-    /// A growth was refused.
+    /// An allocation failed.
     #[error("OutOfMemory")]
     OutOfMemory,
-    /// No such first word, or not with so many words.
+    /// Unknown command, or wrong number of arguments.
     #[error("BadCommand")]
     BadCommand,
     /// The line is not UTF-8.
