@@ -38,7 +38,7 @@ NoneAboveItsLimit = (used : Groups) (hungry : List Bool) (demands amounts : List
     → own_limit used.rows leaf ≡ Some own
     → (limit : ℕ) × (limit_at limits leaf ≡ Some limit) × (limit ≤ own)
 
--- What the limits admit: in each group no more than its plan, and all of it fits the host.
+-- The admitted amounts: in each group no more than its plan, and all of it fits the host.
 pub record IsWithinPlan (wants : Groups) (limits : List (Option ℕ)) (planned : List ℕ) : Type 0
   where
     pub totals : (g : ℕ) → g < length wants.rows

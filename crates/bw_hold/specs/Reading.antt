@@ -1,4 +1,4 @@
--- What is read of a host, what limits admit there, and what a host serves.
+-- Readings of a host, the amounts that limits admit there, and what a host serves.
 use Rattle.std.specs.Prelude.{◌≡◌, ℕ, ◌<◌, ◌≤◌, List, Bool, true, Option, None, length, map, min}
 use Rattle.std.specs.Prelude.{nat_lt, slice_index_or, if◌then◌else◌}
 use Rattle.std.specs.List.{range_with_len}
