@@ -28,14 +28,14 @@ pub record IsTrueReading (wants used : Groups) (hungry : List Bool) : Type 0 whe
 abbrev pub limit_at : List (Option ℕ) → ℕ → Option ℕ
 limit_at limits g = slice_index_or limits g None
 
--- what limits admit of the want of a leaf, and 0 at other groups
+-- the part that limits admit of the want of a leaf, and 0 at other groups
 abbrev pub admitted_at : Groups → List (Option ℕ) → ℕ → ℕ
 admitted_at wants limits g =
     if is_leaf wants.rows g
     then option_map_or (min (demand_of wants.rows g)) (limit_at limits g) (demand_of wants.rows g)
     else 0
 
--- what limits admit of the wants of all leaves
+-- the parts that limits admit of the wants of all leaves
 abbrev pub admitted : Groups → List (Option ℕ) → List ℕ
 admitted wants limits = map (admitted_at wants limits) (range_with_len 0 (length wants.rows))
 

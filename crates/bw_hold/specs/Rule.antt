@@ -49,7 +49,7 @@ round_of used hungry =
 abbrev pub everyone : Groups → Groups
 everyone groups = asking groups (λ g. demand_where groups.rows true g)
 
--- what a leaf used and an eighth of it, or its own limit if that is less
+-- the slices that a leaf used and an eighth of it, or its own limit if that is less
 abbrev pub headroom : Row → ℕ
 headroom row =
     option_map_or (min (row.demand + row.demand / 8)) row.limit (row.demand + row.demand / 8)

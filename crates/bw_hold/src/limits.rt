@@ -9,7 +9,7 @@ ghost use Rattle.bw_hold.specs.Rule.{headroom, leaf_limit, own_limit, round_limi
 use bw_model::{Instance, Row};
 use std::alloc::{AllocError, Global};
 
-// What a leaf used and an eighth of it, at most its own limit.
+// Slices that a leaf used and an eighth of it, at most its own limit.
 fn headroom(row: &Row) -> u64
     requires { row.now.demand ≤ MAX_DEMAND }
     ensures { result ≡ headroom row.now }
