@@ -316,7 +316,7 @@ def test_indexes_are_up_to_date():
 # Rows that a reader looks for, read off the sources by hand.
 ROWS = {
     "DEFINITIONS.md": ("| `Plan.IsPlan` | the amounts are the totals of the best allocation |",
-                       "| `Demand.AreMaxTotals` | the most that each group can be given |",
+                       "| `Host.Shape` | the value of a host |",
                        "| `History.replay` | the machine after all calls of the history, played by "
                        "one thread |"),
     "CLAUSES.md": ("| `opening.rt` | `open` (range lock seats each err) |",

@@ -444,8 +444,6 @@ def test_help_of_build(copy):
     same(copy.call(["./build", "-h"])[1], out, "-h")
     places = re.findall(r"^  ((?:bin|lib|include|share)/\S+)$", out, re.M)
     same(len(places), 30, "places in help")
-    page = (ROOT / "docs/BUILDING.md").read_text()
-    same(set(re.findall(r"^    DIR/(\S+)$", page, re.M)), set(places), "places in BUILDING.md")
     no_folder = [(words, "needs a folder") for words in (["--install"], ["--install", ""])]
     for words, part in ((["--frob"], "'--frob'"), (["dir"], "'dir'"), *no_folder):
         status, out, err = copy.call(["./build", *words])

@@ -8,12 +8,9 @@ import json
 import sys
 from collections import defaultdict
 from collections.abc import Iterable, Iterator
-from fractions import Fraction
 from pathlib import Path
 from typing import Any
 
-from kernel import placed, scenario
-from kernel.__main__ import SCENARIOS
 from kernel.readings import KEYS
 
 Saved = dict[str, Any]
@@ -59,23 +56,6 @@ def worst(repeats: list[Saved]) -> str:
     return f"{path.rpartition('/')[2]} {spread(min(found[path]), max(found[path]))}"
 
 
-def from_placement(repeats: list[Saved]) -> str:
-    """How far the groups of each repeat were from the shares of the placement that was seen: the
-    least and the greatest of the repeats."""
-    found = scenario.read(SCENARIOS / f"{repeats[0]['scenario']}.script")
-    if found.is_series or found.processors == 1:
-        return ""
-    furthest = []
-    for saved in repeats:
-        supply = Fraction(1 - saved["others"] - saved["stolen"]).limit_denominator(10**6)
-        tasks = [(task["path"], task["seen"]) for task in saved["tasks"]]
-        had = {line["path"]: line["had"] for line in saved["lines"]}
-        wanted = placed.calculated(found, tasks, supply)
-        furthest.append(placed.furthest(had, wanted, found.leaves))
-    one, two = f"{min(furthest):.2f}", f"{max(furthest):.2f}"
-    return one if one == two else f"{one} to {two}"
-
-
 def is_wrong(line: Saved) -> bool:
     """Whether a group is judged and out of its bounds."""
     return line["least"] is not None and not line["least"] <= line["had"] <= line["most"]
@@ -98,15 +78,15 @@ def verdict(repeats: list[Saved]) -> str:
 def cells(repeats: list[Saved]) -> str:
     """The cells of a scenario on a kernel."""
     if not repeats:
-        return " | | |"
-    return f" {worst(repeats)} ({len(repeats)}) | {from_placement(repeats)} | {verdict(repeats)} |"
+        return " | |"
+    return f" {worst(repeats)} ({len(repeats)}) | {verdict(repeats)} |"
 
 
 def rows(found: list[Saved]) -> Iterator[str]:
     """The rows of a table: for each scenario each kernel's worst group and its verdict."""
     kernels = sorted({kernel_of(saved) for saved in found}, key=lambda each: int(each[2:]))
-    yield "| Scenario |" + "".join(f" {name}: group, off | placed | |" for name in kernels)
-    yield "|---|" + "---|---|---|" * len(kernels)
+    yield "| Scenario |" + "".join(f" {name}: group, off | |" for name in kernels)
+    yield "|---|" + "---|---|" * len(kernels)
     for name in sorted({str(saved["scenario"]) for saved in found}):
         of = [[saved for saved in found if saved["scenario"] == name and kernel_of(saved) == kernel]
               for kernel in kernels]
