@@ -24,6 +24,8 @@ FILES = Path(__file__).with_name("test_real_files.py")
 LATER = 21300
 # Runs of one boot.
 BATCH = 12
+# Seconds of a processor for a second of a guest of one processor, and of several, about.
+ONE_GUEST, SEVERAL = 0.5, 3
 # What `arbiterctl import` writes above the demand of a group whose tasks are known.
 TASKS = re.compile(r"# tasks ([0-9]+)")
 
@@ -119,6 +121,18 @@ def arguments(words: list[str]) -> argparse.Namespace:
     return parser.parse_args(words)
 
 
+def announced(found: list[Scenario], options: argparse.Namespace) -> str:
+    """How many runs there will be, and about how long they take one processor."""
+    runs, seconds = 0, 0.0
+    for name in options.kernels.split(","):
+        for each in found:
+            if each.kernel in ("", name):
+                cost = ONE_GUEST if each.processors == 1 else SEVERAL
+                runs += options.repeats
+                seconds += options.repeats * cost * (options.seconds + options.settle)
+    return f"{runs} runs, about {max(round(seconds / 60), 1)} minutes of a processor"
+
+
 def setting_of(options: argparse.Namespace) -> machine.Setting:
     """How the guests run."""
     real = options.kvm or options.tcg
@@ -155,6 +169,7 @@ def work(words: list[str]) -> int:
     if lacks:
         raise faults.KernelFault(lacks)
     planned.program()
+    print(announced(found, options), flush=True)
     setting, outcomes = setting_of(options), []
     for name in options.kernels.split(","):
         kernel = packages.kernel(name)

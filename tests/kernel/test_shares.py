@@ -4,6 +4,7 @@ from fractions import Fraction
 
 import pytest
 
+from kernel import __main__ as main
 from kernel import (compare, deliberate, exact, layout, machine, page, placed, planned,
                     readings, real_apply, scenario, table)
 from kernel.__main__ import SCENARIOS, batches, sources
@@ -170,6 +171,14 @@ def test_spread_tasks_keep_to_one_processor_each():
     assert [free.leaves["a"].mask(number) for number in range(3)] == [3, 3, 3]
     assert compare.is_even(free)
     assert not compare.is_even(of(f"#: --processors 2 --tasks 3 --spread\n{text}"))
+
+
+def test_runs_are_announced():
+    """One processor: 2 kernels, 5 repeats, 12 s at half; two: the same at three times."""
+    options = main.arguments(["x"])
+    found = [of("mkdir a\ndemand a 100\n"), of("#: --processors 2\nmkdir a\ndemand a 100\n")]
+    assert main.announced(found[:1], options) == "10 runs, about 1 minutes of a processor"
+    assert main.announced(found, options) == "20 runs, about 7 minutes of a processor"
 
 
 def test_features_are_set_and_set_back():
