@@ -33,6 +33,14 @@ pub(crate) fn place_of(groups: &Groups, id: GroupId) -> Option<usize>
     search(groups, id)
 }
 
+// Group with this id, which stands at this place.
+pub(crate) fn group_there(groups: &Groups, id: GroupId, place: usize) -> &Group
+    requires { position (nat_eq id) (keys_of groups.now.items) ≡ Some place }
+    ensures { group_at groups.now.items id ≡ Some result.now }
+{
+    &groups[place].1
+}
+
 // Whether the group with this id stands at the place of the same number.
 fn is_in_place(groups: &Groups, id: GroupId) -> bool
     ensures within { result ≡ true → id < length groups.now.items }

@@ -1,9 +1,10 @@
 //! First refusal of each call on a tree, if any.
-ghost use Rattle.std.specs.Prelude.{◌≡◌, is_some};
+ghost use Rattle.std.specs.Prelude.{◌≡◌, is_some, position, nat_eq, Some};
+ghost use Rattle.std.specs.Map.{keys_of};
 ghost use Rattle.bw_tree.specs.Groups.{above, child_of, demand_at, has_children, IsTree};
 ghost use Rattle.bw_tree.specs.Tree.{mkdir_refusal, demand_refusal, setting_refusal, rmdir_refusal};
 
-use crate::by_id::place_of;
+use crate::by_id::group_there;
 use crate::fault::TreeFault;
 use crate::group::GroupId;
 use crate::names::is_name;
@@ -11,30 +12,30 @@ use crate::tree::Tree;
 use bw_model::limits::{MAX_DEMAND, MAX_DEPTH, MAX_GROUPS};
 
 impl Tree {
-    // Refusal of a new group with this name below a parent. `child` is the parent's child that has
-    // the name.
+    // Refusal of a new group with this name below the parent, which stands at the place `above`.
+    // `child` is the parent's child that has the name.
     pub(crate) fn mkdir_refusal(
         &self,
         parent: GroupId,
+        above: usize,
         name: &str,
         child: Option<GroupId>,
     ) -> Option<TreeFault>
-        requires { child ≡ child_of self.now.groups parent name.now }
+        requires place { position (nat_eq parent) (keys_of self.now.groups) ≡ Some above }
+        requires child { child ≡ child_of self.now.groups parent name.now }
         ensures { result ≡ mkdir_refusal self.now parent name.now }
     {
-        let Some(above) = self.group(parent) else {
-            return Some(TreeFault::NotFound);
-        };
+        let group = group_there(&self.groups, parent, above);
         if !is_name(name) {
             return Some(TreeFault::BadName);
         }
-        if above.demand > 0 {
+        if group.demand > 0 {
             return Some(TreeFault::ParentHasDemand);
         }
         if child.is_some() {
             return Some(TreeFault::Exists);
         }
-        if self.is_deepest(parent) {
+        if self.is_deepest(parent, above) {
             return Some(TreeFault::TooDeep);
         }
         if self.groups.len() >= MAX_GROUPS {
@@ -109,13 +110,11 @@ impl Tree {
         None
     }
 
-    // Whether a group is `MAX_DEPTH` levels below the root.
-    fn is_deepest(&self, id: GroupId) -> bool
+    // Whether the group that stands at this place is `MAX_DEPTH` levels below the root.
+    fn is_deepest(&self, id: GroupId, place: usize) -> bool
+        requires { position (nat_eq id) (keys_of self.now.groups) ≡ Some place }
         ensures { result ≡ is_some (above self.now.groups MAX_DEPTH id) }
     {
-        match place_of(&self.groups, id) {
-            None => false,
-            Some(place) => u64::from(self.nodes[place].depth) >= MAX_DEPTH,
-        }
+        u64::from(self.nodes[place].depth) >= MAX_DEPTH
     }
 }

@@ -1,6 +1,7 @@
 //! The groups of a tree as an instance on a host.
 ghost use Rattle.std.specs.Prelude.{◌≡◌, ◌≤◌, length, nat_eq, IfSome, IfOk, IfErr, Some};
 ghost use Rattle.std.specs.List.{IsDistinct};
+ghost use Rattle.std.specs.Vec.{vec_capacity};
 ghost use Rattle.bw_model.specs.Groups.{IsInstance};
 ghost use Rattle.bw_tree.specs.Groups.{IsSound};
 ghost use Rattle.std.specs.Map.{keys_of};
@@ -50,6 +51,8 @@ impl Tree {
         ensures quotas { IfOk result (λ s. s.quotas.items ≡ base_of self.now.groups shape) }
         ensures count { IfOk result (λ s. (length s.ids.items ≡ length s.instance.rows)
             × (length s.quotas.items ≡ length s.instance.rows)) }
+        ensures room { IfOk result (λ s. (vec_capacity s.ids ≡ length self.now.groups)
+            × (vec_capacity s.quotas ≡ length self.now.groups)) }
         ensures distinct { IfOk result (λ s. IsDistinct nat_eq s.ids.items) }
         ensures err { IfErr result (λ e. e ≡ TreeFault.OutOfMemory) }
     {
@@ -70,6 +73,9 @@ impl Tree {
         ensures ids { IfOk result (λ c. c.ids.items ≡ keys_of self.now.groups) }
         ensures rows { IfOk result (λ c. c.rows.items ≡ rows_of self.now.groups shape) }
         ensures quotas { IfOk result (λ c. c.quotas.items ≡ base_of self.now.groups shape) }
+        ensures room { IfOk result (λ c. (vec_capacity c.ids ≡ length self.now.groups)
+            × (vec_capacity c.rows ≡ length self.now.groups)
+            × (vec_capacity c.quotas ≡ length self.now.groups)) }
     {
         let alloc = *self.groups.allocator();
         let count = self.groups.len();

@@ -1,5 +1,5 @@
 -- What stands at each turn of the loop in `Tree::columns`.
-use Rattle.std.proofs.Common.{◌≡◌, ◌≤◌, length, map, take}
+use Rattle.std.proofs.Common.{◌≡◌, length, map, take}
 use Rattle.std.specs.Prelude.{vec_len, vec_capacity}
 use Rattle.std.specs.Map.{keys_of, values_of}
 use Rattle.bw_tree.specs.Snapshot.{row_of, quota_slices}
@@ -13,9 +13,9 @@ invariant-loop-id l = record {
   quotas : l.quotas.items ≡ map (quota_slices l.shape)
       (values_of (take l.id-index l.self.groups));
   ids_len : vec_len l.ids ≡ l.id-index;
-  ids_room : length l.self.groups ≤ vec_capacity l.ids;
+  ids_room : vec_capacity l.ids ≡ length l.self.groups;
   rows_len : vec_len l.rows ≡ l.id-index;
-  rows_room : length l.self.groups ≤ vec_capacity l.rows;
+  rows_room : vec_capacity l.rows ≡ length l.self.groups;
   quotas_len : vec_len l.quotas ≡ l.id-index;
-  quotas_room : length l.self.groups ≤ vec_capacity l.quotas;
+  quotas_room : vec_capacity l.quotas ≡ length l.self.groups;
 }

@@ -24,7 +24,7 @@ invariant_of-result c =
     record {
       tree = subst (λ es. IsTree (record { groups = es; next = c.self.inside.next_id })) (sym same)
           c.self.invariant.tree;
-      index = c.in_ok-children.ensures;
+      index = c.in_ok-children.ensures.index;
       nodes = subst (AreNodesOf c.in_ok-groups.groups.items) (sym beside)
           (subst (λ es. AreNodesOf es c.self.inside.nodes.items) (sym same)
           c.self.invariant.nodes);
