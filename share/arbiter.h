@@ -99,6 +99,21 @@ uint32_t arbiter_limiting(uint64_t processors, uint64_t period_us, uint64_t slic
                           const uint64_t *limits, size_t limits_length, const uint64_t *demands, size_t demands_length,
                           uint32_t *groups, size_t groups_length, uint32_t *count, uint64_t *rest);
 
+/* Writes what each group wants, is given at most and splits, one of each for each row:
+ *   wants           slices that it would take without its own limit: its demand, or what its children are given at most
+ *   mosts           slices that it is given at most: its want, cut at its own limit, of row 0 at the capacity
+ *   tights          1 where its own limit, of row 0 the capacity, is below its want, else 0
+ *   actives         the number of its children that can be given a slice: their mosts is above 0
+ *   active_weights  the sum of the weights of these children
+ *   withheld        slices that its own limit withholds of its want: what nr_throttled and throttled_usec of a period count; 0
+ *                   for row 0 */
+uint32_t arbiter_figures(uint64_t processors, uint64_t period_us, uint64_t slice_us,
+                         const uint32_t *parents, size_t parents_length, const uint64_t *weights, size_t weights_length,
+                         const uint64_t *limits, size_t limits_length, const uint64_t *demands, size_t demands_length,
+                         uint64_t *wants, size_t wants_length, uint64_t *mosts, size_t mosts_length,
+                         uint8_t *tights, size_t tights_length, uint32_t *actives, size_t actives_length,
+                         uint64_t *active_weights, size_t active_weights_length, uint64_t *withheld, size_t withheld_length);
+
 /* Writes why each group gets what it gets to `reasons`, and the row that the reason blames to `blamed`.
  * The reason is the first of these lines that holds:
  *   ARBITER_NOTHING_ASKED  it wants nothing

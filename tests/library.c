@@ -30,6 +30,13 @@ int main(void)
     uint8_t reasons[7];
     uint32_t blamed[7];
     uint64_t least = 9;
+    const uint64_t wants_of[7] = {30, 20, 40, 20, 20, 0, 1}, mosts_of[7] = {20, 20, 9, 20, 20, 0, 1};
+    const uint64_t weights_of[7] = {300, 0, 200, 0, 0, 0, 0}, withheld_of[7] = {0, 0, 31, 0, 0, 0, 0};
+    const uint8_t tights_of[7] = {1, 0, 1, 0, 0, 0, 0};
+    const uint32_t actives_of[7] = {3, 0, 2, 0, 0, 0, 0};
+    uint64_t wants[7], mosts[7], active_weights[7], withheld[7];
+    uint8_t tights[7];
+    uint32_t actives[7];
 
     if (arbiter_plan(0, 100000, 5000, parents, 3, weights, 3, limits, 3, demands, 3, amounts, 3) != 1 || amounts[0] != 1)
         return 1;
@@ -105,5 +112,13 @@ int main(void)
         return 33;
     if (arbiter_name(20, name, sizeof name) != 8 || !is_same(name, "NotFound"))
         return 34;
+    if (arbiter_figures(1, 100000, 5000, above, 7, hundreds, 7, pod_of_9, 7, wanted, 7, wants, 7, mosts, 7, tights, 7, actives, 7, active_weights, 7, withheld, 7) != 0)
+        return 35;
+    for (int g = 0; g < 7; g++)
+        if (wants[g] != wants_of[g] || mosts[g] != mosts_of[g] || tights[g] != tights_of[g] || actives[g] != actives_of[g]
+                || active_weights[g] != weights_of[g] || withheld[g] != withheld_of[g])
+            return 36;
+    if (arbiter_figures(1, 100000, 5000, above, 7, hundreds, 7, pod_of_9, 7, wanted, 7, wants, 7, mosts, 7, tights, 7, actives, 7, active_weights, 7, withheld, 6) != 50 || withheld[2] != 31)
+        return 37;
     return 0;
 }

@@ -71,7 +71,40 @@ def reasons_told(calls, host, rows: Sequence[Row]) -> Tuple[int, List[int], List
     return number, list(reasons), list(blamed)
 
 
+def figures_told(calls, host, rows: Sequence[Row], lengths: Sequence[int] = ()
+                 ) -> Tuple[int, List[List[int]]]:
+    """The number that the figures are answered with, and the six columns, which had 7 in them."""
+    count = len(rows)
+    types = [arbiter.U64, arbiter.U64, arbiter.U8, arbiter.U32, arbiter.U64, arbiter.U64]
+    columns = [(kind * count)(*[7] * count) for kind in types]
+    words = with_lengths([*raw_columns(rows), *columns], lengths or [count] * 10)
+    number = calls.arbiter_figures(*host_words(host), *words)
+    return number, [list(column) for column in columns]
+
+
 # Worked values
+
+
+def test_figures(calls):
+    """`pod` wants 40 and has a limit of 9, so the root wants 30 of its 20 slices."""
+    same(figures_told(calls, HOST, POD),
+         (0, [[30, 20, 40, 20, 20, 0, 1], [20, 20, 9, 20, 20, 0, 1], [1, 0, 1, 0, 0, 0, 0],
+              [3, 0, 2, 0, 0, 0, 0], [300, 0, 200, 0, 0, 0, 0], [0, 0, 31, 0, 0, 0, 0]]))
+    rows = [Row(None), Row(0, 300, 0), Row(0, 50, 8), Row(1, demand=5), Row(2, 7, demand=8)]
+    same(figures_told(calls, HOST, rows),
+         (0, [[8, 5, 8, 5, 8], [8, 0, 8, 5, 8], [0, 1, 0, 0, 0], [1, 1, 1, 0, 0],
+              [50, 100, 7, 0, 0], [0, 5, 0, 0, 0]]), "limits of 0 and of all that is wanted")
+
+
+def test_figures_are_refused(calls):
+    """A wrong length of each column in turn, and a refused row. Nothing is written."""
+    sevens = [[7] * len(POD)] * 6
+    for at in range(4, 10):
+        lengths = [len(POD)] * 10
+        lengths[at] -= 1
+        same(figures_told(calls, HOST, POD, lengths), (50, sevens), f"column {at}")
+    heavy = [*POD[:6], Row(0, 10001)]
+    same(figures_told(calls, HOST, heavy), (6, sevens), "a weight of 10001")
 
 
 def test_reasons(calls):

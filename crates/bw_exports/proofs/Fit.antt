@@ -2,8 +2,7 @@
 -- not.
 use Rattle.std.proofs.Common.{◌≡◌, Bool, true, false, cond, ap}
 use Rattle.bw_model.specs.Host.{Shape}
-use Rattle.bw_exports.specs.Asked.{Table, asked_number}
-use Rattle.bw_exports.specs.Certified.{asked_number_where}
+use Rattle.bw_exports.specs.Asked.{Table, asked_number, asked_number_where}
 
 pub where_unfit : (fit : Bool) (shape : Shape) (table : Table) → fit ≡ false
     → asked_number_where fit shape table ≡ 50

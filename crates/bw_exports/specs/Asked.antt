@@ -113,3 +113,13 @@ Answers refused number = (number ≡ refused) ⊎ ((number ≡ 71) × IsAfterMem
 unfoldable pub asked_number_with : ℕ → Shape → Table → ℕ
 asked_number_with count shape table =
     if count == length table.parents then asked_number shape table else 50
+
+-- the number that refuses what is asked, 50 also where the columns for the answer are not of the
+-- rows' length
+unfoldable pub asked_number_where : Bool → Shape → Table → ℕ
+asked_number_where fit shape table = if fit then asked_number shape table else 50
+
+-- the number that refuses the program's host and columns, 50 also where the columns for the answer
+-- are not of the rows' length
+abbrev pub refusal_where : Bool → Host → Columns → ℕ
+refusal_where fit host columns = asked_number_where fit (shape_of host) (table_of columns)

@@ -1,13 +1,10 @@
 -- A plan with its certificate, in columns of numbers.
 use Rattle.std.specs.Prelude.{◌≡◌, ℕ, List, Bool, true, false, Option, Some, None, length, map}
-use Rattle.std.specs.Prelude.{if◌then◌else◌}
 use Rattle.bw_model.specs.declared.mark.Mark.{Mark}
-use Rattle.bw_model.specs.Host.{Shape}
 use Rattle.bw_model.specs.Groups.{Groups}
 use Rattle.bw_model.specs.Plan.{IsPlan}
 use Rattle.bw_model.specs.Certificate.{Certified, IsAccepted}
 use Rattle.bw_cert.specs.Levels as of
-use Rattle.bw_exports.specs.Asked.{Table, asked_number}
 use Rattle.bw_exports.specs.Checked.{Claimed, IsSpelled}
 use Rattle.bw_exports.specs.declared.certify_call.Found.{Found}
 
@@ -67,8 +64,3 @@ pub record AreLong (found : Found) (count : ℕ) : Type 0 where
   pub nums : length found.nums.items ≡ count
   pub dens : length found.dens.items ≡ count
   pub places : length found.places.items ≡ count
-
--- the number that refuses what is asked, 50 also where the columns for the answer are not of the
--- rows' length
-unfoldable pub asked_number_where : Bool → Shape → Table → ℕ
-asked_number_where fit shape table = if fit then asked_number shape table else 50

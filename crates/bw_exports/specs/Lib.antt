@@ -5,6 +5,7 @@ pub mod Names
 pub mod Checked
 pub mod Limited
 pub mod Certified
+pub mod Figured
 pub mod Texts
 pub mod Units
 pub mod RefusedRow

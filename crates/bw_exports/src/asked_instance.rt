@@ -1,7 +1,7 @@
 //! The instance of a call.
 ghost use Rattle.std.specs.Prelude.{◌≡◌, true, IfOk, IfErr, OnOk};
 ghost use Rattle.bw_model.specs.Groups.{IsInstance};
-ghost use Rattle.bw_exports.specs.Asked.{groups_asked, refusal_of, Answers};
+ghost use Rattle.bw_exports.specs.Asked.{groups_asked, refusal_of, refusal_where, Answers};
 ghost use Rattle.bw_exports.specs.Numbers.{number_of_refusal};
 
 use crate::columns::Columns;
@@ -12,9 +12,9 @@ use std::alloc::Global;
 /// The numbers of a host, as a caller gives them: period and slice in microseconds.
 #[derive(Clone, Copy)]
 pub(crate) struct Host {
-    processors: u64,
-    period_us: u64,
-    slice_us: u64,
+    pub(crate) processors: u64,
+    pub(crate) period_us: u64,
+    pub(crate) slice_us: u64,
 }
 
 impl Host {
@@ -61,4 +61,27 @@ pub(crate) fn instance_of(
         Ok(instance) => Ok(instance),
         Err(fault) => Err(Refusal::Instance(fault)),
     }
+}
+
+/// The instance of a host and its rows, if the columns for the answer have the rows' length.
+///
+/// # Errors
+/// `WrongLength` if they do not, then the refusals of [`instance_of`].
+pub(crate) fn instance_where(
+    alloc: Global,
+    fit: bool,
+    host: Host,
+    columns: &Columns<'_>,
+) -> Result<Instance, Refusal>
+    ensures groups { IfOk result (λ i. i ≡ groups_asked host columns.now) }
+    ensures valid { IfOk result IsInstance }
+    ensures fit { OnOk result (fit ≡ true) }
+    ensures none { OnOk result (refusal_where fit host columns.now ≡ 0) }
+    ensures err { IfErr result
+        (λ e. Answers (refusal_where fit host columns.now) (number_of_refusal e)) }
+{
+    if !fit {
+        return Err(Refusal::WrongLength);
+    }
+    instance_of(alloc, host, columns)
 }

@@ -1,9 +1,8 @@
 //! `arbiter_certify`: the planner with a certificate, called from C.
 ghost use Rattle.std.specs.Prelude.{◌≡◌, ◌<◌, ◌∷◌, [], true, length, IfOk, IfErr, OnOk};
 ghost use Rattle.bw_exports.specs.Asked.{groups_asked, refusal_of, are_of_length, Answers};
-ghost use Rattle.bw_exports.specs.Asked.{asked_host, asked_table, groups_in};
+ghost use Rattle.bw_exports.specs.Asked.{asked_host, asked_table, groups_in, asked_number_where};
 ghost use Rattle.bw_exports.specs.Certified.{IsCertifiedPlan, claimed_in, AreLong};
-ghost use Rattle.bw_exports.specs.Certified.{asked_number_where};
 ghost use Rattle.bw_exports.specs.Checked.{claimed_columns};
 ghost use Rattle.bw_exports.specs.Numbers.{number_of_refusal};
 

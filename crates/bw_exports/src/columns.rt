@@ -14,10 +14,10 @@ pub const NO_LIMIT: u64 = 18_446_744_073_709_551_615;
 /// Columns of the rows: parents, weights, limits and demands in slices.
 #[derive(Clone, Copy)]
 pub(crate) struct Columns<'a> {
-    parents: &'a [u32],
-    weights: &'a [u64],
-    limits: &'a [u64],
-    demands: &'a [u64],
+    pub(crate) parents: &'a [u32],
+    pub(crate) weights: &'a [u64],
+    pub(crate) limits: &'a [u64],
+    pub(crate) demands: &'a [u64],
 }
 
 fn parent_of(number: u32) -> Option<u32>

@@ -11,6 +11,7 @@ mod claim;
 mod columns;
 mod demand_call;
 mod fault;
+mod figures_call;
 mod front;
 mod guarantee_call;
 mod least_limit_call;

@@ -1,8 +1,7 @@
 //! `arbiter_reasons`: why each group gets what it gets, called from C.
 ghost use Rattle.std.specs.Prelude.{◌≡◌, ◌<◌, ◌∷◌, [], length, IfOk, IfErr, OnOk};
 ghost use Rattle.bw_exports.specs.Asked.{groups_asked, refusal_of, are_of_length, Answers};
-ghost use Rattle.bw_exports.specs.Asked.{asked_host, asked_table, groups_in};
-ghost use Rattle.bw_exports.specs.Certified.{asked_number_where};
+ghost use Rattle.bw_exports.specs.Asked.{asked_host, asked_table, groups_in, asked_number_where};
 ghost use Rattle.bw_exports.specs.Numbers.{number_of_refusal};
 ghost use Rattle.bw_exports.specs.Reasoned.{AreReasonColumns};
 

@@ -89,6 +89,23 @@ pub struct Certificate {
     pub levels: Vec<Option<Level>>,
 }
 
+/// What a group wants, can be given and splits, in slices of one period.
+#[derive(Clone, Copy, Debug, PartialEq, Eq)]
+pub struct Figures {
+    /// The slices that it would take without its own limit.
+    pub want: u64,
+    /// The slices that it can be given at most: the root its capacity at most.
+    pub most: u64,
+    /// Whether its own limit is below its want.
+    pub tight: bool,
+    /// The number of its children that can be given a slice.
+    pub active: u32,
+    /// The sum of the weights of these children.
+    pub active_weight: u64,
+    /// The slices that its own limit withholds of its want, 0 for the root.
+    pub withheld: u64,
+}
+
 /// Why a group gets its amount. Each group has exactly one reason.
 #[derive(Clone, Copy, Debug, PartialEq, Eq)]
 pub enum Reason {
@@ -216,6 +233,25 @@ pub fn limiting(host: Host, rows: &[Row]) -> Result<(Vec<u32>, u64), Fault> {
     )?;
     groups.truncate(count as usize);
     Ok((groups, rest))
+}
+
+/// The figures of each row.
+///
+/// # Errors
+/// As of [`plan`].
+pub fn figures(host: Host, rows: &[Row]) -> Result<Vec<Figures>, Fault> {
+    let (columns, mut found) = (Columns::of(rows), raw::FigureColumns::room(rows.len()));
+    of_rows(columns.figures(host, &mut found), &columns)?;
+    Ok((0..rows.len())
+        .map(|row| Figures {
+            want: found.wants[row],
+            most: found.mosts[row],
+            tight: found.tights[row] != 0,
+            active: found.actives[row],
+            active_weight: found.active_weights[row],
+            withheld: found.withheld[row],
+        })
+        .collect())
 }
 
 /// The reason for each row's amount.
@@ -435,6 +471,47 @@ mod tests {
         };
         let (web, a, b) = (wants(0, 20), wants(2, 20), wants(2, 20));
         [Row::ROOT, web, pod, a, b, Row::under(0), wants(0, 1)]
+    }
+
+    #[test]
+    fn tells_figures() {
+        let leaf = |want| Figures {
+            want,
+            most: want,
+            tight: false,
+            active: 0,
+            active_weight: 0,
+            withheld: 0,
+        };
+        let root = Figures {
+            want: 30,
+            most: 20,
+            tight: true,
+            active: 3,
+            active_weight: 300,
+            withheld: 0,
+        };
+        let pod_of_9 = Figures {
+            want: 40,
+            most: 9,
+            tight: true,
+            active: 2,
+            active_weight: 200,
+            withheld: 31,
+        };
+        assert_eq!(
+            figures(Host::default(), &pod()),
+            Ok(vec![
+                root,
+                leaf(20),
+                pod_of_9,
+                leaf(20),
+                leaf(20),
+                leaf(0),
+                leaf(1)
+            ])
+        );
+        assert_eq!(figures(Host::default(), &[]), Err(fault(5, None)));
     }
 
     #[test]

@@ -29,6 +29,13 @@ extern "C" {
                         parents: *const u32, parents_length: usize, weights: *const u64, weights_length: usize,
                         limits: *const u64, limits_length: usize, demands: *const u64, demands_length: usize,
                         groups: *mut u32, groups_length: usize, count: *mut u32, rest: *mut u64) -> u32;
+    fn arbiter_figures(processors: u64, period_us: u64, slice_us: u64,
+                       parents: *const u32, parents_length: usize, weights: *const u64, weights_length: usize,
+                       limits: *const u64, limits_length: usize, demands: *const u64, demands_length: usize,
+                       wants: *mut u64, wants_length: usize, mosts: *mut u64, mosts_length: usize,
+                       tights: *mut u8, tights_length: usize, actives: *mut u32, actives_length: usize,
+                       active_weights: *mut u64, active_weights_length: usize,
+                       withheld: *mut u64, withheld_length: usize) -> u32;
     fn arbiter_reasons(processors: u64, period_us: u64, slice_us: u64,
                        parents: *const u32, parents_length: usize,
                        weights: *const u64, weights_length: usize,
@@ -76,6 +83,30 @@ pub(crate) struct Columns {
     weights: Vec<u64>,
     limits: Vec<u64>,
     demands: Vec<u64>,
+}
+
+/// Figures, by column.
+pub(crate) struct FigureColumns {
+    pub(crate) wants: Vec<u64>,
+    pub(crate) mosts: Vec<u64>,
+    pub(crate) tights: Vec<u8>,
+    pub(crate) actives: Vec<u32>,
+    pub(crate) active_weights: Vec<u64>,
+    pub(crate) withheld: Vec<u64>,
+}
+
+impl FigureColumns {
+    /// Columns of so many rows.
+    pub(crate) fn room(count: usize) -> FigureColumns {
+        FigureColumns {
+            wants: vec![0; count],
+            mosts: vec![0; count],
+            tights: vec![0; count],
+            actives: vec![0; count],
+            active_weights: vec![0; count],
+            withheld: vec![0; count],
+        }
+    }
 }
 
 /// A certificate, by column.
@@ -151,6 +182,22 @@ impl Columns {
                              self.parents.as_ptr(), self.parents.len(), self.weights.as_ptr(), self.weights.len(),
                              self.limits.as_ptr(), self.limits.len(), self.demands.as_ptr(), self.demands.len(),
                              groups.as_mut_ptr(), groups.len(), count, rest)
+        }
+    }
+
+    #[rustfmt::skip]
+    pub(crate) fn figures(&self, host: Host, figures: &mut FigureColumns) -> u32 {
+        // SAFETY: as above
+        unsafe {
+            arbiter_figures(host.processors, host.period_us, host.slice_us,
+                            self.parents.as_ptr(), self.parents.len(), self.weights.as_ptr(), self.weights.len(),
+                            self.limits.as_ptr(), self.limits.len(), self.demands.as_ptr(), self.demands.len(),
+                            figures.wants.as_mut_ptr(), figures.wants.len(),
+                            figures.mosts.as_mut_ptr(), figures.mosts.len(),
+                            figures.tights.as_mut_ptr(), figures.tights.len(),
+                            figures.actives.as_mut_ptr(), figures.actives.len(),
+                            figures.active_weights.as_mut_ptr(), figures.active_weights.len(),
+                            figures.withheld.as_mut_ptr(), figures.withheld.len())
         }
     }
 
