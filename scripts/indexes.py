@@ -138,8 +138,10 @@ DEFINITION = re.compile(
 IMPORT = re.compile(r"^(?:ghost )?use Rattle\.(\w+)\.specs\.([\w.]+)\.\{([^}]*)\}", re.M)
 # Crates whose functions are there beside their predicates and records.
 WHOLE = ("bw_model", "bw_machine")
-# Programs and the C library. Their definitions put those of the crates below into other forms.
-OUTERMOST = ("arbiter", "bw_exports", "wake_states", "plan_bench")
+# Programs and the C library, whose definitions put those of the crates below into other forms, and
+# crates of laws, which docs/LAWS.md has in words.
+LEFT_OUT_CRATES = ("arbiter", "bw_exports", "wake_states", "plan_bench", "bw_split_laws",
+                   "bw_plan_laws", "bw_shape_laws")
 # Functions of a refusal that say no more than their names.
 PLAIN = re.compile(r"_fault_(?:number|name)$")
 DEFINITIONS_HEAD = """# Definitions
@@ -149,7 +151,7 @@ Below are the predicates and records that a clause of a public function names \
 ([CLAUSES.md](CLAUSES.md)). `Plan.IsPlan` is in `specs/Plan.antt` of its crate.
 Of bw_model and bw_machine functions are there too, and what other crates name. Those of other \
 crates are in the same files, each with a comment. Programs and the C library are left out: they \
-put the same into other forms.
+put the same into other forms. So are crates of laws: [LAWS.md](LAWS.md).
 Numbers in definitions are whole numbers without bound. Words: [GLOSSARY.md](GLOSSARY.md).
 """
 
@@ -194,7 +196,7 @@ def is_listed(crate: str, file: str, name: str, known: Set[Tuple[str, str, str]]
 
 def definitions_page() -> str:
     text, known = DEFINITIONS_HEAD, named()
-    for crate in [each for each in crates() if each not in OUTERMOST]:
+    for crate in [each for each in crates() if each not in LEFT_OUT_CRATES]:
         top, rows = ROOT / "crates" / crate / "specs", ""
         for path in sorted(top.rglob("*.antt")):
             file = str(path.relative_to(top).with_suffix(""))

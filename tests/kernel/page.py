@@ -65,13 +65,12 @@ def verdict(repeats: list[Saved]) -> str:
     """How often groups were out of their bounds."""
     refused = sum(1 for saved in repeats if saved["refusal"])
     lines = [line for saved in repeats for line in saved["lines"] if line["least"] is not None]
-    names = {line["path"].rpartition("/")[2] for line in lines}
     out: dict[str, int] = defaultdict(int)
     for line in lines:
         if is_wrong(line):
             out[line["path"].rpartition("/")[2]] += 1
     words = [f"out: {', '.join(f'{name} {count}' for name, count in out.items())}"
-             if out else f"within: {', '.join(sorted(names))}" if lines else "not judged"]
+             if out else "within" if lines else "not judged"]
     return "; ".join(words + ([f"refused: {refused}"] if refused else []))
 
 

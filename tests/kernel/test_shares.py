@@ -205,7 +205,7 @@ def test_page_of_saved_runs(tmp_path):
                     + saved("6.12.1", 19.9, 19.8))
     found = page.read([str(file)])
     assert list(page.rows(found))[2:] == [
-        "| `one-weights` | a +0.10 (1) | within: a | a -0.10 to +0.50 (2) | out: a 1 |"]
+        "| `one-weights` | a +0.10 (1) | within | a -0.10 to +0.50 (2) | out: a 1 |"]
     assert page.totals(found).startswith("3 runs, 3 groups judged, 1 out of bounds, 0 runs refused")
 
 
