@@ -799,8 +799,8 @@ def embedded(name):
 
 
 EXAMPLES = {"two-groups.c": ["cc", "pkg-config"], "two_groups.py": ["python3"],
-            "Cargo.toml": ["cargo", "rustc", "pkg-config"], "questions.c": ["cc", "pkg-config"],
-            "questions.py": ["python3"], "units.py": ["python3"]}
+            "Cargo.toml": ["cargo", "rustc", "pkg-config"], "questions.py": ["python3"],
+            "units.py": ["python3"]}
 
 
 @pytest.mark.parametrize("name", EXAMPLES)
