@@ -8,7 +8,7 @@ complete -c arbiterctl -n __fish_use_subcommand -f -a picture -d 'draw a plan as
 complete -c arbiterctl -n __fish_use_subcommand -f -a report -d 'write a plan as one HTML page'
 complete -c arbiterctl -n __fish_use_subcommand -f -a series -d 'plan many samples of demands'
 complete -c arbiterctl -n __fish_use_subcommand -f -a top -d 'live view over a host\'s cgroups and their plan'
-complete -c arbiterctl -n __fish_use_subcommand -f -a fleet -d 'ask many hosts at once, on Dask\'s workers'
+complete -c arbiterctl -n __fish_use_subcommand -f -a fleet -d 'ask many hosts at once, on all processors'
 complete -c arbiterctl -n __fish_use_subcommand -f -a apply -d 'set weights and limits on a host; without --yes only print'
 complete -c arbiterctl -n __fish_use_subcommand -f -a undo -d 'bring the settings before `apply` back'
 complete -c arbiterctl -n __fish_use_subcommand -f -a import -d 'write what a source holds as a script or a host file'

@@ -1,14 +1,14 @@
-"""Dask's workers: of a cluster of this machine's processors, or of a running scheduler.
+"""Dask's workers: those of a running scheduler.
 
 Dask schedules, carries bytes and notices workers that die. A lost batch is given again by
-`gather`, which bounds that and names what stays without an answer.
+`gather`, which bounds that and names what stays without an answer. Dask's own messages can carry
+objects, so whoever the scheduler lets in can run code here: docs/FLEET.md says who trusts whom.
 """
 from __future__ import annotations
 
 import importlib
 import logging
 import queue
-import tempfile
 import threading
 import time
 import uuid
@@ -26,20 +26,13 @@ from arbiter_host.fleet.pool import PoolGone, Reply
 from arbiter_host.fleet.work import Item
 
 # Seconds that one question to the scheduler may take, and that it may be out of reach.
-ASK_SECONDS, GONE_SECONDS = 15.0, 15.0
+ASK_SECONDS, GONE_SECONDS = 15.0, 5.0
 # Seconds from one look at the workers to the next.
 LOOK_SECONDS = 1.0
-CLOSE_SECONDS = 10.0
+CLOSE_SECONDS = 3.0
 GONE = "the scheduler went away"
-SETTINGS = {
-    # A lost batch is reported at once: it is given again here.
-    "distributed.scheduler.allowed-failures": 0,
-    # Batches are few and of equal length.
-    "distributed.scheduler.work-stealing": False,
-    # The profile of each worker's threads is read by nobody.
-    "distributed.worker.profile.interval": "1s",
-    "distributed.worker.profile.cycle": "60s",
-}
+# Loggers of what is told by the gatherer, or of nobody.
+LOGGERS = ("distributed", "asyncio", "tornado")
 
 
 def failure(future: Any) -> str:
@@ -52,34 +45,20 @@ def failure(future: Any) -> str:
 
 
 class Cluster:
-    """Workers that a scheduler knows. Without an address it is a cluster of this machine."""
+    """Workers that a scheduler knows."""
 
-    def __init__(self, workers: int, address: str | None) -> None:
-        dask: Any = importlib.import_module("dask")
+    def __init__(self, address: str) -> None:
         distributed: Any = importlib.import_module("distributed")
-        # What happens to workers is told by the gatherer.
-        logging.disable(logging.CRITICAL)
+        for name in LOGGERS:
+            logging.getLogger(name).setLevel(logging.CRITICAL + 1)
         warnings.filterwarnings("ignore", module="distributed")
-        dask.config.set(SETTINGS)
-        self.folder = tempfile.TemporaryDirectory(prefix="arbiter-fleet-")
-        self.local: Any = None
         try:
-            if address is None:
-                self.local = distributed.LocalCluster(
-                    n_workers=0, threads_per_worker=1, processes=True, host="127.0.0.1",
-                    dashboard_address="127.0.0.1:0", silence_logs=logging.CRITICAL,
-                    local_directory=self.folder.name, extensions={})
-                # (not awaited: a worker that dies while it begins would hold up all others)
-                self.local.scale(workers)
-            # What workers answer is bytes, and never a pickled object.
+            # What workers answer is taken as bytes. TLS is as the configuration of Dask says.
             self.client: Any = distributed.Client(
-                self.local.scheduler_address if self.local else address,
-                set_as_default=False, timeout=ASK_SECONDS,
+                address, set_as_default=False, timeout=ASK_SECONDS,
                 deserializers=["dask", "msgpack", "error"])
-        except (OSError, ValueError, RuntimeError) as error:
-            self.folder.cleanup()
-            where = names.shown(address) if address else "a cluster of this machine"
-            raise HostFault(f"{where}: {names.shown(str(error))}") from error
+        except (OSError, ValueError, RuntimeError, TypeError) as error:
+            raise HostFault(f"{names.shown(address)}: {names.shown(str(error))}") from error
         self.run = uuid.uuid4().hex
         self.done: queue.Queue[int] = queue.Queue()
         # The batches under way, and the worker of each.
@@ -167,8 +146,7 @@ class Cluster:
             why = failure(future)
             return Reply(key, worker, b"" if why else None, why or f"{worker} died")
         if future.status != "finished":
-            with suppress(Exception):
-                future.cancel(force=True)
+            self.cancel([future])
             return Reply(key, worker, None, f"{worker} is gone")
         try:
             data = future.result(timeout=ASK_SECONDS)
@@ -180,10 +158,15 @@ class Cluster:
         is_bytes = isinstance(data, bytes)
         return Reply(key, worker, data if is_bytes else b"", "" if is_bytes else "no bytes")
 
+    def cancel(self, futures: list[Any]) -> None:
+        """Has the scheduler forget futures, if it is there to be asked."""
+        if self.client.status == "running":
+            with suppress(Exception):
+                self.client.cancel(futures, force=True)
+
     def drop(self, key: int) -> str:
         future, worker = self.futures.pop(key), self.given.pop(key)
-        with suppress(Exception):
-            future.cancel(force=True)
+        self.cancel([future])
         if worker not in self.shunned:
             self.shun(worker)
             threading.Thread(target=self.restart, args=(worker,), daemon=True).start()
@@ -198,15 +181,8 @@ class Cluster:
         self.shunned.add(worker)
 
     def close(self) -> None:
-        """Ends the cluster that it began. A scheduler of others goes on."""
-        with suppress(Exception):
-            self.client.cancel(list(self.futures.values()), force=True)
+        """Leaves the scheduler, which goes on."""
+        self.cancel(list(self.futures.values()))
         self.futures.clear()
         with suppress(Exception):
             self.client.close(timeout=CLOSE_SECONDS)
-        if self.local is not None:
-            with suppress(Exception):
-                self.local.close(timeout=CLOSE_SECONDS)
-        with suppress(OSError):
-            self.folder.cleanup()
-        logging.disable(logging.NOTSET)

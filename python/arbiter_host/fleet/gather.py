@@ -33,8 +33,6 @@ from arbiter_host.fleet.work import Item
 TARGET_SECONDS = 1.0
 # Hosts, or samples, of the batches before the first reply, and of any batch.
 FIRST_UNITS, MOST_UNITS = 4, 2000
-# Batches under way for each worker, so that none waits for the gatherer.
-DEEP = 2
 # Times that a host alone is given out before it is named as not answered.
 MOST_TRIES = 3
 # Batches lost in a row, for each worker, after which nothing more is given out.
@@ -237,8 +235,11 @@ class Gatherer:
         return Batch(tasks) if tasks else None
 
     def fill(self) -> None:
-        """Sets batches under way until each worker has enough."""
-        while len(self.under) < self.pool.size * (1 if self.pool.is_own else DEEP):
+        """Sets batches under way until each worker has one.
+
+        None waits behind another, so that the time of each runs from the beginning of its work.
+        """
+        while len(self.under) < self.pool.size:
             batch = self.next_batch()
             if batch is None:
                 return

@@ -1,4 +1,7 @@
-"""Where batches run. Here: in this process, one after another. `cluster` has Dask's workers."""
+"""Where batches run. Here: in this process, one after another.
+
+`processes` has workers of this machine, `cluster` those of a scheduler of Dask.
+"""
 from __future__ import annotations
 
 from collections import deque

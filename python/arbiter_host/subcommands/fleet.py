@@ -17,6 +17,7 @@ from arbiter_host.fleet.gather import Asked, Gatherer
 from arbiter_host.fleet.job import Job, reading
 from arbiter_host.fleet.pieces import Lines
 from arbiter_host.fleet.pool import Here, Pool
+from arbiter_host.fleet.processes import Processes
 from arbiter_host.fleet.store import Store
 from arbiter_host.model import Group, Model
 from arbiter_host.output import emit_json, write_file
@@ -67,7 +68,8 @@ def job_of(options: argparse.Namespace) -> Job:
     """What is asked of each host."""
     pods = []
     if options.action == "place":
-        pods = [[path, base64.b64encode(load.file_bytes(path)).decode()] for path in options.source]
+        pods = [[names.shown(path), base64.b64encode(load.file_bytes(path)).decode()]
+                for path in options.source]
     library = options.library
     if library and "/" in library:
         library = os.path.abspath(library)
@@ -106,10 +108,10 @@ def asked_of(options: argparse.Namespace) -> Asked:
 def pool_of(options: argparse.Namespace) -> Pool:
     """Where batches run."""
     if options.scheduler is not None:
-        return Cluster(0, options.scheduler)
+        return Cluster(options.scheduler)
     workers = os.cpu_count() or 1 if options.workers is None else options.workers
     if workers:
-        return Cluster(workers, None)
+        return Processes(workers)
     return Here()
 
 
@@ -227,10 +229,13 @@ DETAILS = (
     "series plans samples of demands: HOST.csv of a folder for each host, as of series, or one CSV"
     " with the columns time, host, group and demand. Samples of a host are planned in order, with"
     " what was saved up.",
-    "Hosts are planned in batches by Dask's workers, and each plan is accepted by the proved check"
-    " there. A sample or all of them are checked again where they are gathered. A batch that is"
-    " lost is given again, a host alone at most three times. A worker whose answer is refused gets"
-    " nothing more, and what it sent before is asked again.",
+    "Hosts are planned in batches by processes of this machine, which talk over pipes, or by the"
+    " workers of a scheduler of Dask. Each plan is accepted by the proved check there. A sample or"
+    " all of them are checked again where they are gathered. A batch that is lost is given again, a"
+    " host alone at most three times. A worker whose answer is refused gets nothing more, and what"
+    " it sent before is asked again.",
+    "Nothing listens without --scheduler. Whoever a scheduler of Dask lets in can run code in all"
+    " that talk to it, this process too: use tls:// with certificates, and machines of your own.",
     "A host that is not answered is named with the reason, and the exit status is 1.",
 )
 EXAMPLES = (
@@ -243,7 +248,7 @@ EXAMPLES = (
      "arbiterctl fleet series hosts demands --sample 30m --db day.sqlite"),
     ("where a pod would go", "arbiterctl fleet place pod.toml --hosts hosts --by most-left"),
 )
-FLEET = Subcommand("fleet", "ask many hosts at once, on Dask's workers",
+FLEET = Subcommand("fleet", "ask many hosts at once, on all processors",
                    "Plans many hosts at once and reports what the fleet serves and lacks, what a"
                    " change does to it, how it fares over time, or where a pod would go.",
                    add_words, run, DETAILS, EXAMPLES)
