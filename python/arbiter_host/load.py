@@ -4,6 +4,7 @@ from __future__ import annotations
 import argparse
 import os
 import re
+import stat
 import sys
 from collections.abc import Sequence
 from dataclasses import replace
@@ -19,6 +20,7 @@ from arbiter_host.sources import (cgroup2, cgroups, containers, hostfile, kubern
 
 KINDS = ("script", "toml", "yaml", "json", "cgroup", "kubernetes", "systemd", "docker")
 MAX_FILE = 512 << 20
+TOO_LONG = f"more than {MAX_FILE >> 20} MiB"
 PIECE = 1 << 20
 MAX_SECONDS = 86400
 
@@ -125,21 +127,38 @@ def bounded(file: BinaryIO) -> bytes:
     return bytes(data)
 
 
-def file_bytes(path: str) -> bytes:
-    """The bytes of a file; `-` is standard input."""
-    shown = names.shown(path)
+def check_file(path: str, found: os.stat_result, is_plain: bool) -> None:
+    """A fault where a file is no plain one but has to be, or is too long to be read."""
+    is_regular = stat.S_ISREG(found.st_mode)
+    if is_plain and not is_regular:
+        raise HostFault(f"{names.shown(path)}: no plain file")
+    if is_regular and found.st_size > MAX_FILE:
+        raise HostFault(f"{names.shown(path)}: {TOO_LONG}")
+
+
+def opened_bytes(path: str, is_plain: bool) -> bytes:
+    """The bytes of a file. What has to be plain is opened in a way that waits for nobody."""
+    if is_plain:
+        check_file(path, os.stat(path), True)
+    flags = os.O_RDONLY | os.O_CLOEXEC | (os.O_NONBLOCK if is_plain else 0)
+    with os.fdopen(os.open(path, flags), "rb") as file:
+        check_file(path, os.fstat(file.fileno()), is_plain)
+        return bounded(file)
+
+
+def file_bytes(path: str, is_plain: bool = False) -> bytes:
+    """The bytes of a file; `-` is standard input, unless the file has to be plain."""
     try:
-        if path == "-":
+        if path == "-" and not is_plain:
             data = bounded(sys.stdin.buffer) if sys.stdin else b""
         else:
-            with open(path, "rb") as file:
-                data = bounded(file)
+            data = opened_bytes(path, is_plain)
     except OSError as error:
-        raise HostFault(f"{shown}: {strerror(error)}") from error
+        raise HostFault(f"{names.shown(path)}: {strerror(error)}") from error
     except ValueError as error:
-        raise HostFault(f"{shown}: no path") from error
+        raise HostFault(f"{names.shown(path)}: no path") from error
     if len(data) > MAX_FILE:
-        raise HostFault(f"{shown}: more than {MAX_FILE >> 20} MiB")
+        raise HostFault(f"{names.shown(path)}: {TOO_LONG}")
     return data
 
 

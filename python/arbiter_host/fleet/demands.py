@@ -26,7 +26,7 @@ def folder(path: str) -> Callable[[str], Lines]:
     @functools.lru_cache(maxsize=KEPT)
     def of_host(host: str) -> Lines:
         name = os.path.join(path, f"{host}.csv")
-        return pieces.lines_of(load.file_bytes(name), shown(name))
+        return pieces.lines_of(load.file_bytes(name, True), shown(name))
 
     return of_host
 

@@ -107,16 +107,16 @@ def digest_of(item: Item) -> str:
 def parsed(batch: Batch, data: bytes) -> tuple[list[list[Any]], dict[str, Any]]:
     """The results of a reply, one for each task in order, and the reply itself."""
     try:
-        reply = json.loads(data.decode())
+        reply = forms.read(data.decode())
     except (ValueError, RecursionError) as error:
         raise Refused("no JSON") from error
-    if isinstance(reply, dict) and isinstance(reply.get("unable"), str):
+    if isinstance(reply, dict) and forms.is_text(reply.get("unable")):
         raise Refused(reply["unable"])
-    if isinstance(reply, dict) and isinstance(reply.get("lost"), str):
+    if isinstance(reply, dict) and forms.is_text(reply.get("lost")):
         raise Lost(reply["lost"])
     if not (isinstance(reply, dict) and reply.keys() == {"results", "processor"}
             and forms.fits(reply["results"], [(str, int, str, [str])])
-            and isinstance(reply["processor"], float)):
+            and forms.is_seconds(reply["processor"])):
         raise Refused("not of the form of a reply")
     asked = [(task.item.host, task.item.part) for task in batch.tasks]
     if asked != [(host, part) for host, part, *_ in reply["results"]]:
@@ -124,18 +124,26 @@ def parsed(batch: Batch, data: bytes) -> tuple[list[list[Any]], dict[str, Any]]:
     return reply["results"], reply
 
 
-def of_form(action: str, text: str) -> dict[str, Any]:
+def of_form(job: Job, parts: int, text: str) -> dict[str, Any]:
     """A result of the right form: `answer` with an answer, or `why` with a text."""
     try:
-        found = json.loads(text)
+        found = forms.read(text)
     except (ValueError, RecursionError) as error:
         raise Refused("no JSON") from error
     if isinstance(found, dict):
-        if found.keys() == {"why"} and isinstance(found["why"], str):
+        if found.keys() == {"why"} and forms.is_text(found["why"]):
             return found
-        if found.keys() == {"answer"} and forms.is_answer(action, found["answer"]):
+        if found.keys() == {"answer"} and forms.is_answer(job.action, found["answer"]) and (
+                is_of_job(job, parts, found["answer"])):
             return found
     raise Refused("not of the form of an answer")
+
+
+def is_of_job(job: Job, parts: int, answer: dict[str, Any]) -> bool:
+    """Whether an answer has an entry for each pod or sample that was asked."""
+    if job.action == "place":
+        return [pod["pod"] for pod in answer["pods"]] == [name for name, _ in job.pods]
+    return job.action != "series" or len(answer["samples"]) == parts
 
 
 class Gatherer:
@@ -204,7 +212,7 @@ class Gatherer:
         """A task; a fault where a file cannot be read."""
         path = self.asked.hosts[host].path
         rows = self.asked.demands(host).piece(part, parts) if self.asked.demands else b""
-        item = Item(host, path, load.file_bytes(path), part, rows, state)
+        item = Item(host, path, load.file_bytes(path, True), part, rows, state)
         return Task(item, parts, digest_of(item))
 
     def units(self) -> int:
@@ -310,7 +318,7 @@ class Gatherer:
         first = reply.worker not in self.seen
         for task, (host, part, text, certificates) in zip(batch.tasks, results):
             try:
-                found = of_form(self.asked.job.action, text)
+                found = of_form(self.asked.job, task.parts, text)
                 is_checked = self.is_chosen(first or "why" in found)
                 if is_checked:
                     self.check(task, text, None if "why" in found else certificates)
