@@ -136,8 +136,7 @@ class Model:
             raise HostFault(f"{names.shown(group.path)}: two groups of this path")
         if group.path.count("/") >= MAX_DEPTH:
             raise HostFault(f"{names.shown(group.path)}: more than {MAX_DEPTH} levels")
-        if len(self.groups) + 1 >= MAX_GROUPS:
-            raise HostFault(f"more than {MAX_GROUPS} groups with the root; --depth leaves some out")
+        check_count(len(self.groups) + 1, "the groups")
         self.groups[group.path] = group
         return group
 
@@ -173,6 +172,13 @@ class Model:
         """The same model, whose groups can be changed."""
         groups = {path: replace(group) for path, group in self.groups.items()}
         return replace(self, groups=groups, notes=list(self.notes), refused=list(self.refused))
+
+
+def check_count(many: int, what: str) -> None:
+    """A fault where so many groups below the root are more than the planner takes."""
+    if many >= MAX_GROUPS:
+        raise HostFault(f"{what}: more than {MAX_GROUPS} groups with the root; --depth-read leaves"
+                        " some out")
 
 
 def checked_number(value: int, least: int, most: int, what: str) -> int:

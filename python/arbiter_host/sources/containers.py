@@ -9,7 +9,7 @@ from typing import Any
 from arbiter_host import demands, names, units
 from arbiter_host.demands import Measured
 from arbiter_host.faults import HostFault
-from arbiter_host.model import Group, Host, Model
+from arbiter_host.model import Group, Host, Model, check_count
 from arbiter_host.sources import systemd
 from arbiter_host.sources.data import loads, number, table, text
 
@@ -90,13 +90,17 @@ def parent_path(model: Model, folder: str) -> str:
     return path or "."
 
 
-def add(model: Model, container: dict[str, Any], wish: Wish) -> None:
-    """Adds a container's group."""
+def add(model: Model, container: dict[str, Any], wish: Wish, taken: dict[str, set[str]]) -> None:
+    """Adds a container's group. `taken` has the names of containers below each folder."""
     folder = parent_of(container, wish)
     parent = parent_path(model, folder)
-    name = text(container, "Name").strip("/") or text(container, "Id") or "unnamed"
-    taken = {names.last_name(path) for path in model.groups if names.parent_path(path) == parent}
-    group = model.add(Group(names.joined(parent, names.path_name(name, taken))))
+    raw = text(container, "Name").strip("/") or text(container, "Id") or "unnamed"
+    name = names.path_name(raw, taken.setdefault(parent, set()))
+    if names.joined(parent, name) in model.groups:
+        taken[parent].add(name)
+        name = names.path_name(raw, taken[parent])
+    taken[parent].add(name)
+    group = model.add(Group(names.joined(parent, name)))
     group.place = f"{folder}/{scope_of(container, wish)}"
     group.title = text(table(container, "Config"), "Image")
     config = table(container, "HostConfig")
@@ -127,8 +131,13 @@ def read(files: Sequence[tuple[str, bytes]], host: Host, wish: Wish = Wish()) ->
     running = [each for each in found if is_running(each)]
     if len(running) < len(found):
         model.notes.append(f"containers that do not run, left out: {len(found) - len(running)}")
+    check_count(len(running), f"{len(running)} containers")
+    # Folders come first, so that no container's name takes the path of one.
     for container in running:
-        add(model, container, wish)
+        parent_path(model, parent_of(container, wish))
+    taken: dict[str, set[str]] = {}
+    for container in running:
+        add(model, container, wish, taken)
     measured = {path: Measured() for path in model.groups}
     demands.set_demands(model, measured, wish.want, Fraction(1))
     return model

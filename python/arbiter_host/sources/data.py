@@ -7,10 +7,13 @@ from typing import Any
 from arbiter_host.faults import HostFault
 
 MAX_TEXT = 253
+MAX_BYTES = 128 << 20
 
 
 def loads(data: bytes, name: str) -> Any:
     """The data of a JSON file; a fault names file and line."""
+    if len(data) > MAX_BYTES:
+        raise HostFault(f"{name}: more than {MAX_BYTES >> 20} MiB")
     try:
         return json.loads(data.decode("utf-8-sig"))
     except UnicodeDecodeError as error:

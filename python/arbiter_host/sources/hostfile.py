@@ -16,15 +16,20 @@ import tomllib
 from collections.abc import Callable
 from dataclasses import replace
 from fractions import Fraction
-from typing import Any
+from typing import Any, NoReturn
 
 from arbiter_host import names, units
 from arbiter_host.faults import HostFault
-from arbiter_host.model import Group, Host, Model, check_settings
+from arbiter_host.model import Group, Host, Model, check_count, check_settings
 
 HOST_KEYS = ("cpus", "period", "slice")
 GROUP_KEYS = ("weight", "max", "period", "burst", "demand", "tasks", "title", "place")
-MAX_NESTING = 100
+# Bounds of a host file: bytes, and of YAML nesting, nodes, keys that `<<` brings all in all, and
+# letters of a number. All are checked before the work that they bound.
+MAX_BYTES = 32 << 20
+MAX_NESTING, MAX_NODES, MAX_MERGED, MAX_DIGITS = 100, 500000, 100000, 40
+# Most of the sum over the lines of TOML of the squares of their dots: a name of n parts takes n^2.
+MAX_DOTS = 10**9
 
 
 class Places:
@@ -60,6 +65,7 @@ def parsed(text: str, name: str, kind: str) -> Any:
     """The data of a file."""
     try:
         if kind == "toml":
+            check_dots(text, name)
             return tomllib.loads(text)
         if kind == "json":
             return json.loads(text)
@@ -74,11 +80,60 @@ def parsed(text: str, name: str, kind: str) -> Any:
         raise HostFault(f"{name}:1: cannot be read as {kind}: {names.shown(str(error))}") from error
 
 
+def bounded_loader() -> Any:
+    """A loader of YAML that counts while it reads."""
+    import yaml
+
+    def refuse(node: Any, what: str) -> NoReturn:
+        raise yaml.constructor.ConstructorError(None, None, what, node.start_mark)
+
+    class Loader(yaml.SafeLoader):
+        """Refuses what is nested, many, merged or long beyond the bounds."""
+
+        nodes = depth = merged = 0
+
+        def compose_node(self, parent: Any, index: Any) -> Any:
+            self.nodes, self.depth = self.nodes + 1, self.depth + 1
+            if self.nodes > MAX_NODES or self.depth > MAX_NESTING:
+                refuse(parent, f"more than {MAX_NODES} values or {MAX_NESTING} levels")
+            found: Any = super().compose_node(parent, index)
+            self.depth -= 1
+            if found.tag.endswith((":int", ":float")) and len(str(found.value)) > MAX_DIGITS:
+                refuse(found, f"a number of more than {MAX_DIGITS} letters")
+            return found
+
+        def flatten_mapping(self, node: Any) -> None:
+            for key, value in node.value:
+                if key.tag == "tag:yaml.org,2002:merge":
+                    self.count_merged(value)
+            super().flatten_mapping(node)
+
+        def count_merged(self, value: Any) -> None:
+            """Counts the keys that a `<<` brings, before they are brought."""
+            for each in value.value if isinstance(value, yaml.SequenceNode) else [value]:
+                if isinstance(each, yaml.MappingNode):
+                    self.flatten_mapping(each)
+                    self.merged += len(each.value)
+                if self.merged > MAX_MERGED:
+                    refuse(value, f"`<<` brings more than {MAX_MERGED} keys")
+
+    return Loader
+
+
+def check_dots(text: str, name: str) -> None:
+    """A fault where the names of TOML have more parts than can be read in time."""
+    total = 0
+    for number, line in enumerate(text.split("\n"), 1):
+        total += line.count(".") ** 2
+        if total > MAX_DOTS:
+            raise HostFault(f"{name}:{number}: too many names with dots")
+
+
 def parsed_yaml(text: str, name: str) -> Any:
     """The data of YAML."""
     import yaml
     try:
-        return yaml.safe_load(text)
+        return yaml.load(text, bounded_loader())
     except yaml.YAMLError as error:
         mark = getattr(error, "problem_mark", None)
         line = mark.line + 1 if mark else 1
@@ -249,6 +304,8 @@ def check_demands(places: Places, model: Model) -> None:
 
 def read(data: bytes, name: str, kind: str, host: Host | None = None) -> Model:
     """The model of a host file. `host` stands in place of its own."""
+    if len(data) > MAX_BYTES:
+        raise HostFault(f"{name}: more than {MAX_BYTES >> 20} MiB")
     try:
         text_ = data.decode("utf-8-sig")
     except UnicodeDecodeError as error:
@@ -263,7 +320,9 @@ def read(data: bytes, name: str, kind: str, host: Host | None = None) -> Model:
             raise HostFault(f"{name}:{line}: no table {text_of(key)}: host, groups")
     model = Model(host or read_host(places, entry.get("host", {})), names_host="host" in entry)
     model.host.checked()
-    for path, each in flattened(places, entry.get("groups")).items():
+    groups = flattened(places, entry.get("groups"))
+    check_count(len(groups), f"{name}: {len(groups)} groups")
+    for path, each in groups.items():
         group = read_group(places, check_path(places, path), each if each is not None else {})
         if path in model.groups:
             raise places.fault("a group stands before the groups below it", path)

@@ -6,7 +6,9 @@ title of a container is `namespace/pod/container`, its place the folder below /s
 """
 from __future__ import annotations
 
+import json
 import math
+import re
 from collections.abc import Sequence
 from dataclasses import dataclass, field
 from fractions import Fraction
@@ -15,13 +17,20 @@ from typing import Any
 from arbiter_host import demands, names, units
 from arbiter_host.demands import Measured
 from arbiter_host.faults import HostFault
-from arbiter_host.model import Group, Host, Model
+from arbiter_host.model import Group, Host, Model, check_count
 from arbiter_host.names import NOWHERE, shown
 from arbiter_host.sources.data import loads, table, tables, text
 
 TOP = "kubepods"
 CLASSES = {"Guaranteed": TOP, "Burstable": f"{TOP}/burstable", "BestEffort": f"{TOP}/besteffort"}
 ENDED = ("Succeeded", "Failed")
+# A quantity: a number, and either a suffix or an exponent. None below 0 is an amount of CPU.
+QUANTITY = re.compile(r"\+?([0-9]{1,30}(?:\.[0-9]{0,30})?|\.[0-9]{1,30})"
+                      r"(?:([numkMGTPE]|[KMGTPE]i)|[eE]([+-]?[0-9]{1,2}))?")
+SUFFIXES = {"": Fraction(1), "n": Fraction(1, 10**9), "u": Fraction(1, 10**6),
+            "m": Fraction(1, 1000),
+            **{letter: Fraction(1000) ** power for power, letter in enumerate("kMGTPE", 1)},
+            **{f"{letter}i": Fraction(1024) ** power for power, letter in enumerate("KMGTPE", 1)}}
 
 
 @dataclass(frozen=True)
@@ -71,12 +80,26 @@ class Pod:
         return f"{self.namespace}/{self.name}"
 
 
+def quantity(value: Any) -> Fraction:
+    """Thousandths of a CPU of a quantity; a fault where Kubernetes takes none of this form."""
+    word = json.dumps(value) if isinstance(value, (int, float, bool)) else str(value)[:60]
+    found = QUANTITY.fullmatch(word)
+    if not found:
+        raise HostFault(f"{shown(word)!r} is no quantity of CPU")
+    amount = Fraction(found.group(1)) * SUFFIXES[found.group(2) or ""] * 1000
+    if found.group(3):
+        amount *= Fraction(10) ** int(found.group(3))
+    if amount > units.MAX_CPUS * 1000:
+        raise HostFault(f"{word!r} is above {units.MAX_CPUS} CPUs")
+    return amount
+
+
 def thousandths(value: Any, where: str, notes: list[str]) -> int | None:
     """A quantity in whole thousandths, rounded up as kubelet does."""
-    if value is None or isinstance(value, bool):
+    if value is None:
         return None
     try:
-        return math.ceil(units.parse_cpu(str(value)[:60]))
+        return math.ceil(quantity(value))
     except HostFault as fault:
         notes.append(f"{where}: {fault.message}: it is left out")
         return None
@@ -230,10 +253,12 @@ def pods_on(items: Sequence[dict[str, Any]], node: str, notes: list[str]) -> lis
     if len(nodes) > 1:
         some = ", ".join(shown(each) for each in sorted(nodes)[:5])
         raise HostFault(f"the pods are of {len(nodes)} nodes ({some}): choose one by --node")
-    ended = [each for each in pods if text(table(each, "status"), "phase") in ENDED]
-    if ended:
-        notes.append(f"pods that have ended, left out: {len(ended)}")
-    return [pod_of(each, notes) for each in pods if each not in ended]
+    lasting = [each for each in pods if text(table(each, "status"), "phase") not in ENDED]
+    if len(lasting) < len(pods):
+        notes.append(f"pods that have ended, left out: {len(pods) - len(lasting)}")
+    # A pod has a group of its own and one of its pause container.
+    check_count(2 * len(lasting), f"{len(lasting)} pods")
+    return [pod_of(each, notes) for each in lasting]
 
 
 def node_of(items: Sequence[dict[str, Any]], wish: Wish) -> dict[str, Any] | None:

@@ -22,6 +22,7 @@ TASKS = re.compile(r"# tasks ([0-9]{1,9})(?:, asks ([0-9]{1,30}[a-z]{0,3}))?")
 OPTION = re.compile(r"--([a-z]+)[ =]([0-9]+)")
 NUMBER = re.compile(r"0|[1-9][0-9]*")
 MAX_LINE = 65536
+MAX_REFUSED = 100000
 FILES = ("cpu.weight", "cpu.max", "cpu.max.burst", "cpu.stat")
 NAMES = {
     7: "TooDeep", 8: "InnerDemand", 9: "DemandTooLarge (0 to 1000000 slices)", 11: "BadNumber",
@@ -290,6 +291,9 @@ def read(data: bytes, name: str, host: Host | None = None, engine: Engine | None
         except RefusedLine as refused:
             text = names.shown(names.cut(line[:400].decode(errors="replace"), 120))
             model.refused.append(f"{name}:{number}: error {refused.number} {refused}: {text}")
+            if len(model.refused) > MAX_REFUSED:
+                raise HostFault(f"{name}:{number}: more than {MAX_REFUSED} refused lines: this is"
+                                " no script") from refused
     return model
 
 

@@ -1,0 +1,158 @@
+"""Files that are small, and whose reading would take long: each is refused at once, in one line."""
+import json
+import time
+
+import pytest
+from arbiter_host.faults import HostFault
+from arbiter_host.model import Host
+from arbiter_host.sources import containers, hostfile, kubernetes, script
+
+# What a loaded machine may take. Each of these took more than half a minute, or had no end.
+SECONDS = 20
+
+
+def merges(levels):
+    """YAML in which each level merges the one before it nine times."""
+    lines = ["a0: &a0 {k: 1}"]
+    for level in range(1, levels):
+        lines.append(f"a{level}: &a{level} {{<<: [{', '.join([f'*a{level - 1}'] * 9)}]}}")
+    return "\n".join(lines)
+
+
+def nested_merges(levels):
+    """The same, in which each level stands inside of the list that merges it."""
+    text = "{k: 1}"
+    for level in range(levels):
+        text = f"{{<<: [&a{level} {text}, {', '.join([f'*a{level}'] * 9)}]}}"
+    return f"host: {text}"
+
+
+def many_groups(count, line):
+    return "groups:\n" + "".join(line.format(number) for number in range(count))
+
+
+BOMBS = {
+    "merges": ("yaml", merges(12), "`<<` brings more than"),
+    "merges inside": ("yaml", nested_merges(12), "`<<` brings more than"),
+    "one merged often": ("yaml", "a: &a {" + ", ".join(f"k{n}: 1" for n in range(2000))
+                         + "}\nb: {<<: [" + ", ".join(["*a"] * 2000) + "]}", "`<<` brings more"),
+    "a merge of itself": ("yaml", "a: &a {<<: *a}", "cannot be read"),
+    "aliases": ("yaml", "a0: &a0 [1]\n" + "\n".join(
+        f"a{n}: &a{n} [{', '.join([f'*a{n - 1}'] * 9)}]" for n in range(1, 30)), "no table"),
+    "levels": ("yaml", "[" * 100000, "levels"),
+    "levels of blocks": ("yaml", "- " * 100000, "levels"),
+    "a number in base sixty": ("yaml", "host: {cpus: 1" + ":1" * 300000 + "}", "a number of more"),
+    "a long number": ("yaml", "host: {cpus: 1" + "0" * 100000 + "}", "a number of more"),
+    "many groups": ("yaml", many_groups(40000, "  a{}: \n"), "more than 16384 groups"),
+    "parts of a name": ("toml", ".".join("a" * 300000) + " = 1", "too many names with dots"),
+    "parts of a head": ("toml", "[" + ".".join("a" * 300000) + "]", "too many names with dots"),
+    "many lines of parts": ("toml", (".".join("a" * 3000) + " = 1\n") * 300, "too many names"),
+    "levels of arrays": ("toml", "a = " + "[" * 100000, "cannot be read"),
+    "a long number of TOML": ("toml", "a = 1" + "0" * 10**6, "cannot be read"),
+    "levels of JSON": ("json", "[" * 10**6, "cannot be read"),
+    "a long number of JSON": ("json", '{"host": 1' + "0" * 10**6 + "}", "cannot be read"),
+}
+
+
+@pytest.mark.parametrize("name", BOMBS)
+def test_a_host_file_is_refused_at_once(name):
+    kind, text, why = BOMBS[name]
+    began = time.monotonic()
+    with pytest.raises(HostFault) as fault:
+        hostfile.read(text.encode(), "F", kind)
+    assert why in fault.value.message and fault.value.message.startswith("F:")
+    assert "\n" not in fault.value.message and len(fault.value.message) < 300
+    assert time.monotonic() - began < SECONDS
+
+
+def test_merges_that_are_meant():
+    """A group may take the keys of another; so may each of many."""
+    text = "groups:\n  a: &a {weight: 7, demand: 1}\n  b: {<<: *a, weight: 9}\n" + "".join(
+        f"  c{number}: {{<<: *a}}\n" for number in range(1000))
+    found = hostfile.read(text.encode(), "F", "yaml").groups
+    assert (found["b"].weight, found["b"].demand, found["c999"].weight) == (9, 1000, 7)
+
+
+@pytest.mark.parametrize("kind", ["toml", "yaml", "json"])
+def test_a_host_file_that_is_too_long(monkeypatch, kind):
+    monkeypatch.setattr(hostfile, "MAX_BYTES", 1 << 20)
+    began = time.monotonic()
+    with pytest.raises(HostFault, match="F: more than 1 MiB"):
+        hostfile.read(b" " * ((1 << 20) + 1), "F", kind)
+    assert time.monotonic() - began < 1
+
+
+def pod(number, phase):
+    """A pod as kubectl prints it."""
+    return {"kind": "Pod", "metadata": {"name": f"p{number}", "uid": str(number)},
+            "spec": {"containers": [{"name": "c"}]}, "status": {"phase": phase}}
+
+
+def test_pods_beyond_the_bound_are_told_before_the_work(monkeypatch):
+    """No pod is looked into where their number alone is too great."""
+    monkeypatch.setattr(kubernetes, "pod_of", lambda *_: pytest.fail("looked into"))
+    data = json.dumps({"items": [pod(number, "Running") for number in range(8192)]}).encode()
+    with pytest.raises(HostFault, match="8192 pods: more than 16384 groups"):
+        kubernetes.read([("F", data)], Host(4, 100000, 1000))
+
+
+def test_many_pods_that_have_ended():
+    """They take the time of as many entries, and not its square."""
+    data = json.dumps({"items": [pod(number, "Failed") for number in range(20000)]}).encode()
+    began = time.monotonic()
+    model = kubernetes.read([("F", data)], Host(4, 100000, 1000))
+    assert "pods that have ended, left out: 20000" in model.notes
+    assert time.monotonic() - began < SECONDS
+
+
+def test_containers_beyond_the_bound_are_told_before_the_work(monkeypatch):
+    monkeypatch.setattr(containers, "add", lambda *_: pytest.fail("looked into"))
+    data = json.dumps([{"Name": f"c{number}", "HostConfig": {}} for number in range(16384)])
+    with pytest.raises(HostFault, match="16384 containers: more than 16384 groups"):
+        containers.read([("F", data.encode())], Host(4, 100000, 1000))
+
+
+def test_many_containers_take_the_time_of_as_many():
+    data = json.dumps([{"Name": f"c{number}", "HostConfig": {}} for number in range(16000)])
+    began = time.monotonic()
+    assert len(containers.read([("F", data.encode())], Host(4, 100000, 1000)).groups) == 16001
+    assert time.monotonic() - began < SECONDS
+
+
+def test_containers_of_one_name_stay_several():
+    """Two of one name, and one that has the name of its parent's neighbour."""
+    found = [{"Name": "/a", "HostConfig": {}}, {"Name": "/a", "HostConfig": {}},
+             {"Name": "/b.slice", "HostConfig": {"CgroupParent": "/x"}},
+             {"Name": "/c", "HostConfig": {"CgroupParent": "/x/b.slice"}},
+             {"Name": "/b.slice", "HostConfig": {"CgroupParent": "/x"}}]
+    groups = containers.read([("F", json.dumps(found).encode())], Host(4, 100000, 1000)).groups
+    assert set(groups) == {"system.slice", "system.slice/a", "system.slice/a%~2", "x", "x/b.slice",
+                           "x/b.slice/c", "x/b.slice%~2", "x/b.slice%~3"}
+    assert groups["x/b.slice"].place == "x/b.slice"
+
+
+def test_a_file_of_refused_lines(monkeypatch):
+    """What is no script keeps no list without an end."""
+    monkeypatch.setattr(script, "MAX_REFUSED", 1000)
+    with pytest.raises(HostFault, match="F:1001: more than 1000 refused lines: this is no script"):
+        script.read(b"x\n" * 5000, "F")
+
+
+@pytest.mark.parametrize("value, thousandths", [
+    ("250m", 250), ("0.5", 500), ("1", 1000), (1, 1000), (0.1, 100), ("1e3", 10**6), ("2E-1", 200),
+    ("+1", 1000), ("1.", 1000), (".5", 500), ("100n", 1), ("1001u", 2), ("2k", 2 * 10**6),
+    ("1Ki", 1024000), ("0.0001", 1), ("0", 0)])
+def test_quantities_of_kubernetes(value, thousandths):
+    notes = []
+    assert (kubernetes.thousandths(value, "w", notes), notes) == (thousandths, [])
+
+
+@pytest.mark.parametrize("value", [
+    True, False, "true", "250 m", " 250m", "250m ", "-250m", "40%", "1cpu", "1.5 cpu", "", "m",
+    "1e", "1em", "1mm", "NaN", "inf", "1_0", "\u0661", "0x10", "1e309m", float("nan"), 1e300,
+    "1e99", "9" * 40, [], {}, ["1"]], ids=repr)
+def test_what_is_no_quantity_is_told(value):
+    """As Kubernetes refuses it; the importer leaves it out with a warning."""
+    notes = []
+    assert kubernetes.thousandths(value, "w", notes) is None
+    assert len(notes) == 1 and notes[0].startswith("w: ") and notes[0].endswith("it is left out")
