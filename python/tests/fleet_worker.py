@@ -17,12 +17,12 @@ from arbiter_host.fleet import work  # noqa: E402
 
 
 def forged(job_text, items):
-    """Each amount is one slice greater than the planner's."""
+    """What is wanted is one slice more than the planner's."""
     reply = json.loads(honest(job_text, items))
     for result in reply["results"]:
         found = json.loads(result[2])
         if "answer" in found:
-            found["answer"]["served"] += 1
+            found["answer"]["wanted"] += 1
         result[2] = json.dumps(found)
     return json.dumps(reply).encode()
 
@@ -55,7 +55,8 @@ MODES = {"honest": honest, "forged": forged, "garbage": garbage, "hung": hung, "
 
 async def scheduler():
     """Serves until it is killed."""
-    async with distributed.Scheduler(port=0, host="127.0.0.1", dashboard_address=None) as served:
+    async with distributed.Scheduler(port=0, host="127.0.0.1", dashboard_address=None,
+                                     protocol=f"{os.environ['PROTOCOL']}://") as served:
         print(served.address, flush=True)
         await served.finished()
 

@@ -183,7 +183,7 @@ def test_prometheus_gives_the_demands_of_a_fleet(monkeypatch):
 
 
 LIES = {
-    "a number of the answer": lambda answer, _: answer.update(served=answer["served"] + 1),
+    "a number of the answer": lambda answer, _: answer.update(wanted=answer["wanted"] + 1),
     "no certificate": lambda _, result: result.__setitem__(3, []),
     "a certificate of other numbers": lambda _, result: result.__setitem__(
         3, [forged_certificate(result[3][0])]),

@@ -1,4 +1,4 @@
-"""Fleets on Dask: workers that die, lie or hang, and a scheduler that goes away."""
+"""Fleets in processes: workers that die, lie or hang, who listens, and a scheduler that goes."""
 import json
 import os
 import signal
@@ -11,6 +11,7 @@ import pytest
 from places import PACKAGE
 
 import fleets
+import sockets
 
 pytest.importorskip("distributed")
 WORKER = PACKAGE / "tests/fleet_worker.py"
@@ -77,8 +78,9 @@ def test_a_worker_killed_at_its_start(ctl, folder):
 class Site:
     """A scheduler and workers, as others would run them."""
 
-    def __init__(self, environment):
-        self.environment = {**environment, "PYTHONPATH": str(PACKAGE)}
+    def __init__(self, environment, protocol="tcp"):
+        self.environment = {**environment, "PYTHONPATH": str(PACKAGE), "PROTOCOL": protocol}
+        self.protocol = protocol
         self.processes = {}
         self.address = self.begin("scheduler")
 
@@ -89,7 +91,7 @@ class Site:
                                    stderr=subprocess.DEVNULL, text=True)
         self.processes[name] = process
         address = process.stdout.readline().strip()
-        assert address.startswith("tcp://"), name
+        assert address.startswith(f"{self.protocol}://"), name
         return address
 
     def add(self, *modes):
@@ -152,7 +154,8 @@ def test_a_scheduler_that_goes_away(ctl, folder, site):
     site.processes["scheduler"].kill()
     began = time.monotonic()
     status, out, err = ended(run)
-    assert status == 1 and time.monotonic() - began < 120
+    assert status == 1 and time.monotonic() - began < 30
+    assert all(line.startswith("arbiterctl: ") for line in err.split("\n")[:-1]), err
     found = json.loads(out)
     kept = {host["host"] for host in found["hosts"]}
     named = {each["host"] for each in found["not_answered"]}
@@ -160,6 +163,69 @@ def test_a_scheduler_that_goes_away(ctl, folder, site):
     assert {each["why"] for each in found["not_answered"]} == {"the scheduler went away"}
     again = ctl.run("fleet", "plan", hosts, "--workers", "0", "--db", base, *WORDS)
     assert again[0] == ctl.run("fleet", "plan", hosts, "--workers", "0", *WORDS)[0]
+
+
+@pytest.mark.parametrize("has_scheduler", [False, True], ids=["own", "scheduler"])
+def test_the_command_listens_on_nothing(ctl, folder, site, has_scheduler):
+    """Neither the command nor a process that it began has a socket that anybody could reach."""
+    hosts = fleets.make(folder / "hosts", 200, 100)
+    base = folder / "run.sqlite"
+    words = ["--workers", "2"]
+    if has_scheduler:
+        words = ["--scheduler", site.address]
+        site.add("honest")
+    run = begun(ctl, "plan", hosts, "--db", base, *words, *WORDS)
+    fleets.wait_for_rows(base, 1, run)
+    found = sockets.listening(run.pid)
+    count = len(sockets.tree(run.pid))
+    status, _, err = ended(run)
+    assert status == 0, err
+    # (with its own workers there are three processes at least)
+    assert found == [] and (has_scheduler or count >= 3)
+
+
+def certificate(folder, name):
+    """A key that its owner alone can read, and a certificate of an authority of this run."""
+    key, cert, asked = (str(folder / f"{name}.{ending}") for ending in ("key", "pem", "csr"))
+    words = ["openssl", "req", "-newkey", "ec", "-pkeyopt", "ec_paramgen_curve:P-256", "-nodes",
+             "-keyout", key, "-subj", f"/CN={name}"]
+    if name == "ca":
+        subprocess.run([*words, "-x509", "-days", "1", "-out", cert], check=True,
+                       capture_output=True, umask=0o077)
+    else:
+        subprocess.run([*words, "-out", asked], check=True, capture_output=True, umask=0o077)
+        subprocess.run(["openssl", "x509", "-req", "-in", asked, "-CA", str(folder / "ca.pem"),
+                        "-CAkey", str(folder / "ca.key"), "-days", "1", "-out", cert],
+                       check=True, capture_output=True)
+    assert os.stat(key).st_mode & 0o077 == 0
+    return key, cert
+
+
+def test_a_scheduler_with_tls(ctl, folder):
+    """As docs/FLEET.md sets it: without a certificate no host is answered."""
+    certificate(folder, "ca")
+    secured = {"DASK_DISTRIBUTED__COMM__REQUIRE_ENCRYPTION": "True",
+               "DASK_DISTRIBUTED__COMM__TLS__CA_FILE": str(folder / "ca.pem")}
+    for role in ("CLIENT", "SCHEDULER", "WORKER"):
+        key, cert = certificate(folder, role.lower())
+        secured[f"DASK_DISTRIBUTED__COMM__TLS__{role}__KEY"] = key
+        secured[f"DASK_DISTRIBUTED__COMM__TLS__{role}__CERT"] = cert
+    hosts = fleets.make(folder / "hosts", 8, 12)
+    bare = dict(ctl.environment)
+    ctl.environment.update(secured)
+    site = Site(ctl.environment, "tls")
+    try:
+        site.add("honest")
+        words = ["fleet", "plan", hosts, "--scheduler", site.address, *WORDS]
+        alone = ctl.run("fleet", "plan", hosts, "--workers", "0", *WORDS)[0]
+        assert ctl.run(*words)[0] == alone
+        ctl.environment = bare
+        out, err = ctl.run(*words, status=1)
+        assert out == "" and err.startswith(f"arbiterctl: {site.address}: ")
+        out, err = ctl.run(*words[:4], site.address.replace("tls:", "tcp:"), *WORDS, status=1)
+        assert out == "" and err.count("\n") == 1
+    finally:
+        site.close()
 
 
 def test_an_address_of_no_scheduler(ctl, folder):

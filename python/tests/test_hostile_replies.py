@@ -141,8 +141,8 @@ def test_a_wrong_reply_costs_its_worker_alone(hosts, text):
 def test_no_data_is_a_traceback(value):
     """Whatever is in the place of a reply, or of an answer, is refused or of the right form."""
     from arbiter_host.fleet.gather import Batch, Lost, Refused, of_form, parsed
-    for take in (lambda text: parsed(Batch([]), text.encode()),
-                 *(lambda text, action=action: of_form(job(action), 1, text) for action in ANSWERS)):
+    takes = [lambda text, action=action: of_form(job(action), 1, text) for action in ANSWERS]
+    for take in (lambda text: parsed(Batch([]), text.encode()), *takes):
         try:
             take(json.dumps(value))
         except (Refused, Lost):

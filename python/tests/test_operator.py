@@ -70,7 +70,7 @@ def test_control_characters_from_a_tree(ctl, folder):
             *ctl.run("apply", folder / "s", "--set", "*.weight=7", "--root", folder / "t")]
     for each in said:
         assert not any(letter in each for letter in "\x1b\x07\u202e"), each
-    assert sum("a\\x1b[31m\\x07\\u202e" in each for each in said) >= 7
+    assert sum("a%1B[31m%07%E2%80%AE" in each for each in said) >= 7
 
 
 REFUSED = (

@@ -31,8 +31,6 @@ ASK_SECONDS, GONE_SECONDS = 15.0, 5.0
 LOOK_SECONDS = 1.0
 CLOSE_SECONDS = 3.0
 GONE = "the scheduler went away"
-# Loggers of what is told by the gatherer, or of nobody.
-LOGGERS = ("distributed", "asyncio", "tornado")
 
 
 def failure(future: Any) -> str:
@@ -49,13 +47,16 @@ class Cluster:
 
     def __init__(self, address: str) -> None:
         distributed: Any = importlib.import_module("distributed")
-        for name in LOGGERS:
-            logging.getLogger(name).setLevel(logging.CRITICAL + 1)
+        # What happens is told by the gatherer; asyncio would tell of tasks at the very end.
+        logging.disable(logging.CRITICAL)
         warnings.filterwarnings("ignore", module="distributed")
+        security = distributed.Security()
+        if address.startswith("tls:") and not security.get_connection_args("client")["ssl_context"]:
+            raise HostFault(f"{names.shown(address)}: no certificate is set (docs/FLEET.md)")
         try:
             # What workers answer is taken as bytes. TLS is as the configuration of Dask says.
             self.client: Any = distributed.Client(
-                address, set_as_default=False, timeout=ASK_SECONDS,
+                address, set_as_default=False, timeout=ASK_SECONDS, security=security,
                 deserializers=["dask", "msgpack", "error"])
         except (OSError, ValueError, RuntimeError, TypeError) as error:
             raise HostFault(f"{names.shown(address)}: {names.shown(str(error))}") from error
