@@ -14,7 +14,7 @@ packages=(python3-pytest python3-pytest-xdist python3-hypothesis python3-jinja2 
   python3-yaml python3-distributed mypy python3-typeshed pyflakes3)
 modules='pytest, xdist, hypothesis, jinja2, rich, yaml, distributed, mypy, pyflakes'
 # Packages of the same name as their command. Tests that need one that is missing are skipped.
-tools=(mandoc zsh fish chromium prometheus valgrind)
+tools=(mandoc zsh fish chromium prometheus valgrind clang-14)
 
 # mypy reads the types of yaml from python3-typeshed.
 has_packages() {
@@ -29,6 +29,9 @@ need_packages() {
   for tool in "${tools[@]}"; do
     command -v "$tool" >/dev/null || missing+=("$tool")
   done
+  # What clang-14 links a program with sanitizers and a fuzzer to.
+  compgen -G '/usr/lib/llvm-14/lib/clang/*/lib/linux/libclang_rt.fuzzer-*.a' >/dev/null ||
+    missing+=(libclang-rt-14-dev)
   [ "${#missing[@]}" = 0 ] && return
   local words=(apt-get install -y --no-install-recommends "${missing[@]}")
   if [ "$(id -u)" = 0 ] && command -v apt-get >/dev/null; then

@@ -15,6 +15,8 @@ def pytest_addoption(parser):
                     help="shared C library under test, libarbiter.so, with libarbiter.a beside it")
     group.addoption("--memory-tests", metavar="PATH", default=support.MEMORY_TESTS,
                     help="program of tests that repeat each call that was refused memory")
+    group.addoption("--fuzz-seconds", metavar="N", type=int, default=10,
+                    help="seconds that each fuzzer of the C library runs (default 10)")
     group.addoption("--write", action="store_true",
                     help="put the program's answers into the pages of docs/, to be read by hand")
 

@@ -1,0 +1,276 @@
+/* Calls at the ends of what the header allows: const columns that overlap, columns of bytes at odd addresses, true lengths
+ * of millions, lengths of 0, hosts and rows at and past their bounds. What the header forbids is not called. 0 where all holds. */
+#define _GNU_SOURCE
+#include "../../share/arbiter.h"
+#include "guard.h"
+
+#include <stdio.h>
+#include <stdlib.h>
+#include <string.h>
+#include <sys/mman.h>
+
+#define NONE ARBITER_NO_LIMIT
+#define MOST 16385
+#define FLAT 0
+#define CHAIN 1
+#define PAIRS 2
+
+static unsigned long calls;
+
+static void demand(int holds, int line)
+{
+    calls++;
+    if (!holds || guard_held) {
+        fprintf(stderr, "extremes.c:%d: %s\n", line, holds ? "a block that is not given back" : "another answer");
+        abort();
+    }
+}
+
+#define IS(answer, call) demand((call) == (answer), __LINE__)
+#define HOST 1, 100000, 5000
+#define ALL(n) parents, n, weights, n, limits, n, demands, n
+
+/* What every call answers for rows, told apart by one number: the answers and all that was written. */
+static uint64_t told(const uint32_t *parents, const uint64_t *weights, const uint64_t *limits, const uint64_t *demands, size_t n)
+{
+    uint64_t *amounts = guard_block(n * 8, 0), *nums = guard_block(n * 8, 0), *dens = guard_block(n * 8, 0), rest = 7, sum = 0, least[4] = {7, 7, 7, 7};
+    uint32_t *places = guard_block(n * 4, 0), *groups = guard_block(n * 4, 0), count = 7, row = 7;
+    /* bytes may stand at any address */
+    uint8_t *flags = guard_block(n, 0), *reasons = guard_block(n, 0);
+    uint32_t answers[9];
+
+    answers[0] = arbiter_plan(HOST, ALL(n), amounts, n);
+    answers[1] = arbiter_certify(HOST, ALL(n), amounts, n, flags, n, nums, n, dens, n, places, n);
+    answers[2] = arbiter_check(HOST, ALL(n), amounts, n, flags, n, nums, n, dens, n, places, n, &row);
+    answers[3] = arbiter_limiting(HOST, ALL(n), groups, n, &count, &rest);
+    answers[4] = arbiter_reasons(HOST, ALL(n), reasons, n, places, n);
+    answers[5] = arbiter_guarantee(HOST, ALL(n), (uint32_t)n - 1, &least[0]);
+    answers[6] = arbiter_least_weight(HOST, ALL(n), (uint32_t)n - 1, 5, &least[1]);
+    answers[7] = arbiter_least_limit(HOST, ALL(n), (uint32_t)n - 1, 5, &least[2]);
+    answers[8] = arbiter_least_processors(HOST, ALL(n), (uint32_t)n - 1, 5, &least[3]);
+    for (int each = 0; each < 9; each++)
+        sum = sum * 31 + answers[each];
+    for (size_t g = 0; g < n; g++)
+        sum = sum * 31 + amounts[g] + 3 * nums[g] + 5 * dens[g] + 7 * flags[g] + 11 * places[g] + 13 * groups[g] + 17 * reasons[g];
+    for (int each = 0; each < 4; each++)
+        sum = sum * 31 + least[each];
+    calls += 9;
+    demand(1, __LINE__);
+    guard_drop(amounts), guard_drop(nums), guard_drop(dens), guard_drop(places), guard_drop(groups), guard_drop(flags), guard_drop(reasons);
+    return sum * 31 + rest + count + row;
+}
+
+static void *copied(const void *from, size_t size)
+{
+    return memcpy(guard_block(size, 0), from, size);
+}
+
+/* Columns that lie over each other answer as their copies do. */
+static void overlap(void)
+{
+    uint64_t numbers[12];
+    const uint32_t parents[8] = {ARBITER_NO_PARENT, 0, 0, 1, 1, 2, 2, 0};
+
+    for (unsigned seed = 0; seed < 200; seed++) {
+        for (int each = 0; each < 12; each++)
+            numbers[each] = seed % 2 ? 1 + (seed * 7 + (unsigned)each * 13) % 40 : each % 3 ? NONE : 20;
+        for (size_t n = 1; n <= 8; n++)
+            for (int shape = 0; shape < 4; shape++) {
+                const uint64_t *weights = numbers, *limits = numbers + shape, *demands = numbers + shape * 2 % 4;
+                uint32_t *own = copied(parents, n * 4);
+                uint64_t *w = copied(weights, n * 8), *l = copied(limits, n * 8), *d = copied(demands, n * 8);
+                demand(told(parents, weights, limits, demands, n) == told(own, w, l, d, n), __LINE__);
+                guard_drop(own), guard_drop(w), guard_drop(l), guard_drop(d);
+            }
+    }
+}
+
+/* The columns of a certificate may lie over those of the rows: all are const. */
+static void overlap_of_a_check(void)
+{
+    const uint32_t parents[3] = {ARBITER_NO_PARENT, 0, 0}, zeros[3] = {0, 0, 0};
+    const uint64_t weights[3] = {100, 100, 200}, limits[3] = {NONE, NONE, NONE}, demands[3] = {0, 20, 20};
+    uint64_t amounts[3], nums[3], dens[3];
+    uint8_t flags[3];
+    uint32_t places[3], row = 7;
+
+    IS(0, arbiter_certify(HOST, ALL(3), amounts, 3, flags, 3, nums, 3, dens, 3, places, 3));
+    IS(0, arbiter_check(HOST, ALL(3), amounts, 3, flags, 3, nums, 3, dens, 3, zeros, 3, &row));
+    demand(row == 7, __LINE__);
+    /* the demands as amounts: the root gets nothing, its children 40 of 20 slices */
+    uint32_t answer = arbiter_check(HOST, ALL(3), demands, 3, (const uint8_t *)weights, 3, weights, 3, weights, 3, parents, 3, &row);
+    demand(answer >= 51 && answer <= 58 && row < 3, __LINE__);
+}
+
+/* Lengths of 0, of blocks of which no byte may be read or written. */
+static void nothing(void)
+{
+    uint32_t *parents = guard_block(0, 0), *places = guard_block(0, 0), count = 7, row = 7;
+    uint64_t *weights = guard_block(0, 0), *limits = weights, *demands = weights, *amounts = guard_block(0, 0), number = 7;
+    uint8_t *flags = guard_block(0, 0);
+
+    IS(5, arbiter_plan(HOST, ALL(0), amounts, 0));
+    IS(5, arbiter_certify(HOST, ALL(0), amounts, 0, flags, 0, amounts, 0, amounts, 0, places, 0));
+    IS(5, arbiter_check(HOST, ALL(0), amounts, 0, flags, 0, amounts, 0, amounts, 0, places, 0, &row));
+    IS(5, arbiter_limiting(HOST, ALL(0), places, 0, &count, &number));
+    IS(5, arbiter_reasons(HOST, ALL(0), flags, 0, places, 0));
+    IS(5, arbiter_guarantee(HOST, ALL(0), 0, &number));
+    IS(5, arbiter_least_weight(HOST, ALL(0), UINT32_MAX, UINT64_MAX, &number));
+    IS(5, arbiter_refused_row(ALL(0), &row));
+    IS(50, arbiter_plan(0, 0, 0, parents, 0, weights, 0, limits, 0, demands, 0, &number, 1));
+    IS(13, arbiter_name(57, (char *)flags, 0));
+    IS(strlen(ARBITER_VERSION), arbiter_version((char *)flags, 0));
+    uint32_t answer = arbiter_check_text(flags, 0, &row);
+    demand(answer >= 40 && answer <= 43, __LINE__);
+    demand(count == 7 && number == 7 && row == 7, __LINE__);
+    guard_drop(parents), guard_drop(places), guard_drop(weights), guard_drop(amounts), guard_drop(flags);
+}
+
+static void *mapped(size_t size)
+{
+    void *found = mmap(NULL, size, PROT_READ | PROT_WRITE, MAP_PRIVATE | MAP_ANONYMOUS | MAP_NORESERVE, -1, 0);
+
+    if (found == MAP_FAILED)
+        abort();
+    return found;
+}
+
+/* Lengths of millions that are true: refused by the first row that is too many, and nothing is written. */
+static void millions(void)
+{
+    const size_t n = (size_t)1 << 21;
+    uint64_t *weights = mapped(n * 8), *limits = weights, *demands = weights, *amounts = mapped(n * 8), number = 7;
+    uint32_t *parents = mapped(n * 4), *places = mapped(n * 4), count = 7, row = 7;
+    uint8_t *flags = mapped(n);
+    uint64_t *nums = mapped(n * 8), *dens = mapped(n * 8);
+
+    IS(4, arbiter_plan(HOST, ALL(n), amounts, n));
+    IS(4, arbiter_certify(HOST, ALL(n), amounts, n, flags, n, nums, n, dens, n, places, n));
+    IS(4, arbiter_check(HOST, ALL(n), weights, n, flags, n, weights, n, weights, n, parents, n, &row));
+    IS(4, arbiter_limiting(HOST, ALL(n), places, n, &count, &number));
+    IS(4, arbiter_reasons(HOST, ALL(n), flags, n, places, n));
+    IS(4, arbiter_guarantee(HOST, ALL(n), 0, &number));
+    IS(4, arbiter_least_processors(HOST, ALL(n), 0, 1, &number));
+    IS(50, arbiter_plan(HOST, parents, n, weights, 3, limits, n, demands, n, amounts, n));
+    IS(50, arbiter_plan(HOST, ALL(n), amounts, n - 1));
+    row = 7;
+    IS(4, arbiter_refused_row(ALL(n), &row));
+    demand(row == 16384 && number == 7 && count == 7, __LINE__);
+    demand(amounts[0] == 0 && amounts[16384] == 0 && amounts[n - 1] == 0 && places[0] == 0 && flags[n - 1] == 0, __LINE__);
+    uint32_t answer = arbiter_check_text(flags, n, &row);
+    demand(answer >= 40 && answer <= 43 && row == 16384, __LINE__);
+    IS(13, arbiter_name(57, (char *)flags, n));
+    demand(!strcmp((char *)flags, "LastMarkAbove"), __LINE__);
+    IS(strlen(ARBITER_VERSION), arbiter_version((char *)flags, n));
+    munmap(weights, n * 8), munmap(amounts, n * 8), munmap(parents, n * 4), munmap(places, n * 4), munmap(flags, n), munmap(nums, n * 8), munmap(dens, n * 8);
+}
+
+/* A text at each place of a word, and cut behind each of its letters. */
+static void odd_addresses(void)
+{
+    static const char text[] = "bw 1 1 100000 5000 3\n- 100 max 0 20 1 13/100@0\n0 100 max 20 7 0 -\n0 200 max 20 13 0 -\n";
+    uint32_t row = 7;
+
+    for (size_t size = 0; size < sizeof text; size++)
+        for (size_t odd = 0; odd < 16; odd++) {
+            uint8_t *block = guard_block(size + odd, 1);
+            memcpy(block + odd, text, size);
+            uint32_t answer = arbiter_check_text(block + odd, size, &row);
+            demand((answer == 0) == (size + 1 == sizeof text) && row == 7, __LINE__);
+            guard_drop(block);
+        }
+}
+
+static uint64_t greatest(uint64_t seed, uint64_t most)
+{
+    return seed % 4 ? most - seed % 3 : seed % 100;
+}
+
+/* Rows at their bound and one past it, with the greatest numbers: plan, certificate and check agree, or all refuse. */
+static void many_rows(void)
+{
+    static uint32_t parents[MOST], places[MOST];
+    static uint64_t weights[MOST], limits[MOST], demands[MOST], amounts[MOST], nums[MOST], dens[MOST];
+    static uint8_t flags[MOST];
+
+    for (int shape = FLAT; shape <= PAIRS; shape++)
+        for (size_t n = MOST - 2; n <= MOST; n++)
+            for (uint64_t seed = 0; seed < 4; seed++) {
+                uint32_t row = 7, refused = n > 16384 ? 4 : 0;
+                for (size_t g = 0; g < n; g++) {
+                    parents[g] = !g ? ARBITER_NO_PARENT : shape == FLAT ? 0 : shape == PAIRS ? (uint32_t)(g - 1) / 2 : (uint32_t)(g % 64 == 1 ? 0 : g - 1);
+                    weights[g] = 1 + greatest(g + seed, 9999);
+                    limits[g] = g ? greatest(g * seed, NONE) : NONE;
+                    demands[g] = 0;
+                }
+                for (size_t g = n - 1; g > 0; g--)
+                    demands[g] = demands[g] ? 0 : greatest(g + seed, 1000000), demands[parents[g]] = 1;
+                demands[0] = 0;
+                for (size_t g = 1; g < n; g++)
+                    demands[parents[g]] = 0;
+                uint32_t answer = arbiter_certify(64, 1000000, 1000, ALL(n), amounts, n, flags, n, nums, n, dens, n, places, n);
+                demand(answer == refused, __LINE__);
+                IS(refused, arbiter_check(64, 1000000, 1000, ALL(n), amounts, n, flags, n, nums, n, dens, n, places, n, &row));
+                demand(refused || (amounts[0] <= 64000 && row == 7), __LINE__);
+            }
+    /* one level more than 64 */
+    for (uint32_t g = 0; g < 66; g++) {
+        parents[g] = g - 1;
+        weights[g] = 1, limits[g] = NONE, demands[g] = 0;
+    }
+    IS(0, arbiter_plan(HOST, ALL(65), amounts, 65));
+    IS(7, arbiter_plan(HOST, ALL(66), amounts, 66));
+}
+
+/* Hosts, groups and amounts at and past the ends of their ranges. */
+static void numbers(void)
+{
+    static const uint64_t ends[] = {0, 1, 2, 63, 64, 65, 999, 1000, 1001, 999999, 1000000, 1000001, UINT32_MAX, (uint64_t)1 << 32, (uint64_t)1 << 63, UINT64_MAX - 1, UINT64_MAX};
+    const size_t many = sizeof ends / sizeof *ends;
+    const uint32_t parents[3] = {ARBITER_NO_PARENT, 0, 0};
+    const uint64_t weights[3] = {100, 10000, 1}, limits[3] = {NONE, 0, UINT64_MAX - 1}, demands[3] = {0, 1000000, 1000000};
+
+    for (size_t p = 0; p < many; p++)
+        for (size_t u = 0; u < many; u++)
+            for (size_t s = 0; s < many; s++) {
+                uint64_t amounts[3] = {7, 7, 7}, number = 7;
+                uint32_t host = ends[p] < 1 || ends[p] > 64 ? 1 : ends[u] < 1000 || ends[u] > 1000000 ? 2 : ends[s] < 1000 || ends[s] > ends[u] || ends[u] % ends[s] ? 3 : 0;
+                IS(host, arbiter_plan(ends[p], ends[u], ends[s], ALL(3), amounts, 3));
+                demand(host ? amounts[0] == 7 && amounts[2] == 7 : amounts[0] == ends[p] * (ends[u] / ends[s]), __LINE__);
+                uint32_t answer = arbiter_slices(ends[p], ends[u], ends[s], ends[(u + s) % many], ends[(p + s) % many], &number);
+                demand(host ? answer == host && number == 7 : answer == 0 || answer == 14 || answer == 15, __LINE__);
+                answer = arbiter_demand(ends[p], ends[u], ends[s], ends[(p * 3 + s) % many], &number);
+                demand(host ? answer == host : answer == 0 || answer == 9, __LINE__);
+            }
+    for (size_t each = 0; each < many; each++)
+        for (size_t other = 0; other < many; other++) {
+            uint64_t number = 7, group = (uint32_t)ends[each];
+            uint32_t answer = group < 3 ? 0 : 20;
+            IS(answer, arbiter_guarantee(HOST, ALL(3), (uint32_t)group, &number));
+            IS(answer, arbiter_least_weight(HOST, ALL(3), (uint32_t)group, ends[other], &number));
+            IS(answer, arbiter_least_processors(HOST, ALL(3), (uint32_t)group, ends[other], &number));
+            IS(group ? answer : 10, arbiter_least_limit(HOST, ALL(3), (uint32_t)group, ends[other], &number));
+            number = arbiter_weight_of_shares(ends[other], (uint32_t)ends[each]);
+            demand(ends[each] == 1 || ends[each] == 2 ? number >= 1 && number <= 10000 : (uint32_t)ends[each] == 1 || (uint32_t)ends[each] == 2 || number == 0, __LINE__);
+        }
+    for (uint64_t number = 0; number < 5000; number++)
+        for (size_t room = 0; room <= ARBITER_NAME_ROOM; room++) {
+            char *name = guard_block(room, 0);
+            uint32_t answer = arbiter_name((uint32_t)(number < 4000 ? number : UINT32_MAX - number), name, room);
+            demand(answer < ARBITER_NAME_ROOM && (answer == 0 || answer >= room || strlen(name) == answer), __LINE__);
+            guard_drop(name);
+        }
+}
+
+int main(void)
+{
+    overlap();
+    overlap_of_a_check();
+    nothing();
+    millions();
+    odd_addresses();
+    many_rows();
+    numbers();
+    printf("%lu calls\n", calls);
+    return 0;
+}

@@ -1,0 +1,103 @@
+/* Sixteen threads that call at once, each on memory of its own: each answer is the one that a single thread got before.
+ * threads SECONDS prints the number of calls. 0 where all holds. */
+#include "../../share/arbiter.h"
+
+#include <pthread.h>
+#include <stdatomic.h>
+#include <stdio.h>
+#include <stdlib.h>
+#include <string.h>
+#include <time.h>
+
+#define THREADS 16
+#define MOST 200
+#define NONE ARBITER_NO_LIMIT
+
+struct answers {
+    uint64_t amounts[MOST], nums[MOST], dens[MOST], rest, least[4];
+    uint32_t places[MOST], groups[MOST], blamed[MOST], count, row, numbers[10];
+    uint8_t flags[MOST], reasons[MOST];
+};
+
+struct tree {
+    size_t n;
+    uint32_t parents[MOST];
+    uint64_t weights[MOST], limits[MOST], demands[MOST];
+    struct answers alone;
+};
+
+static atomic_ulong calls, wrong;
+static atomic_int is_over;
+
+static void make(struct tree *tree, unsigned seed)
+{
+    tree->n = 3 + seed * 13 % (MOST - 3);
+    for (size_t g = 0; g < tree->n; g++) {
+        tree->parents[g] = g ? (uint32_t)((g - 1) / (2 + seed % 5)) : ARBITER_NO_PARENT;
+        tree->weights[g] = 1 + g * 7919 * (seed + 1) % 10000;
+        tree->limits[g] = g % 4 == 3 ? g * seed % 30 : NONE;
+        tree->demands[g] = (g * 31 + seed) % 25;
+    }
+    for (size_t g = 1; g < tree->n; g++)
+        tree->demands[tree->parents[g]] = 0;
+}
+
+#define ROWS tree->parents, n, tree->weights, n, tree->limits, n, tree->demands, n
+#define HOST 2, 100000, 1000
+
+static void ask(const struct tree *tree, struct answers *found)
+{
+    size_t n = tree->n;
+    uint32_t last = (uint32_t)n - 1, *numbers = found->numbers;
+
+    memset(found, 0, sizeof *found);
+    numbers[0] = arbiter_plan(HOST, ROWS, found->amounts, n);
+    numbers[1] = arbiter_certify(HOST, ROWS, found->amounts, n, found->flags, n, found->nums, n, found->dens, n, found->places, n);
+    numbers[2] = arbiter_check(HOST, ROWS, found->amounts, n, found->flags, n, found->nums, n, found->dens, n, found->places, n, &found->row);
+    numbers[3] = arbiter_limiting(HOST, ROWS, found->groups, n, &found->count, &found->rest);
+    numbers[4] = arbiter_reasons(HOST, ROWS, found->reasons, n, found->blamed, n);
+    numbers[5] = arbiter_guarantee(HOST, ROWS, last, &found->least[0]);
+    numbers[6] = arbiter_least_weight(HOST, ROWS, last, 3, &found->least[1]);
+    numbers[7] = arbiter_least_limit(HOST, ROWS, last, 3, &found->least[2]);
+    numbers[8] = arbiter_least_processors(HOST, ROWS, last, 3, &found->least[3]);
+    numbers[9] = arbiter_check_text((const uint8_t *)"bw 1 1 100000 5000 1\n- 100 max 0 0 0 -\n", 39, &found->row);
+    atomic_fetch_add(&calls, 10);
+}
+
+static void *run(void *given)
+{
+    const struct tree *tree = given;
+    struct answers *found = malloc(sizeof *found);
+
+    while (!atomic_load(&is_over)) {
+        ask(tree, found);
+        if (memcmp(found, &tree->alone, sizeof *found))
+            atomic_fetch_add(&wrong, 1);
+    }
+    free(found);
+    return NULL;
+}
+
+int main(int count, char **words)
+{
+    static struct tree trees[THREADS];
+    pthread_t threads[THREADS];
+    struct timespec pause = {count > 1 ? atoi(words[1]) : 2, 0};
+
+    for (unsigned each = 0; each < THREADS; each++) {
+        make(&trees[each], each);
+        ask(&trees[each], &trees[each].alone);
+        for (int number = 0; number < 10; number++)
+            if (trees[each].alone.numbers[number])
+                return 2;
+    }
+    for (unsigned each = 0; each < THREADS; each++)
+        if (pthread_create(&threads[each], NULL, run, &trees[each]))
+            return 3;
+    nanosleep(&pause, NULL);
+    atomic_store(&is_over, 1);
+    for (unsigned each = 0; each < THREADS; each++)
+        pthread_join(threads[each], NULL);
+    printf("%lu calls, %lu wrong\n", atomic_load(&calls), atomic_load(&wrong));
+    return atomic_load(&wrong) != 0;
+}
