@@ -7,7 +7,7 @@ from arbiter_host.faults import HostFault
 from arbiter_host.model import Host
 from arbiter_host.sources import containers, hostfile, kubernetes, script
 
-# What a loaded machine may take. Each of these took more than half a minute, or had no end.
+# Seconds of the processor. Each of these took more than half a minute, or had no end.
 SECONDS = 20
 
 
@@ -57,12 +57,12 @@ BOMBS = {
 @pytest.mark.parametrize("name", BOMBS)
 def test_a_host_file_is_refused_at_once(name):
     kind, text, why = BOMBS[name]
-    began = time.monotonic()
+    began = time.process_time()
     with pytest.raises(HostFault) as fault:
         hostfile.read(text.encode(), "F", kind)
     assert why in fault.value.message and fault.value.message.startswith("F:")
     assert "\n" not in fault.value.message and len(fault.value.message) < 300
-    assert time.monotonic() - began < SECONDS
+    assert time.process_time() - began < SECONDS
 
 
 def test_merges_that_are_meant():
@@ -76,10 +76,10 @@ def test_merges_that_are_meant():
 @pytest.mark.parametrize("kind", ["toml", "yaml", "json"])
 def test_a_host_file_that_is_too_long(monkeypatch, kind):
     monkeypatch.setattr(hostfile, "MAX_BYTES", 1 << 20)
-    began = time.monotonic()
+    began = time.process_time()
     with pytest.raises(HostFault, match="F: more than 1 MiB"):
         hostfile.read(b" " * ((1 << 20) + 1), "F", kind)
-    assert time.monotonic() - began < 1
+    assert time.process_time() - began < 1
 
 
 def pod(number, phase):
@@ -99,10 +99,10 @@ def test_pods_beyond_the_bound_are_told_before_the_work(monkeypatch):
 def test_many_pods_that_have_ended():
     """They take the time of as many entries, and not its square."""
     data = json.dumps({"items": [pod(number, "Failed") for number in range(20000)]}).encode()
-    began = time.monotonic()
+    began = time.process_time()
     model = kubernetes.read([("F", data)], Host(4, 100000, 1000))
     assert "pods that have ended, left out: 20000" in model.notes
-    assert time.monotonic() - began < SECONDS
+    assert time.process_time() - began < SECONDS
 
 
 def test_containers_beyond_the_bound_are_told_before_the_work(monkeypatch):
@@ -114,9 +114,9 @@ def test_containers_beyond_the_bound_are_told_before_the_work(monkeypatch):
 
 def test_many_containers_take_the_time_of_as_many():
     data = json.dumps([{"Name": f"c{number}", "HostConfig": {}} for number in range(16000)])
-    began = time.monotonic()
+    began = time.process_time()
     assert len(containers.read([("F", data.encode())], Host(4, 100000, 1000)).groups) == 16001
-    assert time.monotonic() - began < SECONDS
+    assert time.process_time() - began < SECONDS
 
 
 def test_containers_of_one_name_stay_several():
