@@ -5,8 +5,8 @@ from fractions import Fraction
 import pytest
 
 from kernel import __main__ as main
-from kernel import (compare, deliberate, exact, layout, machine, page, placed, planned,
-                    readings, real_apply, scenario, table)
+from kernel import (compare, deliberate, exact, layout, machine, page, planned, readings,
+                    real_apply, scenario, table)
 from kernel.__main__ import SCENARIOS, batches, sources
 from kernel.faults import KernelFault
 
@@ -223,35 +223,6 @@ def test_page_of_counters_and_offsets():
         " 6.12: 7 to 8 / 0 / 0 / 0 / 20 |"]
     assert list(page.offset_rows(found)) == ["| `series-burst` a | 6.1 |  |",
                                              "| `series-burst` a | 6.12 | 3: +0.50, 50: +2.25 |"]
-
-
-LEFT, RIGHT, BOTH = (9, 0), (0, 9), (5, 5)
-
-
-@pytest.mark.parametrize("name, tasks, wanted", [
-    # on the second processor weights 300 and 500, on the first 100, 200 and 400
-    ("two-five", {"g1": [LEFT], "g2": [LEFT], "g3": [RIGHT], "g4": [LEFT], "g5": [RIGHT]},
-     {"g1": Fraction(100, 7), "g2": Fraction(200, 7), "g3": 37.5, "g4": Fraction(400, 7),
-      "g5": 62.5}),
-    # 100 against a third of 100, and two thirds alone
-    ("two-one-three", {"a": [LEFT], "b": [LEFT, RIGHT, RIGHT]}, {"a": 75, "b": 125}),
-    # beside half of 300 all of 100, both for 60 of 100; the other half of 300 alone for 60
-    ("two-pod", {"pod/x": [LEFT, LEFT], "pod/y": [LEFT, RIGHT]},
-     {"pod": 120, "pod/x": 24, "pod/y": 96}),
-    ("two-pod", {"pod/x": [LEFT, RIGHT], "pod/y": [LEFT, RIGHT]}, {"pod/x": 30, "pod/y": 90}),
-    # a demand of 30 beside 200, and 150 alone on a processor
-    ("two-demands", {"a": [LEFT, LEFT], "b": [RIGHT], "c": [RIGHT, RIGHT]},
-     {"a": 100, "b": 30, "c": 70}),
-    # half the time on each processor: still no more than one processor for each task
-    ("two-one-task", {"a": [BOTH], "b": [BOTH]}, {"a": 100, "b": 100}),
-])
-def test_shares_of_a_placement(name, tasks, wanted):
-    """Shares of a placement that were worked by hand."""
-    found = scenario.read(SCENARIOS / f"{name}.script")
-    flat = [(path, seen) for path, each in tasks.items() for seen in each]
-    shares_there = placed.calculated(found, flat, Fraction(1))
-    assert {path: float(shares_there[path]) for path in wanted} == pytest.approx(
-        {path: float(amount) for path, amount in wanted.items()}, abs=0.001)
 
 
 @pytest.mark.parametrize("line", ["rmdir a", "demand a", "nonsense", "period\nmkdir b"])
