@@ -255,8 +255,22 @@ CALLS_OF_THE_LOCK = {
     # `enter` begins the count of a wait, and `park_on` begins it anew.
     r"\bAwake::none\(": ("sleeping.rt", 2),
     r"\bCount::none\(": ("sleeping.rt", 1),
-    # `tickets_ahead` counts each look that is no step.
-    r"\.peek\(": ("steps.rt", 1),
+    # The loads, each in the function of its step. A waiting seat makes the first two.
+    r"\.peek\(": ("sleeping.rt", 1),
+    r"\.load::<Looking>": ("sleeping.rt", 1),
+    r"\.load::<Woken>": ("sleeping.rt", 1),
+    r"\.load::<Record>": ("steps.rt", 1),
+    r"\.load::<PeekNext>": ("steps.rt", 1),
+    r"\.load::<PeekWord>": ("steps.rt", 1),
+    r"\.load::<Front>": ("lock.rt", 1),
+}
+
+# The loops in the lock's sources. The number of turns of each is in its function's contract, but
+# for a wait, which ends with its turn.
+LOOPS_OF_THE_LOCK = {
+    "steps.rt": ["for _look in 0..LOOKS", "for _yield in 0..YIELDS", "for _ in rt.forever()"],
+    "opening.rt": ["for number in 0..seats"],
+    "closing.rt": ["while let Some(seat) = seats.pop()"],
 }
 
 
@@ -283,7 +297,8 @@ def test_calls_of_the_lock():
 
 @pytest.mark.parametrize("call", ["board.shared.park(rt, 2, 1)", "board.shared.wake_all(2)",
                                   "spin_loop()", "yield_now()", "Awake::none()",
-                                  "Count::none()", "board.shared.peek(SERVING)"])
+                                  "Count::none()", "board.shared.peek(SERVING)",
+                                  "board.shared.load::<Front>(seat, SERVING)"])
 def test_another_call_is_found(call):
     """One call more in any file is found."""
     sources = sources_of_the_lock()
@@ -292,12 +307,21 @@ def test_another_call_is_found(call):
 
 
 def loops_in(text: str) -> list:
-    return re.findall(r"(?:^|[{;])\s*(?:for|while|loop)\b", text, re.M)
+    loop = r"(?:^|[{;])\s*((?:for\b[^{;]*\bin\b[^{;]*|while\b[^{;]*|loop))\s*\{"
+    return [" ".join(head.split()) for head in re.findall(loop, text, re.M)]
 
 
 def test_no_loop_beside_the_calls():
     """Each function that calls the system does so once, so one call is one of the count."""
-    same(loops_in(sources_of_the_lock()["sleeping.rt"]), [], "loops")
+    found = {file: loops_in(text) for file, text in sources_of_the_lock().items()}
+    same({file: loops for file, loops in found.items() if loops}, LOOPS_OF_THE_LOCK, "loops")
+
+
+def test_loads_are_listed():
+    """Each load of the lock is among the calls above."""
+    for file, text in sources_of_the_lock().items():
+        for load in re.findall(r"\.load::<\w+>|\.load\w*\(", text):
+            assert any(re.fullmatch(call, load) for call in CALLS_OF_THE_LOCK), (file, load)
 
 
 @pytest.mark.parametrize("text", ["    for _ in 0..2 {", "{ while more {", "add(); loop {"])

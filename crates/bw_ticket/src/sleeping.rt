@@ -1,13 +1,16 @@
-//! The calls of the system by which a seat waits and wakes another, the step woken, and the count
-//! of what a seat does between two sleeps.
+//! The calls by which a seat waits and wakes another, the step woken, and the count of what a seat
+//! does between two sleeps.
 //!
-//! No other file of the crate names `.park(`, `.wake_one(`, `spin_loop` or `yield_now`. A sleep and
-//! a wake are no steps of the table, so their arguments are asked by contract.
-ghost use Rattle.std.specs.Prelude.{◌≡◌, ℕ, ◌+◌, ◌<◌, ◌≤◌, [], ◌∷◌, map, length, vec_capacity};
+//! No other file of the crate names `.park(`, `.wake_one(`, `.peek(`, `spin_loop` or `yield_now`,
+//! nor the step of a look. Each function makes its call once, and this file has no loop. So what
+//! other files do between two sleeps is counted by contract. A sleep and a wake are no steps of the
+//! table, so their arguments are asked by contract.
+ghost use Rattle.std.specs.Prelude.{◌≡◌, ℕ, ◌+◌, ◌^◌, ◌<◌, ◌≤◌, [], ◌∷◌, map, length};
+ghost use Rattle.std.specs.Prelude.{vec_capacity, MatchBool};
 ghost use Rattle.bw_ticket.specs.declared.board.Phase.TheVariants.{Looked, Waiting, Wakes};
-ghost use Rattle.bw_ticket.specs.Plays.{entered, goes, woke};
+ghost use Rattle.bw_ticket.specs.Plays.{entered, goes, missed, woke};
 ghost use Rattle.bw_ticket.specs.Rule.{Each, wake_word};
-ghost use Rattle.bw_ticket.specs.Seats.{IsBoard, IsSeat};
+ghost use Rattle.bw_ticket.specs.Seats.{IsBoard, IsSeat, IsWaiting, Enters};
 
 use crate::board::{SERVING, SlotValue, View};
 use crate::limits::MOST_AWAKE;
@@ -54,6 +57,50 @@ impl Awake {
     {
         self.count = self.count.one_more();
     }
+}
+
+// The steps look and enter, a load of the word `serving`.
+struct Looking;
+
+impl<M, C, R> Play<SlotValue<M, C, R>, View<M, C, R>> for Looking {
+    ghost use Rattle.bw_ticket.specs.Plays.{looked};
+
+    ghost then = { λ _. looked };
+}
+
+/// The step look or enter: one load, counted. Returns whether the seat's own ticket is served: then
+/// it has the slot. A seat that looks in vain after it stored its mark may sleep.
+pub(crate) fn look<M: Machine>(
+    board: &Board<M>,
+    seat: &mut Token<M>,
+    ticket: u64,
+    awake: &mut Awake,
+) -> bool
+    requires table { (seat.old.table_id ≡ board.now.shared.table_id) ×
+        IsBoard board.now.shared.table_id }
+    requires waits { IsWaiting seat.old ticket }
+    requires few { awake.old < MOST_AWAKE }
+    ensures table { seat.new.table_id ≡ seat.old.table_id }
+    ensures counted { awake.new ≡ awake.old + 1 }
+    ensures looked { MatchBool result (Enters ticket seat.old seat.new)
+        ((seat.new.me ≡ (map (goes missed) seat.old.me.0, [])) × (ticket + 1 < 2 ^ 32)) }
+{
+    awake.add();
+    let found = board.shared.load::<Looking>(seat, SERVING);
+    if found == ticket {
+        return true;
+    }
+    false
+}
+
+/// The ticket that is served, by one load that is no step of the table. It is counted.
+pub(crate) fn glance<M: Machine>(board: &Board<M>, awake: &mut Awake) -> u64
+    requires table { IsBoard board.now.shared.table_id }
+    requires few { awake.old < MOST_AWAKE }
+    ensures { awake.new ≡ awake.old + 1 }
+{
+    awake.add();
+    board.shared.peek(SERVING)
 }
 
 /// Spins once, and counts it.

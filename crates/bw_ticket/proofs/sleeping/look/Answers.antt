@@ -4,7 +4,7 @@ use Rattle.bw_ticket.specs.Rule.{Each}
 use Rattle.bw_ticket.specs.Plays.{ticket_in, entered, goes, missed}
 use Rattle.bw_ticket.proofs.Allowed.{may_look}
 use Rattle.bw_ticket.proofs.KeptLemmas.{waits_is}
-use Rattle.bw_ticket.proofs.steps.look.Goals as goal
+use Rattle.bw_ticket.proofs.sleeping.look.Goals as goal
 
 pub load-found-requires : goal.load-found-requires
 load-found-requires g c = let w = c.requires.waits in (
