@@ -10,7 +10,7 @@ ghost use Rattle.bw_ticket.specs.Faults.{InRange};
 ghost use Rattle.bw_workers.specs.Headline.{Headline};
 ghost use Rattle.bw_workers.specs.Working.{IsLeaves, IsDrainedSeat};
 ghost use Rattle.bw_workers.specs.Serving.{IsReady, AreReady, AreBack, AreSeatsOf, AreInRounds};
-ghost use Rattle.bw_workers.specs.Serving.{calls_by};
+ghost use Rattle.bw_workers.specs.Serving.{IsMadeBy, calls_by};
 
 use crate::fault::ServeFault;
 use crate::gate::Gate;
@@ -38,6 +38,8 @@ pub struct Served {
     /// The seats as the workers handed them back, one for each processor. Ghost state: only
     /// contracts read it, and it takes no memory.
     pub seats: Snapshot<Vec<Seat<SlicePool>>>,
+    /// The lock that made the history, which the seats are of. Ghost state, as they are.
+    pub lock: Snapshot<TicketLock<SlicePool>>,
 }
 
 // The promise of a worker's thread: the seat that it returns is drained.
@@ -190,6 +192,8 @@ pub fn serve<G: Gate, R: Threads + Wait + Clock + Sync>(
         (calls_by s.seats.value.items) s.history.items s.drawn.items) }
     ensures seats { IfOk result (λ s.
         AreSeatsOf instance.now.shape.processors s.seats.value.items) }
+    ensures lock { IfOk result (λ s. IsMadeBy instance.now plan.now.amounts.items s.lock.value
+        s.seats.value.items s.history.items) }
     ensures rounds { IfOk result (λ s.
         AreInRounds (G.used gate.now) instance.now.rows s.seats.value.items) }
     ensures legal { IfOk result (λ s.
@@ -215,6 +219,7 @@ pub fn serve<G: Gate, R: Threads + Wait + Clock + Sync>(
     };
     let seats = in_threads(rt, alloc, &lock, seats, instance, &leaves, gate)?;
     let handed_back = Snapshot::of(&seats);
+    let used = Snapshot::of(&lock);
     let Ok(Closed { machine, history }) = close(lock, seats) else {
         unreachable!()
     };
@@ -223,5 +228,6 @@ pub fn serve<G: Gate, R: Threads + Wait + Clock + Sync>(
         history,
         drawn,
         seats: handed_back,
+        lock: used,
     })
 }

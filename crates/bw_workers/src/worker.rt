@@ -1,5 +1,7 @@
 //! The draws of one worker.
-ghost use Rattle.std.specs.Prelude.{◌≡◌, ◌+◌, ◌*◌, ◌^◌, ◌<◌, ◌≤◌, [], length, None, MatchBool};
+ghost use Rattle.std.specs.Prelude.{◌≡◌, ◌+◌, ◌*◌, ◌^◌, ◌<◌, ◌≤◌, [], ◌∷◌, ◌++◌, length, None};
+ghost use Rattle.std.specs.Prelude.{MatchBool};
+ghost use Rattle.std.specs.VecDeque.{deque_len, deque_capacity};
 ghost use Rattle.bw_model.specs.Host.{slices_per_processor};
 ghost use Rattle.bw_pool.specs.Drained.{got_one};
 ghost use Rattle.bw_workers.specs.Rounds.{draws_in};
@@ -56,6 +58,15 @@ fn take_turn<G: Gate, R: Wait + Clock>(
     false
 }
 
+// Puts a leaf behind the others that are still asked. The list has room for it.
+fn put_last(leaves: &mut VecDeque<u32>, leaf: u32)
+    requires { deque_len leaves.old < deque_capacity leaves.old }
+    ensures items { leaves.new.items ≡ leaves.old.items ++ leaf ∷ [] }
+    ensures capacity { deque_capacity leaves.new ≡ deque_capacity leaves.old }
+{
+    leaves.push_back_reserved(leaf);
+}
+
 /// Draws one slice of each leaf in the order of the list, round and round, until the processor is
 /// spent or no leaf is left. A leaf that had none, or whose slice was given back, is not asked
 /// again.
@@ -91,7 +102,7 @@ pub(crate) fn work<G: Gate, R: Wait + Clock>(
         };
         if take_turn(rt, lock, &mut draws, leaf) {
             kept += 1;
-            leaves.push_back_reserved(leaf);
+            put_last(&mut leaves, leaf);
         }
     }
     draws.into_seat()

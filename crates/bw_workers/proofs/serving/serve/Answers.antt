@@ -7,7 +7,7 @@ use Rattle.bw_pool.specs.Pool.{after, answer}
 use Rattle.bw_pool.specs.Drained.{opening, IsDrawnOut}
 use Rattle.bw_pool.proofs.CallerLemmas.{drained_workers_draw_the_plan, plan_is_planned}
 use Rattle.bw_workers.specs.Headline.{Headline}
-use Rattle.bw_workers.specs.Serving.{AreSeatsOf, AreInRounds, calls_by}
+use Rattle.bw_workers.specs.Serving.{AreSeatsOf, AreInRounds, IsMadeBy, calls_by}
 use Rattle.bw_workers.specs.Working.{PoolSeat}
 use Rattle.bw_workers.proofs.Carried.{carried}
 use Rattle.bw_workers.proofs.DrainedHistories.{drained_history, seats_ready}
@@ -73,6 +73,25 @@ returns-clause-seats g c =
     ap (λ v. v.items) c.of-handed_back.ensures in
     subst (AreSeatsOf instance.shape.processors) (sym held)
     (many, λ k d lt. (c.in_ok-seats.ensures.1 k d lt).number)
+
+pub returns-clause-lock : goal.returns-clause-lock
+returns-clause-lock g c =
+    let instance = c.args.instance.now in
+    let amounts = c.args.plan.now.amounts.items in
+    let history = c.in-Ok-close.field-0.history.items in
+    let opened : c.in-Ok.made.0.opening ≡ opening instance amounts = search rules in
+    let held : c.of-handed_back.result.value.items ≡ c.in_ok-seats.seats.items =
+    ap (λ v. v.items) c.of-handed_back.ensures in
+    let used : c.of-used.result.value ≡ c.in-Ok.made.0 = c.of-used.ensures in
+    let made : IsMadeBy instance amounts c.in-Ok.made.0 c.in_ok-seats.seats.items history = record {
+      one_lock = λ k d lt. (c.in_ok-seats.ensures.1 k d lt).lock;
+      all = c.in-Ok-close.ensures.all;
+      opened = opened;
+      legal = c.in-Ok-close.ensures.legal;
+      own = c.in-Ok-close.ensures.own;
+      count = c.in-Ok-close.ensures.count;
+    } in
+    rw (held, used) made
 
 pub returns-clause-rounds : goal.returns-clause-rounds
 returns-clause-rounds g c =

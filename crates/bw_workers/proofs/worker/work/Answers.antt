@@ -4,7 +4,7 @@ use Rattle.std.proofs.Common.{rules, arith, ◌≡◌, ℕ, ◌+◌, inl, inr, l
 use Rattle.std.proofs.Common.{refl, sym, ap, ◌∙◌, subst, map, None}
 use Rattle.std.specs.Prelude.{MatchBool}
 use Rattle.std.proofs.lemmas.Bool.{MatchBool-at_true, MatchBool-at_false}
-use Rattle.std.proofs.lemmas.List.{nil_from_length}
+use Rattle.std.proofs.lemmas.List.{length_push, nil_from_length}
 use Rattle.bw_machine.specs.History.{entry_of}
 use Rattle.bw_workers.specs.Rounds.{InRounds}
 use Rattle.bw_workers.specs.Working.{calls_of, Keeps, DropsLeaf, IsDrainedSeat}
@@ -14,6 +14,8 @@ use Rattle.bw_workers.proofs.Turns.{stands, goes, goes_last, ends, GoesRound, ro
 use Rattle.bw_workers.proofs.Turns.{round_kept, round_left, round_ends}
 use Rattle.bw_workers.proofs.worker.work.Goals.{then-loop-kept-test+else-not-is_empty}
 use Rattle.bw_workers.proofs.worker.work.Goals.{else-loop-kept-test}
+use Rattle.bw_workers.proofs.worker.work.Goals.{After-take_turn}
+use Rattle.bw_workers.proofs.worker.work.Given as given
 use Rattle.bw_workers.proofs.worker.work.Goals as goal
 
 pub loop-kept-init : goal.loop-kept-init
@@ -41,26 +43,48 @@ loop-kept-init g c =
       calls = omega arith;
     }
 
+-- what was known of the worker, with the leaf that it asks first
+works_of : (g : given.Over) (c : After-take_turn g) → IsWorking (g.G.Gate.used c.args.gate.now)
+    c.args.instance.now.rows (slices_per_processor c.args.instance.now.shape)
+    (calls_of c.loop-kept.draws.seat) (c.in-Some.leaf ∷ c.pop_front.new.self.items)
+    c.loop-kept.kept
+works_of g c = subst
+    (λ (l : List ℕ). IsWorking (g.G.Gate.used c.args.gate.now) c.args.instance.now.rows
+    (slices_per_processor c.args.instance.now.shape)
+    (calls_of c.loop-kept.draws.seat) l c.loop-kept.kept) c.in-Some.ensures.items
+    c.loop-kept.invariant.works
+
+went_of : (g : given.Over) (c : After-take_turn g) → GoesRound (g.G.Gate.used c.args.gate.now)
+    c.from_vec-leaves.result.items (calls_of c.loop-kept.draws.seat)
+    (c.in-Some.leaf ∷ c.pop_front.new.self.items)
+went_of g c = subst (λ (l : List ℕ). GoesRound (g.G.Gate.used c.args.gate.now)
+    c.from_vec-leaves.result.items (calls_of c.loop-kept.draws.seat) l) c.in-Some.ensures.items
+    c.loop-kept.invariant.rounds
+
+told_of : (g : given.Over) (c : After-take_turn g) → MatchBool c.take_turn.result
+    (Keeps (g.G.Gate.used c.args.gate.now) c.in-Some.leaf c.loop-kept.draws.seat
+    c.take_turn.new.draws.seat)
+    (DropsLeaf (g.G.Gate.used c.args.gate.now) c.in-Some.leaf c.loop-kept.draws.seat
+    c.take_turn.new.draws.seat)
+told_of g c = subst (λ gate. MatchBool c.take_turn.result
+    (Keeps (g.G.Gate.used gate) c.in-Some.leaf c.loop-kept.draws.seat c.take_turn.new.draws.seat)
+    (DropsLeaf (g.G.Gate.used gate) c.in-Some.leaf c.loop-kept.draws.seat
+    c.take_turn.new.draws.seat))
+    c.loop-kept.invariant.gate c.take_turn.ensures.turn
+
 pub loop-kept-preserved-then-take_turn : goal.loop-kept-preserved-then-take_turn
 loop-kept-preserved-then-take_turn g c =
     let was = c.loop-kept.invariant in
     let leaf = c.in-Some.leaf in
     let rest = c.pop_front.new.self.items in
-    let split : c.loop-kept.leaves.items ≡ leaf ∷ rest = c.in-Some.ensures.items in
-    let works = subst
-    (λ (l : List ℕ). IsWorking (g.G.Gate.used c.args.gate.now) c.args.instance.now.rows
-    (slices_per_processor c.args.instance.now.shape)
-    (calls_of c.loop-kept.draws.seat) l c.loop-kept.kept) split was.works in
-    let went = subst (λ (l : List ℕ). GoesRound (g.G.Gate.used c.args.gate.now)
-    c.from_vec-leaves.result.items (calls_of c.loop-kept.draws.seat) l) split was.rounds in
+    let works = works_of g (goal.at.loop-kept-preserved-then-take_turn g c).After-take_turn in
+    let went = went_of g (goal.at.loop-kept-preserved-then-take_turn g c).After-take_turn in
+    let told = told_of g (goal.at.loop-kept-preserved-then-take_turn g c).After-take_turn in
     let long : length c.loop-kept.leaves.items ≡ length rest + 1 = search rules in
-    let told = subst (λ gate. MatchBool c.take_turn.result
-    (Keeps (g.G.Gate.used gate) leaf c.loop-kept.draws.seat c.take_turn.new.draws.seat)
-    (DropsLeaf (g.G.Gate.used gate) leaf c.loop-kept.draws.seat c.take_turn.new.draws.seat))
-    was.gate c.take_turn.ensures.turn in
     let turn = MatchBool-at_true _ _ c.if-take_turn.true told in
-    let rows_are : c.push_back_reserved.new.self.items ≡ rest ++ leaf ∷ [] = search rules in
-    let same_long : length c.push_back_reserved.new.self.items ≡ length rest + 1 = search rules in
+    let rows_are : c.put_last.new.leaves.items ≡ rest ++ leaf ∷ [] = search rules in
+    let same_long : length c.put_last.new.leaves.items ≡ length rest + 1 =
+    ap (length {A = ℕ}) rows_are ∙ length_push rest leaf in
     record {
       lock = turn.lock ∙ was.lock;
       number = turn.number ∙ was.number;
@@ -95,18 +119,10 @@ loop-kept-preserved g c =
     let was = c.loop-kept.invariant in
     let leaf = c.in-Some.leaf in
     let rest = c.pop_front.new.self.items in
-    let split : c.loop-kept.leaves.items ≡ leaf ∷ rest = c.in-Some.ensures.items in
-    let works = subst
-    (λ (l : List ℕ). IsWorking (g.G.Gate.used c.args.gate.now) c.args.instance.now.rows
-    (slices_per_processor c.args.instance.now.shape)
-    (calls_of c.loop-kept.draws.seat) l c.loop-kept.kept) split was.works in
-    let went = subst (λ (l : List ℕ). GoesRound (g.G.Gate.used c.args.gate.now)
-    c.from_vec-leaves.result.items (calls_of c.loop-kept.draws.seat) l) split was.rounds in
+    let works = works_of g (goal.at.loop-kept-preserved g c).After-take_turn in
+    let went = went_of g (goal.at.loop-kept-preserved g c).After-take_turn in
+    let told = told_of g (goal.at.loop-kept-preserved g c).After-take_turn in
     let long : length c.loop-kept.leaves.items ≡ length rest + 1 = search rules in
-    let told = subst (λ gate. MatchBool c.take_turn.result
-    (Keeps (g.G.Gate.used gate) leaf c.loop-kept.draws.seat c.take_turn.new.draws.seat)
-    (DropsLeaf (g.G.Gate.used gate) leaf c.loop-kept.draws.seat c.take_turn.new.draws.seat))
-    was.gate c.take_turn.ensures.turn in
     let turn = MatchBool-at_false _ _ c.if-take_turn.false told in
     record {
       lock = turn.lock ∙ was.lock;
