@@ -10,6 +10,7 @@ mod DrawComputed
 mod Holdings
 mod Lists
 mod GiveBackTurn
+mod Places
 mod PoolSound
 mod StepsUp
 mod Trees
