@@ -1,6 +1,7 @@
 //! Writing of certified texts.
 ghost use Rattle.std.specs.Prelude.{◌≡◌, ◌+◌, ◌<◌, ◌≤◌, ◌^◌, [], ◌∷◌, ◌++◌, length, drop, Some};
-ghost use Rattle.std.specs.Prelude.{OnOk, IfOk, IfSome, string_bytes};
+ghost use Rattle.std.specs.Prelude.{OnOk, OnErr, IfOk, IfSome, string_bytes};
+ghost use Rattle.std.specs.Prelude.{string_len, string_capacity};
 ghost use Rattle.std.specs.Fmt.{decimal};
 ghost use Rattle.std.specs.Option.{option_map};
 ghost use Rattle.bw_model.specs.Marks.{price_of};
@@ -158,6 +159,9 @@ fn push_group(
 ) -> Result<(), AllocError>
     ensures text { OnOk result (string_bytes out.new
         ≡ string_bytes out.old ++ line (group_words row amount flag (option_map price_of level))) }
+    // so memory is refused only where the room that is left is too small for the line
+    ensures full { OnErr result (string_capacity out.old < string_len out.old
+        + length (line (group_words row amount flag (option_map price_of level)))) }
     ensures small_row { IsSmallRow row }
     ensures small_amount { amount < 2 ^ 64 }
     ensures small_level { IfSome (option_map price_of level) IsSmallLevel }
