@@ -8,6 +8,7 @@ use Rattle.bw_model.specs.Certificate.{Certified, certified_of, is_flagged}
 use Rattle.bw_check.specs.Counts.{bound_over}
 use Rattle.bw_check.proofs.tables.bound_of.Goals as goal
 use Rattle.bw_check.proofs.tables.bound_of.Goals.{then-index+in_default, else-index}
+use Rattle.bw_check.proofs.tables.bound_of.Goals.{Joined-index}
 
 no_limit : (b : Bool) (limit : Option ℕ) → limit ≡ None → cond b limit None ≡ None
 no_limit true limit e = e
@@ -25,40 +26,37 @@ module _ (groups : Groups) (certificate : Certified) (below g : ℕ)
   at_inner : is_leaf groups.rows g ≡ false → bound_over groups certificate below g ≡ below
   at_inner inner = rw (none, inner) refl
 
-pub returns-then-is_leaf-clause-value : goal.returns-then-is_leaf-clause-value
-returns-then-is_leaf-clause-value c =
+-- the group has no limit that is flagged
+none_of : (c : Joined-index) → cond (is_flagged (certified_of c.args.certificate.now) c.args.g)
+    (limit_of c.args.instance.now c.args.g) None ≡ None
+none_of c =
     let groups = c.args.instance.now in
     let certificate = certified_of c.args.certificate.now in
     let tight = c.args.certificate.now.tight.items in
     let there : c.args.g < length tight = omega (arith, c.requires.within, c.requires.flags_each) in
     let flag : c.index.result.now ≡ is_flagged certificate c.args.g =
     c.index.ensures ∙ get_or_default tight c.args.g c.index.result.now false there in
-    let leaf : is_leaf groups.rows c.args.g ≡ true = sym c.is_leaf.ensures ∙ c.if-is_leaf.true in
-    let demand : c.from-then-is_leaf.result ≡ demand_of groups.rows c.args.g =
-    c.from-then-is_leaf.ensures ∙ ap (λ (row : Row). row.demand) c.row.ensures in
-    let none : cond (is_flagged certificate c.args.g) (limit_of groups c.args.g) None ≡ None =
     elim c.if-index.branch [
       | then-index+in_default w ↦ no_limit (is_flagged certificate c.args.g)
           (limit_of groups c.args.g) (sym w.limit.ensures ∙ w.in_default.is)
       | else-index w ↦ no_flag (is_flagged certificate c.args.g) (limit_of groups c.args.g)
           (sym flag ∙ w.if-index.false)
-    ] in
+    ]
+
+pub returns-then-is_leaf-clause-value : goal.returns-then-is_leaf-clause-value
+returns-then-is_leaf-clause-value c =
+    let groups = c.args.instance.now in
+    let certificate = certified_of c.args.certificate.now in
+    let leaf : is_leaf groups.rows c.args.g ≡ true = sym c.is_leaf.ensures ∙ c.if-is_leaf.true in
+    let demand : c.from-then-is_leaf.result ≡ demand_of groups.rows c.args.g =
+    c.from-then-is_leaf.ensures ∙ ap (λ (row : Row). row.demand) c.row.ensures in
+    let none = none_of (goal.at.returns-then-is_leaf-clause-value c).Joined-index in
     demand ∙ sym (at_leaf groups certificate c.args.below c.args.g none leaf)
 
 pub returns-else-is_leaf-clause-value : goal.returns-else-is_leaf-clause-value
 returns-else-is_leaf-clause-value c =
     let groups = c.args.instance.now in
     let certificate = certified_of c.args.certificate.now in
-    let tight = c.args.certificate.now.tight.items in
-    let there : c.args.g < length tight = omega (arith, c.requires.within, c.requires.flags_each) in
-    let flag : c.index.result.now ≡ is_flagged certificate c.args.g =
-    c.index.ensures ∙ get_or_default tight c.args.g c.index.result.now false there in
     let inner : is_leaf groups.rows c.args.g ≡ false = sym c.is_leaf.ensures ∙ c.if-is_leaf.false in
-    let none : cond (is_flagged certificate c.args.g) (limit_of groups c.args.g) None ≡ None =
-    elim c.if-index.branch [
-      | then-index+in_default w ↦ no_limit (is_flagged certificate c.args.g)
-          (limit_of groups c.args.g) (sym w.limit.ensures ∙ w.in_default.is)
-      | else-index w ↦ no_flag (is_flagged certificate c.args.g) (limit_of groups c.args.g)
-          (sym flag ∙ w.if-index.false)
-    ] in
+    let none = none_of (goal.at.returns-else-is_leaf-clause-value c).Joined-index in
     sym (at_inner groups certificate c.args.below c.args.g none inner)
