@@ -1,2 +1,3 @@
 -- The files of lemmas.
+mod Closeness
 mod Squares

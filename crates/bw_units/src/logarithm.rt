@@ -4,6 +4,7 @@
 //! the lower end, and up for the upper end.
 ghost use Rattle.std.specs.Prelude.{ℕ, ◌+◌, ◌*◌, ◌^◌, ◌<◌, ◌≤◌};
 ghost use Rattle.bw_units.specs.Logarithm.{IsLogarithmBelow, IsLogarithmAbove};
+ghost use Rattle.bw_units.specs.Logarithm.{IsLogarithmWithin, IsLogarithmNear};
 
 /// Binary digits of a unit's fraction: a unit is 2^-36.
 pub const SCALE_DIGITS: u32 = 36;
@@ -53,6 +54,9 @@ fn square_below(power: Power) -> Power
     ensures exponent { result.exponent ≤ 2 * power.exponent + 1 }
     ensures below { (v : ℕ) → power.mantissa * 2 ^ power.exponent ≤ ONE * v
         → result.mantissa * 2 ^ result.exponent ≤ ONE * (v * v) }
+    // less than the square by one part in ONE
+    ensures close { power.mantissa * power.mantissa * 2 ^ (2 * power.exponent)
+        ≤ result.mantissa * (ONE + 1) * 2 ^ result.exponent }
 {
     let mantissa = power.mantissa * power.mantissa / ONE;
     let exponent = 2 * power.exponent;
@@ -67,12 +71,15 @@ fn square_below(power: Power) -> Power
 
 // At least the square.
 fn square_above(power: Power) -> Power
-    requires range { power.mantissa ≤ TWO }
+    requires range { (ONE ≤ power.mantissa) × (power.mantissa ≤ TWO) }
     requires exponent { power.exponent < 2 ^ 62 }
-    ensures range { result.mantissa ≤ TWO }
+    ensures range { (ONE ≤ result.mantissa) × (result.mantissa ≤ TWO) }
     ensures exponent { result.exponent ≤ 2 * power.exponent + 1 }
     ensures above { (v : ℕ) → ONE * v ≤ power.mantissa * 2 ^ power.exponent
         → ONE * (v * v) ≤ result.mantissa * 2 ^ result.exponent }
+    // more than the square by two parts in ONE
+    ensures close { result.mantissa * (ONE * ONE) * 2 ^ result.exponent
+        ≤ power.mantissa * power.mantissa * (ONE + 2) * 2 ^ (2 * power.exponent) }
 {
     let mantissa = (power.mantissa * power.mantissa + (ONE - 1)) / ONE;
     let exponent = 2 * power.exponent;
@@ -89,6 +96,7 @@ fn square_above(power: Power) -> Power
 pub fn logarithm_below(x: u64) -> u64
     requires { (1 ≤ x) × (x < 262144) }
     ensures below { IsLogarithmBelow result x }
+    ensures close { IsLogarithmWithin result x }
     ensures bound { result < 2 ^ 41 }
 {
     let mut power = power_of(x);
@@ -102,6 +110,7 @@ pub fn logarithm_below(x: u64) -> u64
 pub fn logarithm_above(x: u64) -> u64
     requires { (1 ≤ x) × (x < 262144) }
     ensures above { IsLogarithmAbove result x }
+    ensures close { IsLogarithmNear result x }
     ensures bound { result < 2 ^ 41 }
 {
     let below = power_of(x);

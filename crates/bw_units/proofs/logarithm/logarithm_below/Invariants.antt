@@ -1,6 +1,7 @@
 -- What stands at each turn of the loop in `logarithm_below`.
 use Rattle.std.proofs.Common.{◌+◌, ◌*◌, ◌^◌, ◌<◌, ◌≤◌}
 use Rattle.bw_units.specs.declared.logarithm.TheConstants.{ONE, TWO}
+use Rattle.bw_units.proofs.Closeness.{parts}
 use Rattle.bw_units.proofs.logarithm.logarithm_below.Given as goal
 
 abbrev pub invariant-loop-i : goal.invariant-loop-i
@@ -9,4 +10,6 @@ invariant-loop-i l = record {
   most : l.power.mantissa < TWO;
   exponent : l.power.exponent + 1 ≤ 18 * 2 ^ l.i;
   below : l.power.mantissa * 2 ^ l.power.exponent ≤ ONE * l.x ^ (2 ^ l.i);
+  close : ONE * l.x ^ (2 ^ l.i) * ONE
+      ≤ l.power.mantissa * (ONE + parts l.i) * 2 ^ l.power.exponent;
 }
