@@ -5,7 +5,7 @@
 #[cfg(test)]
 mod demand_cases;
 #[cfg(test)]
-mod level_cases;
+mod depth_cases;
 #[cfg(test)]
 mod model_cases;
 #[cfg(test)]

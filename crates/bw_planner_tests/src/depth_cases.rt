@@ -16,22 +16,22 @@ static ROWS: [Shown; 5] = [
 ];
 
 /// The rows of each depth.
-static LEVELS: [&[u32]; 3] = [&[0], &[1, 4], &[2, 3]];
+static BY_DEPTH: [&[u32]; 3] = [&[0], &[1, 4], &[2, 3]];
 
-fn assert_levels(rt: &impl Abort, alloc: Global, shape: HostShape) -> Result<(), InstanceFault> {
+fn assert_depths(rt: &impl Abort, alloc: Global, shape: HostShape) -> Result<(), InstanceFault> {
     let found = levels(alloc, &instance_of(alloc, shape, &ROWS)?)?;
     assert!(rt; found.len() == 3);
-    for (level, rows) in found.iter().zip(&LEVELS) {
-        assert!(rt; level.as_slice() == *rows);
+    for (groups, rows) in found.iter().zip(&BY_DEPTH) {
+        assert!(rt; groups.as_slice() == *rows);
     }
     Ok(())
 }
 
 #[test]
-fn levels_of_a_small_tree(rt: HostRuntime) -> Result<(), Fail> {
+fn depths_of_a_small_tree(rt: HostRuntime) -> Result<(), Fail> {
     let shape = HostShape::new(1, 100_000, 5_000)?;
-    if assert_levels(&rt, rt.alloc(), shape).is_err() {
-        assert_levels(&rt, rt.alloc(), shape)?;
+    if assert_depths(&rt, rt.alloc(), shape).is_err() {
+        assert_depths(&rt, rt.alloc(), shape)?;
     }
     Ok(())
 }
