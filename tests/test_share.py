@@ -193,7 +193,8 @@ def test_library_shows_its_header():
     declared = re.findall(r"^uint(?:32|64)_t (\w+)\(", share("arbiter.h"), re.M)
     listed = r"^  global:\n((?: {4}\w+;\n)*)  local:\n    \*;\n"
     shown = re.search(listed, share("arbiter.map"), re.M).group(1)
-    same((len(declared), re.findall(r"\w+", shown)), (16, declared), "names in arbiter.map")
+    assert len(declared) >= 17
+    same(re.findall(r"\w+", shown), declared, "names in arbiter.map")
 
 
 # Completions

@@ -35,6 +35,11 @@ def test_neutral_text(old, neutral):
     same(telling.kept_behind_let(old), neutral)
 
 
+def test_end_of_a_statement():
+    same(telling.inside(" sum + f(a);"), "{ let same = sum + f(a); same };")
+    same([telling.inside(text) for text in ("let a = b;", "return Some(g);", "if a {")], [""] * 3)
+
+
 def test_another_text_is_tried(capsys):
     """An edit whose first text is refused comes back with the next, and is told with the last."""
     edit = telling.Edit("bw_x", "one", "src/a.rt", "old", "bw_x::f", ["a", "b"])
