@@ -8,7 +8,7 @@ A time is processor time of one call in one process, the least of some. The host
 One group is asked about, the first leaf that gets less than it wants: with which setting it gets a
 slice more.
 """
-import ctypes
+import functools
 import math
 import random
 import sys
@@ -20,14 +20,12 @@ from shapes import SHAPES
 
 TOP = Path(__file__).resolve().parent.parent
 sys.path.insert(0, str(TOP / "python"))
-from arbiter_host import engine, questions  # noqa: E402  (the package is put on the path above)
-from arbiter_host.faults import HostFault  # noqa: E402
-from arbiter_host.model import Host, Row  # noqa: E402
+from arbiter import Columns, Host, Library, Row, Unavailable  # noqa: E402  (the path is set above)
 
 HOST = Host(64, 1000000, 1000)
 CHOSEN = ["flat", "random"]
 GROUPS = [500, 4096, 16384]
-NAMES = ["plan", *questions.CALLS]
+NAMES = ["plan", "reasons", "guarantee", "least_weight", "least_limit", "least_processors"]
 # Seconds that the runs of one call may take, and how many there are at least.
 SECONDS, REPEATS = 2, 5
 
@@ -58,36 +56,26 @@ def least(call: Callable[[], object]) -> float:
     return best
 
 
-def calls_of(asked: questions.Questions, rows: list[Row]) -> dict[str, Callable[[], object]]:
+def calls_of(library: Library, rows: list[Row]) -> dict[str, Callable[[], object]]:
     """Each call by its name, with all of its words."""
-    count, length = asked.count, ctypes.c_size_t(asked.count)
-    amounts, blamed = (engine.U64 * count)(), (engine.U32 * count)()
-    kinds = (engine.U8 * count)()
-    found: dict[str, Callable[[], object]] = {
-        "plan": lambda: asked.answered("plan", asked.asked, amounts, length),
-        "reasons": lambda: asked.answered("reasons", asked.asked, kinds, length, blamed, length)}
-    found["plan"]()
-    inner = {row.parent for row in rows}
+    columns = Columns.of(rows)
+    amounts, inner = library.plan(HOST, columns), {row.parent for row in rows}
     group = next(place for place, row in enumerate(rows)
                  if place not in inner and amounts[place] < row.demand)
-    more = amounts[group] + 1
-    return found | {"guarantee": lambda: asked.guarantee(group),
-                    "least_weight": lambda: asked.least_weight(group, more),
-                    "least_limit": lambda: asked.least_limit(group, more),
-                    "least_processors": lambda: asked.least_processors(group, more)}
+    found: dict[str, Callable[[], object]] = {
+        name: functools.partial(getattr(library, name), HOST, columns) for name in NAMES[:2]}
+    words = {name: [group, amounts[group] + 1] for name in NAMES[3:]} | {"guarantee": [group]}
+    return found | {name: functools.partial(getattr(library, name), HOST, columns, *asked)
+                    for name, asked in words.items()}
 
 
-def table(library: engine.LibraryEngine, sizes: list[int]) -> Iterator[str]:
+def table(library: Library, sizes: list[int]) -> Iterator[str]:
     """The lines of the table, in milliseconds."""
     yield f"| Tree | Groups | {' | '.join(f'`arbiter_{name}`, ms' for name in NAMES)} |"
     yield "|---" * (len(NAMES) + 2) + "|"
     for shape in CHOSEN:
         for groups in sizes:
-            rows = rows_of(shape, groups)
-            asked = questions.of(library, HOST, rows)
-            if asked is None:
-                raise HostFault("this library answers no questions")
-            calls = calls_of(asked, rows)
+            calls = calls_of(library, rows_of(shape, groups))
             figures = [f"{1e3 * least(calls[name]):.3g}" for name in NAMES]
             yield f"| {shape} | {groups} | {' | '.join(figures)} |"
 
@@ -97,11 +85,11 @@ def main() -> None:
     if len(sys.argv) < 2 or not all(word.isascii() and word.isdigit() for word in sys.argv[2:]):
         sys.exit((__doc__ or "").partition("\n\n")[2])
     try:
-        library = engine.LibraryEngine(sys.argv[1])
-        for line in table(library, [int(word) for word in sys.argv[2:]] or GROUPS):
-            print(line, flush=True)
-    except HostFault as fault:
-        sys.exit(f"questions: {fault.message}")
+        library = Library(sys.argv[1])
+    except Unavailable as fault:
+        sys.exit(f"questions: {fault}")
+    for line in table(library, [int(word) for word in sys.argv[2:]] or GROUPS):
+        print(line, flush=True)
 
 
 if __name__ == "__main__":

@@ -25,8 +25,8 @@ from scipy.sparse import csr_matrix
 from shapes import SHAPES
 
 TOP = Path(__file__).resolve().parent.parent
-sys.path.insert(0, str(TOP / "tools"))
-import arbiter  # noqa: E402  (the tools' folder is put on the path above)
+sys.path.insert(0, str(TOP / "python"))
+import arbiter  # noqa: E402  (the folder is put on the path above)
 
 HOST = arbiter.Host(processors=2, period_us=1000000, slice_us=1000)
 CAPACITY = 2000
@@ -155,9 +155,9 @@ def main():
         for shape in CHOSEN:
             tree = Tree(shape, groups)
             rows = tree.rows()
-            asked = library.asked(HOST, rows)
-            amounts = library.plan(HOST, rows)
-            own = least(lambda: planned(library, asked, len(rows)))[1]
+            columns = arbiter.Columns.of(rows)
+            amounts = library.plan(HOST, columns)
+            own = least(lambda: library.plan(HOST, columns))[1]
             for method in METHODS:
                 of_total, of_plan, faults = compare(tree, amounts, method)
                 print(f"| {shape} | {groups} | {method} | {of_total * 1e3:.3g} | {of_plan * 1e3:.3g}"
@@ -166,14 +166,6 @@ def main():
                     bad = True
                     print(f"solvers: {shape}, {groups}, {method}: {fault}", file=sys.stderr)
     sys.exit(bad)
-
-
-def planned(library, asked, groups):
-    """One call of the library, with its columns at hand."""
-    amounts = (arbiter.U64 * groups)()
-    if library.calls.arbiter_plan(*asked, *arbiter.given(amounts)):
-        sys.exit("solvers: the library refused a tree")
-    return amounts
 
 
 if __name__ == "__main__":

@@ -1,8 +1,8 @@
 # shellcheck shell=bash disable=SC2154
 # Installs the program, the C library, arbiterctl and what belongs to them. For ./build --install.
 
-# The Python package, and its place below DIR.
-package=python/arbiter_host package_place=lib/arbiter/arbiter_host
+# The folder of the Python packages, the packages, and the place of that folder below DIR.
+python=python packages=(arbiter arbiter_host) python_place=lib/arbiter
 # The man pages of arbiterctl, whose names stay, and their place below DIR.
 pages=(share/man/*.1) pages_place=share/man/man1
 
@@ -29,19 +29,21 @@ find_installed() {
   )
 }
 
-# Sets `modules` to the files of the package, relative to its folder.
+# Sets `modules` to the files of the packages, relative to their folder.
 find_modules() {
-  modules=("$package"/*.py "$package"/*/*.py "$package"/templates/* "$package/py.typed")
-  modules=("${modules[@]#"$package/"}")
+  local folders=("${packages[@]/#/"$python/"}")
+  mapfile -t modules < <(find "${folders[@]}" -name '*.py' -o -name py.typed \
+    -o -path '*/templates/*')
+  modules=("${modules[@]#"$python/"}")
 }
 
-# Prints the places below DIR, one a line. The package is one folder.
+# Prints the places below DIR, one a line. A package is one folder.
 places() {
   local at
   find_installed
   for ((at = 0; at < ${#installed[@]}; at += 3)); do echo "  ${installed[at + 1]}"; done
   printf "  $pages_place/%s\n" "${pages[@]##*/}"
-  echo "  $package_place/"
+  printf "  $python_place/%s/\n" "${packages[@]}"
 }
 
 # Fails if DIR can be neither written nor made. It is asked before anything is built.
@@ -77,27 +79,27 @@ name_pages() { # DIR
   printf "build: installed %s\n" "${pages[@]/#*\//"$1/$pages_place/"}"
 }
 
-# Copies the package into a folder beside its place.
-copy_package() { # DIR
-  local above=$1/${package_place%/*}
-  mkdir -p -- "$above" && package_copy=$(mktemp -d "$above/.arbiter.XXXXXX") || return 1
-  beside+=("$package_copy")
-  (cd "$package" && cp --parents -- "${modules[@]}" "$package_copy") &&
-    find "$package_copy" -type f -exec chmod 644 {} +
+# Copies the packages into a folder beside their places.
+copy_packages() { # DIR
+  local to=$1/$python_place
+  mkdir -p -- "$to" && packages_copy=$(mktemp -d "$to/.arbiter.XXXXXX") || return 1
+  beside+=("$packages_copy")
+  (cd "$python" && cp --parents -- "${modules[@]}" "$packages_copy") &&
+    find "$packages_copy" -type f -exec chmod 644 {} +
 }
 
 # Gives the copied modules their names, and removes those of an earlier version.
-name_package() { # DIR
-  local folder file to=$1/$package_place
+name_packages() { # DIR
+  local folder file to=$1/$python_place folders=("${packages[@]/#/"$1/$python_place/"}")
   local -A ours=()
-  for folder in '' $(printf '%s\n' "${modules[@]}" | sed -n 's|/.*|/|p' | sort -u); do
-    mkdir -p -- "$to/$folder" && mv -f -t "$to/$folder" -- "$package_copy/$folder"*.* || return 1
+  for folder in $(printf '%s\n' "${modules[@]%/*}" | sort -u); do
+    mkdir -p -- "$to/$folder" && mv -f -t "$to/$folder" -- "$packages_copy/$folder/"*.* || return 1
   done
-  for file in "${modules[@]}"; do ours[$file]=yes; done
-  for file in "$to"/*.py "$to"/*/*.py "$to"/templates/*; do
-    [ -n "${ours[${file#"$to/"}]-}" ] || rm -f -- "$file"
-  done
-  echo "build: installed $to/"
+  for file in "${modules[@]}"; do ours[$to/$file]=yes; done
+  while IFS= read -r file; do
+    [ -n "${ours[$file]-}" ] || rm -f -- "$file"
+  done < <(find "${folders[@]}" -name '*.py' -o -path '*/templates/*')
+  printf "build: installed %s/\n" "${folders[@]}"
 }
 
 # Refuses a folder where a file belongs.
@@ -114,18 +116,18 @@ install_below() ( # DIR
   trap 'exit 1' HUP INT TERM
   find_installed
   find_modules
-  for file in "${modules[@]}"; do refuse_folder "$1/$package_place/$file" || exit 1; done
+  for file in "${modules[@]}"; do refuse_folder "$1/$python_place/$file" || exit 1; done
   for ((at = 0; at < ${#installed[@]}; at += 3)); do
     place=$1/${installed[at + 1]}
     refuse_folder "$place" && copy_beside "${installed[at]}" "$place" "${installed[at + 2]}" ||
       exit 1
   done
   for page in "${pages[@]##*/}"; do refuse_folder "$1/$pages_place/$page" || exit 1; done
-  copy_pages "$1" && copy_package "$1" || exit 1
+  copy_pages "$1" && copy_packages "$1" || exit 1
   for ((at = 0; at < ${#installed[@]}; at += 3)); do
     place=$1/${installed[at + 1]}
     mv -fT -- "${beside[at / 3]}" "$place" || exit 1
     echo "build: installed $place"
   done
-  name_pages "$1" && name_package "$1"
+  name_pages "$1" && name_packages "$1"
 )

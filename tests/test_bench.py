@@ -181,10 +181,8 @@ def test_counts_of_a_period_nearly_repeat(program, valgrind, tmp_path):
 
 def test_questions_are_timed(library, monkeypatch):
     """The table of the calls that answer questions has a line for each tree, of times above 0."""
-    if "arbiter_reasons(" not in (ROOT / "share/arbiter.h").read_text():
-        pytest.skip("the header of this clone declares no arbiter_reasons")
     monkeypatch.setattr(questions, "SECONDS", 0)
-    head, _, *lines = questions.table(questions.engine.LibraryEngine(str(library)), [40])
+    head, _, *lines = questions.table(questions.Library(library), [40])
     same(re.findall(r"`(\w+)`, ms", head),
          ["arbiter_plan", "arbiter_reasons", "arbiter_guarantee", "arbiter_least_weight",
           "arbiter_least_limit", "arbiter_least_processors"])

@@ -57,10 +57,8 @@ def output_of(block, program, top, library):
         words, given = [program.path, "check"], block.text.encode()
     else:
         assert not BARE_TMPDIR.search(block.text), "TMPDIR is not set on ordinary hosts"
-        # the tools take the program under test from this variable
-        environment["ARBITER"] = program.path
-        if block.page == "FLEET.md":
-            environment["ARBITER_LIBRARY"] = str(library)
+        # the tools take what is under test from these variables
+        environment.update(ARBITER=program.path, ARBITER_LIBRARY=str(library))
         interpreter = ["bash"] if block.kind == "command" else [sys.executable]
         words, given = [*interpreter, "-c", block.text], b""
     ended = run(words, given, cwd=top, env=environment)

@@ -32,10 +32,10 @@ FILES = {
     **{f"share/man/man1/{path.name}": (f"share/man/{path.name}", 0o644)
        for path in (ROOT / "share/man").iterdir()},
 }
-PACKAGE = "lib/arbiter/arbiter_host"
+PACKAGES = ["lib/arbiter/arbiter", "lib/arbiter/arbiter_host"]
 MODULES = {f"lib/arbiter/{path.relative_to(ROOT / 'python')}":
            (str(path.relative_to(ROOT)), 0o644)
-           for path in (ROOT / "python/arbiter_host").rglob("*")
+           for name in PACKAGES for path in (ROOT / "python" / name.rpartition("/")[2]).rglob("*")
            if path.suffix in (".py", ".typed", ".html", ".css", ".js")}
 INSTALLED = {*FILES, *LINKS, *MODULES}
 
@@ -74,7 +74,7 @@ def test_installs(copy):
     status, out, err = copy.call(words, cwd=cwd)
     same(status, 0, f"./build --install: {err}")
     folder = f"{copy.folder}/from here/to a/new place"
-    for place in [*FILES, *LINKS, f"{PACKAGE}/"]:
+    for place in [*FILES, *LINKS, *(f"{name}/" for name in PACKAGES)]:
         holds(f"build: installed {folder}/{place}\n", out, "standard output")
     same(copy.proved(), [PROVED, LIBRARY_PROVED], "what was proved")
     is_installed(copy, folder)
@@ -88,9 +88,10 @@ def test_installs(copy):
         with open(f"{folder}/{name}", "w", encoding="utf-8") as file:
             file.write("old\n")
     os.chmod(f"{folder}/share/man/man1/arbiter.1", 0o400)
-    # a module that the package had once
-    with open(f"{folder}/{PACKAGE}/sources/older.py", "w", encoding="utf-8") as file:
-        file.write("old\n")
+    # modules that the packages had once
+    for older in (f"{PACKAGES[0]}/older.py", f"{PACKAGES[1]}/sources/older.py"):
+        with open(f"{folder}/{older}", "w", encoding="utf-8") as file:
+            file.write("old\n")
     same(copy.call(["./build", f"--install={folder}"])[0], 0, "again, and without the kit")
     is_installed(copy, folder)
     same(copy.read("precious"), "precious\n", "what a link pointed to")
@@ -217,7 +218,7 @@ def test_installs_whole_or_not(copy):
     same(copy.call(cut)[0], 1, "a copy over old files that is cut short")
     found = {place: bytes_of(path) for place, path in files_below(folder).items()}
     same(found, dict.fromkeys(INSTALLED, b"old\n"), "old files")
-    for last in ("share/man/man1/arbiterctl.1", f"{PACKAGE}/sources/script.py"):
+    for last in ("share/man/man1/arbiterctl.1", f"{PACKAGES[1]}/sources/script.py"):
         os.remove(f"{folder}/{last}")
         os.makedirs(f"{folder}/{last}")
         status, _, err = copy.call(["./build", "--install", folder])
@@ -274,7 +275,9 @@ def test_arbiterctl_of_the_installation(copy, program, library):
     found = json.loads(ended.out)
     same(found["engine"], f"library {folder}/lib/{SONAME}", "the engine")
     same([each["gets"]["slices"] for each in found["groups"]], [7, 7], "the plan")
-    ended = run([*command, "explain", "--json", "--library", "none", "-"], script, env={}, cwd="/")
-    same(json.loads(ended.out)["engine"], f"program {folder}/bin/arbiter", "the program")
+    os.remove(f"{folder}/lib/libarbiter.so.{VERSION}")
+    ended = run([*command, "explain", "-"], script, env={}, cwd="/")
+    same((ended.status, ended.out, ended.err.count(b"\n")), (3, b"", 1), "without the library")
+    holds("install the package libarbiter1", ended.err.decode(), "what to do about it")
     ended = run([*command, "--version"], b"", env={}, cwd="/")
     same(ended.out, f"arbiterctl {VERSION}\n".encode(), "--version")

@@ -19,6 +19,7 @@ import pytest
 
 import arbiter
 import pages
+from arbiter import c
 from stand_in import version
 from support import ROOT, Program, Talk, kit_folder, run, same
 from worked_scripts import all_scripts
@@ -167,7 +168,7 @@ def certified_in(text: str):
     head, *rows = [line.split(" ") for line in text.splitlines()]
     found = [LEVEL.match(row[6]) for row in rows]
     levels = [tuple(map(int, level.groups())) if level else None for level in found]
-    certificate = arbiter.Certificate([row[5] == "1" for row in rows], levels)
+    certificate = arbiter.Certificate.of([row[5] == "1" for row in rows], levels)
     host = arbiter.Host(*map(int, head[2:5]))
     return host, [row_in(row) for row in rows], [int(row[4]) for row in rows], certificate
 
@@ -202,7 +203,8 @@ def random_tree(chance):
     inner = {row.parent for row in rows}
     for number, row in enumerate(rows):
         if number not in inner:
-            row.demand = chance.choice([0, chance.randrange(0, 30), chance.randrange(0, 1000001)])
+            demand = chance.choice([0, chance.randrange(0, 30), chance.randrange(0, 1000001)])
+            rows[number] = row._replace(demand=demand)
     return host, rows
 
 
@@ -256,11 +258,11 @@ def test_worked_script(calls, program, script):
 def test_refused(calls, number, row, host, tuples):
     """Each call that has a host and rows refuses them with the same number and row."""
     rows = rows_of(tuples)
-    nothing = arbiter.Certificate([False] * len(rows), [None] * len(rows))
+    nothing = arbiter.Certificate.of([False] * len(rows), [None] * len(rows))
     for call in (calls.plan, calls.certify, calls.limiting):
         same(number_of(call, host, rows), (number, row), call.__name__)
     same(number_of(calls.check, host, rows, [0] * len(rows), nothing), (number, row), "check")
-    found = arbiter.U32(7)
+    found = c.U32(7)
     words = with_lengths(raw_columns(rows), [len(rows)] * 4)
     if number > 3:
         same(calls.calls.arbiter_refused_row(*words, ctypes.byref(found)), number, "by itself")
@@ -269,7 +271,7 @@ def test_refused(calls, number, row, host, tuples):
 
 def test_refused_row_of_none(calls, random_trees):
     """Rows that are not refused, and columns of several lengths: the row is as it was."""
-    found = arbiter.U32(7)
+    found = c.U32(7)
     for _, rows in random_trees:
         words = with_lengths(raw_columns(rows), [len(rows)] * 4)
         same(calls.calls.arbiter_refused_row(*words, ctypes.byref(found)), 0, "no refusal")
@@ -309,8 +311,8 @@ def test_slices(calls, usec, own_period, host, slices):
 def test_refused_slices(calls, number, host, usec, own_period):
     """The first refusal is answered, and nothing is written."""
     same(number_of(calls.slices, host, usec, own_period), (number, None))
-    slices = arbiter.U64(7)
-    words = [*calls.host(host), arbiter.U64(usec), arbiter.U64(own_period)]
+    slices = c.U64(7)
+    words = [*calls.host(host), c.U64(usec), c.U64(own_period)]
     same(calls.calls.arbiter_slices(*words, ctypes.byref(slices)), number)
     same(slices.value, 7)
 
@@ -335,8 +337,8 @@ def test_demand(calls, thousandths, host, slices):
 def test_refused_demand(calls, number, host, thousandths):
     """The first refusal is answered, and nothing is written."""
     same(number_of(calls.demand, host, thousandths), (number, None))
-    slices = arbiter.U64(7)
-    words = [*calls.host(host), arbiter.U64(thousandths)]
+    slices = c.U64(7)
+    words = [*calls.host(host), c.U64(thousandths)]
     same(calls.calls.arbiter_demand(*words, ctypes.byref(slices)), number)
     same(slices.value, 7)
 
@@ -358,59 +360,59 @@ def test_all_weights_of_shares(calls):
     call = calls.calls.arbiter_weight_of_shares
     for shares in range(3, 262144):
         linear = 1 + (shares - 2) * 9999 // 262142
-        same(call(arbiter.U64(shares), arbiter.U32(1)), linear, f"{shares}")
+        same(call(c.U64(shares), c.U32(1)), linear, f"{shares}")
         if shares != 1024:
             logarithm = math.log2(shares)
             exact = 10 ** ((logarithm * logarithm + 125 * logarithm) / 612 - 7 / 34)
             # so far from a whole number that floating point rounds as the formula does
             assert abs(exact - round(exact)) > 1e-8, shares
-            same(call(arbiter.U64(shares), arbiter.U32(2)), math.ceil(exact), f"{shares}")
+            same(call(c.U64(shares), c.U32(2)), math.ceil(exact), f"{shares}")
 
 
 @pytest.mark.parametrize("conversion", [0, 3, 2**32 - 1])
 def test_no_conversion(calls, conversion):
-    same(calls.calls.arbiter_weight_of_shares(arbiter.U64(1024), arbiter.U32(conversion)), 0)
+    same(calls.calls.arbiter_weight_of_shares(c.U64(1024), c.U32(conversion)), 0)
 
 
 def test_version(calls):
     """The version is that of the program, and is written if there is room for it."""
     text = version().encode()
     same(calls.version(), text.decode())
-    for length in range(arbiter.NAME_ROOM):
+    for length in range(c.NAME_ROOM):
         room = ctypes.create_string_buffer(b"~" * 32, 32)
-        same(calls.calls.arbiter_version(room, arbiter.SIZE(length)), len(text), f"{length} bytes")
+        same(calls.calls.arbiter_version(room, c.SIZE(length)), len(text), f"{length} bytes")
         front = text + b"\0" if len(text) < length else b""
         same(room.raw, front + b"~" * (32 - len(front)), f"{length} bytes")
 
 
 # The host of raw calls: one processor of 20 slices.
-RAW_HOST = [arbiter.U64(number) for number in (1, 100000, 5000)]
+RAW_HOST = [c.U64(number) for number in (1, 100000, 5000)]
 
 
 def raw_columns(rows):
     """The four columns of rows, as C takes them."""
-    parents = [arbiter.NO_PARENT if row.parent is None else row.parent for row in rows]
-    limits = [arbiter.NO_LIMIT if row.limit is None else row.limit for row in rows]
-    numbers = arbiter.U64 * len(rows)
+    parents = [c.NO_PARENT if row.parent is None else row.parent for row in rows]
+    limits = [c.NO_LIMIT if row.limit is None else row.limit for row in rows]
+    numbers = c.U64 * len(rows)
     weights, demands = [row.weight for row in rows], [row.demand for row in rows]
-    return [(arbiter.U32 * len(rows))(*parents), numbers(*weights), numbers(*limits),
+    return [(c.U32 * len(rows))(*parents), numbers(*weights), numbers(*limits),
             numbers(*demands)]
 
 
 def with_lengths(columns, lengths):
     """Each column and its length, as C takes them."""
-    return [word for pair in zip(columns, map(arbiter.SIZE, lengths)) for word in pair]
+    return [word for pair in zip(columns, map(c.SIZE, lengths)) for word in pair]
 
 
-CERTIFIED = [arbiter.U64, arbiter.U8, arbiter.U64, arbiter.U64, arbiter.U32]
+CERTIFIED = [c.U64, c.U8, c.U64, c.U64, c.U32]
 # For each call: the columns behind the rows, what else is written, and how many columns get a wrong
 # length. The others of `check` are in `test_wrong_claim` and `test_uneven_levels`.
 KINDS = {
-    "plan": ([arbiter.U64], [], 5),
-    "limiting": ([arbiter.U32], [arbiter.U32, arbiter.U64], 5),
+    "plan": ([c.U64], [], 5),
+    "limiting": ([c.U32], [c.U32, c.U64], 5),
     "certify": (CERTIFIED, [], 9),
-    "reasons": ([arbiter.U8, arbiter.U32], [], 6),
-    "check": (CERTIFIED, [arbiter.U32], 4),
+    "reasons": ([c.U8, c.U32], [], 6),
+    "check": (CERTIFIED, [c.U32], 4),
 }
 
 
@@ -441,10 +443,10 @@ def test_uneven_levels(calls, lengths, row):
 
     Levels that are all too few: 50, and row 0.
     """
-    found = arbiter.U32(7)
+    found = c.U32(7)
     columns = raw_columns(rows_of(WORKED["two groups"][1]))
-    columns += [(arbiter.U64 * 3)(20, 7, 13), (arbiter.U8 * 3)(1, 0, 0)]
-    levels = [(arbiter.U64 * 3)(13, 0, 0), (arbiter.U64 * 3)(100, 0, 0), (arbiter.U32 * 3)()]
+    columns += [(c.U64 * 3)(20, 7, 13), (c.U8 * 3)(1, 0, 0)]
+    levels = [(c.U64 * 3)(13, 0, 0), (c.U64 * 3)(100, 0, 0), (c.U32 * 3)()]
     words = with_lengths(columns + levels, [3] * len(columns) + list(lengths))
     number = calls.calls.arbiter_check(*RAW_HOST, *words, ctypes.byref(found))
     same((number, found.value), (50, row))
@@ -452,7 +454,7 @@ def test_uneven_levels(calls, lengths, row):
 
 def test_refusal_writes_no_amount(calls):
     rows = rows_of([(None, 100, None, 0), (0, 0, None, 20), (0, 200, None, 20)])
-    amounts = (arbiter.U64 * 3)(7, 8, 9)
+    amounts = (c.U64 * 3)(7, 8, 9)
     words = with_lengths([*raw_columns(rows), amounts], [3] * 5)
     same(calls.calls.arbiter_plan(*RAW_HOST, *words), 6, "a weight of 0")
     same(list(amounts), [7, 8, 9])
@@ -481,7 +483,7 @@ def test_certificate_columns(calls):
 def test_great_limits(calls, limit):
     """A limit far above the capacity changes no plan."""
     rows = rows_of([(None, 100, None, 0), (0, 100, limit, 20), (0, 200, limit, 20)])
-    certificate = arbiter.Certificate([True, False, False], [(13, 100, 0), None, None])
+    certificate = arbiter.Certificate.of([True, False, False], [(13, 100, 0), None, None])
     same(calls.certify(HOST_OF_ONE, rows), ([20, 7, 13], certificate))
     same(calls.limiting(HOST_OF_ONE, rows), ([0], 0))
     same(number_of(calls.check, HOST_OF_ONE, rows, [20, 7, 13], certificate), (0, None))
@@ -516,8 +518,9 @@ def test_wrong_claim(calls, program, number, row, amounts, flags, levels):
         return right if change is ... else change(right) if callable(change) else change
 
     amounts = changed(right, amounts)
-    flags, levels = changed(certificate.flags, flags), changed(certificate.levels, levels)
-    claim = arbiter.Certificate(flags, levels)
+    flags = changed([bool(flag) for flag in certificate.flags], flags)
+    levels = changed(certificate.levels, levels)
+    claim = arbiter.Certificate.of(flags, levels)
     same(number_of(calls.check, host, rows, amounts, claim), (number, row), "by numbers")
     # no text has columns of different lengths
     if number == 50:
@@ -556,7 +559,7 @@ def test_changed_texts(calls, program, changed_texts):
 def test_names(calls):
     """The name of each number of the header, and of no other."""
     same(set(names()), NUMBERS, "numbers in docs/NUMBERS.md")
-    same(arbiter.NAME_ROOM, 1 + max(map(len, names().values())), "room for each name")
+    same(c.NAME_ROOM, 1 + max(map(len, names().values())), "room for each name")
     powers = [2**bits + low for bits in range(10, 32) for low in (0, 1, 71)]
     for number in [*range(1000), *powers, 2**32 - 1]:
         same(calls.name(number), names().get(number), f"the name of {number}")
@@ -566,9 +569,9 @@ def test_names(calls):
 def test_room_for_a_name(calls, number):
     """The name and the 0 behind it are written if there is room for both, otherwise nothing."""
     text = names().get(number, "").encode()
-    for length in range(arbiter.NAME_ROOM + 2):
+    for length in range(c.NAME_ROOM + 2):
         room = ctypes.create_string_buffer(b"~" * 32, 32)
-        found = calls.calls.arbiter_name(arbiter.U32(number), room, arbiter.SIZE(length))
+        found = calls.calls.arbiter_name(c.U32(number), room, c.SIZE(length))
         same(found, len(text), f"{length} bytes")
         front = text + b"\0" if text and len(text) < length else b""
         same(room.raw, front + b"~" * (32 - len(front)), f"{length} bytes")

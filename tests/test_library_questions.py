@@ -10,6 +10,7 @@ from typing import Iterator, List, Optional, Sequence, Tuple
 import pytest
 
 import arbiter
+from arbiter import c
 from plan_model import Instance, Row
 from support import ROOT, same
 from test_library import REFUSED, number_of, raw_columns, rows_of, with_lengths
@@ -49,15 +50,15 @@ def calls(module):
 
 
 def host_words(host) -> list:
-    return [arbiter.U64(number) for number in (host.processors, host.period_us, host.slice_us)]
+    return [c.U64(number) for number in (host.processors, host.period_us, host.slice_us)]
 
 
 def asked(calls, name: str, host, rows: Sequence[Row], group: int,
           amount: Optional[int] = None) -> Tuple[int, int]:
     """The number that a question about a group is answered with, and what is written over a 7."""
-    written = arbiter.U64(7)
+    written = c.U64(7)
     words = [*host_words(host), *with_lengths(raw_columns(rows), [len(rows)] * 4)]
-    words += [arbiter.U32(group)] + ([] if amount is None else [arbiter.U64(amount)])
+    words += [c.U32(group)] + ([] if amount is None else [c.U64(amount)])
     number = getattr(calls, f"arbiter_{name}")(*words, ctypes.byref(written))
     return number, written.value
 
@@ -65,7 +66,7 @@ def asked(calls, name: str, host, rows: Sequence[Row], group: int,
 def reasons_told(calls, host, rows: Sequence[Row]) -> Tuple[int, List[int], List[int]]:
     """The number that the reasons are answered with, and both columns, which had 7 in them."""
     count = len(rows)
-    reasons, blamed = (arbiter.U8 * count)(*[7] * count), (arbiter.U32 * count)(*[7] * count)
+    reasons, blamed = (c.U8 * count)(*[7] * count), (c.U32 * count)(*[7] * count)
     words = with_lengths([*raw_columns(rows), reasons, blamed], [count] * 6)
     number = calls.arbiter_reasons(*host_words(host), *words)
     return number, list(reasons), list(blamed)
@@ -75,7 +76,7 @@ def figures_told(calls, host, rows: Sequence[Row], lengths: Sequence[int] = ()
                  ) -> Tuple[int, List[List[int]]]:
     """The number that the figures are answered with, and the six columns, which had 7 in them."""
     count = len(rows)
-    types = [arbiter.U64, arbiter.U64, arbiter.U8, arbiter.U32, arbiter.U64, arbiter.U64]
+    types = [c.U64, c.U64, c.U8, c.U32, c.U64, c.U64]
     columns = [(kind * count)(*[7] * count) for kind in types]
     words = with_lengths([*raw_columns(rows), *columns], lengths or [count] * 10)
     number = calls.arbiter_figures(*host_words(host), *words)
@@ -136,9 +137,9 @@ def test_least_weights(calls, rows, group, amount, weight):
 
 
 @pytest.mark.parametrize("rows, group, amount, limit", [
-    (EQUAL, 1, 10, 10), (EQUAL, 1, 0, 0), (EQUAL, 1, 11, arbiter.NO_LIMIT),
-    (EQUAL, 1, 2**64 - 1, arbiter.NO_LIMIT), (POD, 2, 9, 9), (POD, 2, 10, arbiter.NO_LIMIT),
-    (POD, 5, 0, 0), (POD, 5, 1, arbiter.NO_LIMIT),
+    (EQUAL, 1, 10, 10), (EQUAL, 1, 0, 0), (EQUAL, 1, 11, c.NO_LIMIT),
+    (EQUAL, 1, 2**64 - 1, c.NO_LIMIT), (POD, 2, 9, 9), (POD, 2, 10, c.NO_LIMIT),
+    (POD, 5, 0, 0), (POD, 5, 1, c.NO_LIMIT),
 ])
 def test_least_limits(calls, rows, group, amount, limit):
     """The limit that a group has is no part of the question."""
@@ -189,10 +190,10 @@ def test_wrong_length(calls, name, by):
     """A wrong length of each column in turn: 50, and nothing is written."""
     columns = [(type(column)._type_ * 4)(*column, 7) for column in raw_columns(EQUAL)]
     for at in range(4):
-        lengths, written = [3] * 4, arbiter.U64(7)
+        lengths, written = [3] * 4, c.U64(7)
         lengths[at] += by
-        words = [*host_words(HOST), *with_lengths(columns, lengths), arbiter.U32(3)]
-        words += [arbiter.U64(1)] * QUESTIONS[name] + [ctypes.byref(written)]
+        words = [*host_words(HOST), *with_lengths(columns, lengths), c.U32(3)]
+        words += [c.U64(1)] * QUESTIONS[name] + [ctypes.byref(written)]
         same(getattr(calls, f"arbiter_{name}")(*words), 50, f"column {at}")
         same(written.value, 7, f"column {at}")
 
@@ -388,7 +389,7 @@ def test_random_least_limits(calls, host, rows):
             found = asked(calls, "least_limit", host, rows, group, amount)
             same(found, (0, amount), f"row {group}")
         found = asked(calls, "least_limit", host, rows, group, most + 1)
-        same(found, (0, arbiter.NO_LIMIT), f"row {group}")
+        same(found, (0, c.NO_LIMIT), f"row {group}")
 
 
 @TREE

@@ -192,13 +192,11 @@ def test_references_are_refused():
 
 
 def test_one_time_of_the_first_run():
-    """The pages, the package and the scripts tell one time of the first ./arbiter: a minute."""
+    """The pages and the scripts tell one time of the first ./arbiter: a minute."""
     said = re.search(r"^checked build: (\d+) min", text_of("scripts/times"), re.M)
     same(said.group(1), "1", "scripts/times")
-    # a text of the package may go on in the next string
-    times = r'(?:about|takes)(?:"\s+")?\s+(half a minute|a minute|\d+ seconds)'
-    told = {name: re.findall(times, text_of(name))
-            for name in ("README.md", "docs/BUILDING.md", "python/arbiter_host/engine.py")}
+    times = r"(?:about|takes)\s+(half a minute|a minute|\d+ seconds)"
+    told = {name: re.findall(times, text_of(name)) for name in ("README.md", "docs/BUILDING.md")}
     same({name: set(found) for name, found in told.items()}, {name: {"a minute"} for name in told})
 
 

@@ -173,9 +173,9 @@ def test_one_version(path):
     same(re.findall('^const VERSION: &str = "(.*)";$', exported, re.M), [wanted], "arbiter_version")
     first = wanted.partition(".")[0]
     same(re.findall(r"^LIBARBITER_(\w+) {$", share("arbiter.map"), re.M), [first], "exported names")
-    tool = (ROOT / "tools/arbiter.py").read_text()
-    soname = re.findall('^SONAME = "(.*)"$', tool, re.M)
-    same(soname, [f"libarbiter.so.{first}"], "tools/arbiter.py")
+    module = (ROOT / "python/arbiter/found.py").read_text()
+    soname = re.findall('^SONAME = "(.*)"$', module, re.M)
+    same(soname, [f"libarbiter.so.{first}"], "python/arbiter/found.py")
 
 
 def test_one_licence():

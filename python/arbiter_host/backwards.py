@@ -2,10 +2,6 @@
 
 The C library gives the least values and the guarantees, by calls whose contracts are exact. The
 plan of each least value is made and accepted by the proved check before it is shown.
-
-Without such a library each answer is found from accepted plans. A greater weight of a group, and
-more CPUs, take nothing from it (docs/LAWS.md). So what one value reaches each greater one does, and
-the least value is found by halving.
 """
 from __future__ import annotations
 
@@ -14,13 +10,14 @@ from dataclasses import dataclass, replace
 from fractions import Fraction
 from typing import Any
 
-from arbiter_host import demands, progress, questions, units
-from arbiter_host.engine import Engine
+from arbiter import Columns, Host
+from arbiter_host import demands, progress
+from arbiter_host.engine import Engine, asking
 from arbiter_host.faults import HostFault
-from arbiter_host.model import MAX_PROCESSORS, Model, Row
+from arbiter_host.model import MAX_PROCESSORS, Model, planned
 from arbiter_host.names import shown
 from arbiter_host.plan import Plan, Planned, plan
-from arbiter_host.questions import Questions
+from arbiter_host.units import Slices
 
 
 @dataclass(frozen=True)
@@ -72,8 +69,8 @@ def with_limit(model: Model, path: str, slices: int | None) -> Model:
     """The model with another limit of one group, in slices of the host's period; None: none."""
     after, host = model.copy(), model.host
     group = after.groups[path]
-    group.quota = None if slices is None else slices * host.slice_usec
-    group.period, group.burst, group.saved = host.period, 0, 0
+    group.quota = None if slices is None else slices * host.slice_us
+    group.period, group.burst, group.saved = host.period_us, 0, 0
     return after
 
 
@@ -85,31 +82,20 @@ class Asked:
     before: Plan
     group: Planned
     amount: int
-    # None: the least values are found from accepted plans.
-    proved: Questions | None
 
-    def reaches(self, found: Plan) -> bool:
-        """Whether a plan gives the group the amount."""
-        return found.groups[self.group.row].gets >= self.amount
-
-    def halved(self, planned: Callable[[int], Plan], greatest: int) -> int | None:
-        """The least value from 1 on whose plan reaches the amount; None: the greatest does not."""
-        low, high = 1, greatest + 1
-        while low < high:
-            middle = (low + high) // 2
-            if self.reaches(planned(middle)):
-                high = middle
-            else:
-                low = middle + 1
-        return None if low > greatest else low
+    def least(self, call: Callable[[Host, Columns, int, int], int | None], host: Host
+              ) -> int | None:
+        """The least value of a setting that reaches the amount, by a call of the library."""
+        with asking(call.__name__):
+            return call(host, self.before.columns, self.group.row, self.amount)
 
     def knob(self, name: str, now: int | None, value: int | None,
-             planned: Callable[[int], Plan]) -> Knob:
+             with_value: Callable[[int], Model]) -> Knob:
         """A setting with its least value, whose accepted plan has to reach the amount."""
         if value is None:
             return Knob(name, now, None, None)
-        found = planned(value)
-        if not self.reaches(found):
+        found = plan(self.engine, with_value(value))
+        if found.groups[self.group.row].gets < self.amount:
             raise HostFault(f"{name} {value}: the accepted plan does not reach the amount")
         return Knob(name, now, value, found)
 
@@ -117,50 +103,38 @@ class Asked:
 def weight_knob(asked: Asked) -> Knob:
     """The least weight."""
     model, group = asked.before.model, asked.group
-
-    def planned(weight: int) -> Plan:
-        return plan(asked.engine, with_weight(model, group.path, weight))
-
-    value = (asked.proved.least_weight(group.row, asked.amount) if asked.proved
-             else asked.halved(planned, units.MAX_WEIGHT))
-    return asked.knob("weight", group.weight, value, planned)
+    value = asked.least(asked.engine.library.least_weight, planned(model.host))
+    return asked.knob("weight", group.weight, value,
+                      lambda weight: with_weight(model, group.path, weight))
 
 
 def limit_knob(asked: Asked) -> Knob:
-    """The least limit. A limit only cuts, so it is the amount, or there is none."""
+    """The least limit."""
     model, group = asked.before.model, asked.group
-
-    def planned(slices: int | None) -> Plan:
-        return plan(asked.engine, with_limit(model, group.path, slices))
-
-    if asked.proved:
-        value = asked.proved.least_limit(group.row, asked.amount)
-    else:
-        value = asked.amount if asked.reaches(planned(None)) else None
-    return asked.knob("limit", group.limit, value, planned)
+    value = asked.least(asked.engine.library.least_limit, planned(model.host))
+    return asked.knob("limit", group.limit, value,
+                      lambda slices: with_limit(model, group.path, slices))
 
 
 def cpus_knob(asked: Asked) -> Knob:
     """The least number of CPUs with the same period and slice, at most 64."""
-    model, group = asked.before.model, asked.group
-
-    def planned(cpus: int) -> Plan:
-        return plan(asked.engine, replace(model, host=replace(model.host, cpus=cpus)))
-
-    value = (asked.proved.least_processors(group.row, asked.amount) if asked.proved
-             else asked.halved(planned, MAX_PROCESSORS))
-    return asked.knob("CPUs", model.host.cpus, value, planned)
+    model, host = asked.before.model, asked.before.model.host
+    # Above 64 CPUs the planner's host has another period. The answer is of any number of CPUs.
+    of_host = replace(host, processors=min(host.processors, MAX_PROCESSORS))
+    value = asked.least(asked.engine.library.least_processors, of_host)
+    return asked.knob("CPUs", host.processors, value,
+                      lambda cpus: replace(model, host=replace(host, processors=cpus)))
 
 
 def need(engine: Engine, model: Model, word: str, thousandths: Fraction) -> Need:
     """What a group needs for thousandths of a CPU: each knob alone, all else as it is."""
-    path, host = one_group(model, word), model.host
-    amount = units.demand_slices(thousandths, host.period, host.slice_usec)
+    path = one_group(model, word)
+    amount = Slices(engine.library, model.host).demand(thousandths)
     if amount == 0:
         raise HostFault("an amount of 0 needs nothing")
     before = plan(engine, model)
     group = before.by_path()[path]
-    asked = Asked(engine, before, group, amount, questions.of(engine, host, before.rows()))
+    asked = Asked(engine, before, group, amount)
     kinds = (weight_knob, limit_knob, cpus_knob)
     with progress.bar("settings", len(kinds)) as step:
         knobs = []
@@ -178,26 +152,13 @@ def payers(before: Plan, after: Plan, path: str) -> list[tuple[str, int]]:
     return sorted([each for each in found if each[1] > 0], key=lambda each: -each[1])
 
 
-def busy(rows: Sequence[Row], group: int) -> list[Row]:
-    """The rows, in which each leaf that is not under a group asks for the most."""
-    inner = {row.parent for row in rows}
-    under = [False] * len(rows)
-    found = []
-    for place, row in enumerate(rows):
-        under[place] = place == group or (row.parent is not None and under[row.parent])
-        asks_most = place not in inner and not under[place]
-        found.append(replace(row, demand=units.MAX_DEMAND) if asks_most else row)
-    return found
-
-
-def guarantees(engine: Engine, before: Plan, chosen: Sequence[Planned]) -> list[int]:
+def guarantees(before: Plan, chosen: Sequence[Planned]) -> list[int]:
     """What each group gets whatever the groups that are not under it ask for, in slices."""
-    rows, host, found = before.rows(), before.model.host, []
-    proved = questions.of(engine, host, rows)
+    library, host, found = before.engine.library, planned(before.model.host), []
     with progress.bar("groups", len(chosen)) as step:
         for group in chosen:
-            found.append(proved.guarantee(group.row) if proved
-                         else engine.plan(host, busy(rows, group.row)).amounts[group.row])
+            with asking("guarantee"):
+                found.append(library.guarantee(host, before.columns, group.row))
             step()
     return found
 

@@ -6,9 +6,10 @@ from collections.abc import Sequence
 from dataclasses import dataclass, field
 from fractions import Fraction
 
+from arbiter import Host
 from arbiter_host import names, units
 from arbiter_host.faults import HostFault, UsageFault
-from arbiter_host.model import Group, Host, Model
+from arbiter_host.model import Group, Model
 
 WANTS = ("usage", "peak", "p95", "psi", "limit", "request", "busy")
 # The greatest part of the time that pressure is taken for: above it the estimate has no meaning.
@@ -72,7 +73,7 @@ def percentile(values: Sequence[Fraction], percent: int) -> Fraction:
 
 def limit_of(group: Group, host: Host) -> Fraction:
     """Thousandths of a CPU that the group's own limit allows, at most the host's."""
-    most = Fraction(1000 * host.cpus)
+    most = Fraction(1000 * host.processors)
     return most if group.quota is None else min(Fraction(1000 * group.quota, group.period), most)
 
 
@@ -90,7 +91,7 @@ def pressed(group: Group, measured: Measured, host: Host, seconds: Fraction) -> 
     throttled = min(sum(rises(measured.readings, "throttled")), periods)
     if throttled and group.quota is not None:
         raised = limit_of(group, host) * Fraction(periods, max(periods - throttled, 1))
-        found = max(found, min(raised, Fraction(1000 * host.cpus)))
+        found = max(found, min(raised, Fraction(1000 * host.processors)))
     return found
 
 
@@ -100,7 +101,7 @@ def wanted(want: str, group: Group, measured: Measured, host: Host,
     if want == "limit":
         return limit_of(group, host)
     if want == "busy":
-        return Fraction(1000 * host.cpus) if measured.tasks != 0 else Fraction(0)
+        return Fraction(1000 * host.processors) if measured.tasks != 0 else Fraction(0)
     if want == "request":
         return measured.request
     values = used(measured, seconds)

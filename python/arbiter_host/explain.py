@@ -202,7 +202,7 @@ def few_tasks(plan: Plan) -> int:
     shared = {group.parent for group in plan.groups[1:] if plan.reason(group).active_weight}
     counts = task_counts(plan)
     return sum(1 for group in plan.groups[1:] if group.want > 0 and group.parent in shared
-               and (count := counts[group.row]) is not None and count < plan.model.host.cpus)
+               and (count := counts[group.row]) is not None and count < plan.model.host.processors)
 
 
 def foot(plan: Plan, view: View, lines: Sequence[str]) -> Iterator[str]:
@@ -260,7 +260,7 @@ def amounts(plan: Plan, slices: int | None) -> dict[str, Any] | None:
     if slices is None:
         return None
     return {"slices": slices, "millicpu": float(plan.thousandths(slices)),
-            "usec": slices * plan.model.host.slice_usec}
+            "usec": slices * plan.model.host.slice_us}
 
 
 def group_data(plan: Plan, group: Planned) -> dict[str, Any]:
@@ -287,8 +287,8 @@ def as_data(plan: Plan, view: View = View()) -> dict[str, Any]:
     groups = [group for group in ordered(plan.groups, view) if group.depth <= view.depth
               and (not view.only or any(ONLY[name](group) for name in view.only))]
     return {
-        "host": {"cpus": host.cpus, "period_usec": host.period, "slice_usec": host.slice_usec,
-                 "capacity": amounts(plan, plan.capacity)},
+        "host": {"cpus": host.processors, "period_usec": host.period_us,
+                 "slice_usec": host.slice_us, "capacity": amounts(plan, plan.capacity)},
         "check": "accepted", "engine": plan.by, "served": amounts(plan, plan.root.gets),
         "wanted": amounts(plan, plan.root.want),
         "limiting": [{"group": group.path, "limit": amounts(plan, group.limit)}

@@ -17,6 +17,13 @@ class UsageFault(HostFault):
         super().__init__(message, 2)
 
 
+class NoLibrary(HostFault):
+    """The C library is missing, or older than this package: status 3."""
+
+    def __init__(self, message: str) -> None:
+        super().__init__(message, 3)
+
+
 class RefusedLines(HostFault):
     """Lines that were refused, under `--strict`: status 4."""
 

@@ -8,13 +8,13 @@ ABOUT = ("Plans for the groups of a real host, each accepted by the proved check
          " shown.")
 STATUSES = {
     0: "done",
-    1: "a source, the engine, the host or the output failed",
+    1: "a source, the library, the host or the output failed",
     2: "the words of the command line or the host were refused",
+    3: "the C library is missing, or older than arbiterctl",
     4: "lines of a script were refused, under --strict",
 }
 ENVIRONMENT = {
-    "ARBITER_LIBRARY": "The C library, as of --library. `none` asks the program.",
-    "ARBITER": "The program that is asked where there is no library, as of --program.",
+    "ARBITER_LIBRARY": "The C library, as of --library.",
     "COLUMNS": "Columns of the answers, in place of the terminal's.",
     "NO_COLOR": "If it is set, answers have no colours.",
 }

@@ -11,10 +11,11 @@ from dataclasses import replace
 from fractions import Fraction
 from typing import BinaryIO
 
+from arbiter import Host, Library
 from arbiter_host import demands, names, units
 from arbiter_host.engine import Engine
 from arbiter_host.faults import HostFault, RefusedLines, UsageFault, strerror
-from arbiter_host.model import MAX_DEPTH, Host, Model
+from arbiter_host.model import MAX_DEPTH, Model, checked
 from arbiter_host.sources import (cgroup2, cgroups, containers, hostfile, kubernetes, script,
                                   systemd)
 
@@ -35,8 +36,8 @@ def add_host_options(parser: argparse.ArgumentParser) -> None:
     group.add_argument("--slice", metavar="TIME", help="slice, such as 1ms (default: what the"
                        " source says, else 1ms for imports and 5ms for scripts)")
     group = parser.add_argument_group("engine")
-    group.add_argument("--library", metavar="PATH", help="the C library; `none` for the program")
-    group.add_argument("--program", metavar="PATH", help="the program arbiter")
+    group.add_argument("--library", metavar="PATH", help="the C library (default: the first that"
+                       " is found)")
 
 
 def add_source_options(parser: argparse.ArgumentParser) -> None:
@@ -60,7 +61,7 @@ def add_source_options(parser: argparse.ArgumentParser) -> None:
     group.add_argument("--depth-read", type=int, default=MAX_DEPTH, metavar="N",
                        help="leave out groups more than N below the top, 1 to 64 (default 64)")
     group.add_argument("--node", default="", metavar="NAME", help="the node whose pods are read")
-    group.add_argument("--conversion", choices=tuple(units.WEIGHT_OF_SHARES), default="linear",
+    group.add_argument("--conversion", choices=tuple(units.CONVERSIONS), default="linear",
                        help="shares to weights: `linear` before runc 1.3.2 and crun 1.23, `log`"
                        " from these on (default linear)")
     group.add_argument("--driver", choices=("systemd", "cgroupfs"), default="systemd",
@@ -102,12 +103,12 @@ def check_options(options: argparse.Namespace) -> None:
 def chosen_host(options: argparse.Namespace, told: Host) -> Host:
     """The host that a source tells, with the options in its place."""
     changes: dict[str, int] = {}
-    for key, name in (("period", "period"), ("slice_usec", "slice")):
+    for key, name in (("period_us", "period"), ("slice_us", "slice")):
         if getattr(options, name) is not None:
             changes[key] = time_option(getattr(options, name), f"--{name}")
     if options.cpus is not None:
-        changes["cpus"] = options.cpus
-    return replace(told, **changes).checked()
+        changes["processors"] = options.cpus
+    return checked(replace(told, **changes))
 
 
 def is_chosen(options: argparse.Namespace) -> bool:
@@ -205,18 +206,19 @@ def read_script(options: argparse.Namespace, name: str, data: bytes, engine: Eng
     """A script. Its head line is the host, with the options in its place."""
     told = script.head_host(script.script_lines(data))
     host = chosen_host(options, told or Host()) if is_chosen(options) else None
-    return script.read(data, name, host, engine)
+    return script.read(data, name, engine, host)
 
 
-def read_pods(options: argparse.Namespace, files: Sequence[tuple[str, bytes]]) -> Model:
+def read_pods(options: argparse.Namespace, files: Sequence[tuple[str, bytes]],
+              library: Library) -> Model:
     """Pods and a node."""
     wish = kubernetes.Wish(options.node, options.conversion, options.driver,
                            options.want or "request")
     if options.cpus is None:
-        model = kubernetes.read(files, None, wish)
+        model = kubernetes.read(files, None, library, wish)
         host = chosen_host(options, model.host)
         return model if host == model.host else model.with_host(host)
-    return kubernetes.read(files, machine(options), wish)
+    return kubernetes.read(files, machine(options), library, wish)
 
 
 def read_files(options: argparse.Namespace, kind: str, files: Sequence[tuple[str, bytes]],
@@ -224,10 +226,10 @@ def read_files(options: argparse.Namespace, kind: str, files: Sequence[tuple[str
     """Files of one kind."""
     name, data = files[0]
     if kind == "kubernetes":
-        return read_pods(options, files)
+        return read_pods(options, files, engine.library)
     if kind == "docker":
         wish = containers.Wish(options.conversion, options.driver, options.want or "limit")
-        return containers.read(files, machine(options), wish)
+        return containers.read(files, machine(options), engine.library, wish)
     if kind == "systemd":
         later = [(each, file_bytes(each)) for each in options.later]
         want = options.want or ("usage" if later else "busy")

@@ -4,8 +4,10 @@ from __future__ import annotations
 from dataclasses import dataclass, field, replace
 from fractions import Fraction
 
+from arbiter import Host, Library, Row
 from arbiter_host import names, units
 from arbiter_host.faults import HostFault
+from arbiter_host.units import Slices
 
 MAX_PROCESSORS = 64
 # Greatest capacity, in slices of one period, that the planner takes.
@@ -15,54 +17,37 @@ MAX_DEPTH = 64
 OWN = "(own)"
 
 
-@dataclass(frozen=True)
-class Host:
-    """CPUs, and the period and slice in microseconds, 1000 to 1000000."""
+def checked(host: Host) -> Host:
+    """The host itself; a fault names the range of a number that is out of it."""
+    if not units.MIN_PERIOD <= host.period_us <= units.MAX_PERIOD:
+        raise HostFault(f"period {host.period_us}: not {units.MIN_PERIOD} to {units.MAX_PERIOD}"
+                        " microseconds", 2)
+    if not 1000 <= host.slice_us <= host.period_us or host.period_us % host.slice_us:
+        raise HostFault(f"slice {host.slice_us}: not 1000 microseconds to the period"
+                        f" {host.period_us}, which it divides", 2)
+    if not 1 <= host.processors <= MAX_CAPACITY:
+        raise HostFault(f"CPUs {host.processors}: not 1 to {MAX_CAPACITY}", 2)
+    planned(host)
+    return host
 
-    cpus: int = 1
-    period: int = units.DEFAULT_PERIOD
-    slice_usec: int = 5000
 
-    def checked(self) -> Host:
-        """The host itself; a fault names the range of a number that is out of it."""
-        if not units.MIN_PERIOD <= self.period <= units.MAX_PERIOD:
-            raise HostFault(f"period {self.period}: not {units.MIN_PERIOD} to {units.MAX_PERIOD}"
-                            " microseconds", 2)
-        if not 1000 <= self.slice_usec <= self.period or self.period % self.slice_usec:
-            raise HostFault(f"slice {self.slice_usec}: not 1000 microseconds to the period"
-                            f" {self.period}, which it divides", 2)
-        if not 1 <= self.cpus <= MAX_CAPACITY:
-            raise HostFault(f"CPUs {self.cpus}: not 1 to {MAX_CAPACITY}", 2)
-        self.planned()
-        return self
+def planned(host: Host) -> Host:
+    """The host itself up to 64 CPUs; else one of the same capacity that the planner takes.
 
-    @property
-    def capacity(self) -> int:
-        """Slices of one period on all CPUs."""
-        return self.cpus * (self.period // self.slice_usec)
-
-    def planned(self) -> Host:
-        """The host itself up to 64 CPUs; else one of the same capacity that the planner takes.
-
-        A plan depends on the capacity, the rows and nothing else of a host. The other host has
-        at most 64 CPUs, slices of 1000 microseconds and a longer period.
-        """
-        if self.cpus <= MAX_PROCESSORS:
-            return self
-        if self.capacity > MAX_CAPACITY:
-            raise HostFault(f"{self.cpus} CPUs have {self.capacity} slices in a period, and the"
-                            f" planner takes {MAX_CAPACITY}: a longer slice has fewer", 2)
-        for cpus in range(MAX_PROCESSORS, 0, -1):
-            each, rest = divmod(self.capacity, cpus)
-            if rest == 0 and each * 1000 <= units.MAX_PERIOD:
-                return Host(cpus, each * 1000, 1000)
-        raise HostFault(f"{self.capacity} slices of {self.cpus} CPUs are no product of at most 64"
-                        " CPUs and at most 1000 slices: another slice has such a number", 2)
-
-    def head_line(self) -> str:
-        """The first line of a script for this host."""
-        return (f"# arbiter run --processors {self.cpus} --period {self.period}"
-                f" --slice {self.slice_usec}")
+    A plan depends on the capacity, the rows and nothing else of a host. The other host has at most
+    64 CPUs, slices of 1000 microseconds and a longer period.
+    """
+    if host.processors <= MAX_PROCESSORS:
+        return host
+    if host.capacity > MAX_CAPACITY:
+        raise HostFault(f"{host.processors} CPUs have {host.capacity} slices in a period, and the"
+                        f" planner takes {MAX_CAPACITY}: a longer slice has fewer", 2)
+    for cpus in range(MAX_PROCESSORS, 0, -1):
+        each, rest = divmod(host.capacity, cpus)
+        if rest == 0 and each * 1000 <= units.MAX_PERIOD:
+            return Host(cpus, each * 1000, 1000)
+    raise HostFault(f"{host.capacity} slices of {host.processors} CPUs are no product of at most 64"
+                    " CPUs and at most 1000 slices: another slice has such a number", 2)
 
 
 @dataclass
@@ -95,23 +80,14 @@ class Group:
             return self.demand
         return min(self.demand, Fraction(1000 * self.tasks))
 
-    def limit_slices(self, host: Host) -> int | None:
+    def limit_slices(self, slices: Slices) -> int | None:
         """The limit of the next period, in slices: the quota with what was saved up."""
         if self.quota is None:
             return None
-        quota = units.limit_slices(self.quota, self.period, host.period, host.slice_usec)
-        burst = units.limit_slices(self.burst, self.period, host.period, host.slice_usec)
-        return min(self.saved + quota, quota + burst)
-
-
-@dataclass(frozen=True)
-class Row:
-    """A group as the planner takes it: `limit` and `demand` are slices of one period."""
-
-    parent: int | None
-    weight: int
-    limit: int | None
-    demand: int
+        quota = slices.limit(self.quota, self.period)
+        if self.burst == 0:
+            return quota
+        return min(self.saved + quota, quota + slices.limit(self.burst, self.period))
 
 
 @dataclass
@@ -148,15 +124,14 @@ class Model:
             found[names.parent_path(path)].append(path)
         return found
 
-    def rows(self) -> list[Row]:
+    def rows(self, library: Library) -> list[Row]:
         """The rows that the planner takes, the root first."""
-        place = {".": 0}
+        place, slices = {".": 0}, Slices(library, self.host)
         rows = [Row(None, units.DEFAULT_WEIGHT, None, 0)]
         for path, group in self.groups.items():
             place[path] = len(rows)
-            demand = units.demand_slices(group.usable, self.host.period, self.host.slice_usec)
             rows.append(Row(place[names.parent_path(path)], group.weight,
-                            group.limit_slices(self.host), demand))
+                            group.limit_slices(slices), slices.demand(group.usable)))
         return rows
 
     def with_host(self, host: Host) -> Model:
@@ -164,7 +139,7 @@ class Model:
         before = self.host
         groups = {}
         for path, group in self.groups.items():
-            saved = group.saved * before.slice_usec // host.slice_usec
+            saved = group.saved * before.slice_us // host.slice_us
             groups[path] = replace(group, saved=saved)
         return replace(self, host=host, groups=groups)
 

@@ -150,10 +150,10 @@ class Drawing:
     def scale(self) -> Iterator[str]:
         """The grid, and the numbers of the scale every few rows."""
         host = self.plan.model.host
-        for cpus in svg.steps(host.cpus, 8):
-            x = self.x(cpus * (host.period // host.slice_usec))
+        for cpus in svg.steps(host.processors, 8):
+            x = self.x(cpus * (host.period_us // host.slice_us))
             yield svg.line((x, HEAD - 6), (x, self.height - EDGE), svg.GRID)
-            slices = round(cpus * (host.period // host.slice_usec))
+            slices = round(cpus * (host.period_us // host.slice_us))
             written = text.amount(self.plan, slices, self.unit)
             written = written.rstrip("0").rstrip(".") if "." in written else written
             for place in range(0, len(self.found), SCALE_ROWS):

@@ -1,21 +1,19 @@
 """An accepted plan, and why each group gets its amount. All numbers are slices of one period.
 
-The C library gives the reasons, which are proved; this module words them. Without such a library
-they are worked out here.
+The C library gives the reasons, which are proved; this module words them.
 """
 from __future__ import annotations
 
 import functools
-from collections.abc import Sequence
 from dataclasses import dataclass, field
 from fractions import Fraction
 
-from arbiter_host import questions, units
-from arbiter_host.engine import Engine
-from arbiter_host.faults import HostFault
-from arbiter_host.model import Group, Model, Row
+import arbiter
+from arbiter import Columns, Kind, Row
+from arbiter_host import units
+from arbiter_host.engine import Engine, asking
+from arbiter_host.model import Group, Model, checked, planned
 from arbiter_host.names import last_name, short, shown
-from arbiter_host.questions import Kind, Why
 
 
 @dataclass
@@ -83,6 +81,8 @@ class Plan:
     groups: list[Planned]
     limiting: list[Planned]
     rest: int
+    # The rows that were planned.
+    columns: Columns = field(repr=False)
     engine: Engine = field(repr=False)
 
     @property
@@ -103,26 +103,21 @@ class Plan:
     def thousandths(self, slices: int) -> Fraction:
         """Thousandths of a CPU that slices of one period are."""
         host = self.model.host
-        return units.thousandths_of_slices(slices, host.period, host.slice_usec)
+        return units.thousandths_of_slices(slices, host.period_us, host.slice_us)
 
     def by_path(self) -> dict[str, Planned]:
         """The groups by path."""
         return {group.path: group for group in self.groups}
 
-    def rows(self) -> list[Row]:
-        """The rows that were planned."""
-        rows = [Row(group.parent, group.weight, group.limit, group.demand) for group in self.groups]
-        return [Row(None, rows[0].weight, None, rows[0].demand), *rows[1:]]
-
     @functools.cached_property
-    def reasons(self) -> list[Why]:
-        """The reasons, by row: the library's answer where it has the call."""
-        proved = questions.of(self.engine, self.model.host, self.rows())
-        return worked_out(self.groups) if proved is None else proved.reasons()
+    def reasons(self) -> list[arbiter.Reason]:
+        """The reasons, by row."""
+        with asking("arbiter_reasons"):
+            return self.engine.library.reasons(planned(self.model.host), self.columns)
 
     def reason(self, group: Planned) -> Reason:
         """The reason of a group in words."""
-        kind, blamed = self.reasons[group.row]
+        kind, above = self.reasons[group.row]
         if kind is Kind.NOTHING_ASKED:
             return Reason("nothing asked", "nothing asked")
         if kind is Kind.ALL_WANTED:
@@ -132,7 +127,7 @@ class Plan:
             return Reason("own limit", words, group.path)
         if group.parent is None:
             return Reason("the host is full", "the host is full", group.path)
-        return self.weight_reason(group, self.groups[blamed if kind is Kind.LIMIT_ABOVE else 0])
+        return self.weight_reason(group, self.groups[above or 0])
 
     def weight_reason(self, group: Planned, cut: Planned) -> Reason:
         """The reason of a group that gets the part of its weight below a limit."""
@@ -144,26 +139,6 @@ class Plan:
             return Reason(name, f"{words}: the only one that asks here", cut.path)
         words = f"{words}: weight {group.weight} of {above.active_weight}"
         return Reason(name, words, cut.path, group.weight, above.active_weight)
-
-
-def worked_out(groups: Sequence[Planned]) -> list[Why]:
-    """The reasons of all groups, by row, from the amounts."""
-    blamed: list[int] = []
-    for group in groups:
-        lacks = group.parent is not None and group.gets < group.most
-        blamed.append(blamed[group.parent or 0] if lacks else group.row)
-    return [why(group, row) for group, row in zip(groups, blamed)]
-
-
-def why(group: Planned, blamed: int) -> Why:
-    """The reason of a group, if the limit of a row cuts: its own or that of one above."""
-    if group.want == 0:
-        return Why(Kind.NOTHING_ASKED, group.row)
-    if group.gets == group.want:
-        return Why(Kind.ALL_WANTED, group.row)
-    if blamed == 0:
-        return Why(Kind.HOST_FULL, group.row)
-    return Why(Kind.OWN_LIMIT if blamed == group.row else Kind.LIMIT_ABOVE, blamed)
 
 
 def all_reason(group: Planned) -> Reason:
@@ -211,18 +186,10 @@ def planned_of(rows: list[Row], model: Model, amounts: list[int]) -> list[Planne
     return groups
 
 
-def check_sums(groups: list[Planned]) -> None:
-    """A fault where wants and amounts do not fit: the reasons are worked out from both."""
-    for group in groups:
-        if group.gets > group.most:
-            raise HostFault(f"{shown(group.path)}: {group.gets} slices of at most {group.most}")
-
-
 def plan(engine: Engine, model: Model) -> Plan:
     """The plan of the next period of a model, accepted by the proved check."""
-    rows = model.rows()
-    answer = engine.plan(model.host.checked(), rows)
+    rows = model.rows(engine.library)
+    answer = engine.plan(checked(model.host), rows)
     groups = planned_of(rows, model, answer.amounts)
-    check_sums(groups)
     limiting = [groups[row] for row in answer.limiting]
-    return Plan(model, groups, limiting, answer.rest, engine)
+    return Plan(model, groups, limiting, answer.rest, answer.columns, engine)

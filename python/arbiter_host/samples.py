@@ -14,9 +14,9 @@ from datetime import datetime, timezone
 from fractions import Fraction
 from typing import Any
 
+from arbiter import Host
 from arbiter_host import units
 from arbiter_host.faults import HostFault
-from arbiter_host.model import Host
 from arbiter_host.names import cut, shown
 
 TIMES = ("time", "period", "timestamp", "date", "datetime", "_time", "ts")
@@ -44,8 +44,8 @@ def demand_of(text: str, unit: str, host: Host, where: str) -> Fraction:
     if parsed[1]:
         return value * units.CPU_UNITS[parsed[1]]
     one = {"cpu": Fraction(1000), "m": Fraction(1), "%": Fraction(10),
-           "us": Fraction(1000, host.period),
-           "slices": units.thousandths_of_slices(1, host.period, host.slice_usec)}[unit]
+           "us": Fraction(1000, host.period_us),
+           "slices": units.thousandths_of_slices(1, host.period_us, host.slice_us)}[unit]
     if value > 10**15:
         raise HostFault(f"{where}: {shown(cut(text, 40))!r} is above 10^15")
     return value * one

@@ -19,6 +19,7 @@ from arbiter_host.model import Model
 from arbiter_host.names import cut, padded, short, shown, width
 from arbiter_host.plan import Plan, plan
 from arbiter_host.samples import Sample, columns
+from arbiter_host.units import Slices
 
 FLAGS = (("T", "throttled", "#b4231f"), ("t", "throttled, not by its limit", "#d97706"),
          ("B", "burst", "#7c3aed"), ("S", "starved", "#111827"))
@@ -78,7 +79,7 @@ def quota_slices(plan_: Plan, path: str) -> int | None:
     group, host = plan_.model.groups[path], plan_.model.host
     if group.quota is None:
         return None
-    return units.limit_slices(group.quota, group.period, host.period, host.slice_usec)
+    return Slices(plan_.engine.library, host).limit(group.quota, group.period)
 
 
 def count_period(plan_: Plan, shown_: Sequence[str], cells: list[Cell], times: int) -> None:
@@ -95,7 +96,7 @@ def count_period(plan_: Plan, shown_: Sequence[str], cells: list[Cell], times: i
         cell.elsewhere += times * group.is_throttled_elsewhere
         cell.starved += times * group.is_starved
         if group.is_throttled and group.limit is not None:
-            cell.withheld += times * (group.want - group.limit) * plan_.model.host.slice_usec
+            cell.withheld += times * (group.want - group.limit) * plan_.model.host.slice_us
         quota = quota_slices(plan_, path) if group.group else None
         cell.bursts += times * (quota is not None and group.gets > quota)
 
@@ -178,10 +179,10 @@ def averaged(cell: Cell) -> Cell:
 def written(series: Series, slices: Fraction, unit: str) -> str:
     """A mean in a unit."""
     host = series.plan.model.host
-    value = slices * {"slices": Fraction(1), "us": Fraction(host.slice_usec),
-                      "m": Fraction(1000 * host.slice_usec, host.period),
-                      "cpu": Fraction(host.slice_usec, host.period),
-                      "%": Fraction(100 * host.slice_usec, host.period)}[unit]
+    value = slices * {"slices": Fraction(1), "us": Fraction(host.slice_us),
+                      "m": Fraction(1000 * host.slice_us, host.period_us),
+                      "cpu": Fraction(host.slice_us, host.period_us),
+                      "%": Fraction(100 * host.slice_us, host.period_us)}[unit]
     return units.decimal(value, 3 if unit == "cpu" else 1)
 
 
@@ -267,7 +268,7 @@ def label_text(name: str) -> str:
 def as_metrics(series: Series) -> str:
     """The last sample as OpenMetrics, for a textfile collector."""
     host, lines = series.plan.model.host, []
-    one = Fraction(host.slice_usec, host.period)
+    one = Fraction(host.slice_us, host.period_us)
     for key, words in (("gets", "CPUs that the plan gives a group."),
                        ("wants", "CPUs that a group wants.")):
         lines += [f"# TYPE arbiter_plan_{key}_cpus gauge",
@@ -301,7 +302,7 @@ def runs(holds: Sequence[bool]) -> Iterator[tuple[int, int]]:
 def panel(series: Series, place: int, top: float) -> Iterator[str]:
     """One group over time, in CPUs."""
     host = series.plan.model.host
-    one = host.slice_usec / host.period
+    one = host.slice_us / host.period_us
     cells = [row[place] for row in series.cells]
     wants, gets = [float(each.wants) * one for each in cells], [float(each.gets) * one
                                                                for each in cells]

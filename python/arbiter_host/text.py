@@ -22,7 +22,7 @@ def amount(plan: Plan, slices: int | None, unit: str) -> str:
     if unit == "slices":
         return str(slices)
     if unit == "us":
-        return str(slices * plan.model.host.slice_usec)
+        return str(slices * plan.model.host.slice_us)
     scale = {"cpu": 1000, "m": 1, "%": 10}[unit]
     return f"{float(thousandths / scale):.{places(plan, scale)}f}"
 
@@ -64,6 +64,8 @@ def cpus(count: int) -> str:
 def host_words(plan: Plan) -> str:
     """The host of a plan in one line."""
     host = plan.model.host
-    one = units.decimal(Fraction(host.slice_usec * 1000, host.period), 2)
-    return (f"{cpus(host.cpus)}, period {units.decimal(Fraction(host.period, 1000))} ms, slice"
-            f" {units.decimal(Fraction(host.slice_usec, 1000))} ms (one slice is {one}m)")
+    one = units.decimal(Fraction(host.slice_us * 1000, host.period_us), 2)
+    period, slice_ = (units.decimal(Fraction(usec, 1000))
+                      for usec in (host.period_us, host.slice_us))
+    return (f"{cpus(host.processors)}, period {period} ms, slice {slice_} ms (one slice is"
+            f" {one}m)")

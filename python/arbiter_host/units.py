@@ -1,25 +1,28 @@
 """Conversions between what people write, what the kernel holds, and the planner's slices.
 
 CPU amounts are thousandths of a CPU, as fractions, so that slices convert back exactly. Times are
-whole microseconds. Each conversion to slices is in this module alone. Where the C library is the
-engine, its calls convert: they are proved, and the arithmetic here answers the same.
+whole microseconds. The C library converts to slices, and `cpu.shares` to weights.
 """
 from __future__ import annotations
 
 import math
 import re
 from fractions import Fraction
-from typing import Protocol
 
+from arbiter import Host, Library, Refused
 from arbiter_host.faults import HostFault
 
 MAX_DEMAND = 1000000
+# Number of a demand that is too large.
+TOO_LARGE = 9
 MAX_QUOTA = 10**15
 MIN_QUOTA = 1000
 MIN_PERIOD, MAX_PERIOD = 1000, 1000000
 DEFAULT_PERIOD = 100000
 MIN_SHARES, MAX_SHARES = 2, 262144
 MIN_WEIGHT, MAX_WEIGHT, DEFAULT_WEIGHT = 1, 10000, 100
+# Conversions of `cpu.shares` to weights, and their names in the library.
+CONVERSIONS = {"linear": "linear", "log": "logarithmic"}
 # A CPU amount above this many CPUs is refused.
 MAX_CPUS = 10**9
 
@@ -36,28 +39,6 @@ TIME_UNITS = {
     "w": Fraction(7 * 86400 * 10**6), "month": Fraction(2629800 * 10**6),
     "y": Fraction(31557600 * 10**6),
 }
-
-
-class Conversions(Protocol):
-    """Conversions of the C library. None is for numbers that a call does not take or refuses."""
-
-    def slices(self, usec: int, own_period: int, period: int, slice_usec: int) -> int | None:
-        """Slices of one period of the host that a quota or burst allows, rounded down."""
-
-    def demand(self, thousandths: int, period: int, slice_usec: int) -> int | None:
-        """Slices of one period that a demand takes, rounded up."""
-
-    def weight(self, shares: int, conversion: str) -> int | None:
-        """`cpu.weight` of `cpu.shares`, by a name of WEIGHT_OF_SHARES."""
-
-
-_library: Conversions | None = None
-
-
-def convert_by(library: Conversions | None) -> None:
-    """Has the calls of a library convert from now on; None: the arithmetic of this module."""
-    global _library
-    _library = library
 
 
 def number_and_unit(text: str) -> tuple[Fraction, str] | None:
@@ -98,24 +79,42 @@ def parse_time(text: str) -> int:
     return int(total)
 
 
-def limit_slices(usec: int, own_period: int, period: int, slice_usec: int) -> int:
-    """Slices of one period of the host that a quota or burst allows, rounded down."""
-    found = _library.slices(usec, own_period, period, slice_usec) if _library else None
-    return usec * period // (own_period * slice_usec) if found is None else found
+class Slices:
+    """Slices of one period of a host, by the library's calls.
 
-
-def demand_slices(thousandths: Fraction, period: int, slice_usec: int) -> int:
-    """Slices of one period that a demand takes, rounded up, at most 1000000.
-
-    The library takes whole thousandths. A part of one is converted here.
+    A conversion depends on no number of CPUs, so that hosts of more than 64 have them too.
     """
-    if _library and thousandths.denominator == 1:
-        found = _library.demand(int(thousandths), period, slice_usec)
-        if found is not None:
-            return found
-    # In whole numbers: fractions would be reduced at each step.
-    whole = 1000 * slice_usec * thousandths.denominator
-    return min(-(-thousandths.numerator * period // whole), MAX_DEMAND)
+
+    def __init__(self, library: Library, host: Host) -> None:
+        self.library, self.host = library, Host(1, host.period_us, host.slice_us)
+
+    def limit(self, usec: int, own_period: int) -> int:
+        """Slices that a quota or burst allows, rounded down."""
+        try:
+            return self.library.slices(self.host, usec, own_period)
+        except (Refused, OverflowError) as error:
+            raise HostFault(f"{usec} microseconds in {own_period}: {error}") from error
+
+    def demand(self, thousandths: Fraction) -> int:
+        """Slices that a demand takes, rounded up, at most 1000000.
+
+        The library takes whole thousandths. A part of one is rounded up here.
+        """
+        if thousandths.denominator == 1:
+            return self.whole(thousandths.numerator)
+        host, whole = self.host, 1000 * self.host.slice_us * thousandths.denominator
+        return min(-(-thousandths.numerator * host.period_us // whole), MAX_DEMAND)
+
+    def whole(self, thousandths: int) -> int:
+        """Slices that whole thousandths of a CPU take, at most 1000000."""
+        try:
+            return self.library.demand(self.host, thousandths)
+        except OverflowError:
+            return MAX_DEMAND
+        except Refused as refused:
+            if refused.number != TOO_LARGE:
+                raise HostFault(f"{thousandths}m: error {refused}") from refused
+            return MAX_DEMAND
 
 
 def thousandths_of_slices(slices: int, period: int, slice_usec: int) -> Fraction:
@@ -138,30 +137,10 @@ def quota_of_thousandths(thousandths: int, period: int = DEFAULT_PERIOD) -> int 
     return None if thousandths == 0 else max(thousandths * period // 1000, MIN_QUOTA)
 
 
-def weight_of_shares_linear(shares: int) -> int:
-    """`cpu.weight` of `cpu.shares` as runc before 1.3.2 and crun before 1.23 write it."""
-    found = _library.weight(shares, "linear") if _library else None
-    if found is not None:
-        return found
+def weight_of_shares(library: Library, shares: int, conversion: str) -> int:
+    """`cpu.weight` of `cpu.shares`, by a name of CONVERSIONS."""
     bounded = min(max(shares, MIN_SHARES), MAX_SHARES)
-    return 1 + (bounded - MIN_SHARES) * 9999 // 262142
-
-
-def weight_of_shares_log(shares: int) -> int:
-    """`cpu.weight` of `cpu.shares` as runc from 1.3.2 on and crun from 1.23 on write it."""
-    found = _library.weight(shares, "log") if _library else None
-    if found is not None:
-        return found
-    if shares <= MIN_SHARES:
-        return MIN_WEIGHT
-    if shares >= MAX_SHARES:
-        return MAX_WEIGHT
-    logarithm = math.log2(shares)
-    exponent = (logarithm * logarithm + 125 * logarithm) / 612.0 - 7.0 / 34.0
-    return math.ceil(10 ** exponent)
-
-
-WEIGHT_OF_SHARES = {"linear": weight_of_shares_linear, "log": weight_of_shares_log}
+    return library.weight_of_shares(bounded, CONVERSIONS[conversion])
 
 
 def decimal(value: Fraction, places: int = 3) -> str:

@@ -1,4 +1,4 @@
-"""Fixtures of the package's tests: engines, the command, and an empty folder.
+"""Fixtures of the package's tests: the library, the engine, the command, and an empty folder.
 
     /usr/bin/python3 -m pytest python/tests --program PATH --library PATH
 """
@@ -16,31 +16,25 @@ SECONDS = 300
 
 
 @pytest.fixture(scope="session")
-def library_engine(library):
-    """The engine over the C library under test."""
-    from arbiter_host.engine import LibraryEngine
-    return LibraryEngine(str(library))
+def calls(library):
+    """The C library under test."""
+    import arbiter
+    return arbiter.Library(library)
 
 
 @pytest.fixture(scope="session")
-def program_engine(program):
-    """The engine over the program under test."""
-    from arbiter_host.engine import ProgramEngine
-    return ProgramEngine(program.path)
-
-
-@pytest.fixture(params=["library", "program"])
-def engine(request):
-    """Each of the two engines."""
-    return request.getfixturevalue(f"{request.param}_engine")
+def engine(calls):
+    """The engine over the C library under test."""
+    from arbiter_host.engine import Engine
+    return Engine(calls)
 
 
 class Command:
-    """Runs arbiterctl over one program and one library."""
+    """Runs arbiterctl over one library."""
 
-    def __init__(self, program, library):
-        self.environment = {**os.environ, "ARBITER": str(program), "ARBITER_LIBRARY": str(library),
-                            "LC_ALL": "C", "COLUMNS": "120", "TMPDIR": "/tmp"}
+    def __init__(self, library):
+        self.environment = {**os.environ, "ARBITER_LIBRARY": str(library), "LC_ALL": "C",
+                            "COLUMNS": "120", "TMPDIR": "/tmp"}
 
     def ended(self, *words, given=b"", **options):
         """A run that has ended."""
@@ -57,9 +51,9 @@ class Command:
 
 
 @pytest.fixture
-def ctl(program, library):
+def ctl(library):
     """The command over the library under test."""
-    return Command(program.path, library)
+    return Command(library)
 
 
 @pytest.fixture

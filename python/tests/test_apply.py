@@ -8,10 +8,10 @@ from fractions import Fraction
 
 import pytest
 import trees
+from arbiter import Host
 from arbiter_host import apply, beneath
 from arbiter_host.apply import Change, Settings
 from arbiter_host.faults import HostFault
-from arbiter_host.model import Host
 from arbiter_host.sources import cgroup2, cgroups
 from hypothesis import HealthCheck, given, settings
 from hypothesis import strategies as st

@@ -4,9 +4,10 @@ from dataclasses import replace
 from fractions import Fraction
 
 import pytest
+from arbiter import Host
 from arbiter_host import backwards, units
 from arbiter_host.faults import HostFault
-from arbiter_host.model import Group, Host, Model
+from arbiter_host.model import Group, Model
 from arbiter_host.plan import plan
 from hypothesis import HealthCheck, given, settings
 from hypothesis import strategies as st
@@ -79,13 +80,13 @@ def test_guarantee_by_hand(ctl, folder):
     assert out.split("\n")[-2].split() == ["7", "20", "20", "a"]
 
 
-def test_guarantee_of_the_inside(library_engine):
+def test_guarantee_of_the_inside(engine):
     """What a group's own children ask for is as it is: they do not count as others."""
     model = Model(Host(1, 100000, 5000))
     for path, demand in (("pod", 0), ("pod/one", 200), ("pod/two", 200), ("other", 0)):
         model.add(Group(path, demand=Fraction(demand)))
-    found = plan(library_engine, model)
-    owed = backwards.guarantees(library_engine, found, found.groups[1:])
+    found = plan(engine, model)
+    owed = backwards.guarantees(found, found.groups[1:])
     assert owed == [8, 4, 4, 0]
 
 
@@ -109,17 +110,17 @@ SOME = settings(max_examples=40, deadline=None,
 
 @SOME
 @given(model=models(), path=st.sampled_from(PATHS), slices=st.integers(1, 10))
-def test_least_values(library_engine, model, path, slices):
+def test_least_values(engine, model, path, slices):
     """The least value reaches the amount, and the value before it does not."""
-    found = backwards.need(library_engine, model, path, Fraction(200 * slices))
+    found = backwards.need(engine, model, path, Fraction(200 * slices))
     changes = {
         "weight": (lambda v: backwards.with_weight(model, path, v), units.MAX_WEIGHT),
         "limit": (lambda v: backwards.with_limit(model, path, v), None),
-        "CPUs": (lambda v: replace(model, host=replace(model.host, cpus=v)), 64),
+        "CPUs": (lambda v: replace(model, host=replace(model.host, processors=v)), 64),
     }
     for knob in found.knobs:
         changed, greatest = changes[knob.name]
-        gets = lambda v: plan(library_engine, changed(v)).by_path()[path].gets
+        gets = lambda v: plan(engine, changed(v)).by_path()[path].gets
         if knob.least is None:
             assert gets(greatest) < slices
         else:
@@ -130,16 +131,16 @@ def test_least_values(library_engine, model, path, slices):
 
 @SOME
 @given(model=models(), demands=st.lists(st.integers(0, 12), min_size=5, max_size=5))
-def test_no_demands_of_the_others_give_less(library_engine, model, demands):
+def test_no_demands_of_the_others_give_less(engine, model, demands):
     """Each group gets its guarantee with any demands of the groups that are not under it."""
-    before = plan(library_engine, model)
-    owed = backwards.guarantees(library_engine, before, before.groups[1:])
+    before = plan(engine, model)
+    owed = backwards.guarantees(before, before.groups[1:])
     for group, least in zip(before.groups[1:], owed):
         after = model.copy()
         for path, slices in zip(PATHS[1:], demands):
             if path != group.path and not path.startswith(f"{group.path}/"):
                 after.groups[path].demand = Fraction(200 * slices)
-        assert plan(library_engine, after).by_path()[group.path].gets >= least
+        assert plan(engine, after).by_path()[group.path].gets >= least
         assert group.gets >= least
 
 

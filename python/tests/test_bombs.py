@@ -3,8 +3,8 @@ import json
 import time
 
 import pytest
+from arbiter import Host
 from arbiter_host.faults import HostFault
-from arbiter_host.model import Host
 from arbiter_host.sources import containers, hostfile, kubernetes, script
 
 # Seconds of the processor. Each of these took more than half a minute, or had no end.
@@ -88,54 +88,56 @@ def pod(number, phase):
             "spec": {"containers": [{"name": "c"}]}, "status": {"phase": phase}}
 
 
-def test_pods_beyond_the_bound_are_told_before_the_work(monkeypatch):
+def test_pods_beyond_the_bound_are_told_before_the_work(calls, monkeypatch):
     """No pod is looked into where their number alone is too great."""
     monkeypatch.setattr(kubernetes, "pod_of", lambda *_: pytest.fail("looked into"))
     data = json.dumps({"items": [pod(number, "Running") for number in range(8192)]}).encode()
     with pytest.raises(HostFault, match="8192 pods: more than 16384 groups"):
-        kubernetes.read([("F", data)], Host(4, 100000, 1000))
+        kubernetes.read([("F", data)], Host(4, 100000, 1000), calls)
 
 
-def test_many_pods_that_have_ended():
+def test_many_pods_that_have_ended(calls):
     """They take the time of as many entries, and not its square."""
     data = json.dumps({"items": [pod(number, "Failed") for number in range(20000)]}).encode()
     began = time.process_time()
-    model = kubernetes.read([("F", data)], Host(4, 100000, 1000))
+    model = kubernetes.read([("F", data)], Host(4, 100000, 1000), calls)
     assert "pods that have ended, left out: 20000" in model.notes
     assert time.process_time() - began < SECONDS
 
 
-def test_containers_beyond_the_bound_are_told_before_the_work(monkeypatch):
+def test_containers_beyond_the_bound_are_told_before_the_work(calls, monkeypatch):
     monkeypatch.setattr(containers, "add", lambda *_: pytest.fail("looked into"))
     data = json.dumps([{"Name": f"c{number}", "HostConfig": {}} for number in range(16384)])
     with pytest.raises(HostFault, match="16384 containers: more than 16384 groups"):
-        containers.read([("F", data.encode())], Host(4, 100000, 1000))
+        containers.read([("F", data.encode())], Host(4, 100000, 1000), calls)
 
 
-def test_many_containers_take_the_time_of_as_many():
+def test_many_containers_take_the_time_of_as_many(calls):
     data = json.dumps([{"Name": f"c{number}", "HostConfig": {}} for number in range(16000)])
     began = time.process_time()
-    assert len(containers.read([("F", data.encode())], Host(4, 100000, 1000)).groups) == 16001
+    found = containers.read([("F", data.encode())], Host(4, 100000, 1000), calls)
+    assert len(found.groups) == 16001
     assert time.process_time() - began < SECONDS
 
 
-def test_containers_of_one_name_stay_several():
+def test_containers_of_one_name_stay_several(calls):
     """Two of one name, and one that has the name of its parent's neighbour."""
     found = [{"Name": "/a", "HostConfig": {}}, {"Name": "/a", "HostConfig": {}},
              {"Name": "/b.slice", "HostConfig": {"CgroupParent": "/x"}},
              {"Name": "/c", "HostConfig": {"CgroupParent": "/x/b.slice"}},
              {"Name": "/b.slice", "HostConfig": {"CgroupParent": "/x"}}]
-    groups = containers.read([("F", json.dumps(found).encode())], Host(4, 100000, 1000)).groups
+    files = [("F", json.dumps(found).encode())]
+    groups = containers.read(files, Host(4, 100000, 1000), calls).groups
     assert set(groups) == {"system.slice", "system.slice/a", "system.slice/a%~2", "x", "x/b.slice",
                            "x/b.slice/c", "x/b.slice%~2", "x/b.slice%~3"}
     assert groups["x/b.slice"].place == "x/b.slice"
 
 
-def test_a_file_of_refused_lines(monkeypatch):
+def test_a_file_of_refused_lines(engine, monkeypatch):
     """What is no script keeps no list without an end."""
     monkeypatch.setattr(script, "MAX_REFUSED", 1000)
     with pytest.raises(HostFault, match="F:1001: more than 1000 refused lines: this is no script"):
-        script.read(b"x\n" * 5000, "F")
+        script.read(b"x\n" * 5000, "F", engine)
 
 
 @pytest.mark.parametrize("value, thousandths", [

@@ -3,9 +3,10 @@ from fractions import Fraction
 from pathlib import Path
 
 import trees
+from arbiter import Host
 from arbiter_host import names, samples
 from arbiter_host.faults import HostFault
-from arbiter_host.model import Host, Model
+from arbiter_host.model import Model
 from arbiter_host.plan import plan
 from arbiter_host.sources import (cgroup2, cgroups, containers, hostfile, kubernetes, script,
                                   systemd)
@@ -40,12 +41,13 @@ def broken(draw, data):
     return bytes(found)
 
 
-def holds(take):
+def holds(engine, take):
     """A model that is planned and written again, or a fault of one line."""
     try:
         model = take()
         if isinstance(model, Model):
-            assert script.read(script.write(model).encode("utf-8", "replace"), "F").refused == []
+            written = script.write(model, engine.library).encode("utf-8", "replace")
+            assert script.read(written, "F", engine).refused == []
             hostfile.write_toml(model)
             hostfile.write_yaml(model)
             return model
@@ -66,14 +68,14 @@ def planned(engine, model):
 
 @MANY
 @given(data=st.one_of(broken(SCRIPT), st.binary(max_size=200)))
-def test_script(library_engine, data):
-    planned(library_engine, holds(lambda: script.read(data, "F", None, library_engine)))
+def test_script(engine, data):
+    planned(engine, holds(engine, lambda: script.read(data, "F", engine)))
 
 
 @MANY
 @given(data=st.one_of(broken(TOML), st.binary(max_size=200)))
-def test_toml(library_engine, data):
-    planned(library_engine, holds(lambda: hostfile.read(data, "F", "toml")))
+def test_toml(engine, data):
+    planned(engine, holds(engine, lambda: hostfile.read(data, "F", "toml")))
 
 
 @MANY
@@ -86,8 +88,8 @@ def test_toml(library_engine, data):
     b"%c: &%c [*%c, *%c, *%c, *%c]\n" % (n, n, n - 1, n - 1, n - 1, n - 1)
     for n in range(ord("b"), ord("z"))) + b"groups: {g: {weight: *y}}\n")
 @example(data=b"x: &b [1]\n" + b"y: &c [*b, *b]\ngroups: {g: {weight: *c, demand: *c}}\n")
-def test_yaml(library_engine, data):
-    planned(library_engine, holds(lambda: hostfile.read(data, "F", "yaml")))
+def test_yaml(engine, data):
+    planned(engine, holds(engine, lambda: hostfile.read(data, "F", "yaml")))
 
 
 @MANY
@@ -95,8 +97,8 @@ def test_yaml(library_engine, data):
     hostfile.read(TOML, "F", "toml")).encode()), st.binary(max_size=200)))
 @example(data=b"[" * 100000)
 @example(data=b'{"groups": {"\\ud800": {}}}')
-def test_json(library_engine, data):
-    planned(library_engine, holds(lambda: hostfile.read(data, "F", "json")))
+def test_json(engine, data):
+    planned(engine, holds(engine, lambda: hostfile.read(data, "F", "json")))
 
 
 JSON_VALUES = st.recursive(
@@ -111,38 +113,38 @@ JSON_VALUES = st.recursive(
 @MANY
 @given(data=st.one_of(broken(KUBERNETES), st.binary(max_size=200)))
 @example(data=b"[" * 100000)
-def test_kubernetes(library_engine, data):
-    planned(library_engine, holds(lambda: kubernetes.read([("F", data)], HOST)))
+def test_kubernetes(engine, data):
+    planned(engine, holds(engine, lambda: kubernetes.read([("F", data)], HOST, engine.library)))
 
 
 @MANY
 @given(data=st.one_of(broken(DOCKER), st.binary(max_size=200)))
-def test_containers(library_engine, data):
-    planned(library_engine, holds(lambda: containers.read([("F", data)], HOST)))
+def test_containers(engine, data):
+    planned(engine, holds(engine, lambda: containers.read([("F", data)], HOST, engine.library)))
 
 
 @MANY
 @given(value=JSON_VALUES)
-def test_json_of_any_form(library_engine, value):
+def test_json_of_any_form(engine, value):
     import json
     data = json.dumps(value).encode()
-    for take in (lambda: kubernetes.read([("F", data)], HOST),
-                 lambda: containers.read([("F", data)], HOST),
+    for take in (lambda: kubernetes.read([("F", data)], HOST, engine.library),
+                 lambda: containers.read([("F", data)], HOST, engine.library),
                  lambda: hostfile.read(data, "F", "json")):
-        planned(library_engine, holds(take))
+        planned(engine, holds(engine, take))
 
 
 @MANY
 @given(data=st.one_of(broken(UNITS), st.binary(max_size=200)))
-def test_units(library_engine, data):
-    planned(library_engine, holds(lambda: systemd.read([("F", data)], HOST)))
+def test_units(engine, data):
+    planned(engine, holds(engine, lambda: systemd.read([("F", data)], HOST)))
 
 
 @MANY
 @given(data=st.one_of(broken(CSV), st.binary(max_size=200)))
-def test_samples(data):
+def test_samples(engine, data):
     for read in (samples.read_csv, samples.read_pairs):
-        holds(lambda: read(data, "F", "cpu", HOST))
+        holds(engine, lambda: read(data, "F", "cpu", HOST))
 
 
 FILES = ["cpu.weight", "cpu.max", "cpu.max.burst", "cpu.stat", "cpu.pressure", "cgroup.threads",
@@ -154,7 +156,7 @@ FILES = ["cpu.weight", "cpu.max", "cpu.max.burst", "cpu.stat", "cpu.pressure", "
 @given(texts=st.dictionaries(st.sampled_from(FILES), st.one_of(
     st.binary(max_size=40), broken(b"50000 100000\n"), broken(b"usage_usec 500\nnr_periods 3\n")),
     max_size=8), one=st.booleans())
-def test_cgroups(tmp_path_factory, library_engine, texts, one):
+def test_cgroups(tmp_path_factory, engine, texts, one):
     folder = tmp_path_factory.mktemp("tree")
     if one:
         trees.group1(folder)
@@ -165,4 +167,4 @@ def test_cgroups(tmp_path_factory, library_engine, texts, one):
     for name, data in texts.items():
         (folder / "a" / name).write_bytes(data)
     wish = cgroups.Wish(Fraction(1), later=(str(folder),), want="psi")
-    planned(library_engine, holds(lambda: cgroup2.read(str(folder), HOST, wish)))
+    planned(engine, holds(engine, lambda: cgroup2.read(str(folder), HOST, wish)))

@@ -60,11 +60,8 @@ def slices(amount):
     return None if amount is None else amount["slices"]
 
 
-@pytest.mark.parametrize("library", ["", "none"])
-def test_explain_reasons(ctl, library):
-    """Reasons, causes and weights as fields, by the library and by the program."""
-    if library:
-        ctl.environment["ARBITER_LIBRARY"] = library
+def test_explain_reasons(ctl):
+    """Reasons, causes and weights as fields."""
     whole = json.loads(ctl.run("explain", "--json", "-", given=REASONS.encode())[0])
     found = {group["group"]: (*(slices(group[key]) for key in ("gets", "wants", "limit")),
                               group["reason"], group["starved"], group["throttled"],
@@ -284,17 +281,17 @@ def test_largest_file(monkeypatch):
     assert [len(each) for each in read] == [0, 4, 5, 6, 6]
 
 
-def test_engine_that_is_not_there(ctl):
-    script = ROOT / "examples/pod.script"
-    assert "/no/lib" in ctl.run("explain", script, "--library", "/no/lib.so", status=1)[1]
-    _, err = ctl.run("explain", script, "--library", "none", "--program", "/no/such", status=1)
-    assert "/no/such: No such file or directory" in err
-
-
-def test_program_of_the_path(ctl, folder, program):
-    """Without a library the program on the PATH is used."""
-    (folder / "arbiter").symlink_to(program.path)
-    del ctl.environment["ARBITER"]
-    ctl.environment.update(ARBITER_LIBRARY="none", PATH=f"{folder}:{os.environ['PATH']}")
-    whole = json.loads(ctl.run("explain", "--json", ROOT / "examples/pod.script")[0])
-    assert whole["engine"] == f"program {folder}/arbiter"
+@pytest.mark.parametrize("path, words", [
+    ("/no/lib.so", "/no/lib.so: cannot open shared object file"), ("no.so", "no.so: cannot open"),
+    ("libc.so.6", "libc.so.6: no call arbiter_plan: the C library is older than the Python"),
+])
+@pytest.mark.parametrize("is_named", [False, True])
+def test_library_that_is_not_there(ctl, path, words, is_named):
+    """One line says what is missing and what to do. The status is that of the library alone."""
+    script, named = ROOT / "examples/pod.script", ["--library", path] if is_named else []
+    if not is_named:
+        ctl.environment["ARBITER_LIBRARY"] = path
+    out, err = ctl.run("explain", script, *named, status=3)
+    assert (out, err.count("\n")) == ("", 1) and words in err
+    assert err.endswith(": install the package libarbiter1, or run ./build --install DIR;"
+                        " ARBITER_LIBRARY or --library names another\n")

@@ -13,9 +13,10 @@ from fractions import Fraction
 
 import pytest
 import trees
+from arbiter import Host
 from arbiter_host import explain, picture, report, samples, series, top
 from arbiter_host.faults import HostFault
-from arbiter_host.model import Group, Host, Model
+from arbiter_host.model import Group, Model
 from arbiter_host.plan import plan
 from places import PACKAGE
 from hypothesis import HealthCheck, given, settings
@@ -41,9 +42,9 @@ def wide_host(count, cpus=16):
 
 
 @pytest.mark.parametrize("count", [3, 5, 111, 1950])
-def test_picture_is_legible(library_engine, count):
+def test_picture_is_legible(engine, count):
     """Within the size that programs draw, and a scale at most 25 rows away from each row."""
-    drawn = picture.picture(plan(library_engine, wide_host(count)))
+    drawn = picture.picture(plan(engine, wide_host(count)))
     root = xml.etree.ElementTree.fromstring(drawn)
     assert float(root.get("height")) < 4000 and float(root.get("width")) < 2000
     units = [float(each.get("y")) for each in root.iter(f"{SVG}text") if each.text == "CPUs"]
@@ -54,10 +55,10 @@ def test_picture_is_legible(library_engine, count):
         assert "more groups" in drawn
 
 
-def test_picture_cuts_no_reason(library_engine):
+def test_picture_cuts_no_reason(engine):
     """Each note is whole, a group's marks and reason with it, and idle rows take no room."""
     for count in (5, 111, 1950):
-        found = picture.fitting(plan(library_engine, wide_host(count)), "cpu", 64, 120)
+        found = picture.fitting(plan(engine, wide_host(count)), "cpu", 64, 120)
         assert max(len(entry.note) for entry in found) <= picture.NOTE_CELLS
         own = [entry for entry in found if "below)" in entry.name]
         assert bool(own) == (count == 1950) and not any(entry.below for entry in own)
@@ -66,21 +67,21 @@ def test_picture_cuts_no_reason(library_engine):
 
 
 @pytest.mark.parametrize("rows", [1, 10, 1000])
-def test_folds_keep_the_sums(library_engine, rows):
+def test_folds_keep_the_sums(engine, rows):
     """The rows right below a group add up to what the group gets."""
-    found = picture.fitting(plan(library_engine, wide_host(400)), "slices", 64, rows)
+    found = picture.fitting(plan(engine, wide_host(400)), "slices", 64, rows)
     for entry in found:
         if entry.below:
             assert sum(found[place].gets for place in entry.below) == entry.gets
     assert len(found) <= max(rows, 2) + 1
 
 
-def test_picture_of_strange_names(library_engine):
+def test_picture_of_strange_names(engine):
     """Wide letters count twice, and no control character stays."""
     model = Model(Host(1, 100000, 5000))
     model.add(Group("\u6f22" * 60, demand=Fraction(500)))
     model.add(Group("a\x1b[31m\u202eb<&>\"", demand=Fraction(500)))
-    drawn = picture.picture(plan(library_engine, model))
+    drawn = picture.picture(plan(engine, model))
     xml.etree.ElementTree.fromstring(drawn)
     assert not re.search("[\x00-\x08\x0b-\x1f\u202e]", drawn)
     shown = re.search("\u6f22+\u2026", drawn).group()
@@ -88,20 +89,20 @@ def test_picture_of_strange_names(library_engine):
 
 
 @pytest.mark.parametrize("count", [3, 1950])
-def test_page_asks_for_nothing(library_engine, count):
+def test_page_asks_for_nothing(engine, count):
     """One page without an address, with a row for each group."""
-    found = plan(library_engine, wide_host(count))
+    found = plan(engine, wide_host(count))
     page = report.page(found)
     assert not re.search(r"(src|href)=|url\(|@import|https?://", page)
     assert page.count("data-path=") == count + 1
     assert page.count("<details") == page.count("</details>")
 
 
-def test_page_escapes_names(library_engine):
+def test_page_escapes_names(engine):
     model = Model(Host(1, 100000, 5000))
     model.add(Group("<script>alert(1)</script>".replace("/", "|"), demand=Fraction(5)))
     model.add(Group("\x1b\u202e\"'", demand=Fraction(5), title="<b>"))
-    page = report.page(plan(library_engine, model), title="<i>")
+    page = report.page(plan(engine, model), title="<i>")
     assert "<script>alert" not in page and "<b>" not in page and "<i>" not in page
     assert "\x1b" not in page and "\u202e" not in page
 
@@ -241,7 +242,7 @@ def counted(engine, model, periods):
 @settings(max_examples=30, deadline=None, suppress_health_check=list(HealthCheck))
 @given(quota=st.integers(1, 30), burst=st.integers(0, 30), before=st.integers(0, 40),
        after=st.integers(0, 40), periods=st.integers(1, 60))
-def test_repeated_periods_are_periods(library_engine, quota, burst, before, after, periods):
+def test_repeated_periods_are_periods(engine, quota, burst, before, after, periods):
     """Periods that are counted at once give the sums of periods that are planned one by one."""
     def made():
         model = Model(Host(1, 100000, 5000))
@@ -256,10 +257,10 @@ def test_repeated_periods_are_periods(library_engine, quota, burst, before, afte
         for demand in (before, after, before):
             model.groups["a"].demand = Fraction(demand * 50)
             if run:
-                sums.append(run(library_engine, model, periods))
+                sums.append(run(engine, model, periods))
             else:
                 total = [0, 0, 0]
-                for found, times in series.periods_of(library_engine, model, periods):
+                for found, times in series.periods_of(engine, model, periods):
                     total = [each + group.gets * times for each, group in zip(total, found.groups)]
                 sums.append(total)
         model.notes = sums
@@ -368,12 +369,12 @@ def test_prometheus(ctl):
 @pytest.mark.parametrize("rows, first, folds", [
     (200, "pod0", False), (40, "pod0 (+3 below)", True), (24, "pod5 (+3 below)", True),
 ])
-def test_top_folds_what_has_no_room(library_engine, rows, first, folds):
+def test_top_folds_what_has_no_room(engine, rows, first, folds):
     """28 pods of 4: whole, folded to the pods, and these by what they lack where 28 are too many.
 
     pod5 lacks most: it has the greatest want, 2.46, of those that get little.
     """
-    found = plan(library_engine, wide_host(111))
+    found = plan(engine, wide_host(111))
     lines = [line for line, _ in top.screen(found, explain.View(width=80), rows)]
     assert len(lines) <= rows and lines[7].endswith(f"  {first}")
     assert any("below)" in line for line in lines) == folds

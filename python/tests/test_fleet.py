@@ -4,12 +4,14 @@ import re
 import sqlite3
 import subprocess
 import sys
+from array import array
 from fractions import Fraction
 from types import SimpleNamespace
 
 import pytest
+from arbiter import Certificate
 from arbiter_host import command
-from arbiter_host.engine import LibraryEngine
+from arbiter_host.engine import Certified, Engine, columns_of
 from arbiter_host.faults import HostFault, UsageFault
 from arbiter_host.fleet import demands, evidence, figures, forms, gather, hosts, pieces
 from arbiter_host.fleet.pool import Here
@@ -30,9 +32,9 @@ def fleet(folder):
 
 
 @pytest.fixture
-def alone(fleet, library_engine):
+def alone(fleet, calls):
     """What one process answers."""
-    return outcome(gathered(fleet, Here(), library_engine)[1])
+    return outcome(gathered(fleet, Here(), calls)[1])
 
 
 # What is answered
@@ -202,16 +204,16 @@ def forged_certificate(text):
 
 @pytest.mark.parametrize("lie", LIES)
 @pytest.mark.parametrize("recheck", [1.0, 0.05])
-def test_a_forging_worker_is_refused(fleet, alone, library_engine, lie, recheck):
+def test_a_forging_worker_is_refused(fleet, alone, calls, lie, recheck):
     """No answer of a worker that forges each is kept, and all hosts are answered all the same."""
     pool = Workers({"honest": honest, "forger": changed(LIES[lie])})
-    gatherer, store = gathered(fleet, pool, library_engine, recheck=recheck)
+    gatherer, store = gathered(fleet, pool, calls, recheck=recheck)
     assert outcome(store) == alone
     assert gatherer.counts.refused > 0 and pool.shunned == ["forger"]
     assert store.base.execute("SELECT DISTINCT worker FROM answer").fetchall() == [("honest",)]
 
 
-def test_what_a_late_forger_sent_before_is_asked_again(fleet, alone, library_engine):
+def test_what_a_late_forger_sent_before_is_asked_again(fleet, alone, calls):
     """A worker that begins to forge after its first batches loses what was not checked of them."""
     turns = []
 
@@ -221,9 +223,9 @@ def test_what_a_late_forger_sent_before_is_asked_again(fleet, alone, library_eng
         return way(job_text, items)
 
     pool = Workers({"honest": honest, "late": late})
-    gatherer = gathered(fleet, pool, library_engine, recheck=1e-9)[0]
+    gatherer = gathered(fleet, pool, calls, recheck=1e-9)[0]
     assert pool.shunned == []  # (nothing is checked but first answers)
-    gatherer, store = gathered(fleet, Workers({"honest": honest, "late": late}), library_engine,
+    gatherer, store = gathered(fleet, Workers({"honest": honest, "late": late}), calls,
                                recheck=1.0)
     assert outcome(store) == alone
     store.add([], {})
@@ -251,36 +253,36 @@ WRONG = {
 
 
 @pytest.mark.parametrize("way", WRONG)
-def test_garbage_is_no_answer(fleet, alone, library_engine, way):
+def test_garbage_is_no_answer(fleet, alone, calls, way):
     """A reply that is not of the right form counts for nothing, even if nothing is rechecked."""
     pool = Workers({"wrong": WRONG[way], "honest": honest})
     recheck = 0.01 if "broken" in way else 0.0
-    assert outcome(gathered(fleet, pool, library_engine, recheck=recheck)[1]) == alone
+    assert outcome(gathered(fleet, pool, calls, recheck=recheck)[1]) == alone
     assert pool.shunned == ["wrong"]
 
 
-def test_a_plan_that_the_library_refuses_is_named(fleet, library_engine, monkeypatch):
+def test_a_plan_that_the_library_refuses_is_named(fleet, calls, monkeypatch):
     """A claim of an honest worker is found to be so, and costs it nothing."""
-    certified = LibraryEngine.certified
+    certified = Engine.certified
 
     def refusing(self, host, rows):
         if len(rows) < 5:
             raise HostFault("no plan: error 9 DemandTooLarge")
         return certified(self, host, rows)
 
-    monkeypatch.setattr(LibraryEngine, "certified", refusing)
+    monkeypatch.setattr(Engine, "certified", refusing)
     (fleet / "small.script").write_text("# arbiter run --processors 2\nmkdir a\n")
     pool = Workers({"one": honest, "two": honest})
-    answers, missing = outcome(gathered(fleet, pool, library_engine, recheck=1.0)[1])
+    answers, missing = outcome(gathered(fleet, pool, calls, recheck=1.0)[1])
     assert missing == [("small", "no plan: error 9 DemandTooLarge")]
     assert len(answers) == HOSTS and pool.shunned == []
 
 
-def test_without_a_believed_worker_all_hosts_are_named(fleet, library_engine, monkeypatch):
+def test_without_a_believed_worker_all_hosts_are_named(fleet, calls, monkeypatch):
     """Each host is named as not answered, with the reason."""
     monkeypatch.setattr(gather, "NO_WORKER_SECONDS", 0.05)
     pool = Workers({"forger": changed(LIES["no certificate"])})
-    gatherer, store = gathered(fleet, pool, library_engine)
+    gatherer, store = gathered(fleet, pool, calls)
     answers, missing = outcome(store)
     assert answers == [] and len(missing) == HOSTS
     assert {why for _, why in missing} == {"no worker is left"}
@@ -297,11 +299,11 @@ def dies_of(host, how=None):
     return way
 
 
-def test_a_host_that_no_worker_survives_is_named(fleet, alone, library_engine):
+def test_a_host_that_no_worker_survives_is_named(fleet, alone, calls):
     """It is given out three times alone at most; every other host is answered."""
     bad = "host-00007"
     pool = Workers({"one": dies_of(bad), "two": dies_of(bad)})
-    gatherer, store = gathered(fleet, pool, library_engine)
+    gatherer, store = gathered(fleet, pool, calls)
     answers, missing = outcome(store)
     assert answers == [each for each in alone[0] if each[0] != bad]
     assert [host for host, _ in missing] == [bad] and "given out 3 times" in missing[0][1]
@@ -309,7 +311,7 @@ def test_a_host_that_no_worker_survives_is_named(fleet, alone, library_engine):
     assert len([names for names in times if names == [bad]]) <= 3 and len(times) <= 10
 
 
-def test_a_batch_that_hangs_is_given_again(fleet, alone, library_engine, monkeypatch):
+def test_a_batch_that_hangs_is_given_again(fleet, alone, calls, monkeypatch):
     """A worker that hangs on its first batch loses it to another. Time passes in idle turns."""
     clock = SimpleNamespace(now=0.0)
     monkeypatch.setattr(gather, "time", SimpleNamespace(monotonic=lambda: clock.now))
@@ -321,21 +323,21 @@ def test_a_batch_that_hangs_is_given_again(fleet, alone, library_engine, monkeyp
             return found
 
     pool = Timed({"hangs": lambda *_: Workers.HANGS, "honest": honest})
-    gatherer, store = gathered(fleet, pool, library_engine, deadline=25.0)
+    gatherer, store = gathered(fleet, pool, calls, deadline=25.0)
     assert outcome(store) == alone and set(pool.shunned) == {"hangs"}
 
 
-def test_lost_batches_in_a_row_end_the_run(fleet, library_engine):
+def test_lost_batches_in_a_row_end_the_run(fleet, calls):
     """Workers that die of everything: each host is named, and the run ends."""
     pool = Workers({"one": lambda *_: None, "two": lambda *_: None})
-    gatherer, store = gathered(fleet, pool, library_engine)
+    gatherer, store = gathered(fleet, pool, calls)
     answers, missing = outcome(store)
     assert (answers, len(missing)) == ([], HOSTS)
     assert all("in a row" in why or "given out" in why for _, why in missing)
     assert len(pool.served) < 40
 
 
-def test_memory_that_is_refused_costs_no_worker(fleet, alone, library_engine):
+def test_memory_that_is_refused_costs_no_worker(fleet, alone, calls):
     """A worker without memory gives the batch back and stays."""
     turns = []
 
@@ -344,7 +346,7 @@ def test_memory_that_is_refused_costs_no_worker(fleet, alone, library_engine):
         return b'{"lost": "out of memory"}' if len(turns) == 1 else honest(job_text, items)
 
     pool = Workers({"tight": tight, "honest": honest})
-    assert outcome(gathered(fleet, pool, library_engine)[1]) == alone and pool.shunned == []
+    assert outcome(gathered(fleet, pool, calls)[1]) == alone and pool.shunned == []
 
 
 BROKEN = {
@@ -392,11 +394,11 @@ def test_the_file_refuses_what_must_not_be():
     assert [host for host, _ in store.answers()] == ["a", "b"]
 
 
-def test_a_second_run_does_what_is_left(fleet, library_engine, folder):
+def test_a_second_run_does_what_is_left(fleet, calls, folder):
     """Series in pieces: a run that ends in the middle goes on where it was, and ends the same."""
     over = demands.folder(str(fleets.make_demands(folder / "demands", HOSTS, 24)))
     words = {"action": "series", "demands": over, "sample_usec": 300000}
-    whole = gathered(fleet, Here(), library_engine, **words)[1]
+    whole = gathered(fleet, Here(), calls, **words)[1]
     turns = []
 
     def tired(job_text, items):
@@ -405,15 +407,15 @@ def test_a_second_run_does_what_is_left(fleet, library_engine, folder):
 
     path = str(folder / "run.sqlite")
     first = Store(path)
-    gathered(fleet, Workers({"tired": tired}), library_engine, store=first, **words)
+    gathered(fleet, Workers({"tired": tired}), calls, store=first, **words)
     done = sum(parts for host in sorted(over_hosts(fleet)) for _, parts, _ in first.done(host))
     assert 0 < done < HOSTS * 24
     first.close()
     second = Store(path)
-    gatherer, _ = gathered(fleet, Here(), library_engine, store=second, **words)
+    gatherer, _ = gathered(fleet, Here(), calls, store=second, **words)
     assert sum(host[1] == 0 for host in outcome(second)[0]) == 0
     assert joined(second) == joined(whole) and second.unfinished() == []
-    third = gathered(fleet, Here(), library_engine, store=second, **words)[0]
+    third = gathered(fleet, Here(), calls, store=second, **words)[0]
     assert third.counts.batches == 0 < gatherer.counts.batches
 
 
@@ -430,11 +432,11 @@ def joined(store):
     return found
 
 
-def test_a_forged_piece_takes_what_rests_on_it(fleet, library_engine, folder):
+def test_a_forged_piece_takes_what_rests_on_it(fleet, calls, folder):
     """Pieces after one that is forgotten are asked again, from the state before it."""
     over = demands.folder(str(fleets.make_demands(folder / "demands", HOSTS, 24)))
     words = {"action": "series", "demands": over, "sample_usec": 300000}
-    whole = gathered(fleet, Here(), library_engine, **words)[1]
+    whole = gathered(fleet, Here(), calls, **words)[1]
 
     def forge(answer, _):
         answer["state"]["saved"] = {path: 7 for path in answer["state"]["saved"]}
@@ -446,24 +448,24 @@ def test_a_forged_piece_takes_what_rests_on_it(fleet, library_engine, folder):
         return (honest if len(turns) < 4 else changed(forge))(job_text, items)
 
     pool = Workers({"honest": honest, "late": late, "other": honest})
-    gatherer, store = gathered(fleet, pool, library_engine, recheck=1.0, **words)
+    gatherer, store = gathered(fleet, pool, calls, recheck=1.0, **words)
     assert gatherer.counts.refused > 0 and pool.shunned == ["late"]
     assert joined(store) == joined(whole) and store.unfinished() == []
 
 
-def test_changed_files_are_asked_again(fleet, library_engine, folder):
+def test_changed_files_are_asked_again(fleet, calls, folder):
     """A host whose file changed is planned anew; one that is gone is left out; a new one comes."""
     path = str(folder / "run.sqlite")
-    store = gathered(fleet, Here(), library_engine, store=Store(path))[1]
+    store = gathered(fleet, Here(), calls, store=Store(path))[1]
     store.close()
     (fleet / "host-00001.script").write_text(fleets.script(99, GROUPS))
     (fleet / "host-00002.script").unlink()
     (fleet / "new.script").write_text(fleets.script(98, GROUPS))
-    gatherer, store = gathered(fleet, Here(), library_engine, store=Store(path))
-    assert outcome(store) == outcome(gathered(fleet, Here(), library_engine)[1])
+    gatherer, store = gathered(fleet, Here(), calls, store=Store(path))
+    assert outcome(store) == outcome(gathered(fleet, Here(), calls)[1])
     store.close()
     with pytest.raises(UsageFault, match="other words"):
-        gathered(fleet, Here(), library_engine, "what-if", Store(path), sets=["t0.weight=7"])
+        gathered(fleet, Here(), calls, "what-if", Store(path), sets=["t0.weight=7"])
 
 
 LIMITED = ("import resource, sys; resource.setrlimit(resource.RLIMIT_FSIZE, (%d, %d));"
@@ -505,16 +507,20 @@ def test_two_runs_do_not_write_one_file(folder):
 # Small parts
 
 
-def test_certificates_travel(library_engine):
+def test_certificates_travel(calls, engine):
     """A certificate that was packed is accepted; one of other rows, or none, is refused."""
-    model = script.read(fleets.script(3, GROUPS).encode(), "x")
-    rows = model.rows()
-    text = evidence.packed(library_engine.certified(model.host, rows))
-    assert evidence.Replaying(library_engine, [text]).plan(model.host, rows) == (
-        library_engine.plan(model.host, rows))
-    for wrong in ("", "!", text[:40], evidence.packed([])):
+    model = script.read(fleets.script(3, GROUPS).encode(), "x", engine)
+    rows = model.rows(engine.library)
+    found = engine.certified(model.host, columns_of(rows))
+    text = evidence.packed(found)
+    assert evidence.unpacked(text, len(rows)) == Certified(array("Q", found.amounts),
+                                                           found.certificate)
+    again = evidence.Replaying(calls, [text]).plan(model.host, rows)
+    assert again._replace(columns=None) == engine.plan(model.host, rows)._replace(columns=None)
+    nothing = Certified([], Certificate.of([], []))
+    for wrong in ("", "!", text[:40], evidence.packed(nothing)):
         with pytest.raises(HostFault):
-            evidence.Replaying(library_engine, [wrong]).plan(model.host, rows)
+            evidence.Replaying(calls, [wrong]).plan(model.host, rows)
     with pytest.raises(HostFault, match="other rows"):
         evidence.unpacked(text, len(rows) - 1)
 
@@ -545,11 +551,11 @@ def test_quantiles():
     assert figures.quantiles([(Fraction(0), 94), (Fraction(9), 6)]) == [0, 0, 0, 0, 0, 9, 9]
 
 
-def test_forms_hold_the_answers(fleet, library_engine):
+def test_forms_hold_the_answers(fleet, calls):
     """The answer of each action has its form, and not that of another."""
     for action, words in (("plan", {}), ("what-if", {"sets": ["t0.weight=7"]})):
         answers = [json.loads(data) for _, data in outcome(gathered(
-            fleet, Here(), library_engine, action, **words)[1])[0]]
+            fleet, Here(), calls, action, **words)[1])[0]]
         for each in forms.ANSWERS:
             assert all(forms.is_answer(each, answer) for answer in answers) == (each == action)
 

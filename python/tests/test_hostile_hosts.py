@@ -6,10 +6,11 @@ from fractions import Fraction
 
 import pytest
 import trees
+from arbiter import Host
 from arbiter_host import apply, beneath, names
 from arbiter_host.apply import Change, Settings
 from arbiter_host.faults import HostFault
-from arbiter_host.model import Group, Host, Model
+from arbiter_host.model import Group, Model
 from arbiter_host.sources import cgroup2, cgroups, hostfile, script
 from hypothesis import HealthCheck, example, given, settings
 from hypothesis import strategies as st
@@ -103,14 +104,15 @@ def test_a_name_by_hand_means_one_group_or_none(text):
 @settings(max_examples=40, deadline=None, suppress_health_check=list(HealthCheck))
 @given(raws=st.lists(NAMES.filter(lambda raw: len(raw) < 80), min_size=1, max_size=6, unique=True))
 @example(raws=[b"a\nb", b"a%0Ab"])
-def test_the_way_through_a_script(tmp_path_factory, raws):
+def test_the_way_through_a_script(tmp_path_factory, engine, raws):
     """Each group of a tree is found again by the path that a script of the tree has for it."""
     top = tmp_path_factory.mktemp("t")
     trees.root2(top)
     for number, raw in enumerate(raws, 1):
         trees.group2(os.path.join(top, os.fsdecode(raw)), number)
     root = beneath.Root(str(top))
-    found = script.read(script.write(read(top)).encode(), "s").groups
+    written = script.write(read(top), engine.library).encode()
+    found = script.read(written, "s", engine).groups
     assert len(found) == len(raws)
     held = {os.fsencode(apply.folder_of(group, root)): group.weight for group in found.values()}
     assert held == {raw: number for number, raw in enumerate(raws, 1)}
@@ -188,25 +190,25 @@ def test_a_container_of_the_name_of_a_unit(ctl, folder):
         assert "ssh.service" not in out
 
 
-def test_a_group_without_a_place():
+def test_a_group_without_a_place(engine):
     """A pause container, or what an inner group's own tasks used, is none of the host's folders."""
     model = Model()
     model.add(Group("a", place="elsewhere"))
     model.add(Group("a/pause", place=names.NOWHERE))
-    for text, kind in ((script.write(model), "script"), (hostfile.write_toml(model), "toml")):
-        data = text.encode()
-        found = script.read(data, "s") if kind == "script" else hostfile.read(data, "s", kind)
+    by_script = script.read(script.write(model, engine.library).encode(), "s", engine)
+    for found in (by_script, hostfile.read(hostfile.write_toml(model).encode(), "s", "toml")):
         assert [each.place for each in found.groups.values()] == ["elsewhere", "."]
     with pytest.raises(HostFault, match="a/pause: its place on the host is not known"):
         apply.folder_of(model.groups["a/pause"], beneath.Root("/"))
 
 
-def test_a_place_of_any_bytes():
+def test_a_place_of_any_bytes(engine):
     """A place comes through a script and a host file."""
     place = os.fsdecode(b"a b/%\xff\n/x")
     model = Model()
     model.add(Group("a", place=place))
-    assert script.read(script.write(model).encode(), "s").groups["a"].place == place
+    written = script.write(model, engine.library).encode()
+    assert script.read(written, "s", engine).groups["a"].place == place
     for write, kind in ((hostfile.write_toml, "toml"), (hostfile.write_yaml, "yaml"),
                         (hostfile.write_json, "json")):
         assert hostfile.read(write(model).encode(), "f", kind).groups["a"].place == place

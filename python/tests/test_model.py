@@ -1,17 +1,19 @@
-"""The model: equal hosts, limits, tasks, and both engines over the same rows."""
+"""The model: equal hosts, limits, tasks, reasons, and plans that the check refuses."""
 from fractions import Fraction
 
+import arbiter
 import pytest
+from arbiter import Host, Row
 from arbiter_host import explain
-from arbiter_host.engine import ProgramEngine
+from arbiter_host.engine import Engine
 from arbiter_host.faults import HostFault
-from arbiter_host.model import Group, Host, Model, Row
+from arbiter_host.model import Group, Model, checked, planned
 from arbiter_host.plan import plan
 from hypothesis import HealthCheck, given, settings
 from hypothesis import strategies as st
 
 
-@pytest.mark.parametrize("host, planned", [
+@pytest.mark.parametrize("host, wanted", [
     (Host(64, 100000, 1000), Host(64, 100000, 1000)),
     (Host(96, 100000, 1000), Host(64, 150000, 1000)),
     (Host(128, 100000, 5000), Host(64, 40000, 1000)),
@@ -19,9 +21,9 @@ from hypothesis import strategies as st
     (Host(97, 100000, 1000), Host(50, 194000, 1000)),
     (Host(640, 100000, 1000), Host(64, 1000000, 1000)),
 ])
-def test_equal_host(host, planned):
-    assert host.planned() == planned
-    assert planned.capacity == host.capacity
+def test_equal_host(host, wanted):
+    assert planned(host) == wanted
+    assert wanted.capacity == host.capacity
 
 
 @pytest.mark.parametrize("host, words", [
@@ -32,7 +34,7 @@ def test_equal_host(host, planned):
 ])
 def test_refused_hosts(host, words):
     with pytest.raises(HostFault, match=words) as fault:
-        host.checked()
+        checked(host)
     assert fault.value.status == 2
 
 
@@ -72,12 +74,12 @@ FEW = "groups that share by weight and have fewer tasks than the host has CPUs: 
     ((2, 3), None, 0), ((2, None), None, 0), ((1, None), None, 1), ((None, None), None, 0),
     ((1, 3), 50000, 0),     # the limits let less through than there is
 ])
-def test_few_tasks_are_told(program_engine, tasks, limit, wanted):
+def test_few_tasks_are_told(engine, tasks, limit, wanted):
     """Shares depend on placement where groups with few tasks share by weight; limits do not."""
     model = Model(Host(2, 100000, 1000))
     for name, count in zip("ab", tasks):
         model.add(Group(name, quota=limit, demand=Fraction(2000), tasks=count))
-    found = plan(program_engine, model)
+    found = plan(engine, model)
     told = [each for each, _ in explain.table(found, explain.View())
             if each.startswith(("groups that share", "  their shares"))]
     assert told == ([f"{FEW}{wanted}",
@@ -85,14 +87,14 @@ def test_few_tasks_are_told(program_engine, tasks, limit, wanted):
                     if wanted else [])
 
 
-def test_tasks_of_a_group_are_those_below_it(program_engine):
+def test_tasks_of_a_group_are_those_below_it(engine):
     """A pod with one task in each of two containers has two tasks, of four CPUs."""
     model = Model(Host(4, 100000, 1000))
     model.add(Group("pod"))
     for path in ("pod/x", "pod/y"):
         model.add(Group(path, demand=Fraction(4000), tasks=1))
     model.add(Group("job", demand=Fraction(4000), tasks=8))
-    found = plan(program_engine, model)
+    found = plan(engine, model)
     assert explain.task_counts(found) == [10, 2, 1, 1, 8]
     assert explain.few_tasks(found) == 1
 
@@ -117,12 +119,9 @@ def models(draw):
 
 @settings(max_examples=60, deadline=None, suppress_health_check=list(HealthCheck))
 @given(model=models())
-def test_engines_agree(library_engine, program_engine, model):
-    """Library and program give the same amounts and name the same limiting groups."""
-    one, two = (plan(each, model) for each in (library_engine, program_engine))
-    assert [group.gets for group in one.groups] == [group.gets for group in two.groups]
-    assert [g.path for g in one.limiting] == [g.path for g in two.limiting]
-    assert one.rest == two.rest
+def test_reasons_hold(engine, model):
+    """Each reason is true of the amounts."""
+    one = plan(engine, model)
     for group in one.groups:
         reason = one.reason(group)
         if reason.name == "all":
@@ -136,50 +135,17 @@ def test_engines_agree(library_engine, program_engine, model):
             assert one.root.gets == one.capacity
 
 
-def stub(folder, change):
-    """A program that runs the real one and changes what `run` prints."""
-    path = folder / "stub"
-    path.write_text(f'#!/bin/sh\nif [ "$1" = run ]; then "$REAL" "$@" | {change};'
-                    ' else exec "$REAL" "$@"; fi\n')
-    path.chmod(0o755)
-    return ProgramEngine(str(path))
+class Liar(arbiter.Library):
+    """The library with other amounts beside its certificate."""
+
+    def certify(self, host, rows):
+        """One slice more for row 1, and one less for row 2."""
+        amounts, certificate = super().certify(host, rows)
+        return [amounts[0], amounts[1] + 1, amounts[2] - 1], certificate
 
 
-@pytest.mark.parametrize("change, words", [
-    ("sed 's/^0 100 max 20 10 0 -$/0 100 max 20 9 0 -/'", "refused 53 SumDiffers 0"),
-    ("sed 's/^0 100 max 20 10 0 -$/0 200 max 20 10 0 -/'", "of other groups"),
-    ("sed 's/^bw 1 1 /bw 1 2 /'", "of another host"),
-    ("head -n 6", "of another host"),
-    ("sed 's/^ok$/error 71 OutOfMemory/'", "error 71 OutOfMemory"),
-    ("sed 's/^limit 20 .$/limit 20 x/'", "no answer to `total`"),
-])
-def test_believes_no_program(program, folder, monkeypatch, change, words):
-    """A plan that is not accepted, or is of something else, is a fault."""
-    monkeypatch.setenv("REAL", program.path)
-    model = Model(Host(1, 100000, 5000))
-    model.add(Group("a", demand=Fraction(1000)))
-    model.add(Group("b", demand=Fraction(1000)))
-    with pytest.raises(HostFault, match=words):
-        plan(stub(folder, change), model)
-
-
-def test_believes_no_library(library_engine, monkeypatch):
+def test_believes_no_library(library):
     """Amounts that were changed after they were certified are refused by the check."""
-    rows = [Row(None, 100, None, 0), Row(0, 100, None, 20), Row(0, 100, None, 20)]
-    real = library_engine.calls.arbiter_certify
-
-    class Calls:
-        """The library with another certify."""
-
-        def __getattr__(self, name):
-            return getattr(library_engine.__dict__["calls_"], name)
-
-        def arbiter_certify(self, *words):
-            number = real(*words)
-            words[11][1], words[11][2] = 9, 11
-            return number
-
-    monkeypatch.setitem(library_engine.__dict__, "calls_", library_engine.calls)
-    monkeypatch.setattr(library_engine, "calls", Calls())
-    with pytest.raises(HostFault, match="the check refused the plan: 5[78]"):
-        library_engine.plan(Host(1, 100000, 5000), rows)
+    rows = [Row(), Row(0, demand=20), Row(0, demand=20)]
+    with pytest.raises(HostFault, match="the check refused the plan: error 5[78]"):
+        Engine(Liar(library)).plan(Host(1, 100000, 5000), rows)

@@ -6,12 +6,13 @@ import sys
 import tomllib
 from pathlib import Path
 
+import arbiter
 import arbiter_host
 import pytest
 from arbiter_host.subcommands import ALL
 from places import PACKAGE
 
-FOLDERS = ("arbiter_host", "arbiter_pages")
+FOLDERS = ("arbiter", "arbiter_host", "arbiter_pages")
 SOURCES = [path for folder in FOLDERS for path in sorted((PACKAGE / folder).rglob("*.py"))]
 SOURCES.append(PACKAGE / "arbiterctl")
 TESTS = sorted((PACKAGE / "tests").glob("*.py"))
@@ -60,7 +61,8 @@ def test_one_version(program):
     header = (PACKAGE.parent / "share/arbiter.h").read_text()
     project = tomllib.loads((PACKAGE / "pyproject.toml").read_text())["project"]
     version = re.search(r'ARBITER_VERSION "(.*)"', header).group(1)
-    assert (arbiter_host.__version__, project["version"]) == (version, version)
+    versions = [arbiter.__version__, arbiter_host.__version__, project["version"]]
+    assert versions == [version] * 3
 
 
 def test_packages_of_debian():

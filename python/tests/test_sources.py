@@ -7,9 +7,10 @@ from pathlib import Path
 
 import pytest
 import trees
-from arbiter_host import demands
+from arbiter import Host
+from arbiter_host import demands, units
 from arbiter_host.faults import HostFault
-from arbiter_host.model import Group, Host, Model
+from arbiter_host.model import Group, Model
 from arbiter_host.plan import plan
 from arbiter_host.sources import (cgroup2, cgroups, containers, hostfile, kubernetes, script,
                                   systemd)
@@ -30,10 +31,10 @@ def of(group):
     return group.weight, group.quota, group.period
 
 
-def pods(**wish):
+def pods(engine, **wish):
     """The model of the pods and the node."""
     files = [fixture("pods.json"), fixture("node.json")]
-    return kubernetes.read(files, None, kubernetes.Wish(**wish))
+    return kubernetes.read(files, None, engine.library, kubernetes.Wish(**wish))
 
 
 # scripts
@@ -78,15 +79,15 @@ def answered(program, text):
 
 @settings(max_examples=150, deadline=None, suppress_health_check=list(HealthCheck))
 @given(text=scripts())
-def test_script_is_read_as_the_program_reads_it(program, library_engine, text):
+def test_script_is_read_as_the_program_reads_it(program, engine, text):
     """The same refused lines by the same numbers, and the same rows and amounts at the end."""
-    model = script.read(text.encode(), "F", Host(2, 100000, 5000), library_engine)
+    model = script.read(text.encode(), "F", engine, Host(2, 100000, 5000))
     refused = [(int(each.split(":")[1]), int(each.split("error ")[1].split(" ")[0]))
                for each in model.refused]
-    amounts = library_engine.plan(model.host, model.rows()).amounts
+    amounts = engine.plan(model.host, model.rows(engine.library)).amounts
     rows = [["-" if row.parent is None else str(row.parent), str(row.weight),
              "max" if row.limit is None else str(row.limit), str(row.demand), str(gets)]
-            for row, gets in zip(model.rows(), amounts)]
+            for row, gets in zip(model.rows(engine.library), amounts)]
     assert (refused, rows) == answered(program, text)
 
 
@@ -104,45 +105,46 @@ def test_script_head_line_behind_a_command():
     assert script.head_host([b"mkdir a", b"# arbiter run --processors 4"]) is None
 
 
-def test_script_saves_up(library_engine):
+def test_script_saves_up(engine):
     """What a period leaves is in the limit of the next one: 6 + 10, at most 10 + 5."""
     text = b"mkdir a\nwrite a cpu.max 50000\nwrite a cpu.max.burst 25000\ndemand a 4\nperiod\n"
-    model = script.read(text + b"demand a 20\n", "F", Host(), library_engine)
-    assert plan(library_engine, model).groups[1].limit == 15
+    model = script.read(text + b"demand a 20\n", "F", engine, Host())
+    assert plan(engine, model).groups[1].limit == 15
 
 
-def test_script_warns():
-    assert "no head line" in script.read(b"mkdir a\n", "F").notes[0]
+def test_script_warns(engine):
+    assert "no head line" in script.read(b"mkdir a\n", "F", engine).notes[0]
     head = b"# arbiter run --processors 4 --period 100000 --slice 1000\n"
-    assert script.read(head, "F").notes == []
-    assert "differ from its head line" in script.read(head, "F", Host(2, 100000, 1000)).notes[0]
-    assert script.read(b"mkdir a\n", "F", Host(2, 100000, 1000)).notes == []
+    assert script.read(head, "F", engine).notes == []
+    other = Host(2, 100000, 1000)
+    assert "differ from its head line" in script.read(head, "F", engine, other).notes[0]
+    assert script.read(b"mkdir a\n", "F", engine, other).notes == []
 
 
 @pytest.mark.parametrize("comment, tasks, asks", [
     ("# tasks 2", 2, 500), ("# tasks 2, asks 9cpu", None, 500), ("# tasks 0", None, 500),
     ("# tasks 1, asks 500m", 1, 500), ("# tasks x", None, 500), ("# tasks 2\n#", None, 500),
 ])
-def test_tasks_above_a_demand(comment, tasks, asks):
+def test_tasks_above_a_demand(comment, tasks, asks, engine):
     """They are taken where they are of this demand: half a CPU that one task or two can use."""
     text = f"mkdir a\n{comment}\ndemand a 10\n"
-    group = script.read(text.encode(), "F", Host()).groups["a"]
+    group = script.read(text.encode(), "F", engine, Host()).groups["a"]
     assert (group.tasks, group.demand) == (tasks, asks)
 
 
-def test_tasks_that_cut_are_kept():
+def test_tasks_that_cut_are_kept(engine):
     """A demand of 6 CPUs of one task is one CPU, and reads back as 6 CPUs of one task."""
     model = Model(Host(8, 100000, 5000))
     model.add(Group("a", demand=Fraction(6000), tasks=1))
-    text = script.write(model)
+    text = script.write(model, engine.library)
     assert text.endswith("# tasks 1, asks 6cpu\ndemand a 20\n")
-    group = script.read(text.encode(), "F").groups["a"]
+    group = script.read(text.encode(), "F", engine).groups["a"]
     assert (group.tasks, group.demand, group.usable) == (1, 6000, 1000)
 
 
-def test_script_with_carriage_returns():
+def test_script_with_carriage_returns(engine):
     """They are parts of words, as for the program, and that is told."""
-    model = script.read(b"mkdir a\r\ndemand a 5\r\n", "F", Host())
+    model = script.read(b"mkdir a\r\ndemand a 5\r\n", "F", engine, Host())
     assert list(model.groups) == ["a\r"] and len(model.refused) == 1
     assert any("carriage returns" in note for note in model.notes)
 
@@ -156,38 +158,39 @@ NAMES = st.text(st.characters(blacklist_categories=["Cs"], blacklist_characters=
 @st.composite
 def models(draw):
     """Models with all settings and names of all letters."""
-    model = Model(Host(draw(st.integers(1, 64)), 100000, draw(st.sampled_from([1000, 5000]))))
+    host = Host(draw(st.integers(1, 64)), 100000, draw(st.sampled_from([1000, 5000])))
+    model = Model(host)
     for name in draw(st.lists(NAMES, max_size=5, unique=True)):
         quota = draw(st.one_of(st.none(), st.integers(1000, 10**15)))
         group = Group(name, draw(st.integers(1, 10000)), quota, draw(st.integers(1000, 10**6)))
         group.burst = draw(st.integers(0, min(quota or 10**15, 10**15)))
         slices = draw(st.integers(0, 100000))
-        group.demand = script.slices_demand(slices, model.host)
+        group.demand = units.thousandths_of_slices(slices, host.period_us, host.slice_us)
         group.tasks = draw(st.one_of(st.none(), st.integers(0, 8)))
         model.add(group)
     return model
 
 
-def same_model(one, two):
-    assert one.host == two.host and one.rows() == two.rows()
+def same_model(engine, one, two):
+    assert one.host == two.host and one.rows(engine.library) == two.rows(engine.library)
     assert {path: (of(each), each.burst) for path, each in one.groups.items()} == {
         path: (of(each), each.burst) for path, each in two.groups.items()}
 
 
 @settings(max_examples=80, deadline=None)
 @given(model=models())
-def test_script_round_trip(model):
-    read = script.read(script.write(model).encode(), "F")
+def test_script_round_trip(model, engine):
+    read = script.read(script.write(model, engine.library).encode(), "F", engine)
     assert read.refused == [] and read.notes == []
-    same_model(model, read)
+    same_model(engine, model, read)
 
 
 @pytest.mark.parametrize("kind, writer", [
     ("toml", hostfile.write_toml), ("json", hostfile.write_json), ("yaml", hostfile.write_yaml)])
 @settings(max_examples=60, deadline=None)
 @given(model=models())
-def test_host_file_round_trip(kind, writer, model):
-    same_model(model, hostfile.read(writer(model).encode(), "F", kind))
+def test_host_file_round_trip(engine, kind, writer, model):
+    same_model(engine, model, hostfile.read(writer(model).encode(), "F", kind))
 
 
 # host files
@@ -345,13 +348,13 @@ def test_folders_that_are_no_tree(folder):
         cgroup2.read(str(folder), EIGHT)
 
 
-def test_names_of_a_tree(folder):
+def test_names_of_a_tree(folder, engine):
     trees.root2(folder)
     for raw in (b"a b", b"x\xff", b"\x1b[31m", "\u00fc".encode()):
         trees.group2(os.path.join(os.fsencode(folder), raw).decode(errors="surrogateescape"))
     model = cgroup2.read(str(folder), EIGHT, cgroups.Wish(Fraction(1, 1000)))
     assert sorted(model.groups) == ["%1B[31m", "a%20b", "x%FF", "\u00fc"]
-    assert "\x1b" not in script.write(model).split("mkdir")[0]
+    assert "\x1b" not in script.write(model, engine.library).split("mkdir")[0]
 
 
 def test_cgroup1(folder):
@@ -386,18 +389,18 @@ def node_files(folder):
         trees.group2(folder / path, weight, f"{quota} 100000")
 
 
-def test_pods_and_files_agree(folder):
+def test_pods_and_files_agree(engine, folder):
     """The same weights and limits from the pods' JSON and from the node's files."""
     node_files(folder)
     by_files = cgroup2.read(str(folder), Host(4, 100000, 1000), cgroups.Wish(Fraction(1, 1000)))
     files = {os.path.relpath(each.place, folder): of(each) for each in by_files.groups.values()}
-    by_pods = {each.place: of(each) for each in pods().groups.values()
+    by_pods = {each.place: of(each) for each in pods(engine).groups.values()
                if each.place != "."}
     assert by_pods == files and len(files) == 13
 
 
-def test_pods():
-    model = pods()
+def test_pods(engine):
+    model = pods(engine)
     assert model.host == Host(4, 100000, 1000)
     titles = {each.title: each for each in model.groups.values()}
     assert titles["prod/web-7c9f/nginx"].path == "kubepods/burstable/prod:web-7c9f/nginx"
@@ -408,15 +411,15 @@ def test_pods():
     assert "pods that have ended, left out: 1" in model.notes
 
 
-def test_pods_with_the_newer_conversion():
+def test_pods_with_the_newer_conversion(engine):
     """runc from 1.3.2 on: 1024 shares are 100, 256 are 35, 2 are 1."""
-    titles = {each.title: each.weight for each in pods(conversion="log").groups.values()}
+    titles = {each.title: each.weight for each in pods(engine, conversion="log").groups.values()}
     assert titles["prod/db-0/postgres"] == 100 and titles["prod/web-7c9f/nginx"] == 35
     assert titles["batch/report-x"] == 1
 
 
-def test_pods_by_cgroupfs():
-    places = {each.title: each.place for each in pods(driver="cgroupfs").groups.values()}
+def test_pods_by_cgroupfs(engine):
+    places = {each.title: each.place for each in pods(engine, driver="cgroupfs").groups.values()}
     assert places["batch/report-x"] == "kubepods/besteffort/pod00000003-0b1c-4d2e-8f3a-0123456789ab"
 
 
@@ -429,13 +432,13 @@ def test_quality_without_a_status():
     assert [kubernetes.pod_of(each, []).quality for each in found["items"]] == wanted
 
 
-def test_pods_of_several_nodes():
+def test_pods_of_several_nodes(engine):
     found = json.loads(fixture("pods.json")[1])
     found["items"][0]["spec"]["nodeName"] = "n2"
     data = json.dumps(found).encode()
     with pytest.raises(HostFault, match="2 nodes .n1, n2.: choose one by --node"):
-        kubernetes.read([("p", data)], EIGHT)
-    model = kubernetes.read([("p", data)], EIGHT, kubernetes.Wish(node="n2"))
+        kubernetes.read([("p", data)], EIGHT, engine.library)
+    model = kubernetes.read([("p", data)], EIGHT, engine.library, kubernetes.Wish(node="n2"))
     assert sum("/pause" in each.title for each in model.groups.values()) == 1
 
 
@@ -461,8 +464,8 @@ def test_units_twice():
     assert model.groups["system.slice/ssh.service"].demand == 500
 
 
-def test_docker():
-    model = containers.read([fixture("docker.json")], EIGHT)
+def test_docker(engine):
+    model = containers.read([fixture("docker.json")], EIGHT, engine.library)
     found = {path: of(each) for path, each in model.groups.items()}
     assert found == {
         "system.slice": (100, None, 100000), "system.slice/web": (79, 150000, 100000),
@@ -474,8 +477,8 @@ def test_docker():
     assert "containers that do not run, left out: 1" in model.notes
 
 
-def test_podman():
-    model = containers.read([fixture("podman.json")], EIGHT)
+def test_podman(engine):
+    model = containers.read([fixture("podman.json")], EIGHT, engine.library)
     group = model.groups["machine.slice/pod-web"]
     assert of(group) == (100, 50000, 100000)
     assert group.place == f"machine.slice/libpod-{'05' * 32}.scope"

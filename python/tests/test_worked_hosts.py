@@ -9,8 +9,9 @@ from fractions import Fraction
 
 import pytest
 import trees
+from arbiter import Host
 from arbiter_host import picture
-from arbiter_host.model import Group, Host, Model
+from arbiter_host.model import Group, Model
 from arbiter_host.plan import plan
 from arbiter_host.sources import script
 from places import PACKAGE
@@ -332,7 +333,7 @@ def test_series_refuses(ctl, folder, name, text, words):
     assert out == "" and words in err
 
 
-def test_series_shows_no_group_that_is_not_there(ctl, folder):
+def test_series_shows_no_group_that_is_not_there(ctl, folder, engine):
     (folder / "s").write_text(SAVING)
     (folder / "good").write_text("a 4\n")
     words = ["series", folder / "s", folder / "good", "--groups", "zz"]
@@ -343,10 +344,10 @@ def test_series_shows_no_group_that_is_not_there(ctl, folder):
 
 def test_library_that_the_system_finds(ctl, folder, library):
     """A package outside a clone takes the library of the loader's path."""
-    shutil.copytree(PACKAGE / "arbiter_host", folder / "p/arbiter_host")
+    for name in ("arbiter", "arbiter_host"):
+        shutil.copytree(PACKAGE / name, folder / "p" / name)
     shutil.copy(library, folder / "libarbiter.so.1")
-    for name in ("ARBITER_LIBRARY", "ARBITER"):
-        ctl.environment.pop(name)
+    ctl.environment.pop("ARBITER_LIBRARY")
     ctl.environment.update(LD_LIBRARY_PATH=str(folder), PYTHONPATH=str(folder / "p"))
     words = [sys.executable, "-m", "arbiter_host", "explain", "--json", "-"]
     ended = subprocess.run(words, input=HEAD.encode(), capture_output=True, check=False,
@@ -373,10 +374,10 @@ def models(draw):
 
 @settings(max_examples=40, deadline=None, suppress_health_check=list(HealthCheck))
 @given(model=models())
-def test_counted_as_the_program_counts(program, library_engine, model):
+def test_counted_as_the_program_counts(program, engine, model):
     """What a group gets, and whether it is throttled, are what `period` counts."""
-    found = plan(library_engine, model)
-    text = script.write(model) + "period\nreport\n"
+    found = plan(engine, model)
+    text = script.write(model, engine.library) + "period\nreport\n"
     words = ["run", "--processors", "2", "--period", "100000", "--slice", "5000"]
     said = program.run(words, text.encode()).out.decode().split(" group\n")[1].split("\n")[:-1]
     counted = {line.split()[4]: (int(line.split()[0]), int(line.split()[2])) for line in said}

@@ -30,7 +30,6 @@ _arbiterctl() {
                 --period) ;;
                 --slice) ;;
                 --library) ;;
-                --program) ;;
                 --from) mapfile -t COMPREPLY < <(compgen -W "script toml yaml json cgroup kubernetes systemd docker" -- "$word") ;;
                 --want) mapfile -t COMPREPLY < <(compgen -W "usage peak p95 psi limit request busy" -- "$word") ;;
                 --scale) ;;
@@ -42,7 +41,7 @@ _arbiterctl() {
                 --conversion) mapfile -t COMPREPLY < <(compgen -W "linear log" -- "$word") ;;
                 --driver) mapfile -t COMPREPLY < <(compgen -W "systemd cgroupfs" -- "$word") ;;
                 *)
-                    [[ $word == -* ]] && mapfile -t COMPREPLY < <(compgen -W "--only --sort --depth --unit --width --all --full-names --json --cpus --processors --period --slice --library --program --from --want --scale --interval --samples --later --own --depth-read --node --conversion --driver --strict -h --help" -- "$word")
+                    [[ $word == -* ]] && mapfile -t COMPREPLY < <(compgen -W "--only --sort --depth --unit --width --all --full-names --json --cpus --processors --period --slice --library --from --want --scale --interval --samples --later --own --depth-read --node --conversion --driver --strict -h --help" -- "$word")
                     ;;
             esac
             ;;
@@ -58,7 +57,6 @@ _arbiterctl() {
                 --period) ;;
                 --slice) ;;
                 --library) ;;
-                --program) ;;
                 --from) mapfile -t COMPREPLY < <(compgen -W "script toml yaml json cgroup kubernetes systemd docker" -- "$word") ;;
                 --want) mapfile -t COMPREPLY < <(compgen -W "usage peak p95 psi limit request busy" -- "$word") ;;
                 --scale) ;;
@@ -70,7 +68,7 @@ _arbiterctl() {
                 --conversion) mapfile -t COMPREPLY < <(compgen -W "linear log" -- "$word") ;;
                 --driver) mapfile -t COMPREPLY < <(compgen -W "systemd cgroupfs" -- "$word") ;;
                 *)
-                    [[ $word == -* ]] && mapfile -t COMPREPLY < <(compgen -W "--set --only --sort --depth --unit --width --all --full-names --json --cpus --processors --period --slice --library --program --from --want --scale --interval --samples --later --own --depth-read --node --conversion --driver --strict -h --help" -- "$word")
+                    [[ $word == -* ]] && mapfile -t COMPREPLY < <(compgen -W "--set --only --sort --depth --unit --width --all --full-names --json --cpus --processors --period --slice --library --from --want --scale --interval --samples --later --own --depth-read --node --conversion --driver --strict -h --help" -- "$word")
                     ;;
             esac
             ;;
@@ -81,7 +79,6 @@ _arbiterctl() {
                 --period) ;;
                 --slice) ;;
                 --library) ;;
-                --program) ;;
                 --from) mapfile -t COMPREPLY < <(compgen -W "script toml yaml json cgroup kubernetes systemd docker" -- "$word") ;;
                 --want) mapfile -t COMPREPLY < <(compgen -W "usage peak p95 psi limit request busy" -- "$word") ;;
                 --scale) ;;
@@ -93,7 +90,7 @@ _arbiterctl() {
                 --conversion) mapfile -t COMPREPLY < <(compgen -W "linear log" -- "$word") ;;
                 --driver) mapfile -t COMPREPLY < <(compgen -W "systemd cgroupfs" -- "$word") ;;
                 *)
-                    [[ $word == -* ]] && mapfile -t COMPREPLY < <(compgen -W "--unit --json --cpus --processors --period --slice --library --program --from --want --scale --interval --samples --later --own --depth-read --node --conversion --driver --strict -h --help" -- "$word")
+                    [[ $word == -* ]] && mapfile -t COMPREPLY < <(compgen -W "--unit --json --cpus --processors --period --slice --library --from --want --scale --interval --samples --later --own --depth-read --node --conversion --driver --strict -h --help" -- "$word")
                     ;;
             esac
             ;;
@@ -105,7 +102,6 @@ _arbiterctl() {
                 --period) ;;
                 --slice) ;;
                 --library) ;;
-                --program) ;;
                 --from) mapfile -t COMPREPLY < <(compgen -W "script toml yaml json cgroup kubernetes systemd docker" -- "$word") ;;
                 --want) mapfile -t COMPREPLY < <(compgen -W "usage peak p95 psi limit request busy" -- "$word") ;;
                 --scale) ;;
@@ -117,7 +113,7 @@ _arbiterctl() {
                 --conversion) mapfile -t COMPREPLY < <(compgen -W "linear log" -- "$word") ;;
                 --driver) mapfile -t COMPREPLY < <(compgen -W "systemd cgroupfs" -- "$word") ;;
                 *)
-                    [[ $word == -* ]] && mapfile -t COMPREPLY < <(compgen -W "--group --unit --json --cpus --processors --period --slice --library --program --from --want --scale --interval --samples --later --own --depth-read --node --conversion --driver --strict -h --help" -- "$word")
+                    [[ $word == -* ]] && mapfile -t COMPREPLY < <(compgen -W "--group --unit --json --cpus --processors --period --slice --library --from --want --scale --interval --samples --later --own --depth-read --node --conversion --driver --strict -h --help" -- "$word")
                     ;;
             esac
             ;;
@@ -131,7 +127,6 @@ _arbiterctl() {
                 --period) ;;
                 --slice) ;;
                 --library) ;;
-                --program) ;;
                 --from) mapfile -t COMPREPLY < <(compgen -W "script toml yaml json cgroup kubernetes systemd docker" -- "$word") ;;
                 --want) mapfile -t COMPREPLY < <(compgen -W "usage peak p95 psi limit request busy" -- "$word") ;;
                 --scale) ;;
@@ -143,7 +138,7 @@ _arbiterctl() {
                 --conversion) mapfile -t COMPREPLY < <(compgen -W "linear log" -- "$word") ;;
                 --driver) mapfile -t COMPREPLY < <(compgen -W "systemd cgroupfs" -- "$word") ;;
                 *)
-                    [[ $word == -* ]] && mapfile -t COMPREPLY < <(compgen -W "-o --output --unit --depth --rows --cpus --processors --period --slice --library --program --from --want --scale --interval --samples --later --own --depth-read --node --conversion --driver --strict -h --help" -- "$word")
+                    [[ $word == -* ]] && mapfile -t COMPREPLY < <(compgen -W "-o --output --unit --depth --rows --cpus --processors --period --slice --library --from --want --scale --interval --samples --later --own --depth-read --node --conversion --driver --strict -h --help" -- "$word")
                     ;;
             esac
             ;;
@@ -158,7 +153,6 @@ _arbiterctl() {
                 --period) ;;
                 --slice) ;;
                 --library) ;;
-                --program) ;;
                 --from) mapfile -t COMPREPLY < <(compgen -W "script toml yaml json cgroup kubernetes systemd docker" -- "$word") ;;
                 --want) mapfile -t COMPREPLY < <(compgen -W "usage peak p95 psi limit request busy" -- "$word") ;;
                 --scale) ;;
@@ -170,7 +164,7 @@ _arbiterctl() {
                 --conversion) mapfile -t COMPREPLY < <(compgen -W "linear log" -- "$word") ;;
                 --driver) mapfile -t COMPREPLY < <(compgen -W "systemd cgroupfs" -- "$word") ;;
                 *)
-                    [[ $word == -* ]] && mapfile -t COMPREPLY < <(compgen -W "-o --output --unit --before --set --title --cpus --processors --period --slice --library --program --from --want --scale --interval --samples --later --own --depth-read --node --conversion --driver --strict -h --help" -- "$word")
+                    [[ $word == -* ]] && mapfile -t COMPREPLY < <(compgen -W "-o --output --unit --before --set --title --cpus --processors --period --slice --library --from --want --scale --interval --samples --later --own --depth-read --node --conversion --driver --strict -h --help" -- "$word")
                     ;;
             esac
             ;;
@@ -193,7 +187,6 @@ _arbiterctl() {
                 --period) ;;
                 --slice) ;;
                 --library) ;;
-                --program) ;;
                 --from) mapfile -t COMPREPLY < <(compgen -W "script toml yaml json cgroup kubernetes systemd docker" -- "$word") ;;
                 --want) mapfile -t COMPREPLY < <(compgen -W "usage peak p95 psi limit request busy" -- "$word") ;;
                 --scale) ;;
@@ -205,7 +198,7 @@ _arbiterctl() {
                 --conversion) mapfile -t COMPREPLY < <(compgen -W "linear log" -- "$word") ;;
                 --driver) mapfile -t COMPREPLY < <(compgen -W "systemd cgroupfs" -- "$word") ;;
                 *)
-                    [[ $word == -* ]] && mapfile -t COMPREPLY < <(compgen -W "--csv --unit --sample --groups --map --holes --summary --to -o --output --prometheus --query --start --end --step --label --cpus --processors --period --slice --library --program --from --want --scale --interval --samples --later --own --depth-read --node --conversion --driver --strict -h --help" -- "$word")
+                    [[ $word == -* ]] && mapfile -t COMPREPLY < <(compgen -W "--csv --unit --sample --groups --map --holes --summary --to -o --output --prometheus --query --start --end --step --label --cpus --processors --period --slice --library --from --want --scale --interval --samples --later --own --depth-read --node --conversion --driver --strict -h --help" -- "$word")
                     ;;
             esac
             ;;
@@ -221,7 +214,6 @@ _arbiterctl() {
                 --period) ;;
                 --slice) ;;
                 --library) ;;
-                --program) ;;
                 --from) mapfile -t COMPREPLY < <(compgen -W "script toml yaml json cgroup kubernetes systemd docker" -- "$word") ;;
                 --want) mapfile -t COMPREPLY < <(compgen -W "usage peak p95 psi limit request busy" -- "$word") ;;
                 --scale) ;;
@@ -233,7 +225,7 @@ _arbiterctl() {
                 --conversion) mapfile -t COMPREPLY < <(compgen -W "linear log" -- "$word") ;;
                 --driver) mapfile -t COMPREPLY < <(compgen -W "systemd cgroupfs" -- "$word") ;;
                 *)
-                    [[ $word == -* ]] && mapfile -t COMPREPLY < <(compgen -W "--count --only --sort --depth --unit --width --all --full-names --json --cpus --processors --period --slice --library --program --from --want --scale --interval --samples --later --own --depth-read --node --conversion --driver --strict -h --help" -- "$word")
+                    [[ $word == -* ]] && mapfile -t COMPREPLY < <(compgen -W "--count --only --sort --depth --unit --width --all --full-names --json --cpus --processors --period --slice --library --from --want --scale --interval --samples --later --own --depth-read --node --conversion --driver --strict -h --help" -- "$word")
                     ;;
             esac
             ;;
@@ -263,7 +255,6 @@ _arbiterctl() {
                 --period) ;;
                 --slice) ;;
                 --library) ;;
-                --program) ;;
                 --from) mapfile -t COMPREPLY < <(compgen -W "script toml yaml json cgroup kubernetes systemd docker" -- "$word") ;;
                 --want) mapfile -t COMPREPLY < <(compgen -W "usage peak p95 psi limit request busy" -- "$word") ;;
                 --scale) ;;
@@ -275,7 +266,7 @@ _arbiterctl() {
                 --conversion) mapfile -t COMPREPLY < <(compgen -W "linear log" -- "$word") ;;
                 --driver) mapfile -t COMPREPLY < <(compgen -W "systemd cgroupfs" -- "$word") ;;
                 *)
-                    [[ $word == -* ]] && mapfile -t COMPREPLY < <(compgen -W "--hosts --by --set --json --html --db --rows --unit --sample --map --host-label --prometheus --query --start --end --step --label --workers --scheduler --recheck --deadline --cpus --processors --period --slice --library --program --from --want --scale --interval --samples --later --own --depth-read --node --conversion --driver --strict -h --help" -- "$word")
+                    [[ $word == -* ]] && mapfile -t COMPREPLY < <(compgen -W "--hosts --by --set --json --html --db --rows --unit --sample --map --host-label --prometheus --query --start --end --step --label --workers --scheduler --recheck --deadline --cpus --processors --period --slice --library --from --want --scale --interval --samples --later --own --depth-read --node --conversion --driver --strict -h --help" -- "$word")
                     ((COMP_CWORD == 2)) && [[ $word != -* ]] && mapfile -t COMPREPLY < <(compgen -W "plan series place what-if" -- "$word")
                     ;;
             esac
@@ -290,7 +281,6 @@ _arbiterctl() {
                 --period) ;;
                 --slice) ;;
                 --library) ;;
-                --program) ;;
                 --from) mapfile -t COMPREPLY < <(compgen -W "script toml yaml json cgroup kubernetes systemd docker" -- "$word") ;;
                 --want) mapfile -t COMPREPLY < <(compgen -W "usage peak p95 psi limit request busy" -- "$word") ;;
                 --scale) ;;
@@ -302,7 +292,7 @@ _arbiterctl() {
                 --conversion) mapfile -t COMPREPLY < <(compgen -W "linear log" -- "$word") ;;
                 --driver) mapfile -t COMPREPLY < <(compgen -W "systemd cgroupfs" -- "$word") ;;
                 *)
-                    [[ $word == -* ]] && mapfile -t COMPREPLY < <(compgen -W "--set --root --by --undo --yes --cpus --processors --period --slice --library --program --from --want --scale --interval --samples --later --own --depth-read --node --conversion --driver --strict -h --help" -- "$word")
+                    [[ $word == -* ]] && mapfile -t COMPREPLY < <(compgen -W "--set --root --by --undo --yes --cpus --processors --period --slice --library --from --want --scale --interval --samples --later --own --depth-read --node --conversion --driver --strict -h --help" -- "$word")
                     ;;
             esac
             ;;
@@ -322,7 +312,6 @@ _arbiterctl() {
                 --period) ;;
                 --slice) ;;
                 --library) ;;
-                --program) ;;
                 --from) mapfile -t COMPREPLY < <(compgen -W "script toml yaml json cgroup kubernetes systemd docker" -- "$word") ;;
                 --want) mapfile -t COMPREPLY < <(compgen -W "usage peak p95 psi limit request busy" -- "$word") ;;
                 --scale) ;;
@@ -334,7 +323,7 @@ _arbiterctl() {
                 --conversion) mapfile -t COMPREPLY < <(compgen -W "linear log" -- "$word") ;;
                 --driver) mapfile -t COMPREPLY < <(compgen -W "systemd cgroupfs" -- "$word") ;;
                 *)
-                    [[ $word == -* ]] && mapfile -t COMPREPLY < <(compgen -W "--to -o --output --set --cpus --processors --period --slice --library --program --from --want --scale --interval --samples --later --own --depth-read --node --conversion --driver --strict -h --help" -- "$word")
+                    [[ $word == -* ]] && mapfile -t COMPREPLY < <(compgen -W "--to -o --output --set --cpus --processors --period --slice --library --from --want --scale --interval --samples --later --own --depth-read --node --conversion --driver --strict -h --help" -- "$word")
                     ((COMP_CWORD == 2)) && [[ $word != -* ]] && mapfile -t COMPREPLY < <(compgen -W "script toml yaml json cgroup kubernetes systemd docker any" -- "$word")
                     ;;
             esac
@@ -348,7 +337,6 @@ _arbiterctl() {
                 --period) ;;
                 --slice) ;;
                 --library) ;;
-                --program) ;;
                 --from) mapfile -t COMPREPLY < <(compgen -W "script toml yaml json cgroup kubernetes systemd docker" -- "$word") ;;
                 --want) mapfile -t COMPREPLY < <(compgen -W "usage peak p95 psi limit request busy" -- "$word") ;;
                 --scale) ;;
@@ -360,7 +348,7 @@ _arbiterctl() {
                 --conversion) mapfile -t COMPREPLY < <(compgen -W "linear log" -- "$word") ;;
                 --driver) mapfile -t COMPREPLY < <(compgen -W "systemd cgroupfs" -- "$word") ;;
                 *)
-                    [[ $word == -* ]] && mapfile -t COMPREPLY < <(compgen -W "--to -o --output --set --cpus --processors --period --slice --library --program --from --want --scale --interval --samples --later --own --depth-read --node --conversion --driver --strict -h --help" -- "$word")
+                    [[ $word == -* ]] && mapfile -t COMPREPLY < <(compgen -W "--to -o --output --set --cpus --processors --period --slice --library --from --want --scale --interval --samples --later --own --depth-read --node --conversion --driver --strict -h --help" -- "$word")
                     ;;
             esac
             ;;

@@ -1,6 +1,7 @@
 """Python of this machine as files of a guest, so that `arbiterctl` itself runs there.
 
-The guest gets the interpreter, the libraries that it loads, and the compiled standard library.
+The guest gets the interpreter, the libraries that it loads, the compiled standard library, and the
+C library.
 """
 from __future__ import annotations
 
@@ -13,7 +14,8 @@ from kernel import packages
 PYTHON = Path("/usr/bin/python3")
 STANDARD = Path("/usr/lib/python3.11")
 PACKAGE = Path(__file__).resolve().parents[2] / "python"
-# The guest's folder of `arbiterctl` and its package.
+LIBRARY = PACKAGE.parent / "crates/bw_exports/out/libarbiter.so"
+# The guest's folder of `arbiterctl` and its packages.
 HOME = "arbiter"
 LEFT_OUT = {"test", "idlelib", "lib2to3", "tkinter", "unittest", "pydoc_data", "turtledemo",
             "ensurepip", "distutils"}
@@ -38,11 +40,15 @@ def named() -> Iterator[tuple[str, Path]]:
     """All files: the name in the guest, and the file here."""
     loaded = sorted((STANDARD / "lib-dynload").glob("*.so"))
     yield str(PYTHON), PYTHON
-    yield from ((str(path), path) for path in [*loaded, *sorted(libraries([PYTHON, *loaded]))])
+    loading = [PYTHON, LIBRARY, *loaded]
+    yield from ((str(path), path) for path in [*loaded, *sorted(libraries(loading))])
     yield from modules()
     yield f"{HOME}/arbiterctl", PACKAGE / "arbiterctl"
-    for path in sorted((PACKAGE / "arbiter_host").rglob("*.py")):
-        yield f"{HOME}/{path.relative_to(PACKAGE)}", path
+    for folder in ("arbiter", "arbiter_host"):
+        for path in sorted((PACKAGE / folder).rglob("*.py")):
+            yield f"{HOME}/{path.relative_to(PACKAGE)}", path
+    # (the package looks for it there first)
+    yield f"{HOME}/arbiter/libarbiter.so.1", LIBRARY
 
 
 def files() -> Files:

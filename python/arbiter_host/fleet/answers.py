@@ -25,7 +25,7 @@ def leaves(found: Plan) -> list[Planned]:
 def shape(model: Model) -> dict[str, Any]:
     """The host itself."""
     host = model.host
-    return {"cpus": host.cpus, "period_usec": host.period, "slice_usec": host.slice_usec,
+    return {"cpus": host.processors, "period_usec": host.period_us, "slice_usec": host.slice_us,
             "capacity": host.capacity, "groups": len(model.groups)}
 
 
@@ -117,8 +117,8 @@ def loss(rises: Sequence[tuple[int, str]]) -> dict[str, Any]:
 def pod_of(job: Job, place: int, model: Model, engine: Engine) -> Model:
     """The groups of a pod, as its file has them for this host's CPUs."""
     name = job.pods[place][0]
-    return load.of_bytes(job.namespace(cpus=model.host.cpus, period=None, slice=None, kind=None),
-                         name, job.pod_bytes(place), engine)
+    options = job.namespace(cpus=model.host.processors, period=None, slice=None, kind=None)
+    return load.of_bytes(options, name, job.pod_bytes(place), engine)
 
 
 def placed(job: Job, model: Model, engine: Engine) -> dict[str, Any]:

@@ -8,25 +8,28 @@ from __future__ import annotations
 
 import base64
 import binascii
-import ctypes
 import zlib
+from array import array
 from collections.abc import Sequence
 
-from arbiter_host import engine
-from arbiter_host.engine import Answer, Certificate, LibraryEngine
+from arbiter import Certificate, Host, Library, Row
+from arbiter_host.engine import Answer, Certified, Engine, columns_of
 from arbiter_host.faults import HostFault
-from arbiter_host.model import Host, Row
+
+# The types of the columns: amounts, flags, and the levels' numerators, denominators and places.
+KINDS = ("Q", "B", "Q", "Q", "I")
 
 
-def packed(certificate: Certificate) -> str:
+def packed(found: Certified) -> str:
     """A certificate as text: its columns as little-endian bytes, compressed, in base 64."""
-    raw = b"".join(bytes(each) for each in certificate)
+    columns = (array("Q", found.amounts), *found.certificate.columns)
+    raw = b"".join(each.tobytes() for each in columns)
     return base64.b64encode(zlib.compress(raw, 1)).decode()
 
 
-def unpacked(text: str, count: int) -> Certificate:
+def unpacked(text: str, count: int) -> Certified:
     """The certificate of so many rows; a fault where the text is none."""
-    sizes = [count * ctypes.sizeof(kind) for kind in engine.COLUMNS]
+    sizes = [count * array(kind).itemsize for kind in KINDS]
     try:
         opened = zlib.decompressobj()
         raw = opened.decompress(base64.b64decode(text, validate=True), sum(sizes) + 1)
@@ -35,41 +38,35 @@ def unpacked(text: str, count: int) -> Certificate:
     if len(raw) != sum(sizes):
         raise HostFault("a certificate of other rows")
     found, at = [], 0
-    for kind, size in zip(engine.COLUMNS, sizes):
-        found.append((kind * count).from_buffer_copy(raw[at:at + size]))
+    for kind, size in zip(KINDS, sizes):
+        found.append(array(kind, raw[at:at + size]))
         at += size
-    return found
+    return Certified(found[0], Certificate(*found[1:]))
 
 
-class Recording:
+class Recording(Engine):
     """Plans by the library, and keeps each certificate."""
 
-    def __init__(self, library: LibraryEngine) -> None:
-        self.library = library
+    def __init__(self, library: Library) -> None:
+        super().__init__(library)
         self.certificates: list[str] = []
 
-    @property
-    def words(self) -> str:
-        return self.library.words
-
     def plan(self, host: Host, rows: Sequence[Row]) -> Answer:
-        certificate = self.library.certified(host, rows)
-        self.certificates.append(packed(certificate))
-        return self.library.accepted(host, rows, certificate)
+        columns = columns_of(rows)
+        found = self.certified(host, columns)
+        self.certificates.append(packed(found))
+        return self.accepted(host, columns, found)
 
 
-class Replaying:
+class Replaying(Engine):
     """Answers by certificates of others, each accepted by the proved check for the rows asked."""
 
-    def __init__(self, library: LibraryEngine, certificates: Sequence[str]) -> None:
-        self.library = library
+    def __init__(self, library: Library, certificates: Sequence[str]) -> None:
+        super().__init__(library)
         self.rest = list(reversed(certificates))
-
-    @property
-    def words(self) -> str:
-        return self.library.words
 
     def plan(self, host: Host, rows: Sequence[Row]) -> Answer:
         if not self.rest:
             raise HostFault("no certificate")
-        return self.library.accepted(host, rows, unpacked(self.rest.pop(), len(rows)))
+        found = unpacked(self.rest.pop(), len(rows))
+        return self.accepted(host, columns_of(rows), found)

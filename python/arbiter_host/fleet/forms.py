@@ -11,9 +11,10 @@ from collections.abc import Callable
 from dataclasses import dataclass
 from typing import Any, NoReturn
 
+from arbiter import Host
 from arbiter_host.faults import HostFault
 from arbiter_host.fleet.answers import MOST_NAMED
-from arbiter_host.model import MAX_GROUPS, Host
+from arbiter_host.model import MAX_GROUPS, checked
 from arbiter_host.units import MAX_DEMAND
 
 MOST_NUMBER = 2**63
@@ -107,7 +108,7 @@ def fits(value: Any, form: Any) -> bool:
 def is_host(answer: Any) -> bool:
     """Whether the host of an answer can be one."""
     try:
-        host = Host(answer["cpus"], answer["period_usec"], answer["slice_usec"]).checked()
+        host = checked(Host(answer["cpus"], answer["period_usec"], answer["slice_usec"]))
     except HostFault:
         return False
     return bool(answer["capacity"] == host.capacity and 0 <= answer["groups"] < MAX_GROUPS)

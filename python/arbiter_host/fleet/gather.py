@@ -18,8 +18,9 @@ from collections.abc import Callable, Sequence
 from dataclasses import dataclass, field
 from typing import Any
 
+from arbiter import Library
 from arbiter_host import load, names
-from arbiter_host.engine import Engine, LibraryEngine
+from arbiter_host.engine import Engine
 from arbiter_host.faults import HostFault
 from arbiter_host.fleet import forms, pieces, work
 from arbiter_host.fleet.evidence import Replaying
@@ -149,7 +150,7 @@ def is_of_job(job: Job, parts: int, answer: dict[str, Any]) -> bool:
 class Gatherer:
     """One run over a fleet. The store has what was done before it."""
 
-    def __init__(self, asked: Asked, store: Store, pool: Pool, library: LibraryEngine,
+    def __init__(self, asked: Asked, store: Store, pool: Pool, library: Library,
                  tick: Callable[[int, str], None]) -> None:
         self.asked, self.store, self.pool, self.library = asked, store, pool, library
         self.tick, self.counts = tick, Counts()
@@ -352,7 +353,7 @@ class Gatherer:
         Without certificates it is a claim that there is no answer: then the host is planned here.
         """
         self.counts.checked += 1
-        by: Engine = self.library
+        by = Engine(self.library)
         if certificates is not None:
             by = Replaying(self.library, certificates)
         own = work.result(self.asked.job, task.item, by)

@@ -78,7 +78,7 @@ def answered(job: Job, model: Model, demands: bytes, first: int, state: dict[str
     head = samples.rows_of(samples.decoded(demands, "demands"), "demands")[0][1]
     path_of = series.targets(model, samples.csv_groups(head), job.mapping)
     paths = list(dict.fromkeys(path_of.values()))
-    periods = periods_of_sample(job.sample_usec, model.host.period)
+    periods = periods_of_sample(job.sample_usec, model.host.period_us)
     resume(model, state)
     rows = []
     for sample in found:

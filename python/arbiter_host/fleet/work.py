@@ -8,8 +8,9 @@ from collections.abc import Sequence
 from dataclasses import dataclass, field
 from typing import Any
 
+from arbiter import Library
 from arbiter_host import engine, load
-from arbiter_host.engine import Engine, LibraryEngine
+from arbiter_host.engine import Engine
 from arbiter_host.faults import HostFault
 from arbiter_host.fleet import answers, job as jobs, pieces
 from arbiter_host.fleet.evidence import Recording
@@ -30,12 +31,9 @@ class Item:
 
 
 @functools.lru_cache(maxsize=4)
-def library(path: str | None) -> LibraryEngine:
+def library(path: str | None) -> Library:
     """The C library, once for each process."""
-    found = engine.find(path, None)
-    if not isinstance(found, LibraryEngine):
-        raise HostFault("a fleet is planned by the C library: --library PATH")
-    return found
+    return engine.find(path).library
 
 
 def answer_of(job: Job, item: Item, by: Engine) -> dict[str, Any]:

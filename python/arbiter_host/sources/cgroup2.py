@@ -4,10 +4,11 @@ from __future__ import annotations
 import os
 import re
 
+from arbiter import Host
 from arbiter_host import units
 from arbiter_host.demands import Reading
 from arbiter_host.faults import HostFault, strerror
-from arbiter_host.model import Host, Model
+from arbiter_host.model import Model
 from arbiter_host.names import shown
 from arbiter_host.sources import cgroup1, cgroups
 from arbiter_host.sources.cgroups import Node, Wish, file_text, keyed, number_in, set_number

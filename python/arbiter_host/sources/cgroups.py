@@ -13,10 +13,11 @@ from dataclasses import dataclass, field
 from fractions import Fraction
 from typing import Protocol
 
+from arbiter import Host
 from arbiter_host import beneath, demands, names, progress, units
 from arbiter_host.demands import Measured, Reading
 from arbiter_host.faults import HostFault, strerror
-from arbiter_host.model import MAX_DEPTH, OWN, Group, Host, Model
+from arbiter_host.model import MAX_DEPTH, OWN, Group, Model, checked
 
 MAX_FILE = 1 << 20
 
@@ -229,7 +230,7 @@ def tell_own(root: Node, walk: Walk, seconds: Fraction) -> None:
     for node in [root, *walk.nodes]:
         used = own_usage(node, seconds) if node.children else Fraction(0)
         host, path = walk.model.host, node.group.path
-        if 2 * used * host.period < 1000 * host.slice_usec:
+        if 2 * used * host.period_us < 1000 * host.slice_us:
             continue
         if walk.wish.own:
             child = walk.model.add(Group(names.joined(path, OWN), place=names.NOWHERE))
@@ -255,7 +256,7 @@ def tell_slices(model: Model) -> None:
     host = model.host
     for path, group in model.groups.items():
         for name, usec in (("quota", group.quota), ("burst", group.burst)):
-            exact = Fraction((usec or 0) * host.period, group.period * host.slice_usec)
+            exact = Fraction((usec or 0) * host.period_us, group.period * host.slice_us)
             if exact.denominator != 1:
                 model.notes.append(f"{path}: its {name} is {units.decimal(exact)} slices:"
                                    f" {int(exact)} are kept")
@@ -263,7 +264,7 @@ def tell_slices(model: Model) -> None:
 
 def read(version: Version, folder: str, host: Host, wish: Wish) -> Model:
     """The model of a tree."""
-    model = Model(host.checked())
+    model = Model(checked(host))
     model.notes += version.told(folder)
     top = os.path.realpath(folder)
     root = Node(top, Group("."))

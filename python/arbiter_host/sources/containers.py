@@ -6,10 +6,11 @@ from dataclasses import dataclass
 from fractions import Fraction
 from typing import Any
 
+from arbiter import Host, Library
 from arbiter_host import demands, names, units
 from arbiter_host.demands import Measured
 from arbiter_host.faults import HostFault
-from arbiter_host.model import Group, Host, Model, check_count
+from arbiter_host.model import Group, Model, check_count, checked
 from arbiter_host.sources import systemd
 from arbiter_host.sources.data import loads, number, table, text
 
@@ -74,11 +75,11 @@ def set_limit(group: Group, config: dict[str, Any], notes: list[str]) -> None:
     group.quota, group.period = taken, bounded
 
 
-def set_weight(group: Group, config: dict[str, Any], wish: Wish) -> None:
+def set_weight(group: Group, config: dict[str, Any], library: Library, wish: Wish) -> None:
     """Sets the weight of the shares. None are the default."""
     shares = number(config, "CpuShares")
     if shares > 0:
-        group.weight = units.WEIGHT_OF_SHARES[wish.conversion](shares)
+        group.weight = units.weight_of_shares(library, shares, wish.conversion)
 
 
 def parent_path(model: Model, folder: str) -> str:
@@ -90,7 +91,8 @@ def parent_path(model: Model, folder: str) -> str:
     return path or "."
 
 
-def add(model: Model, container: dict[str, Any], wish: Wish, taken: dict[str, set[str]]) -> None:
+def add(model: Model, container: dict[str, Any], library: Library, wish: Wish,
+        taken: dict[str, set[str]]) -> None:
     """Adds a container's group. `taken` has the names of containers below each folder."""
     folder = parent_of(container, wish)
     parent = parent_path(model, folder)
@@ -104,7 +106,7 @@ def add(model: Model, container: dict[str, Any], wish: Wish, taken: dict[str, se
     group.place = f"{folder}/{scope_of(container, wish)}"
     group.title = text(table(container, "Config"), "Image")
     config = table(container, "HostConfig")
-    set_weight(group, config, wish)
+    set_weight(group, config, library, wish)
     set_limit(group, config, model.notes)
 
 
@@ -113,7 +115,8 @@ def is_running(container: dict[str, Any]) -> bool:
     return table(container, "State").get("Running", True) is not False
 
 
-def read(files: Sequence[tuple[str, bytes]], host: Host, wish: Wish = Wish()) -> Model:
+def read(files: Sequence[tuple[str, bytes]], host: Host, library: Library,
+         wish: Wish = Wish()) -> Model:
     """The model of the containers of some files."""
     found: list[dict[str, Any]] = []
     for name, data in files:
@@ -127,7 +130,7 @@ def read(files: Sequence[tuple[str, bytes]], host: Host, wish: Wish = Wish()) ->
         found += entries
     if wish.want not in ("limit", "busy"):
         raise HostFault(f"--want {wish.want} needs readings: containers have limit and busy", 2)
-    model = Model(host.checked())
+    model = Model(checked(host))
     running = [each for each in found if is_running(each)]
     if len(running) < len(found):
         model.notes.append(f"containers that do not run, left out: {len(found) - len(running)}")
@@ -137,7 +140,7 @@ def read(files: Sequence[tuple[str, bytes]], host: Host, wish: Wish = Wish()) ->
         parent_path(model, parent_of(container, wish))
     taken: dict[str, set[str]] = {}
     for container in running:
-        add(model, container, wish, taken)
+        add(model, container, library, wish, taken)
     measured = {path: Measured() for path in model.groups}
     demands.set_demands(model, measured, wish.want, Fraction(1))
     return model

@@ -18,11 +18,13 @@ from dataclasses import replace
 from fractions import Fraction
 from typing import Any, NoReturn
 
+from arbiter import Host
 from arbiter_host import names, units
 from arbiter_host.faults import HostFault
-from arbiter_host.model import Group, Host, Model, check_count, check_settings
+from arbiter_host.model import Group, Model, check_count, check_settings, checked
 
-HOST_KEYS = ("cpus", "period", "slice")
+# The keys of `host`, and the fields that they set.
+HOST_KEYS = {"cpus": "processors", "period": "period_us", "slice": "slice_us"}
 GROUP_KEYS = ("weight", "max", "period", "burst", "demand", "tasks", "title", "place")
 # Bounds of a host file: bytes, and of YAML nesting, nodes, keys that `<<` brings all in all, and
 # letters of a number. All are checked before the work that they bound.
@@ -287,9 +289,9 @@ def read_host(places: Places, entry: Any) -> Host:
             number = whole(value) if key == "cpus" else time(value)
         except HostFault as fault:
             raise places.fault(f"{key}: {fault.message}", "host", key) from fault
-        host = replace(host, **{"slice_usec" if key == "slice" else key: number})
+        host = replace(host, **{HOST_KEYS[key]: number})
     try:
-        return host.checked()
+        return checked(host)
     except HostFault as fault:
         raise places.fault(fault.message, "host") from fault
 
@@ -319,7 +321,7 @@ def read(data: bytes, name: str, kind: str, host: Host | None = None) -> Model:
             line = places.line(str(key))
             raise HostFault(f"{name}:{line}: no table {text_of(key)}: host, groups")
     model = Model(host or read_host(places, entry.get("host", {})), names_host="host" in entry)
-    model.host.checked()
+    checked(model.host)
     groups = flattened(places, entry.get("groups"))
     check_count(len(groups), f"{name}: {len(groups)} groups")
     for path, each in groups.items():
@@ -355,7 +357,8 @@ def data(model: Model) -> dict[str, Any]:
     """A model as the data of a host file."""
     host = model.host
     return {
-        "host": {"cpus": host.cpus, "period": f"{host.period}us", "slice": f"{host.slice_usec}us"},
+        "host": {"cpus": host.processors, "period": f"{host.period_us}us",
+                 "slice": f"{host.slice_us}us"},
         "groups": {path: group_data(group) for path, group in model.groups.items()},
     }
 

@@ -14,10 +14,11 @@ from dataclasses import dataclass, field
 from fractions import Fraction
 from typing import Any
 
+from arbiter import Host, Library
 from arbiter_host import demands, names, units
 from arbiter_host.demands import Measured
 from arbiter_host.faults import HostFault
-from arbiter_host.model import Group, Host, Model, check_count
+from arbiter_host.model import Group, Model, check_count, checked
 from arbiter_host.names import NOWHERE, shown
 from arbiter_host.sources.data import loads, table, tables, text
 
@@ -201,11 +202,6 @@ def pod_of(pod: dict[str, Any], notes: list[str]) -> Pod:
                 if not each.is_init or each.is_sidecar or each.is_running])
 
 
-def weight_of(amount: int, conversion: str) -> int:
-    """The weight that a request gets."""
-    return units.WEIGHT_OF_SHARES[conversion](units.shares_of_thousandths(amount))
-
-
 def folder_of(pod: Pod, driver: str) -> str:
     """The folder of a pod below /sys/fs/cgroup, by the driver of kubelet."""
     quality = {"Guaranteed": "", "Burstable": "burstable", "BestEffort": "besteffort"}[pod.quality]
@@ -274,10 +270,15 @@ def node_of(items: Sequence[dict[str, Any]], wish: Wish) -> dict[str, Any] | Non
 class Builder:
     """Makes the groups of pods."""
 
-    def __init__(self, model: Model, wish: Wish) -> None:
-        self.model, self.wish = model, wish
+    def __init__(self, model: Model, library: Library, wish: Wish) -> None:
+        self.model, self.library, self.wish = model, library, wish
         self.measured: dict[str, Measured] = {}
         self.taken: dict[str, set[str]] = {}
+
+    def weight(self, amount: int) -> int:
+        """The weight that a request gets."""
+        shares = units.shares_of_thousandths(amount)
+        return units.weight_of_shares(self.library, shares, self.wish.conversion)
 
     def name(self, parent: str, raw: str) -> str:
         """The path of a child that no other has."""
@@ -288,12 +289,11 @@ class Builder:
 
     def classes(self, pods: Sequence[Pod], allocatable: int | None) -> None:
         """Makes kubepods and its two classes."""
-        conversion = self.wish.conversion
-        weight = 100 if allocatable is None else weight_of(allocatable, conversion)
+        weight = 100 if allocatable is None else self.weight(allocatable)
         self.model.add(Group(TOP, weight=weight, place=self.folder("")))
         burstable = sum(pod.amounts.request or 0 for pod in pods if pod.quality == "Burstable")
         for quality, amount in (("burstable", burstable), ("besteffort", 0)):
-            self.model.add(Group(f"{TOP}/{quality}", weight=weight_of(amount, conversion),
+            self.model.add(Group(f"{TOP}/{quality}", weight=self.weight(amount),
                                  place=self.folder(quality)))
             self.taken.setdefault(TOP, set()).add(quality)
 
@@ -309,7 +309,7 @@ class Builder:
         path = self.name(CLASSES[pod.quality], f"{pod.namespace}:{pod.name}")
         folder = folder_of(pod, self.wish.driver)
         request = 0 if pod.quality == "BestEffort" else pod.amounts.request or 0
-        group = Group(path, weight_of(request, self.wish.conversion), title=pod.title, place=folder)
+        group = Group(path, self.weight(request), title=pod.title, place=folder)
         if pod.amounts.limit and pod.quality != "BestEffort":
             group.quota = units.quota_of_thousandths(pod.amounts.limit)
         self.model.add(group)
@@ -322,7 +322,7 @@ class Builder:
     def container(self, pod: Pod, parent: str, folder: str, container: Container) -> None:
         """Makes a container."""
         path, amounts = self.name(parent, container.name), container.amounts
-        group = Group(path, weight_of(amounts.request or 0, self.wish.conversion),
+        group = Group(path, self.weight(amounts.request or 0),
                       title=f"{pod.title}/{container.name}",
                       place=scope_of(folder, container, self.wish.driver))
         if amounts.limit:
@@ -342,7 +342,8 @@ def tell_limits(model: Model, wish: Wish, measured: dict[str, Measured]) -> None
             group.demand = Fraction(0)
 
 
-def read(files: Sequence[tuple[str, bytes]], host: Host | None, wish: Wish = Wish()) -> Model:
+def read(files: Sequence[tuple[str, bytes]], host: Host | None, library: Library,
+         wish: Wish = Wish()) -> Model:
     """The model of a node from the files of its pods and of the node itself."""
     items = [item for name, data in files for item in items_of(loads(data, name), name)]
     node = node_of(items, wish)
@@ -354,11 +355,11 @@ def read(files: Sequence[tuple[str, bytes]], host: Host | None, wish: Wish = Wis
         if not capacity:
             raise HostFault("number of CPUs unknown: pass the node's JSON or --cpus")
         host = Host(max(capacity // 1000, 1), units.DEFAULT_PERIOD, 1000)
-    model = Model(host.checked(), notes=notes, names_host=capacity is not None)
+    model = Model(checked(host), notes=notes, names_host=capacity is not None)
     pods = pods_on(items, name, notes)
     if node is None:
         notes.append("no node's JSON: kubepods has weight 100")
-    builder = Builder(model, wish)
+    builder = Builder(model, library, wish)
     builder.classes(pods, allocatable)
     for pod in pods:
         builder.pod(pod)

@@ -8,12 +8,13 @@ from __future__ import annotations
 import re
 from collections.abc import Callable
 from dataclasses import dataclass, replace
-from fractions import Fraction
 
+from arbiter import Host, Library
 from arbiter_host import names, units
 from arbiter_host.engine import Engine
 from arbiter_host.faults import HostFault
-from arbiter_host.model import MAX_DEPTH, MAX_GROUPS, Group, Host, Model
+from arbiter_host.model import MAX_DEPTH, MAX_GROUPS, Group, Model, checked
+from arbiter_host.units import Slices
 
 HEAD = re.compile(r"^#\s*(?:\./)?arbiter run((?:\s+--[a-z]+[ =][0-9]{1,9})+)\s*(?:<.*)?$")
 # Above a `mkdir` stands `# at FOLDER`, where the path does not say the group's place.
@@ -61,7 +62,7 @@ class Reader:
     """The state of a script between two lines."""
 
     model: Model
-    engine: Engine | None
+    engine: Engine
 
     def __post_init__(self) -> None:
         self.children: dict[str, int] = {".": 0}
@@ -107,7 +108,7 @@ class Reader:
         refuse(slices > 0 and self.children[path] > 0, 8)
         refuse(slices > units.MAX_DEMAND, 9)
         host = self.model.host
-        group.demand = units.thousandths_of_slices(slices, host.period, host.slice_usec)
+        group.demand = units.thousandths_of_slices(slices, host.period_us, host.slice_us)
 
     def file(self, path: str, file: str) -> None:
         """Refuses a file that a group does not have."""
@@ -130,9 +131,7 @@ class Reader:
         """Serves one period: what each group leaves of its limit is saved up."""
         if all(group.burst == 0 and group.saved == 0 for group in self.model.groups.values()):
             return
-        if self.engine is None:
-            raise HostFault("a script with bursts and periods needs an engine to be read")
-        rows = self.model.rows()
+        rows = self.model.rows(self.engine.library)
         amounts = self.engine.plan(self.model.host, rows).amounts
         for group, row, gets in zip(self.model.groups.values(), rows[1:], amounts[1:]):
             group.saved = 0 if row.limit is None else row.limit - gets
@@ -201,6 +200,12 @@ def write_burst(group: Group, words: list[str]) -> None:
     group.burst = burst
 
 
+def head_line(host: Host) -> str:
+    """The first line of a script for a host."""
+    return (f"# arbiter run --processors {host.processors} --period {host.period_us}"
+            f" --slice {host.slice_us}")
+
+
 def head_host(lines: list[bytes]) -> Host | None:
     """The host of the first head line among the comments at the beginning."""
     for line in lines:
@@ -211,8 +216,8 @@ def head_host(lines: list[bytes]) -> Host | None:
         if found:
             given = {name: int(value) for name, value in OPTION.findall(found.group(1))}
             host = Host()
-            return Host(given.get("processors", host.cpus), given.get("period", host.period),
-                        given.get("slice", host.slice_usec))
+            return Host(given.get("processors", host.processors),
+                        given.get("period", host.period_us), given.get("slice", host.slice_us))
     return None
 
 
@@ -233,19 +238,20 @@ def take_line(reader: Reader, line: bytes) -> None:
         reader.line(text)
 
 
-def take_tasks(model: Model, before: bytes, line: bytes) -> None:
+def take_tasks(reader: Reader, before: bytes, line: bytes) -> None:
     """Takes what the comment above a `demand` says of tasks, unless it is of another demand."""
     if not before.startswith(b"# tasks"):
         return
     found = TASKS.fullmatch(before.decode(errors="replace"))
     if not found or not line.lstrip(b" \t").startswith(b"demand"):
         return
-    host, path = model.host, re.split(r"[ \t]+", line.decode().strip(" \t"))[1]
-    group = model.groups[path]
+    path = re.split(r"[ \t]+", line.decode().strip(" \t"))[1]
+    group = reader.model.groups[path]
     asks = units.parse_cpu(found.group(2)) if found.group(2) else group.demand
     told = replace(group, tasks=int(found.group(1)), demand=asks)
-    if slices_of(told, host) == slices_of(group, host):
-        model.groups[path] = told
+    slices = Slices(reader.engine.library, reader.model.host)
+    if slices.demand(told.usable) == slices.demand(group.usable):
+        reader.model.groups[path] = told
 
 
 def take_place(model: Model, before: bytes, line: bytes) -> None:
@@ -257,28 +263,23 @@ def take_place(model: Model, before: bytes, line: bytes) -> None:
     group.place = names.place_of(before[5:].decode(errors="replace"))
 
 
-def slices_of(group: Group, host: Host) -> int:
-    """The slices that a group's tasks can use of its demand."""
-    return units.demand_slices(group.usable, host.period, host.slice_usec)
-
-
 def script_lines(data: bytes) -> list[bytes]:
     """The lines of a script without their newlines."""
     lines = data.split(b"\n")
     return lines[:-1] if lines[-1] == b"" else lines
 
 
-def read(data: bytes, name: str, host: Host | None = None, engine: Engine | None = None) -> Model:
+def read(data: bytes, name: str, engine: Engine, host: Host | None = None) -> Model:
     """The model at the end of a script. `host` stands in place of that of the head line."""
     lines = script_lines(data)
     told = head_host(lines)
     model = Model(host or told or Host(), names_host=told is not None)
-    model.host.checked()
+    checked(model.host)
     if told is None and host is None:
         model.notes.append("no head line '# arbiter run --processors N --period U --slice U': 1 CPU"
                            " and slices of 5 ms are assumed (--cpus, --slice)")
     elif told is not None and host is not None and host != told:
-        model.notes.append(f"the options differ from its head line: {told.head_line()[2:]}")
+        model.notes.append(f"the options differ from its head line: {head_line(told)[2:]}")
     if lines and all(line.endswith(b"\r") for line in lines):
         model.notes.append("its lines end with carriage returns, which are parts of words here:"
                            " write newlines alone")
@@ -286,7 +287,7 @@ def read(data: bytes, name: str, host: Host | None = None, engine: Engine | None
     for number, (before, line) in enumerate(zip([b"", *lines], lines), 1):
         try:
             take_line(reader, line)
-            take_tasks(model, before, line)
+            take_tasks(reader, before, line)
             take_place(model, before, line)
         except RefusedLine as refused:
             text = names.shown(names.cut(line[:400].decode(errors="replace"), 120))
@@ -321,9 +322,8 @@ def comments(group: Group) -> list[str]:
     return found
 
 
-def demanded(group: Group, host: Host) -> list[str]:
+def demanded(group: Group, slices: int) -> list[str]:
     """The lines of a group's demand, with its tasks in a comment."""
-    slices = slices_of(group, host)
     if slices == 0:
         return []
     asks = f", asks {units.cpu_text(group.demand)}" if group.usable < group.demand else ""
@@ -331,17 +331,12 @@ def demanded(group: Group, host: Host) -> list[str]:
     return [*tasks, f"demand {group.path} {slices}"]
 
 
-def write(model: Model) -> str:
+def write(model: Model, library: Library) -> str:
     """A script that makes a model, with its host in the head line and its notes as comments."""
-    host = model.host
-    lines = [host.head_line(), *(f"# ! {names.shown(note)}" for note in model.notes)]
+    slices = Slices(library, model.host)
+    lines = [head_line(model.host), *(f"# ! {names.shown(note)}" for note in model.notes)]
     for group in model.groups.values():
         lines += [*comments(group), *settings(group)]
     for group in model.groups.values():
-        lines += demanded(group, host)
+        lines += demanded(group, slices.demand(group.usable))
     return "".join(f"{line}\n" for line in lines)
-
-
-def slices_demand(slices: int, host: Host) -> Fraction:
-    """The demand that slices of a host are."""
-    return units.thousandths_of_slices(slices, host.period, host.slice_usec)

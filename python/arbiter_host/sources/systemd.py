@@ -8,10 +8,11 @@ import re
 from collections.abc import Iterator, Sequence
 from fractions import Fraction
 
+from arbiter import Host
 from arbiter_host import demands, names, units
 from arbiter_host.demands import Measured, Reading
 from arbiter_host.faults import HostFault
-from arbiter_host.model import MAX_DEPTH, Group, Host, Model
+from arbiter_host.model import MAX_DEPTH, Group, Model, checked
 from arbiter_host.names import shown
 
 NOT_SET = ("", "[not set]", "infinity", "18446744073709551615")
@@ -127,7 +128,7 @@ def read(files: Sequence[tuple[str, bytes]], host: Host, want: str = "busy",
     if not any("Id" in unit for unit in readings[0].values()):
         raise HostFault(f"{files[0][0]}: no units as `systemctl show '*.slice' '*.service'"
                         " '*.scope'` prints them")
-    model = Model(host.checked())
+    model = Model(checked(host))
     measured = {}
     for path in ordered(found):
         add(model, found[path], path)

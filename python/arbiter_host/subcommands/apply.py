@@ -45,7 +45,7 @@ def run_apply(options: argparse.Namespace) -> None:
     """Prints the steps from one source to another; with --yes makes them."""
     if len(options.source) > 2 or (len(options.source) == 1) != bool(options.set):
         raise UsageFault("apply takes BEFORE and AFTER, or BEFORE and --set")
-    by = engine.Late(options.library, options.program)
+    by = engine.find(options.library)
     models = [load.load(options, [path], by) for path in options.source]
     after = change.changed(models[-1], options.set)
     root, is_systemd = beneath.Root(options.root), options.by == "systemd"

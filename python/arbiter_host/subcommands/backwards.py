@@ -106,10 +106,9 @@ def chosen_groups(found: Plan, words: Sequence[str]) -> list[Planned]:
 
 def run_guarantee(options: argparse.Namespace) -> None:
     """Prints what groups are guaranteed."""
-    by = found_engine(options)
     found = loaded_plan(options, options.source)
     chosen = chosen_groups(found, options.group)
-    owed = backwards.guarantees(by, found, chosen)
+    owed = backwards.guarantees(found, chosen)
     if options.json:
         emit_json([{"group": group.path, "guaranteed_millicpu": float(found.thousandths(slices)),
                     "gets_millicpu": float(found.thousandths(group.gets)),

@@ -31,7 +31,7 @@ class Subcommand:
 
 def found_engine(options: argparse.Namespace) -> engine.Engine:
     """The engine that the options name, else the first that is found."""
-    return engine.find(options.library, options.program)
+    return engine.find(options.library)
 
 
 def source_name(paths: Sequence[str]) -> str:

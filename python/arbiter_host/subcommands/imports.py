@@ -6,15 +6,17 @@ import sys
 from collections.abc import Callable
 from dataclasses import replace
 
+from arbiter import Library
 from arbiter_host import change, engine, load
 from arbiter_host.model import Model
 from arbiter_host.output import write_file
 from arbiter_host.sources import hostfile, script
 from arbiter_host.subcommands.base import Subcommand, add_reading_options, source_name
 
-WRITERS: dict[str, Callable[[Model], str]] = {
-    "script": script.write, "toml": hostfile.write_toml, "yaml": hostfile.write_yaml,
-    "json": hostfile.write_json,
+WRITERS: dict[str, Callable[[Model, Library], str]] = {
+    "script": script.write, "toml": lambda model, _: hostfile.write_toml(model),
+    "yaml": lambda model, _: hostfile.write_yaml(model),
+    "json": lambda model, _: hostfile.write_json(model),
 }
 DESCRIPTION = "Writes what a source holds as a script or a host file."
 
@@ -22,12 +24,13 @@ DESCRIPTION = "Writes what a source holds as a script or a host file."
 def run(options: argparse.Namespace) -> None:
     """Writes what a source holds as a script or a host file."""
     options.kind = options.kind or (options.what if options.what != "any" else None)
-    model = load.load(options, options.source, engine.Late(options.library, options.program))
+    by = engine.find(options.library)
+    model = load.load(options, options.source, by)
     if options.set:
         model = change.changed(model, options.set)
     held = options.to != "json"
     load.warn(replace(model, notes=[]) if held else model, source_name(options.source))
-    write_file(options.output, WRITERS[options.to](model))
+    write_file(options.output, WRITERS[options.to](model, by.library))
     told = f"; warnings: {len(model.notes)} (lines '# !')" if model.notes and held else ""
     print(f"arbiterctl: groups: {len(model.groups)}{told}", file=sys.stderr)
 

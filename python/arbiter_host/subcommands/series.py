@@ -4,9 +4,9 @@ from __future__ import annotations
 import argparse
 from collections.abc import Callable, Sequence
 
+from arbiter import Host
 from arbiter_host import load, names, progress, samples, series, text
 from arbiter_host.faults import UsageFault
-from arbiter_host.model import Host
 from arbiter_host.output import write_file
 from arbiter_host.subcommands.base import (Subcommand, add_reading_options, found_engine,
                                            source_name)
@@ -69,7 +69,7 @@ def run(options: argparse.Namespace) -> None:
     model = load.load(options, [options.source], by)
     load.warn(model, source_name([options.source]))
     found = read_samples(options, model.host)
-    count = sample_periods(options, model.host.period)
+    count = sample_periods(options, model.host.period_us)
     chosen = [each for each in (options.groups or "").split(",") if each]
     with progress.bar("samples", len(found)) as tick:
         done = series.run(by, model, found, chosen, mapped(options.map), count, tick)

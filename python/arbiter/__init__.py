@@ -1,0 +1,20 @@
+"""The planner and the checker of arbiter, over the C library that share/arbiter.h describes.
+
+    import arbiter
+    library = arbiter.Library()
+    host = arbiter.Host(processors=1, period_us=100000, slice_us=5000)
+    rows = [arbiter.Row(), arbiter.Row(parent=0, demand=20),
+            arbiter.Row(parent=0, weight=200, demand=20)]
+    library.plan(host, rows)                                # [20, 7, 13]
+    library.least_weight(host, rows, 1, 14)                 # 416: row 1 gets 14 slices with it
+
+The package needs the standard library alone. The code that plans and checks is proved; this
+package is not.
+"""
+from arbiter.columns import Certificate, Columns, Host, Kind, Level, Reason, Row
+from arbiter.found import Unavailable
+from arbiter.library import Library, Refused
+
+__all__ = ["Certificate", "Columns", "Host", "Kind", "Level", "Library", "Reason", "Refused",
+           "Row", "Unavailable"]
+__version__ = "1.0.0"

@@ -1,0 +1,58 @@
+"""The calls of the C library with their types, as share/arbiter.h declares them."""
+from __future__ import annotations
+
+import ctypes
+import os
+from typing import Any
+
+from arbiter.found import TO_DO, Unavailable
+
+NO_PARENT, NO_LIMIT = 2**32 - 1, 2**64 - 1
+# Bytes for each name, and for the version, and the 0 behind it.
+NAME_ROOM = 17
+U8, U32, U64, SIZE = ctypes.c_uint8, ctypes.c_uint32, ctypes.c_uint64, ctypes.c_size_t
+POINTER = ctypes.c_void_p
+# The numbers of a host. A column is where it begins, and its length. A tree has four.
+HOST: list[Any] = [U64] * 3
+COLUMN: list[Any] = [POINTER, SIZE]
+TREE = HOST + COLUMN * 4
+# The words of each call, by its name without `arbiter_`.
+WORDS: dict[str, list[Any]] = {
+    "plan": TREE + COLUMN,
+    "certify": TREE + COLUMN * 5,
+    "check": TREE + COLUMN * 5 + [POINTER],
+    "check_text": COLUMN + [POINTER],
+    "limiting": TREE + COLUMN + [POINTER] * 2,
+    "reasons": TREE + COLUMN * 2,
+    "guarantee": TREE + [U32, POINTER],
+    "least_weight": TREE + [U32, U64, POINTER],
+    "least_limit": TREE + [U32, U64, POINTER],
+    "least_processors": TREE + [U32, U64, POINTER],
+    "refused_row": COLUMN * 4 + [POINTER],
+    "slices": HOST + [U64, U64, POINTER],
+    "demand": HOST + [U64, POINTER],
+    "weight_of_shares": [U64, U32],
+    "version": COLUMN,
+    "name": [U32, *COLUMN],
+}
+# What the calls answer that answer no number of a fault.
+ANSWERS: dict[str, Any] = {"weight_of_shares": U64}
+
+
+def load(path: str) -> ctypes.CDLL:
+    """The library at a path. A name without a slash is looked for where the system looks.
+
+    Unavailable where it cannot be loaded, or has not every call.
+    """
+    try:
+        calls = ctypes.CDLL(os.path.abspath(path) if "/" in path else path)
+    except (OSError, ValueError) as error:
+        raise Unavailable(f"the C library: {error}: {TO_DO}") from error
+    for name, words in WORDS.items():
+        try:
+            call = getattr(calls, f"arbiter_{name}")
+        except AttributeError as error:
+            raise Unavailable(f"{path}: no call arbiter_{name}: the C library is older than the"
+                              f" Python package arbiter: {TO_DO}") from error
+        call.argtypes, call.restype = words, ANSWERS.get(name, U32)
+    return calls

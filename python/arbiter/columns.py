@@ -1,0 +1,179 @@
+"""Hosts, rows and certificates, as Python has them and as columns of C."""
+from __future__ import annotations
+
+import enum
+from array import array
+from collections.abc import Sequence
+from dataclasses import dataclass
+from typing import Any, NamedTuple
+
+from arbiter import c
+
+# The types of a column's entries, as `array` names them: 8, 32 and 64 bits.
+U8, U32, U64 = "B", "I", "Q"
+TYPES: dict[str, Any] = {U8: c.U8, U32: c.U32, U64: c.U64}
+
+
+@dataclass(frozen=True)
+class Host:
+    """1 to 64 processors, a period of 1000 to 1000000 microseconds, and a slice of at least 1000
+    that divides it."""
+
+    processors: int = 1
+    period_us: int = 100000
+    slice_us: int = 5000
+
+    @property
+    def capacity(self) -> int:
+        """Slices of one period on all processors."""
+        return self.processors * (self.period_us // self.slice_us)
+
+
+class Row(NamedTuple):
+    """A group: the row of its parent (None: it is the root), its weight, 1 to 10000, and its limit
+    (None: it has none) and demand in slices of one period."""
+
+    parent: int | None = None
+    weight: int = 100
+    limit: int | None = None
+    demand: int = 0
+
+
+class Level(NamedTuple):
+    """The level num / den at the place of a child."""
+
+    num: int
+    den: int
+    place: int
+
+
+class Kind(enum.IntEnum):
+    """The kinds of reasons for a group's amount, by their numbers in C.
+
+    NOTHING_ASKED  it wants nothing
+    ALL_WANTED     it gets all that it wants
+    OWN_LIMIT      it gets its own limit
+    LIMIT_ABOVE    a group above it gets its limit, and no group between the two does
+    HOST_FULL      the host gives out its capacity, and no group from this one up gets its limit
+    """
+
+    NOTHING_ASKED = 0
+    ALL_WANTED = 1
+    OWN_LIMIT = 2
+    LIMIT_ABOVE = 3
+    HOST_FULL = 4
+
+
+class Reason(NamedTuple):
+    """The reason for a group's amount. LIMIT_ABOVE has the row of the group above, others None."""
+
+    kind: Kind
+    above: int | None = None
+
+
+def in_range(number: int, bits: int, what: str) -> int:
+    """A number of so many bits; OverflowError for any other, which ctypes would cut."""
+    if not 0 <= number < 1 << bits:
+        raise OverflowError(f"{what} {number} is no number of {bits} bits")
+    return number
+
+
+def column(kind: str, numbers: Sequence[int], what: str) -> array[int]:
+    """A column of numbers; OverflowError for one that its entries cannot hold."""
+    try:
+        return array(kind, numbers)
+    except OverflowError as error:
+        bits = 8 * array(kind).itemsize
+        raise OverflowError(f"{what}: a number that is none of {bits} bits") from error
+
+
+def zeros(kind: str, count: int) -> array[int]:
+    """A column of so many zeros."""
+    return array(kind, bytes(count * array(kind).itemsize))
+
+
+def given(*columns: array[int]) -> list[Any]:
+    """Each column as C takes it: its memory, which stays while it is held, and its length."""
+    found: list[Any] = []
+    for each in columns:
+        found += [(TYPES[each.typecode] * len(each)).from_buffer(each), len(each)]
+    return found
+
+
+def number_or_none(number: int | None, none: int, what: str) -> int:
+    """A number, or what stands for None in C; OverflowError for the number that does."""
+    if number is None:
+        return none
+    if number == none:
+        raise OverflowError(f"{what} {number} stands for none")
+    return number
+
+
+@dataclass(frozen=True)
+class Columns:
+    """The rows of a tree as columns of C. They are made once, for any number of calls."""
+
+    parents: array[int]
+    weights: array[int]
+    limits: array[int]
+    demands: array[int]
+
+    @classmethod
+    def of(cls, rows: Sequence[Row] | Columns) -> Columns:
+        """The columns of rows."""
+        if isinstance(rows, Columns):
+            return rows
+        parents = [number_or_none(row.parent, c.NO_PARENT, "parent") for row in rows]
+        limits = [number_or_none(row.limit, c.NO_LIMIT, "limit") for row in rows]
+        return cls(column(U32, parents, "parent"),
+                   column(U64, [row.weight for row in rows], "weight"),
+                   column(U64, limits, "limit"),
+                   column(U64, [row.demand for row in rows], "demand"))
+
+    def __len__(self) -> int:
+        return len(self.parents)
+
+    @property
+    def given(self) -> list[Any]:
+        """The columns as C takes them."""
+        return given(self.parents, self.weights, self.limits, self.demands)
+
+
+@dataclass(frozen=True)
+class Certificate:
+    """Evidence that amounts are a plan, one entry for each row.
+
+    A flag is 1 where the group's own limit is below what it wants. A level is nums / dens at
+    places, with 0 for each where the group shares nothing out.
+    """
+
+    flags: array[int]
+    nums: array[int]
+    dens: array[int]
+    places: array[int]
+
+    @classmethod
+    def zeros(cls, count: int) -> Certificate:
+        """Columns of so many entries, to be written."""
+        return cls(zeros(U8, count), zeros(U64, count), zeros(U64, count), zeros(U32, count))
+
+    @classmethod
+    def of(cls, flags: Sequence[bool], levels: Sequence[tuple[int, int, int] | None]
+           ) -> Certificate:
+        """The certificate of flags and levels; None is no level."""
+        found = [level or (0, 0, 0) for level in levels]
+        return cls(column(U8, [bool(flag) for flag in flags], "flag"),
+                   column(U64, [level[0] for level in found], "num"),
+                   column(U64, [level[1] for level in found], "den"),
+                   column(U32, [level[2] for level in found], "place"))
+
+    @property
+    def levels(self) -> list[Level | None]:
+        """The level of each row; None where there is none."""
+        return [Level(*each) if each[0] else None
+                for each in zip(self.nums, self.dens, self.places)]
+
+    @property
+    def columns(self) -> tuple[array[int], ...]:
+        """The columns in C's order."""
+        return (self.flags, self.nums, self.dens, self.places)

@@ -1,0 +1,54 @@
+"""Where the C library is, unless a path names it."""
+from __future__ import annotations
+
+import os
+import subprocess
+from collections.abc import Iterator
+from pathlib import Path
+
+SONAME = "libarbiter.so.1"
+PACKAGE = Path(__file__).resolve().parent
+CLONE = PACKAGE.parent.parent
+# For people, where there is no library that has each call.
+TO_DO = ("install the package libarbiter1, or run ./build --install DIR; ARBITER_LIBRARY or"
+         " --library names another")
+# Seconds in which a clone says whether its library is up to date.
+SECONDS = 300
+
+
+class Unavailable(Exception):
+    """The C library cannot be loaded, or is older than this package."""
+
+
+def of_clone() -> str | None:
+    """The library that this clone has built from its sources as they stand, if there is one."""
+    built, words = CLONE / "crates/bw_exports/out/libarbiter.so", CLONE / "scripts/current.sh"
+    if not (built.is_file() and words.is_file()):
+        return None
+    asked = ". scripts/current.sh && of_library && is_current"
+    try:
+        ended = subprocess.run(["bash", "-c", asked], cwd=CLONE, stdin=subprocess.DEVNULL,
+                               capture_output=True, timeout=SECONDS, check=False)
+    except (OSError, subprocess.TimeoutExpired):
+        return None
+    return str(built) if ended.returncode == 0 else None
+
+
+def installed() -> Iterator[Path]:
+    """Files that an installation of this package may have: beside it, and in the folder `lib`
+    above it."""
+    yield PACKAGE / SONAME
+    for folder in PACKAGE.parents:
+        if folder.name in ("lib", "lib64"):
+            yield folder / SONAME
+            return
+
+
+def path() -> str:
+    """The library that `$ARBITER_LIBRARY` names, else an installed one, else that of this clone,
+    else the name by which the system finds one."""
+    named = os.environ.get("ARBITER_LIBRARY")
+    if named:
+        return named
+    beside = next((each for each in installed() if each.is_file()), None)
+    return str(beside) if beside else of_clone() or SONAME

@@ -1,0 +1,205 @@
+"""The calls of the C library as methods."""
+from __future__ import annotations
+
+import ctypes
+import os
+from array import array
+from collections.abc import Sequence
+from typing import TypeAlias
+
+from arbiter import c, found
+from arbiter.columns import (U8, U32, U64, Certificate, Columns, Host, Kind, Reason, Row, column,
+                             given, in_range, zeros)
+
+# The rows of a tree, or their columns, which are made once for several calls.
+Rows: TypeAlias = Sequence[Row] | Columns
+CONVERSIONS = {"linear": 1, "logarithmic": 2}
+KINDS = tuple(Kind)
+# The numbers of faults that speak of a row of the tree.
+OF_ROWS = range(4, 11)
+
+
+class Refused(Exception):
+    """A refusal: its `number` and `name`, and the `row` that it speaks of, if it speaks of one."""
+
+    def __init__(self, number: int, name: str | None, row: int | None = None) -> None:
+        self.number, self.name, self.row = number, name, row
+        super().__init__(f"{number} {name}" + ("" if row is None else f" {row}"))
+
+
+def row_or_none(row: int) -> int | None:
+    """A row that a call wrote, None where it wrote none."""
+    return None if row == c.NO_PARENT else row
+
+
+class Library:
+    """The calls of one shared library: of a path, else of `found.path`.
+
+    The methods take a host and its rows as a call of C does, and answer as share/arbiter.h says.
+    They raise `Refused` for each number but 0, and OverflowError for a number that no word of the
+    call can hold. Several threads may call at once.
+
+    # Errors
+    Unavailable where the library cannot be loaded, or has not each call of this package.
+    """
+
+    def __init__(self, path: str | os.PathLike[str] | None = None) -> None:
+        self.path = os.fspath(path) if path else found.path()
+        self.calls = c.load(self.path)
+
+    def name(self, number: int) -> str | None:
+        """The name of a fault's number, None where the number is no fault's."""
+        name = ctypes.create_string_buffer(c.NAME_ROOM)
+        count = self.calls.arbiter_name(in_range(number, 32, "number"), name, len(name))
+        return name.value.decode() if count else None
+
+    def version(self) -> str:
+        """The version of the library."""
+        version = ctypes.create_string_buffer(c.NAME_ROOM)
+        self.calls.arbiter_version(version, len(version))
+        return version.value.decode()
+
+    def refused(self, number: int, row: int | None = None) -> Refused:
+        """The refusal of a number."""
+        return Refused(number, self.name(number), row)
+
+    def of_rows(self, number: int, columns: Columns) -> Refused:
+        """The refusal of a number, with the row of the tree that it speaks of."""
+        row = c.U32(c.NO_PARENT)
+        self.calls.arbiter_refused_row(*columns.given, ctypes.byref(row))
+        return self.refused(number, row_or_none(row.value) if number in OF_ROWS else None)
+
+    def host(self, host: Host) -> list[int]:
+        """The numbers of a host as C takes them."""
+        return [in_range(number, 64, "host")
+                for number in (host.processors, host.period_us, host.slice_us)]
+
+    def ask(self, name: str, host: Host, columns: Columns, *words: object) -> None:
+        """One call about a tree. `words` are those behind its columns."""
+        call = getattr(self.calls, f"arbiter_{name}")
+        number = call(*self.host(host), *columns.given, *words)
+        if number:
+            raise self.of_rows(number, columns)
+
+    def plan(self, host: Host, rows: Rows) -> list[int]:
+        """The amounts of the plan, in slices of one period, one for each row."""
+        columns = Columns.of(rows)
+        amounts = zeros(U64, len(columns))
+        self.ask("plan", host, columns, *given(amounts))
+        return amounts.tolist()
+
+    def certify(self, host: Host, rows: Rows) -> tuple[list[int], Certificate]:
+        """The amounts of the plan, and its certificate."""
+        columns = Columns.of(rows)
+        amounts, evidence = zeros(U64, len(columns)), Certificate.zeros(len(columns))
+        self.ask("certify", host, columns, *given(amounts, *evidence.columns))
+        return amounts.tolist(), evidence
+
+    def check(self, host: Host, rows: Rows, amounts: Sequence[int],
+              certificate: Certificate) -> None:
+        """Returns if the certificate shows that the amounts are the plan; else Refused, with the
+        row of a fault."""
+        columns, row = Columns.of(rows), c.U32(c.NO_PARENT)
+        claimed = given(column(U64, amounts, "amount"), *certificate.columns)
+        number = self.calls.arbiter_check(*self.host(host), *columns.given, *claimed,
+                                          ctypes.byref(row))
+        if number and number < OF_ROWS.stop:
+            raise self.of_rows(number, columns)
+        if number:
+            raise self.refused(number, row_or_none(row.value))
+
+    def check_text(self, text: bytes) -> None:
+        """Returns if a certified text holds together; else Refused, with the row of a fault."""
+        row = c.U32(c.NO_PARENT)
+        number = self.calls.arbiter_check_text(*given(array(U8, text)), ctypes.byref(row))
+        if number:
+            raise self.refused(number, row_or_none(row.value))
+
+    def limiting(self, host: Host, rows: Rows) -> tuple[list[int], int]:
+        """The rows of the groups that hold the total down, and the slices wanted outside them."""
+        columns = Columns.of(rows)
+        groups, count, rest = zeros(U32, len(columns)), c.U32(), c.U64()
+        self.ask("limiting", host, columns, *given(groups), ctypes.byref(count),
+                 ctypes.byref(rest))
+        return groups[:count.value].tolist(), rest.value
+
+    def reasons(self, host: Host, rows: Rows) -> list[Reason]:
+        """The reason for each group's amount, one for each row."""
+        columns = Columns.of(rows)
+        kinds, blamed = zeros(U8, len(columns)), zeros(U32, len(columns))
+        self.ask("reasons", host, columns, *given(kinds, blamed))
+        return [Reason(KINDS[kind], row if kind == Kind.LIMIT_ABOVE else None)
+                for kind, row in zip(kinds, blamed)]
+
+    def of_group(self, name: str, host: Host, rows: Rows, group: int, *amount: int) -> int:
+        """The number that a question about the group of a row is answered with."""
+        answer = c.U64()
+        words = [in_range(group, 32, "group"), *(in_range(each, 64, "amount") for each in amount)]
+        self.ask(name, host, Columns.of(rows), *words, ctypes.byref(answer))
+        return answer.value
+
+    def guarantee(self, host: Host, rows: Rows, group: int) -> int:
+        """The slices of one period that a group gets whatever the groups not under it ask for.
+
+        `group` is its row. Refused as a plan is, then 20 NotFound if it is no row.
+        """
+        return self.of_group("guarantee", host, rows, group)
+
+    def least_weight(self, host: Host, rows: Rows, group: int, amount: int) -> int | None:
+        """The least weight with which a group gets at least `amount` slices of one period.
+
+        It is 1 to 10000, or None if no weight does. All else is as the rows say.
+        Refused as a plan is, then 20 NotFound if the group is no row.
+        """
+        return self.of_group("least_weight", host, rows, group, amount) or None
+
+    def least_limit(self, host: Host, rows: Rows, group: int, amount: int) -> int | None:
+        """The least limit with which a group gets at least `amount` slices of one period.
+
+        It is in slices of one period, or None if no limit does, nor the group without one.
+        Refused as a plan is, then 20 NotFound if the group is no row. The root, row 0, is refused
+        by 10 RootLimited.
+        """
+        limit = self.of_group("least_limit", host, rows, group, amount)
+        return None if limit == c.NO_LIMIT else limit
+
+    def least_processors(self, host: Host, rows: Rows, group: int, amount: int) -> int | None:
+        """The least number of processors with which a group gets at least `amount` slices.
+
+        It is 1 to 64, of a host of this period and slice, or None if no number does. The
+        processors of `host` change nothing but the refusal 1. Refused as a plan is, then
+        20 NotFound if the group is no row.
+        """
+        return self.of_group("least_processors", host, rows, group, amount) or None
+
+    def slices(self, host: Host, usec: int, own_period_us: int = 100000) -> int:
+        """The whole slices of one period that a quota or burst allows, rounded down.
+
+        It is in microseconds of its own period.
+        """
+        slices = c.U64()
+        number = self.calls.arbiter_slices(*self.host(host), in_range(usec, 64, "quota or burst"),
+                                           in_range(own_period_us, 64, "period"),
+                                           ctypes.byref(slices))
+        if number:
+            raise self.refused(number)
+        return slices.value
+
+    def demand(self, host: Host, thousandths: int) -> int:
+        """The slices of one period that thousandths of a CPU take, rounded up."""
+        slices = c.U64()
+        number = self.calls.arbiter_demand(*self.host(host), in_range(thousandths, 64, "demand"),
+                                           ctypes.byref(slices))
+        if number:
+            raise self.refused(number)
+        return slices.value
+
+    def weight_of_shares(self, shares: int, conversion: str = "linear") -> int:
+        """The `cpu.weight` that container runtimes write for `cpu.shares`.
+
+        `linear` is that of runc before 1.3.2 and crun before 1.23, `logarithmic` that of later
+        ones.
+        """
+        weight = self.calls.arbiter_weight_of_shares(in_range(shares, 64, "shares"),
+                                                     CONVERSIONS[conversion])
+        return int(weight)

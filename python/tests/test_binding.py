@@ -1,0 +1,138 @@
+"""The binding of the C library: its types, its columns, and where the library is looked for."""
+import ctypes
+import os
+import re
+import subprocess
+import sys
+
+import arbiter
+import pytest
+from arbiter import c, found
+from arbiter.columns import Columns, column, given
+from places import PACKAGE
+
+HEADER = (PACKAGE.parent / "share/arbiter.h").read_text()
+DECLARED = re.findall(r"^(uint(?:32|64)_t) arbiter_(\w+)\(([^)]*)\)", HEADER, re.M)
+TYPES = {"uint32_t": c.U32, "uint64_t": c.U64, "size_t": c.SIZE}
+
+
+def type_of(word):
+    """The type of a parameter of the header."""
+    return c.POINTER if "*" in word else TYPES[word.split()[0]]
+
+
+@pytest.mark.parametrize("answer, name, words", DECLARED, ids=[row[1] for row in DECLARED])
+def test_words_of_the_header(answer, name, words):
+    """Each call has the words and the answer that the header declares."""
+    assert c.WORDS[name] == [type_of(word) for word in words.split(",")]
+    assert c.ANSWERS.get(name, c.U32) is TYPES[answer]
+
+
+def test_no_other_call():
+    assert set(c.WORDS) == {name for _, name, _ in DECLARED} and set(c.ANSWERS) <= set(c.WORDS)
+
+
+def test_constants_of_the_header():
+    """The greatest numbers stand for none, and a name has room."""
+    constants = dict(re.findall(r"^#define ARBITER_(\w+) (\w+)$", HEADER, re.M))
+    greatest = {"UINT32_MAX": 2**32 - 1, "UINT64_MAX": 2**64 - 1}
+    assert (c.NO_PARENT, c.NO_LIMIT) == (greatest[constants["NO_PARENT"]],
+                                         greatest[constants["NO_LIMIT"]])
+    assert str(c.NAME_ROOM) == constants["NAME_ROOM"]
+
+
+def test_columns_as_c_takes_them():
+    """A column is its memory, which it keeps, and its length. No column is a null pointer."""
+    columns = Columns.of([arbiter.Row(), arbiter.Row(0, 7, 3, 2), arbiter.Row(0, demand=9)])
+    words = columns.given
+    assert words[1::2] == [3] * 4 and Columns.of(columns) is columns
+    assert [type(each)._type_ for each in words[::2]] == [c.U32, c.U64, c.U64, c.U64]
+    assert [list(each) for each in words[::2]] == [
+        [c.NO_PARENT, 0, 0], [100, 7, 100], [c.NO_LIMIT, 3, c.NO_LIMIT], [0, 2, 9]]
+    assert Columns.of([]).given[1::2] == [0] * 4
+    assert all(ctypes.addressof(each) for each in Columns.of([]).given[::2])
+
+
+def test_columns_are_kept():
+    """What C is given stays as it was when nobody else holds it."""
+    words = given(column("Q", range(1000, 9000), "amount"))
+    others = [column("Q", range(8000), "amount") for _ in range(20)]
+    assert list(words[0]) == list(range(1000, 9000)) and len(others) == 20
+
+
+@pytest.mark.parametrize("row, words", [
+    (arbiter.Row(parent=2**32), "parent"), (arbiter.Row(parent=2**32 - 1), "stands for none"),
+    (arbiter.Row(limit=2**64 - 1), "stands for none"), (arbiter.Row(weight=-1), "64 bits"),
+    (arbiter.Row(demand=2**64), "demand"),
+])
+def test_numbers_that_no_column_holds(row, words):
+    with pytest.raises(OverflowError, match=words):
+        Columns.of([row])
+
+
+@pytest.mark.parametrize("numbers", [(2**64, 1, 1), (1, -1, 1), (1, 1, 2**70)])
+def test_numbers_that_no_word_holds(calls, numbers):
+    """They are refused, and not cut."""
+    with pytest.raises(OverflowError):
+        calls.plan(arbiter.Host(*numbers), [arbiter.Row()])
+    with pytest.raises(OverflowError):
+        calls.guarantee(arbiter.Host(), [arbiter.Row()], 2**32)
+
+
+def test_levels_of_a_certificate():
+    """A certificate of flags and levels has both again."""
+    levels = [(13, 100, 1), None, None]
+    made = arbiter.Certificate.of([True, False, False], levels)
+    assert (list(made.flags), made.levels) == ([1, 0, 0], levels)
+    assert [list(each) for each in made[1:]] == [[13, 0, 0], [100, 0, 0], [1, 0, 0]]
+
+
+def asked(folder, **environment):
+    """The path of the library that a package in a folder takes."""
+    words = [sys.executable, "-c", "from arbiter import found; print(found.path())"]
+    ended = subprocess.run(words, capture_output=True, text=True, check=True, cwd="/",
+                           env={"PYTHONPATH": str(folder), **environment})
+    return ended.stdout.strip()
+
+
+def test_order_of_places(folder):
+    """What is named comes first, then beside the package, then the folder `lib` above it."""
+    package = folder / "lib/python/arbiter"
+    package.mkdir(parents=True)
+    for path in (PACKAGE / "arbiter").glob("*.py"):
+        (package / path.name).write_text(path.read_text())
+    top = package.parent
+    assert asked(top) == found.SONAME
+    above, beside = folder / "lib" / found.SONAME, package / found.SONAME
+    above.touch()
+    assert asked(top) == str(above)
+    beside.touch()
+    assert asked(top) == str(beside)
+    assert asked(top, ARBITER_LIBRARY="named.so") == "named.so"
+    assert asked(top, ARBITER_LIBRARY="") == str(beside)
+
+
+def test_a_library_that_cannot_be_loaded(folder):
+    """A text is no library, and a library without the calls is older."""
+    (folder / "text.so").write_text("text")
+    with pytest.raises(arbiter.Unavailable, match="text.so: .*: install the package libarbiter1"):
+        arbiter.Library(folder / "text.so")
+    with pytest.raises(arbiter.Unavailable, match="no call arbiter_plan: .* older than"):
+        arbiter.Library("libc.so.6")
+
+
+def test_a_name_is_no_path(folder, monkeypatch):
+    """A name without a slash is not looked for in the folder at hand."""
+    (folder / "here.so").write_text("text")
+    monkeypatch.chdir(folder)
+    with pytest.raises(arbiter.Unavailable, match="here.so: cannot open shared object file"):
+        arbiter.Library("here.so")
+    with pytest.raises(arbiter.Unavailable, match=re.escape(os.path.join(folder, "here.so"))):
+        arbiter.Library("./here.so")
+
+
+def test_sizes():
+    """The types of `array` have the sizes of C's."""
+    from array import array
+    sizes = {kind: array(kind).itemsize for kind in "BIQ"}
+    assert sizes == {"B": 1, "I": ctypes.sizeof(c.U32), "Q": ctypes.sizeof(c.U64)}
