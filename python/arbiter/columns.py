@@ -109,14 +109,12 @@ def number_or_none(number: int | None, none: int, what: str) -> int:
     return number
 
 
-@dataclass(frozen=True)
 class Columns:
     """The rows of a tree as columns of C. They are made once, for any number of calls."""
 
-    parents: array[int]
-    weights: array[int]
-    limits: array[int]
-    demands: array[int]
+    def __init__(self, parents: array[int], weights: array[int], limits: array[int],
+                 demands: array[int]) -> None:
+        self.parents, self.weights, self.limits, self.demands = parents, weights, limits, demands
 
     @classmethod
     def of(cls, rows: Sequence[Row] | Columns) -> Columns:
@@ -139,8 +137,7 @@ class Columns:
         return given(self.parents, self.weights, self.limits, self.demands)
 
 
-@dataclass(frozen=True)
-class Certificate:
+class Certificate(NamedTuple):
     """Evidence that amounts are a plan, one entry for each row.
 
     A flag is 1 where the group's own limit is below what it wants. A level is nums / dens at
@@ -172,8 +169,3 @@ class Certificate:
         """The level of each row; None where there is none."""
         return [Level(*each) if each[0] else None
                 for each in zip(self.nums, self.dens, self.places)]
-
-    @property
-    def columns(self) -> tuple[array[int], ...]:
-        """The columns in C's order."""
-        return (self.flags, self.nums, self.dens, self.places)

@@ -2,13 +2,11 @@
 from __future__ import annotations
 
 import os
-import subprocess
 from collections.abc import Iterator
-from pathlib import Path
 
 SONAME = "libarbiter.so.1"
-PACKAGE = Path(__file__).resolve().parent
-CLONE = PACKAGE.parent.parent
+PACKAGE = os.path.dirname(os.path.realpath(__file__))
+CLONE = os.path.dirname(os.path.dirname(PACKAGE))
 # For people, where there is no library that has each call.
 TO_DO = ("install the package libarbiter1, or run ./build --install DIR; ARBITER_LIBRARY or"
          " --library names another")
@@ -22,25 +20,29 @@ class Unavailable(Exception):
 
 def of_clone() -> str | None:
     """The library that this clone has built from its sources as they stand, if there is one."""
-    built, words = CLONE / "crates/bw_exports/out/libarbiter.so", CLONE / "scripts/current.sh"
-    if not (built.is_file() and words.is_file()):
+    built = f"{CLONE}/crates/bw_exports/out/libarbiter.so"
+    if not (os.path.isfile(built) and os.path.isfile(f"{CLONE}/scripts/current.sh")):
         return None
+    # (no installation needs it)
+    import subprocess
     asked = ". scripts/current.sh && of_library && is_current"
     try:
         ended = subprocess.run(["bash", "-c", asked], cwd=CLONE, stdin=subprocess.DEVNULL,
                                capture_output=True, timeout=SECONDS, check=False)
     except (OSError, subprocess.TimeoutExpired):
         return None
-    return str(built) if ended.returncode == 0 else None
+    return built if ended.returncode == 0 else None
 
 
-def installed() -> Iterator[Path]:
+def installed() -> Iterator[str]:
     """Files that an installation of this package may have: beside it, and in the folder `lib`
     above it."""
-    yield PACKAGE / SONAME
-    for folder in PACKAGE.parents:
-        if folder.name in ("lib", "lib64"):
-            yield folder / SONAME
+    folder = PACKAGE
+    yield f"{folder}/{SONAME}"
+    while folder != "/":
+        folder = os.path.dirname(folder)
+        if os.path.basename(folder) in ("lib", "lib64"):
+            yield f"{folder}/{SONAME}"
             return
 
 
@@ -50,5 +52,5 @@ def path() -> str:
     named = os.environ.get("ARBITER_LIBRARY")
     if named:
         return named
-    beside = next((each for each in installed() if each.is_file()), None)
-    return str(beside) if beside else of_clone() or SONAME
+    beside = next((each for each in installed() if os.path.isfile(each)), None)
+    return beside or of_clone() or SONAME

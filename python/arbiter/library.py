@@ -92,7 +92,7 @@ class Library:
         """The amounts of the plan, and its certificate."""
         columns = Columns.of(rows)
         amounts, evidence = zeros(U64, len(columns)), Certificate.zeros(len(columns))
-        self.ask("certify", host, columns, *given(amounts, *evidence.columns))
+        self.ask("certify", host, columns, *given(amounts, *evidence))
         return amounts.tolist(), evidence
 
     def check(self, host: Host, rows: Rows, amounts: Sequence[int],
@@ -100,7 +100,7 @@ class Library:
         """Returns if the certificate shows that the amounts are the plan; else Refused, with the
         row of a fault."""
         columns, row = Columns.of(rows), c.U32(c.NO_PARENT)
-        claimed = given(column(U64, amounts, "amount"), *certificate.columns)
+        claimed = given(column(U64, amounts, "amount"), *certificate)
         number = self.calls.arbiter_check(*self.host(host), *columns.given, *claimed,
                                           ctypes.byref(row))
         if number and number < OF_ROWS.stop:

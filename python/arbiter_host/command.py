@@ -6,13 +6,15 @@ import os
 import signal
 import sys
 from collections.abc import Sequence
-from typing import Any, NoReturn
+from typing import TYPE_CHECKING, Any, NoReturn
 
 from arbiter_host import __version__, helps, names
 from arbiter_host.faults import HostFault, missing_module
 from arbiter_host.output import drop_output, tell
-from arbiter_host.subcommands import ALL
-from arbiter_host.subcommands.base import Subcommand
+from arbiter_host.subcommands import PLACES, find
+
+if TYPE_CHECKING:
+    from arbiter_host.subcommands.base import Subcommand
 
 
 class Parser(argparse.ArgumentParser):
@@ -37,16 +39,21 @@ def parser_of(each: Subcommand) -> Parser:
     return parser
 
 
-def parser_of_all() -> Parser:
-    """The parser of all subcommands."""
+def parser_of_all(words: Sequence[str]) -> Parser:
+    """The parser of all subcommands. Only the one that the words name is imported and has words."""
+    asked = next((word for word in words if not word.startswith("-")), "")
     parser = Parser(prog="arbiterctl", description=helps.ABOUT, epilog=helps.statuses(),
                     formatter_class=helps.Formatter, allow_abbrev=False)
     parser.add_argument("-V", "--version", action="version", version=f"arbiterctl {__version__}",
                         help="print the version, and end")
     commands = parser.add_subparsers(dest="command", required=True, metavar="COMMAND",
                                      parser_class=Parser)
-    for each in ALL:
-        below = commands.add_parser(each.name, help=each.summary, **help_of(each))
+    for name, place in PLACES.items():
+        if name != asked:
+            commands.add_parser(name, help=place.summary)
+            continue
+        each = find(name)
+        below = commands.add_parser(name, help=place.summary, **help_of(each))
         each.add_words(below)
         below.set_defaults(run=each.run)
     return parser
@@ -62,7 +69,8 @@ def die_by_interrupt() -> NoReturn:
 def run(words: Sequence[str] | None = None) -> int:
     """Runs the command and returns its exit status."""
     try:
-        options = parser_of_all().parse_args(words)
+        words = sys.argv[1:] if words is None else words
+        options = parser_of_all(words).parse_args(words)
         options.run(options)
     except HostFault as fault:
         tell(fault)

@@ -5,6 +5,7 @@ import math
 from collections.abc import Sequence
 from dataclasses import dataclass, field
 from fractions import Fraction
+from typing import NamedTuple
 
 from arbiter import Host
 from arbiter_host import names, units
@@ -16,8 +17,7 @@ WANTS = ("usage", "peak", "p95", "psi", "limit", "request", "busy")
 MOST_PRESSURE = Fraction(19, 20)
 
 
-@dataclass(frozen=True)
-class Reading:
+class Reading(NamedTuple):
     """Counters of one group at one time; None where the file or the key is missing.
 
     `usage` and `pressure` are microseconds, `pressure` the time in which some task waited.

@@ -7,15 +7,14 @@ from __future__ import annotations
 
 from collections.abc import Iterator, Sequence
 from contextlib import contextmanager
-from dataclasses import dataclass
+from typing import NamedTuple
 
 from arbiter import Certificate, Columns, Host, Library, Refused, Row, Unavailable
 from arbiter_host.faults import HostFault, NoLibrary
 from arbiter_host.model import planned
 
 
-@dataclass(frozen=True)
-class Answer:
+class Answer(NamedTuple):
     """An accepted plan: slices for each row, and the rows whose limits hold the total down."""
 
     columns: Columns
@@ -25,8 +24,7 @@ class Answer:
     rest: int
 
 
-@dataclass(frozen=True)
-class Certified:
+class Certified(NamedTuple):
     """A plan with its certificate, which no check has read."""
 
     amounts: Sequence[int]

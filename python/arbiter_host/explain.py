@@ -2,8 +2,7 @@
 from __future__ import annotations
 
 from collections.abc import Callable, Iterator, Sequence
-from dataclasses import dataclass
-from typing import Any
+from typing import Any, NamedTuple
 
 from arbiter_host import text
 from arbiter_host.model import MAX_DEPTH
@@ -32,8 +31,7 @@ LEAST_NAME = 16
 THROTTLED_NOTE = "* throttled, not by its limit: it gets less than its limit"
 
 
-@dataclass(frozen=True)
-class View:
+class View(NamedTuple):
     """What is shown: filters, order, depth, unit, width, and whether idle groups are."""
 
     only: tuple[str, ...] = ()
@@ -50,8 +48,7 @@ class View:
         return bool(self.only)
 
 
-@dataclass(frozen=True)
-class Line:
+class Line(NamedTuple):
     """One line of the table: its cells, and the style of its reason."""
 
     cells: tuple[str, str, str]

@@ -1,4 +1,7 @@
-"""Loads a model from what the words of a command name: any source, with the options of hosts."""
+"""Loads a model from what the words of a command name: any source, with the options of hosts.
+
+The reader of a source is imported when one is read.
+"""
 from __future__ import annotations
 
 import argparse
@@ -16,8 +19,6 @@ from arbiter_host import demands, names, units
 from arbiter_host.engine import Engine
 from arbiter_host.faults import HostFault, RefusedLines, UsageFault, strerror
 from arbiter_host.model import MAX_DEPTH, Model, checked
-from arbiter_host.sources import (cgroup2, cgroups, containers, hostfile, kubernetes, script,
-                                  systemd)
 
 KINDS = ("script", "toml", "yaml", "json", "cgroup", "kubernetes", "systemd", "docker")
 MAX_FILE = 512 << 20
@@ -195,6 +196,7 @@ def machine(options: argparse.Namespace) -> Host:
 
 def read_cgroup(options: argparse.Namespace, path: str) -> Model:
     """A tree of cgroups."""
+    from arbiter_host.sources import cgroup2, cgroups
     wish = cgroups.Wish(interval_of(options.interval), options.samples, tuple(options.later),
                         options.depth_read, options.own, options.want or "usage")
     if wish.want == "request":
@@ -204,6 +206,7 @@ def read_cgroup(options: argparse.Namespace, path: str) -> Model:
 
 def read_script(options: argparse.Namespace, name: str, data: bytes, engine: Engine) -> Model:
     """A script. Its head line is the host, with the options in its place."""
+    from arbiter_host.sources import script
     told = script.head_host(script.script_lines(data))
     host = chosen_host(options, told or Host()) if is_chosen(options) else None
     return script.read(data, name, engine, host)
@@ -212,6 +215,7 @@ def read_script(options: argparse.Namespace, name: str, data: bytes, engine: Eng
 def read_pods(options: argparse.Namespace, files: Sequence[tuple[str, bytes]],
               library: Library) -> Model:
     """Pods and a node."""
+    from arbiter_host.sources import kubernetes
     wish = kubernetes.Wish(options.node, options.conversion, options.driver,
                            options.want or "request")
     if options.cpus is None:
@@ -221,6 +225,29 @@ def read_pods(options: argparse.Namespace, files: Sequence[tuple[str, bytes]],
     return kubernetes.read(files, machine(options), library, wish)
 
 
+def read_containers(options: argparse.Namespace, files: Sequence[tuple[str, bytes]],
+                    library: Library) -> Model:
+    """Containers."""
+    from arbiter_host.sources import containers
+    wish = containers.Wish(options.conversion, options.driver, options.want or "limit")
+    return containers.read(files, machine(options), library, wish)
+
+
+def read_units(options: argparse.Namespace, files: Sequence[tuple[str, bytes]]) -> Model:
+    """Units of systemd."""
+    from arbiter_host.sources import systemd
+    later = [(each, file_bytes(each)) for each in options.later]
+    want = options.want or ("usage" if later else "busy")
+    return systemd.read([*files, *later], machine(options), want, interval_of(options.interval))
+
+
+def read_host_file(options: argparse.Namespace, kind: str, name: str, data: bytes) -> Model:
+    """A host file, with the options in place of its host."""
+    from arbiter_host.sources import hostfile
+    model = hostfile.read(data, name, kind)
+    return model.with_host(chosen_host(options, model.host)) if is_chosen(options) else model
+
+
 def read_files(options: argparse.Namespace, kind: str, files: Sequence[tuple[str, bytes]],
                engine: Engine) -> Model:
     """Files of one kind."""
@@ -228,19 +255,14 @@ def read_files(options: argparse.Namespace, kind: str, files: Sequence[tuple[str
     if kind == "kubernetes":
         return read_pods(options, files, engine.library)
     if kind == "docker":
-        wish = containers.Wish(options.conversion, options.driver, options.want or "limit")
-        return containers.read(files, machine(options), engine.library, wish)
+        return read_containers(options, files, engine.library)
     if kind == "systemd":
-        later = [(each, file_bytes(each)) for each in options.later]
-        want = options.want or ("usage" if later else "busy")
-        return systemd.read([*files, *later], machine(options), want,
-                            interval_of(options.interval))
+        return read_units(options, files)
     if len(files) > 1:
         raise UsageFault(f"{len(files)} files: a {kind} is one")
     if kind == "script":
         return read_script(options, name, data, engine)
-    model = hostfile.read(data, name, kind)
-    return model.with_host(chosen_host(options, model.host)) if is_chosen(options) else model
+    return read_host_file(options, kind, name, data)
 
 
 def load(options: argparse.Namespace, paths: Sequence[str], engine: Engine) -> Model:

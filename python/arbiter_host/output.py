@@ -1,7 +1,6 @@
 """What the command prints and writes: text, styled lines, JSON, files."""
 from __future__ import annotations
 
-import json
 import os
 import sys
 from collections.abc import Sequence
@@ -42,6 +41,7 @@ def emit_styled(lines: Sequence[tuple[str, str]]) -> None:
 
 def emit_json(data: Any) -> None:
     """Writes data as JSON. Letters that a terminal could take as a command are escaped."""
+    import json
     dumped = json.dumps(data, indent=2, ensure_ascii=False)
     emit("".join(f"\\u{ord(each):04x}" if names.is_raw(each) and each != "\n" and
                  ord(each) < 0x10000 else each for each in dumped) + "\n")

@@ -7,6 +7,7 @@ from __future__ import annotations
 import functools
 from dataclasses import dataclass, field
 from fractions import Fraction
+from typing import NamedTuple
 
 import arbiter
 from arbiter import Columns, Kind, Row
@@ -58,8 +59,7 @@ class Planned:
         return self.group is not None and self.group.usable < self.group.demand
 
 
-@dataclass(frozen=True)
-class Reason:
+class Reason(NamedTuple):
     """Why a group gets what it gets: a short name, words, and the group whose limit is the cause.
 
     `weight` of `active_weight` is its part among the siblings that can use a slice; both are 0

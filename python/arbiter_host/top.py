@@ -5,7 +5,6 @@ import os
 import sys
 import time
 from collections.abc import Callable
-from dataclasses import replace
 
 from arbiter_host import explain, names
 from arbiter_host.explain import View
@@ -29,10 +28,10 @@ def folded(plan: Plan, view: View, rows: int) -> Lines:
     for depth in range(deepest - 1, 0, -1):
         if len(lines) <= rows or view.is_flat:
             return lines
-        lines = explain.table(plan, replace(view, depth=depth))
+        lines = explain.table(plan, view._replace(depth=depth))
     if len(lines) <= rows or view.sort or view.is_flat:
         return lines
-    return explain.table(plan, replace(view, depth=1, sort="lack"))
+    return explain.table(plan, view._replace(depth=1, sort="lack"))
 
 
 def screen(plan: Plan, view: View, rows: int) -> Lines:

@@ -6,7 +6,7 @@ from collections.abc import Sequence
 from dataclasses import dataclass
 
 from arbiter_host import command, explain
-from arbiter_host.subcommands import ALL
+from arbiter_host.subcommands import every
 from arbiter_host.subcommands.base import Subcommand
 
 # Names of values that are files or folders.
@@ -80,4 +80,4 @@ def options(each: Subcommand) -> list[Word]:
 
 def subcommands() -> Sequence[Subcommand]:
     """All subcommands in order."""
-    return ALL
+    return every()

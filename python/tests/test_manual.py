@@ -11,12 +11,12 @@ import time
 import pytest
 import trees
 from arbiter_host import helps, load
-from arbiter_host.subcommands import ALL
+from arbiter_host.subcommands import PLACES, every
 from arbiter_pages import words
 from arbiter_pages.__main__ import SHARE, files
 from places import PACKAGE
 
-NAMES = [each.name for each in ALL]
+NAMES = list(PLACES)
 BASH = SHARE / "completions/arbiterctl.bash"
 PROGRAM_BASH = SHARE / "completions/arbiter.bash"
 
@@ -81,7 +81,7 @@ def test_main_page(ctl):
     """The page of the command has all subcommands, kinds of sources and statuses."""
     page = rendered("arbiterctl.1")
     said = ctl.run("--help")[0]
-    for each in ALL:
+    for each in every():
         assert each.name in said and each.summary.replace("`", "'")[1:] in page
     assert tuple(helps.KINDS) == load.KINDS
     for kind in helps.KINDS:
@@ -134,7 +134,7 @@ def example_command(command, folder):
     return command
 
 
-@pytest.mark.parametrize("command", [command for each in ALL if each.name != "undo"
+@pytest.mark.parametrize("command", [command for each in every() if each.name != "undo"
                                      for _, command in each.examples])
 def test_examples_run(ctl, examples, command):
     """Each example of the help and of the man pages ends with status 0 and says something."""
@@ -148,8 +148,8 @@ def test_examples_run(ctl, examples, command):
 def test_example_of_undo(ctl, examples):
     """The example of `undo` takes back what that of `apply` did."""
     weight = examples / "cgroup/web.service/cpu.weight"
-    (undo,) = [command for each in ALL if each.name == "undo" for _, command in each.examples]
-    apply = next(command for each in ALL if each.name == "apply"
+    (undo,) = [command for each in every() if each.name == "undo" for _, command in each.examples]
+    apply = next(command for each in every() if each.name == "apply"
                  for _, command in each.examples if "--yes" in command)
     for command, holds in ((apply, "200"), (undo, "100")):
         systemctl = examples / "bin/systemctl"
@@ -176,7 +176,7 @@ def completed(*typed):
 def test_bash_offers_the_words():
     """Subcommands, options and values; nothing where a file or a redirection stands."""
     assert completed("") == {*NAMES, "-h", "--help", "-V", "--version"}
-    for each in ALL:
+    for each in every():
         listed = {name for word in words.options(each) for name in word.names}
         assert completed(each.name, "x", "-") == listed
         assert completed(each.name, "x", "") == set()
@@ -236,7 +236,7 @@ def test_zsh_reads_it():
     ended = subprocess.run(["zsh", "-f", "-n", path], capture_output=True, check=False, timeout=60)
     assert (ended.returncode, ended.stderr) == (0, b"")
     text = path.read_text()
-    for each in ALL:
+    for each in every():
         part = re.search(rf"^ {{8}}{each.name}\)(.*?);;", text, re.M | re.S).group(1)
         for word in words.options(each):
             assert all(name in part for name in word.names)

@@ -22,7 +22,7 @@ KINDS = ("Q", "B", "Q", "Q", "I")
 
 def packed(found: Certified) -> str:
     """A certificate as text: its columns as little-endian bytes, compressed, in base 64."""
-    columns = (array("Q", found.amounts), *found.certificate.columns)
+    columns = (array("Q", found.amounts), *found.certificate)
     raw = b"".join(each.tobytes() for each in columns)
     return base64.b64encode(zlib.compress(raw, 1)).decode()
 

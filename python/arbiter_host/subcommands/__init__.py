@@ -1,10 +1,48 @@
-"""The subcommands of arbiterctl, a module each. A new one is a module and a line here."""
-from arbiter_host.subcommands import (apply, backwards, compare, explain, fleet, imports, picture,
-                                      report, series, top)
-from arbiter_host.subcommands.base import Subcommand
+"""The subcommands of arbiterctl, each in a module that is imported when it is asked for.
 
-ALL: tuple[Subcommand, ...] = (
-    explain.EXPLAIN, compare.COMPARE, backwards.NEED, backwards.GUARANTEE, picture.PICTURE,
-    report.REPORT, series.SERIES, top.TOP, fleet.FLEET, apply.APPLY, apply.UNDO, imports.IMPORT,
-    imports.FROM_CGROUP,
-)
+A new one is a module and a line here.
+"""
+from __future__ import annotations
+
+import importlib
+from typing import TYPE_CHECKING, NamedTuple
+
+if TYPE_CHECKING:
+    from arbiter_host.subcommands.base import Subcommand
+
+
+class Place(NamedTuple):
+    """Where a subcommand is: its module here, its name there, and one line for the list of all."""
+
+    module: str
+    name: str
+    summary: str
+
+
+PLACES = {
+    "explain": Place("explain", "EXPLAIN", "why each group gets what it gets"),
+    "compare": Place("compare", "COMPARE", "what changes from one plan to another"),
+    "need": Place("backwards", "NEED", "the least setting with which a group gets an amount"),
+    "guarantee": Place("backwards", "GUARANTEE", "what groups get whatever the others ask for"),
+    "picture": Place("picture", "PICTURE", "draw a plan as SVG"),
+    "report": Place("report", "REPORT", "write a plan as one HTML page"),
+    "series": Place("series", "SERIES", "plan many samples of demands"),
+    "top": Place("top", "TOP", "live view over a host's cgroups and their plan"),
+    "fleet": Place("fleet", "FLEET", "ask many hosts at once, on all processors"),
+    "apply": Place("apply", "APPLY", "set weights and limits on a host; without --yes only print"),
+    "undo": Place("apply", "UNDO", "bring the settings before `apply` back"),
+    "import": Place("imports", "IMPORT", "write what a source holds as a script or a host file"),
+    "from-cgroup": Place("imports", "FROM_CGROUP", "the same as import cgroup"),
+}
+
+
+def find(name: str) -> Subcommand:
+    """The subcommand of a name."""
+    place = PLACES[name]
+    found: Subcommand = getattr(importlib.import_module(f"{__name__}.{place.module}"), place.name)
+    return found
+
+
+def every() -> tuple[Subcommand, ...]:
+    """All subcommands in order."""
+    return tuple(map(find, PLACES))

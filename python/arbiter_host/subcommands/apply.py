@@ -121,11 +121,11 @@ APPLY_EXAMPLES = (
      " --undo undo.json"),
 )
 UNDO_EXAMPLES = (("the old settings again", "arbiterctl undo undo.json --yes"),)
-APPLY = Subcommand("apply", "set weights and limits on a host; without --yes only print",
+APPLY = Subcommand("apply",
                    "Prints how the settings of BEFORE become those of AFTER on a host with cgroup"
                    " v2, each with what is there before. With --yes it is done, after an undo file"
                    " was written, and read back.", add_apply_words, run_apply, DETAILS,
                    APPLY_EXAMPLES)
-UNDO = Subcommand("undo", "bring the settings before `apply` back",
+UNDO = Subcommand("undo",
                   "Prints how the settings of an undo file come back. With --yes it is done and"
                   " read back.", add_undo_words, run_undo, UNDO_DETAILS, UNDO_EXAMPLES)

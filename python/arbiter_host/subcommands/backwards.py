@@ -147,7 +147,7 @@ NEED_EXAMPLES = (
     ("what web needs for one and a half CPUs", "arbiterctl need web 1.5cpu host.toml"),
     ("the same in slices, as JSON", "arbiterctl need web 1.5cpu host.toml --json"),
 )
-NEED = Subcommand("need", "the least setting with which a group gets an amount",
+NEED = Subcommand("need",
                   "Says with which weight, limit or number of CPUs GROUP gets AMOUNT, the least of"
                   " each, and who pays.", add_need, run_need, NEED_DETAILS, NEED_EXAMPLES)
 GUARANTEE_DETAILS = (
@@ -160,6 +160,6 @@ GUARANTEE_EXAMPLES = (
     ("all groups of a host file", "arbiterctl guarantee host.toml"),
     ("the groups of one pod", "arbiterctl guarantee pods.json node.json --group '*/prod:web-*'"),
 )
-GUARANTEE = Subcommand("guarantee", "what groups get whatever the others ask for",
+GUARANTEE = Subcommand("guarantee",
                        "Says what each group gets at least, whatever the others ask for.",
                        add_guarantee, run_guarantee, GUARANTEE_DETAILS, GUARANTEE_EXAMPLES)

@@ -3,22 +3,20 @@ from __future__ import annotations
 
 import argparse
 from collections.abc import Callable, Sequence
-from dataclasses import dataclass
+from typing import NamedTuple
 
 from arbiter_host import engine, explain, load, names, text
 from arbiter_host.explain import View
 from arbiter_host.faults import UsageFault
 from arbiter_host.model import MAX_DEPTH
 from arbiter_host.plan import Plan, plan
+from arbiter_host.subcommands import PLACES
 
 
-@dataclass(frozen=True)
-class Subcommand:
+class Subcommand(NamedTuple):
     """One subcommand: its name, its help, its words, and what it does with them."""
 
     name: str
-    # One line of the list of subcommands.
-    summary: str
     # What it does, in sentences.
     description: str
     add_words: Callable[[argparse.ArgumentParser], None]
@@ -27,6 +25,11 @@ class Subcommand:
     details: tuple[str, ...] = ()
     # What an example does, and its command.
     examples: tuple[tuple[str, str], ...] = ()
+
+    @property
+    def summary(self) -> str:
+        """One line for the list of all."""
+        return PLACES[self.name].summary
 
 
 def found_engine(options: argparse.Namespace) -> engine.Engine:

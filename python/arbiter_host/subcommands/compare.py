@@ -56,7 +56,7 @@ EXAMPLES = (
      "arbiterctl compare host.toml --set web.weight=400 --cpus 32"),
     ("two sources, as JSON", "arbiterctl compare before.script after.script --json"),
 )
-COMPARE = Subcommand("compare", "what changes from one plan to another",
+COMPARE = Subcommand("compare",
                      "Says what changes from BEFORE to AFTER. Without AFTER it is BEFORE with the"
                      " changes of --set and the host of --cpus, --period and --slice.",
                      add_words, run, DETAILS, EXAMPLES)

@@ -42,5 +42,5 @@ EXAMPLES = (
     ("a Kubernetes node whose containers are all busy",
      "arbiterctl explain pods.json node.json --want busy"),
 )
-EXPLAIN = Subcommand("explain", "why each group gets what it gets",
+EXPLAIN = Subcommand("explain",
                      "Says why each group gets what it gets.", add_words, run, DETAILS, EXAMPLES)

@@ -248,7 +248,7 @@ EXAMPLES = (
      "arbiterctl fleet series hosts demands --sample 30m --db day.sqlite"),
     ("where a pod would go", "arbiterctl fleet place pod.toml --hosts hosts --by most-left"),
 )
-FLEET = Subcommand("fleet", "ask many hosts at once, on all processors",
+FLEET = Subcommand("fleet",
                    "Plans many hosts at once and reports what the fleet serves and lacks, what a"
                    " change does to it, how it fares over time, or where a pod would go.",
                    add_words, run, DETAILS, EXAMPLES)

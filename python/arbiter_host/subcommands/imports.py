@@ -79,7 +79,6 @@ CGROUP_EXAMPLES = (
     ("this machine, by what it used in ten seconds",
      "arbiterctl from-cgroup /sys/fs/cgroup --interval 10s -o host.script"),
 )
-IMPORT = Subcommand("import", "write what a source holds as a script or a host file", DESCRIPTION,
-                    add_import_words, run, DETAILS, IMPORT_EXAMPLES)
-FROM_CGROUP = Subcommand("from-cgroup", "the same as import cgroup", DESCRIPTION,
-                         add_from_cgroup_words, run, DETAILS, CGROUP_EXAMPLES)
+IMPORT = Subcommand("import", DESCRIPTION, add_import_words, run, DETAILS, IMPORT_EXAMPLES)
+FROM_CGROUP = Subcommand("from-cgroup", DESCRIPTION, add_from_cgroup_words, run, DETAILS,
+                         CGROUP_EXAMPLES)

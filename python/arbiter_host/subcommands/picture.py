@@ -37,5 +37,4 @@ EXAMPLES = (
     ("the two top levels alone, in thousandths of a CPU",
      "arbiterctl picture host.toml --depth 1 --unit m -o top.svg"),
 )
-PICTURE = Subcommand("picture", "draw a plan as SVG", "Draws a plan as SVG.", add_words, run,
-                     DETAILS, EXAMPLES)
+PICTURE = Subcommand("picture", "Draws a plan as SVG.", add_words, run, DETAILS, EXAMPLES)

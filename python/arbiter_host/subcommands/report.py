@@ -37,6 +37,6 @@ EXAMPLES = (
     ("a page of a host file", "arbiterctl report host.toml -o host.html"),
     ("the same with a change", "arbiterctl report host.toml --set web.max=4cpu -o change.html"),
 )
-REPORT = Subcommand("report", "write a plan as one HTML page",
+REPORT = Subcommand("report",
                     "Writes a plan as one HTML page that asks for nothing from the network.",
                     add_words, run, DETAILS, EXAMPLES)

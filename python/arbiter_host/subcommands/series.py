@@ -124,7 +124,7 @@ EXAMPLES = (
     ("what each group gets, for a collector of metrics",
      "arbiterctl series host.toml day.csv --sample 30m --to openmetrics -o plan.prom"),
 )
-SERIES = Subcommand("series", "plan many samples of demands",
+SERIES = Subcommand("series",
                     "Plans the groups of SOURCE for each sample of DEMANDS: CSV with groups in the"
                     " first row and a time in the first column, or lines GROUP NUMBER GROUP"
                     " NUMBER ..", add_words, run, DETAILS, EXAMPLES)

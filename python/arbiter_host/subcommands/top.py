@@ -43,6 +43,5 @@ EXAMPLES = (
     ("one picture of a part of the tree",
      "arbiterctl top /sys/fs/cgroup/system.slice --count 1"),
 )
-TOP = Subcommand("top", "live view over a host's cgroups and their plan",
-                 "Shows a host's cgroups and their plan again and again, until Ctrl-C.",
+TOP = Subcommand("top", "Shows a host's cgroups and their plan again and again, until Ctrl-C.",
                  add_words, run, (), EXAMPLES)
