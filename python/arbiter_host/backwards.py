@@ -168,7 +168,7 @@ def as_data(found: Need) -> dict[str, Any]:
     before = found.before
 
     def amount(slices: int | None) -> float | None:
-        return None if slices is None else float(before.thousandths(slices))
+        return None if slices is None else before.millicpu(slices)
 
     def value(knob: Knob, number: int | None) -> float | None:
         return amount(number) if knob.name == "limit" else number

@@ -256,7 +256,7 @@ def amounts(plan: Plan, slices: int | None) -> dict[str, Any] | None:
     """Slices in all units."""
     if slices is None:
         return None
-    return {"slices": slices, "millicpu": float(plan.thousandths(slices)),
+    return {"slices": slices, "millicpu": plan.millicpu(slices),
             "usec": slices * plan.model.host.slice_us}
 
 

@@ -105,6 +105,11 @@ class Plan:
         host = self.model.host
         return units.thousandths_of_slices(slices, host.period_us, host.slice_us)
 
+    def millicpu(self, slices: int) -> float:
+        """Thousandths of a CPU that slices of one period are, rounded to the nearest float."""
+        host = self.model.host
+        return slices * host.slice_us * 1000 / host.period_us
+
     def by_path(self) -> dict[str, Planned]:
         """The groups by path."""
         return {group.path: group for group in self.groups}

@@ -5,6 +5,7 @@ import os
 import sys
 from fractions import Fraction
 
+from arbiter import Host
 from arbiter_host import units
 from arbiter_host.plan import Plan
 
@@ -18,19 +19,20 @@ def amount(plan: Plan, slices: int | None, unit: str) -> str:
     """Slices in a unit; `-` for none."""
     if slices is None:
         return "-"
-    thousandths = plan.thousandths(slices)
+    host = plan.model.host
     if unit == "slices":
         return str(slices)
     if unit == "us":
-        return str(slices * plan.model.host.slice_us)
-    scale = {"cpu": 1000, "m": 1, "%": 10}[unit]
-    return f"{float(thousandths / scale):.{places(plan, scale)}f}"
+        return str(slices * host.slice_us)
+    scale = {"cpu": 1, "m": 1000, "%": 100}[unit]
+    # (division of whole numbers rounds to the nearest float)
+    return f"{slices * host.slice_us * scale / host.period_us:.{places(host, scale)}f}"
 
 
-def places(plan: Plan, scale: int) -> int:
+def places(host: Host, scale: int) -> int:
     """The number of decimals, 0 to 3, with which one slice is exact, if there is one."""
-    one = plan.thousandths(1) / scale
-    return next((count for count in range(3) if (one * 10**count).denominator == 1), 3)
+    one = host.slice_us * scale
+    return next((count for count in range(3) if one * 10**count % host.period_us == 0), 3)
 
 
 def bar(part: int, whole: int, cells: int) -> str:

@@ -80,33 +80,46 @@ def parse_time(text: str) -> int:
 
 
 class Slices:
-    """Slices of one period of a host, by the library's calls.
+    """Slices of one period of a host, by the library's calls, each of which is made once.
 
     A conversion depends on no number of CPUs, so that hosts of more than 64 have them too.
     """
 
     def __init__(self, library: Library, host: Host) -> None:
         self.library, self.host = library, Host(1, host.period_us, host.slice_us)
+        self.limits: dict[tuple[int, int], int] = {}
+        self.demands: dict[tuple[int, int], int] = {}
 
     def limit(self, usec: int, own_period: int) -> int:
         """Slices that a quota or burst allows, rounded down."""
+        found = self.limits.get((usec, own_period))
+        if found is None:
+            found = self.limits[usec, own_period] = self.asked_limit(usec, own_period)
+        return found
+
+    def asked_limit(self, usec: int, own_period: int) -> int:
+        """The library's answer to `limit`."""
         try:
             return self.library.slices(self.host, usec, own_period)
         except (Refused, OverflowError) as error:
             raise HostFault(f"{usec} microseconds in {own_period}: {error}") from error
 
     def demand(self, thousandths: Fraction) -> int:
-        """Slices that a demand takes, rounded up, at most 1000000.
+        """Slices that a demand takes, rounded up, at most 1000000."""
+        key = thousandths.numerator, thousandths.denominator
+        found = self.demands.get(key)
+        if found is None:
+            found = self.demands[key] = self.asked_demand(*key)
+        return found
+
+    def asked_demand(self, thousandths: int, parts: int) -> int:
+        """Slices that so many parts of a thousandth take.
 
         The library takes whole thousandths. A part of one is rounded up here.
         """
-        if thousandths.denominator == 1:
-            return self.whole(thousandths.numerator)
-        host, whole = self.host, 1000 * self.host.slice_us * thousandths.denominator
-        return min(-(-thousandths.numerator * host.period_us // whole), MAX_DEMAND)
-
-    def whole(self, thousandths: int) -> int:
-        """Slices that whole thousandths of a CPU take, at most 1000000."""
+        if parts > 1:
+            whole = 1000 * self.host.slice_us * parts
+            return min(-(-thousandths * self.host.period_us // whole), MAX_DEMAND)
         try:
             return self.library.demand(self.host, thousandths)
         except OverflowError:

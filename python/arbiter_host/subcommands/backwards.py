@@ -110,9 +110,9 @@ def run_guarantee(options: argparse.Namespace) -> None:
     chosen = chosen_groups(found, options.group)
     owed = backwards.guarantees(found, chosen)
     if options.json:
-        emit_json([{"group": group.path, "guaranteed_millicpu": float(found.thousandths(slices)),
-                    "gets_millicpu": float(found.thousandths(group.gets)),
-                    "wants_millicpu": float(found.thousandths(group.want))}
+        emit_json([{"group": group.path, "guaranteed_millicpu": found.millicpu(slices),
+                    "gets_millicpu": found.millicpu(group.gets),
+                    "wants_millicpu": found.millicpu(group.want)}
                    for group, slices in zip(chosen, owed)])
         return
     rows = [["guaranteed", "gets", "wants", "group"]]
