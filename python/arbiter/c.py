@@ -24,6 +24,7 @@ WORDS: dict[str, list[Any]] = {
     "check_text": COLUMN + [POINTER],
     "limiting": TREE + COLUMN + [POINTER] * 2,
     "reasons": TREE + COLUMN * 2,
+    "figures": TREE + COLUMN * 6,
     "guarantee": TREE + [U32, POINTER],
     "least_weight": TREE + [U32, U64, POINTER],
     "least_limit": TREE + [U32, U64, POINTER],

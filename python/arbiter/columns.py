@@ -47,6 +47,22 @@ class Level(NamedTuple):
     place: int
 
 
+class Figures(NamedTuple):
+    """What each group wants, is given at most and splits: columns of one entry for each row."""
+
+    # Slices that it would take without its own limit.
+    wants: array[int]
+    # The want, cut at its own limit; that of the root is the capacity.
+    mosts: array[int]
+    # 1 where its own limit is below its want, else 0.
+    tights: array[int]
+    # The number of its children that can be given a slice, and the sum of their weights.
+    actives: array[int]
+    active_weights: array[int]
+    # Slices that its own limit withholds of its want; 0 for the root.
+    withheld: array[int]
+
+
 class Kind(enum.IntEnum):
     """The kinds of reasons for a group's amount, by their numbers in C.
 

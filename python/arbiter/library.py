@@ -8,8 +8,8 @@ from collections.abc import Sequence
 from typing import TypeAlias
 
 from arbiter import c, found
-from arbiter.columns import (U8, U32, U64, Certificate, Columns, Host, Kind, Reason, Row, column,
-                             given, in_range, zeros)
+from arbiter.columns import (U8, U32, U64, Certificate, Columns, Figures, Host, Kind, Reason, Row,
+                             column, given, in_range, zeros)
 
 # The rows of a tree, or their columns, which are made once for several calls.
 Rows: TypeAlias = Sequence[Row] | Columns
@@ -130,6 +130,13 @@ class Library:
         self.ask("reasons", host, columns, *given(kinds, blamed))
         return [Reason(KINDS[kind], row if kind == Kind.LIMIT_ABOVE else None)
                 for kind, row in zip(kinds, blamed)]
+
+    def figures(self, host: Host, rows: Rows) -> Figures:
+        """What each group wants, is given at most and splits. Refused as a plan is."""
+        columns = Columns.of(rows)
+        found = Figures(*(zeros(kind, len(columns)) for kind in (U64, U64, U8, U32, U64, U64)))
+        self.ask("figures", host, columns, *given(*found))
+        return found
 
     def of_group(self, name: str, host: Host, rows: Rows, group: int, *amount: int) -> int:
         """The number that a question about the group of a row is answered with."""

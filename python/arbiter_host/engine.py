@@ -9,7 +9,7 @@ from collections.abc import Iterator, Sequence
 from contextlib import contextmanager
 from typing import NamedTuple
 
-from arbiter import Certificate, Columns, Host, Library, Refused, Row, Unavailable
+from arbiter import Certificate, Columns, Figures, Host, Library, Refused, Row, Unavailable
 from arbiter_host.faults import HostFault, NoLibrary
 from arbiter_host.model import planned
 
@@ -22,6 +22,7 @@ class Answer(NamedTuple):
     limiting: list[int]
     # Slices wanted outside the limiting groups.
     rest: int
+    figures: Figures
 
 
 class Certified(NamedTuple):
@@ -72,7 +73,9 @@ class Engine:
         with asking("the check refused the plan"):
             self.library.check(host, columns, amounts, found.certificate)
         with asking("what limits the total"):
-            return Answer(columns, amounts, *self.library.limiting(host, columns))
+            limiting, rest = self.library.limiting(host, columns)
+        with asking("wants"):
+            return Answer(columns, amounts, limiting, rest, self.library.figures(host, columns))
 
 
 def columns_of(rows: Sequence[Row]) -> Columns:

@@ -12,7 +12,7 @@ from typing import NamedTuple
 import arbiter
 from arbiter import Columns, Kind, Row
 from arbiter_host import units
-from arbiter_host.engine import Engine, asking
+from arbiter_host.engine import Answer, Engine, asking
 from arbiter_host.model import Group, Model, checked, planned
 from arbiter_host.names import last_name, short, shown
 
@@ -29,13 +29,15 @@ class Planned:
     demand: int
     gets: int
     group: Group | None
-    children: list[Planned] = field(default_factory=list)
-    # What it wants, and what its own limit lets through of that.
-    want: int = 0
-    most: int = 0
+    want: int
+    # Whether its own limit is below its want. The limit of the root is the capacity.
+    is_tight: bool
     # Sum of the weights of its children that can use a slice, and their number.
-    active_weight: int = 0
-    active: int = 0
+    active_weight: int
+    active: int
+    # Slices that its own limit withholds.
+    withheld: int
+    children: list[Planned] = field(default_factory=list)
     depth: int = 0
 
     @property
@@ -46,7 +48,7 @@ class Planned:
     @property
     def is_throttled(self) -> bool:
         """Whether its own limit is below its want, so that `period` counts it as throttled."""
-        return self.parent is not None and self.limit is not None and self.limit < self.want
+        return self.is_tight and self.parent is not None
 
     @property
     def is_throttled_elsewhere(self) -> bool:
@@ -165,29 +167,20 @@ def marks(group: Planned) -> list[str]:
     return found
 
 
-def fill(groups: list[Planned], capacity: int) -> None:
-    """Children, wants, active weights and depths of all groups."""
+def planned_of(rows: list[Row], model: Model, answer: Answer) -> list[Planned]:
+    """The groups of a plan, with their children and depths."""
+    entries: list[tuple[str, Group | None]] = [(".", None), *model.groups.items()]
+    figures = answer.figures
+    groups = [Planned(place, path, row.parent, row.weight, row.limit, row.demand, gets, group,
+                      want, bool(tight), active_weight, active, withheld)
+              for place, ((path, group), row, gets, want, tight, active_weight, active, withheld)
+              in enumerate(zip(entries, rows, answer.amounts, figures.wants, figures.tights,
+                               figures.active_weights, figures.actives, figures.withheld))]
+    groups[0].limit = model.host.capacity
     for group in groups[1:]:
         above = groups[group.parent or 0]
         above.children.append(group)
         group.depth = above.depth + 1
-    for group in reversed(groups):
-        limit = capacity if group.parent is None else group.limit
-        group.want = sum(each.most for each in group.children) if group.children else group.demand
-        group.most = group.want if limit is None else min(group.want, limit)
-        usable = [each.weight for each in group.children if each.most > 0]
-        group.active, group.active_weight = len(usable), sum(usable)
-    groups[0].limit = capacity
-
-
-def planned_of(rows: list[Row], model: Model, amounts: list[int]) -> list[Planned]:
-    """The groups of a plan, filled."""
-    groups = []
-    entries: list[tuple[str, Group | None]] = [(".", None), *model.groups.items()]
-    for place, ((path, group), row, gets) in enumerate(zip(entries, rows, amounts)):
-        groups.append(Planned(place, path, row.parent, row.weight, row.limit, row.demand, gets,
-                              group))
-    fill(groups, model.host.capacity)
     return groups
 
 
@@ -195,6 +188,6 @@ def plan(engine: Engine, model: Model) -> Plan:
     """The plan of the next period of a model, accepted by the proved check."""
     rows = model.rows(engine.library)
     answer = engine.plan(checked(model.host), rows)
-    groups = planned_of(rows, model, answer.amounts)
+    groups = planned_of(rows, model, answer)
     limiting = [groups[row] for row in answer.limiting]
     return Plan(model, groups, limiting, answer.rest, answer.columns, engine)

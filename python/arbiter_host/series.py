@@ -95,8 +95,8 @@ def count_period(plan_: Plan, shown_: Sequence[str], cells: list[Cell], times: i
         cell.throttled += times * group.is_throttled
         cell.elsewhere += times * group.is_throttled_elsewhere
         cell.starved += times * group.is_starved
-        if group.is_throttled and group.limit is not None:
-            cell.withheld += times * (group.want - group.limit) * plan_.model.host.slice_us
+        if group.is_throttled:
+            cell.withheld += times * group.withheld * plan_.model.host.slice_us
         quota = quota_slices(plan_, path) if group.group else None
         cell.bursts += times * (quota is not None and group.gets > quota)
 

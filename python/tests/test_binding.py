@@ -136,3 +136,14 @@ def test_sizes():
     from array import array
     sizes = {kind: array(kind).itemsize for kind in "BIQ"}
     assert sizes == {"B": 1, "I": ctypes.sizeof(c.U32), "Q": ctypes.sizeof(c.U64)}
+
+
+def test_figures_by_hand(calls):
+    """20 slices. `pod` wants 9 and may have 5; the idle group of weight 70 is not counted."""
+    rows = [arbiter.Row(), arbiter.Row(0, 200, 5), arbiter.Row(1, 100, None, 6),
+            arbiter.Row(1, 300, 2, 3), arbiter.Row(0, 70), arbiter.Row(0, 10, None, 30)]
+    found = calls.figures(arbiter.Host(1, 100000, 5000), rows)
+    assert {name: list(each) for name, each in found._asdict().items()} == {
+        "wants": [35, 8, 6, 3, 0, 30], "mosts": [20, 5, 6, 2, 0, 30],
+        "tights": [1, 1, 0, 1, 0, 0], "actives": [2, 2, 0, 0, 0, 0],
+        "active_weights": [210, 400, 0, 0, 0, 0], "withheld": [0, 3, 0, 1, 0, 0]}
