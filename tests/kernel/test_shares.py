@@ -1,5 +1,6 @@
 """The parts of the comparison that need no guest: exact shares, bounds, scripts and faults."""
 import json
+import re
 from fractions import Fraction
 
 import pytest
@@ -9,6 +10,7 @@ from kernel import (compare, deliberate, exact, layout, machine, page, planned, 
                     real_apply, scenario, table)
 from kernel.__main__ import SCENARIOS, batches, sources
 from kernel.faults import KernelFault
+from support import ROOT
 
 ALL = sorted(path.stem for path in SCENARIOS.glob("*.script"))
 # A plan in slices of 1 ms of 1 s is this near to exact shares, in hundredths of a processor, per
@@ -223,6 +225,13 @@ def test_page_of_counters_and_offsets():
         " 6.12: 7 to 8 / 0 / 0 / 0 / 20 |"]
     assert list(page.offset_rows(found)) == ["| `series-burst` a | 6.1 |  |",
                                              "| `series-burst` a | 6.12 | 3: +0.50, 50: +2.25 |"]
+
+
+def test_runs_are_of_scenarios():
+    """docs/kernel/RUNS.md names each scenario, and none that is not there."""
+    text = (ROOT / "docs/kernel/RUNS.md").read_text(encoding="utf-8")
+    named = set(re.findall(r"`((?:one|two|four|limit|series)-[a-z-]+)`", text))
+    assert sorted(named) == ALL
 
 
 @pytest.mark.parametrize("line", ["rmdir a", "demand a", "nonsense", "period\nmkdir b"])
