@@ -42,7 +42,7 @@ def gathered(folder, answered, workers=2, **words):
 def test_answers_come_over_pipes(hosts):
     folder = hosts(*(f"good-{number}" for number in range(40)))
     gatherer, left = gathered(folder, ways.good)
-    assert left == {} and gatherer.counts.lost == 0
+    assert left == {} and gatherer.counts.lost == 0 and gatherer.pool.words == "workers: 2"
 
 
 # Who can reach them

@@ -105,7 +105,7 @@ class Processes:
 
     @property
     def words(self) -> str:
-        return f"workers: {self.size}"
+        return f"workers: {self.count}"
 
     @property
     def size(self) -> int:

@@ -234,7 +234,7 @@ DETAILS = (
     " all of them are checked again where they are gathered. A batch that is lost is given again, a"
     " host alone at most three times. A worker whose answer is refused gets nothing more, and what"
     " it sent before is asked again.",
-    "Nothing listens without --scheduler. Whoever a scheduler of Dask lets in can run code in all"
+    "Nothing listens. Whoever the scheduler of --scheduler lets in can run code in all"
     " that talk to it, this process too: use tls:// with certificates, and machines of your own.",
     "A host that is not answered is named with the reason, and the exit status is 1.",
 )
