@@ -177,6 +177,34 @@ def test_what_is_no_file_is_named(folder, hosts, kind):
     assert "no plain file" in why or kind == "none"
 
 
+def test_long_files_travel_one_by_one(folder, monkeypatch):
+    """A batch is closed by its bytes, so that files without an end in sight fill no memory."""
+    from arbiter_host.fleet import gather
+    monkeypatch.setattr(gather, "MOST_BYTES", 1000)
+    monkeypatch.setattr(gather.Gatherer, "units", lambda _: 100)
+    (folder / "hosts").mkdir()
+    for number in range(8):
+        (folder / f"hosts/{number}.script").write_bytes(b"#" * (1500 if number < 4 else 400))
+    pool = fleets.Workers({"honest": ways.good})
+    _, store = fleets.gathered(folder / "hosts", pool, NO_LIBRARY, recheck=0.0)
+    assert store.unfinished() == []
+    # Host 0 to 3 alone; then as many of 400 bytes as pass 1000.
+    assert sorted(len(hosts) for _, hosts in pool.served) == [1, 1, 1, 1, 1, 3]
+
+
+def test_a_file_that_is_too_long_is_not_read(folder, hosts, monkeypatch):
+    """A sparse file of more than the bound is named before a byte of it is read."""
+    from arbiter_host import load
+    with open(hosts / "x.script", "wb") as file:
+        file.truncate(load.MAX_FILE + 1)
+    monkeypatch.setattr(load, "bounded", lambda file: pytest.fail("read") if os.fstat(
+        file.fileno()).st_size else b"")
+    pool = fleets.Workers({"honest": ways.good})
+    _, store = fleets.gathered(hosts, pool, NO_LIBRARY, recheck=0.0)
+    (name, why), = store.unfinished()
+    assert name == "x" and why.endswith("more than 512 MiB")
+
+
 def test_demands_that_are_no_file_are_named(folder, hosts):
     """The same of a host's demands."""
     from arbiter_host.fleet import demands

@@ -34,6 +34,8 @@ from arbiter_host.fleet.work import Item
 TARGET_SECONDS = 1.0
 # Hosts, or samples, of the batches before the first reply, and of any batch.
 FIRST_UNITS, MOST_UNITS = 4, 2000
+# Bytes of files after which nothing more is put into a batch. A sparse file costs its author none.
+MOST_BYTES = 64 << 20
 # Times that a host alone is given out before it is named as not answered.
 MOST_TRIES = 3
 # Batches lost in a row, for each worker, after which nothing more is given out.
@@ -229,8 +231,8 @@ class Gatherer:
         """The next batch: one that is given again, else a new one."""
         if self.again:
             return self.again.popleft()
-        room, tasks = self.units(), []
-        while room > 0 and self.waiting:
+        room, size, tasks = self.units(), 0, []
+        while room > 0 and size < MOST_BYTES and self.waiting:
             host, part = self.waiting.popleft()
             parts = min(room, self.parts[host] - part)
             try:
@@ -241,6 +243,7 @@ class Gatherer:
                 continue
             self.open[host] = tasks[-1]
             room -= parts
+            size += len(tasks[-1].item.data) + len(tasks[-1].item.demands)
         return Batch(tasks) if tasks else None
 
     def fill(self) -> None:
