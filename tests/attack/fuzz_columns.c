@@ -336,10 +336,10 @@ static void hold_memory(struct host host, struct rows rows, const uint64_t *amou
 {
     struct answer found = room(rows.parents_length);
 
-    refused++;
     guard_asked = 0;
     guard_refused = 1 + (long)(turn % 40);
     uint32_t other = certify(host, rows, &found);
+    refused += guard_asked >= guard_refused;
     guard_refused = 0;
     demand(other == answer || (other == 71 && (answer > 3 || !answer) && answer != 50), "another answer where memory was refused");
     if (other == 0)
