@@ -76,7 +76,8 @@ fn burst(text: &[u8]) -> Result<u64, FileFault>
     }
 }
 
-fn one_word(first: &[u8]) -> Result<MaxWrite, FileFault>
+// Values of a `cpu.max` of one word: a quota and no period.
+fn max_of_one_word(first: &[u8]) -> Result<MaxWrite, FileFault>
     ensures { result ≡ max_of (first.now ∷ []) }
 {
     let asked = quota_word(first)?;
@@ -87,7 +88,8 @@ fn one_word(first: &[u8]) -> Result<MaxWrite, FileFault>
     })
 }
 
-fn two_words(first: &[u8], second: &[u8]) -> Result<MaxWrite, FileFault>
+// Values of a `cpu.max` of two words: a quota and a period.
+fn max_of_two_words(first: &[u8], second: &[u8]) -> Result<MaxWrite, FileFault>
     ensures { result ≡ max_of (first.now ∷ second.now ∷ []) }
 {
     let asked = quota_word(first)?;
@@ -107,12 +109,12 @@ fn max(text: &[u8]) -> Result<MaxWrite, FileFault>
         return Err(FileFault::Empty);
     };
     let Some((second, rest)) = next_word(rest) else {
-        return one_word(first);
+        return max_of_one_word(first);
     };
     if next_word(rest).is_some() {
         return Err(FileFault::TooManyWords);
     }
-    two_words(first, second)
+    max_of_two_words(first, second)
 }
 
 /// Reads a text of `cpu.weight`: a weight, 1 to 10000 (cgroup-v2.rst, "CPU Interface Files").
