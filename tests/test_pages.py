@@ -14,7 +14,7 @@ import indexes
 import support
 from support import ROOT, run, same
 
-TOP_PAGES = ["README.md", "CONTRIBUTING.md", "CHANGELOG.md"]
+TOP_PAGES = ["README.md", "CONTRIBUTING.md", "CHANGELOG.md", "SECURITY.md"]
 PAGES = TOP_PAGES + [f"docs/{path.name}" for path in sorted((ROOT / "docs").glob("*.md"))]
 # Pages without a sentence of more than 30 words. Of others one in 50 may be longer.
 SHORT = ("README.md", "docs/ARCHITECTURE.md", "docs/USING.md")
