@@ -27,8 +27,8 @@
  *   51 to 58  the amounts are not the plan by this certificate
  *   71        memory was refused (OutOfMemory)
  * The first that applies is answered, in this order:
- *   1. 50, where the columns of the rows differ in length, or a column of an answer from them, or nums, dens and places of
- *      arbiter_check from each other
+ *   1. 50, where the columns of the rows differ in length, or a column of an answer or `hungry` from them, or nums, dens and
+ *      places of arbiter_check from each other
  *   2. 1 to 3
  *   3. 4 to 10, of a text 40 to 43 too
  *   4. of a check 50, where amounts, flags or levels are not one for each row, and then 51 to 58; of a question about a group
@@ -155,6 +155,21 @@ uint32_t arbiter_least_processors(uint64_t processors, uint64_t period_us, uint6
                                   const uint32_t *parents, size_t parents_length, const uint64_t *weights, size_t weights_length,
                                   const uint64_t *limits, size_t limits_length, const uint64_t *demands, size_t demands_length,
                                   uint32_t group, uint64_t amount, uint64_t *least);
+
+/* The limits of the next round, from what each leaf used in the last one. The rows are as everywhere, with the slices that each
+ * leaf used, rounded up, in `used` in the place of demands. `hungry` is not 0 where the leaf would have used more; it is not read
+ * at groups with children.
+ * Writes to `held` a leaf's limit for the next round, and another group's own limit or ARBITER_NO_LIMIT; to `demands` 1000000 for
+ * a hungry leaf and what it used for another; to `amounts` the plan of these demands. The last four columns are the certificate of
+ * the amounts, as of arbiter_certify, for the rows with `demands`. No leaf is limited above its own limit, nor below its guarantee,
+ * whatever was read. docs/LAWS.md has the rule and its laws. Two plans. */
+uint32_t arbiter_hold(uint64_t processors, uint64_t period_us, uint64_t slice_us,
+                      const uint32_t *parents, size_t parents_length, const uint64_t *weights, size_t weights_length,
+                      const uint64_t *limits, size_t limits_length, const uint64_t *used, size_t used_length,
+                      const uint8_t *hungry, size_t hungry_length, uint64_t *held, size_t held_length,
+                      uint64_t *demands, size_t demands_length, uint64_t *amounts, size_t amounts_length,
+                      uint8_t *flags, size_t flags_length, uint64_t *nums, size_t nums_length,
+                      uint64_t *dens, size_t dens_length, uint32_t *places, size_t places_length);
 
 /* The number with which each call refuses these rows: 0, 4 to 10, or 50. For 4 to 10 `row` is written: the first row that is too
  * many, or has a bad parent, weight, depth, demand or limit; for 8 the parent of the first row whose parent has a demand. For 0

@@ -37,6 +37,9 @@ int main(void)
     uint64_t wants[7], mosts[7], active_weights[7], withheld[7];
     uint8_t tights[7];
     uint32_t actives[7];
+    const uint64_t used[3] = {0, 4, 10};
+    const uint8_t hungry[3] = {0, 0, 1};
+    uint64_t caps[3] = {0, 0, 0}, asks[3];
 
     if (arbiter_plan(0, 100000, 5000, parents, 3, weights, 3, limits, 3, demands, 3, amounts, 3) != 1 || amounts[0] != 1)
         return 1;
@@ -120,5 +123,15 @@ int main(void)
             return 36;
     if (arbiter_figures(1, 100000, 5000, above, 7, hundreds, 7, pod_of_9, 7, wanted, 7, wants, 7, mosts, 7, tights, 7, actives, 7, active_weights, 7, withheld, 6) != 50 || withheld[2] != 31)
         return 37;
+    /* The first used 4 of its 7, so the second, which would have used more, may have 16. */
+    if (arbiter_hold(1, 100000, 5000, parents, 3, weights, 3, limits, 3, used, 3, hungry, 2, caps, 3, asks, 3, amounts, 3, flags, 3, nums, 3, dens, 3, places, 3)
+            != 50 || caps[1] != 0)
+        return 38;
+    if (arbiter_hold(1, 100000, 5000, parents, 3, weights, 3, limits, 3, used, 3, hungry, 3, caps, 3, asks, 3, amounts, 3, flags, 3, nums, 3, dens, 3, places, 3) != 0)
+        return 39;
+    if (caps[0] != ARBITER_NO_LIMIT || caps[1] != 7 || caps[2] != 16 || asks[1] != 4 || asks[2] != 1000000 || amounts[1] != 4 || amounts[2] != 16)
+        return 40;
+    if (arbiter_check(1, 100000, 5000, parents, 3, weights, 3, limits, 3, asks, 3, amounts, 3, flags, 3, nums, 3, dens, 3, places, 3, &row) != 0)
+        return 41;
     return 0;
 }

@@ -36,19 +36,20 @@ static const uint64_t weights[5] = {100, 100, 100, 300, 100};
 static const uint64_t limits[5] = {ARBITER_NO_LIMIT, 10, ARBITER_NO_LIMIT, ARBITER_NO_LIMIT, ARBITER_NO_LIMIT};
 static const uint64_t demands[5] = {0, 0, 20, 20, 20};
 static const char text[] = "bw 1 1 100000 5000 3\n- 100 max 0 20 1 13/100@0\n0 100 max 20 7 0 -\n0 200 max 20 13 0 -\n";
-static uint64_t amounts[5], nums[5], dens[5], rest;
+static const uint8_t hungry[5] = {0, 0, 1, 0, 1};
+static uint64_t amounts[5], nums[5], dens[5], caps[5], asks[5], rest;
 static uint64_t wants[5], mosts[5], active_weights[5], withheld[5];
 static uint8_t flags[5], reasons[5], tights[5];
 static uint32_t places[5], groups[5], blamed[5], actives[5], count, row;
 
 #define ROWS 1, 100000, 5000, parents, 5, weights, 5, limits, 5, demands, 5
 /* The calls before the check. */
-#define CALLS 10
+#define CALLS 11
 
 static void mark(void)
 {
     for (int g = 0; g < 5; g++) {
-        amounts[g] = nums[g] = dens[g] = 7;
+        amounts[g] = nums[g] = dens[g] = caps[g] = asks[g] = 7;
         wants[g] = mosts[g] = active_weights[g] = withheld[g] = 7;
         flags[g] = reasons[g] = tights[g] = 7;
         places[g] = groups[g] = blamed[g] = actives[g] = 7;
@@ -61,7 +62,7 @@ static int is_marked(void)
     for (int g = 0; g < 5; g++)
         if (amounts[g] != 7 || nums[g] != 7 || dens[g] != 7 || flags[g] != 7 || places[g] != 7 || groups[g] != 7
                 || reasons[g] != 7 || blamed[g] != 7 || wants[g] != 7 || mosts[g] != 7 || tights[g] != 7
-                || actives[g] != 7 || active_weights[g] != 7 || withheld[g] != 7)
+                || actives[g] != 7 || active_weights[g] != 7 || withheld[g] != 7 || caps[g] != 7 || asks[g] != 7)
             return 0;
     return rest == 7 && count == 7 && row == 7;
 }
@@ -79,6 +80,7 @@ static uint32_t call(int which)
     case 7: return arbiter_least_limit(ROWS, 1, 8, &rest);
     case 8: return arbiter_least_processors(ROWS, 4, 15, &rest);
     case 9: return arbiter_figures(ROWS, wants, 5, mosts, 5, tights, 5, actives, 5, active_weights, 5, withheld, 5);
+    case 10: return arbiter_hold(ROWS, hungry, 5, caps, 5, asks, 5, amounts, 5, flags, 5, nums, 5, dens, 5, places, 5);
     default: return arbiter_check(ROWS, amounts, 5, flags, 5, nums, 5, dens, 5, places, 5, &row);
     }
 }

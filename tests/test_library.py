@@ -261,6 +261,7 @@ def test_refused(calls, number, row, host, tuples):
     nothing = arbiter.Certificate.of([False] * len(rows), [None] * len(rows))
     for call in (calls.plan, calls.certify, calls.limiting):
         same(number_of(call, host, rows), (number, row), call.__name__)
+    same(number_of(calls.hold, host, rows, [True] * len(rows)), (number, row), "hold")
     same(number_of(calls.check, host, rows, [0] * len(rows), nothing), (number, row), "check")
     found = c.U32(7)
     words = with_lengths(raw_columns(rows), [len(rows)] * 4)
@@ -412,6 +413,7 @@ KINDS = {
     "limiting": ([c.U32], [c.U32, c.U64], 5),
     "certify": (CERTIFIED, [], 9),
     "reasons": ([c.U8, c.U32], [], 6),
+    "hold": ([c.U8, c.U64, c.U64, *CERTIFIED], [], 12),
     "check": (CERTIFIED, [c.U32], 4),
 }
 

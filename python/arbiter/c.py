@@ -25,6 +25,7 @@ WORDS: dict[str, list[Any]] = {
     "limiting": TREE + COLUMN + [POINTER] * 2,
     "reasons": TREE + COLUMN * 2,
     "figures": TREE + COLUMN * 6,
+    "hold": TREE + COLUMN * 8,
     "guarantee": TREE + [U32, POINTER],
     "least_weight": TREE + [U32, U64, POINTER],
     "least_limit": TREE + [U32, U64, POINTER],

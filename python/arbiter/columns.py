@@ -185,3 +185,16 @@ class Certificate(NamedTuple):
         """The level of each row; None where there is none."""
         return [Level(*each) if each[0] else None
                 for each in zip(self.nums, self.dens, self.places)]
+
+
+class Round(NamedTuple):
+    """The limits of a round, and the demands and the certified plan that they come from. Each has
+    one entry for each row, in slices of one period."""
+
+    # A leaf's limit for the next round; another group's own limit (None: none).
+    limits: list[int | None]
+    # 1000000 at a hungry leaf, else what it used.
+    demands: list[int]
+    # The plan of the demands, and its certificate for the rows with these demands.
+    amounts: list[int]
+    certificate: Certificate

@@ -8,8 +8,8 @@ from collections.abc import Sequence
 from typing import TypeAlias
 
 from arbiter import c, found
-from arbiter.columns import (U8, U32, U64, Certificate, Columns, Figures, Host, Kind, Reason, Row,
-                             column, given, in_range, zeros)
+from arbiter.columns import (U8, U32, U64, Certificate, Columns, Figures, Host, Kind, Reason, Round,
+                             Row, column, given, in_range, zeros)
 
 # The rows of a tree, or their columns, which are made once for several calls.
 Rows: TypeAlias = Sequence[Row] | Columns
@@ -137,6 +137,21 @@ class Library:
         found = Figures(*(zeros(kind, len(columns)) for kind in (U64, U64, U8, U32, U64, U64)))
         self.ask("figures", host, columns, *given(*found))
         return found
+
+    def hold(self, host: Host, rows: Rows, hungry: Sequence[bool]) -> Round:
+        """The limits of the next round, from what each leaf used in the last one.
+
+        The demand of each row is what it used, in slices rounded up. `hungry` tells for each row
+        whether it would have used more; those of groups with children are not read. Refused as a
+        plan is, and by 50 WrongLength if there is not one flag for each row.
+        """
+        columns = Columns.of(rows)
+        flags = column(U8, [bool(flag) for flag in hungry], "flag")
+        held, demands, amounts = (zeros(U64, len(columns)) for _ in range(3))
+        evidence = Certificate.zeros(len(columns))
+        self.ask("hold", host, columns, *given(flags, held, demands, amounts, *evidence))
+        limits = [None if limit == c.NO_LIMIT else limit for limit in held]
+        return Round(limits, demands.tolist(), amounts.tolist(), evidence)
 
     def of_group(self, name: str, host: Host, rows: Rows, group: int, *amount: int) -> int:
         """The number that a question about the group of a row is answered with."""

@@ -3,6 +3,7 @@ pub mod Asked
 pub mod Numbers
 pub mod Names
 pub mod Checked
+pub mod Held
 pub mod Limited
 pub mod Certified
 pub mod Figured

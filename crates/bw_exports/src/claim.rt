@@ -15,7 +15,8 @@ pub(crate) struct Claim<'a> {
     pub(crate) places: &'a [u32],
 }
 
-fn flags_of(alloc: Global, flags: &[u8]) -> Result<Vec<bool>, AllocError>
+/// Whether each number is not 0.
+pub(crate) fn flags_of(alloc: Global, flags: &[u8]) -> Result<Vec<bool>, AllocError>
     ensures { IfOk result (λ tight. tight.items ≡ map (λ flag. not (flag == 0)) flags.now) }
 {
     flags.iter().map(|flag| *flag != 0).collect(alloc)

@@ -14,7 +14,8 @@ use bw_model::InstanceFault;
 use bw_questions::least_limit;
 use std::alloc::Global;
 
-fn limit_number(limit: Option<u64>) -> u64
+/// A limit as a number, the greatest for none.
+pub(crate) fn limit_number(limit: Option<u64>) -> u64
     ensures { result ≡ limit_number limit }
 {
     limit.unwrap_or(NO_LIMIT)

@@ -14,6 +14,7 @@ mod fault;
 mod figures_call;
 mod front;
 mod guarantee_call;
+mod hold_call;
 mod least_limit_call;
 mod least_processors_call;
 mod least_weight_call;

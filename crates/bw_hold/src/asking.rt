@@ -15,14 +15,12 @@ fn row_asking(reading: &Instance, g: u32, is_hungry: bool) -> Row
         row_asking reading.now.rows (λ h. demand_where reading.now.rows is_hungry h) g }
 {
     let row = reading.row(g);
-    if is_hungry && reading.is_leaf(g) {
-        Row {
-            demand: MAX_DEMAND,
-            ..row
-        }
+    let demand = if is_hungry && reading.is_leaf(g) {
+        MAX_DEMAND
     } else {
-        row
-    }
+        row.demand
+    };
+    Row { demand, ..row }
 }
 
 // The rows of a round.

@@ -266,6 +266,51 @@ pub fn reasons(host: Host, rows: &[Row]) -> Result<Vec<Reason>, Fault> {
     Ok(told.map(|(kind, row)| raw::reason(kind, row)).collect())
 }
 
+/// The limits of a round, with the demands and the certified plan that they come from.
+#[derive(Clone, Debug, PartialEq, Eq)]
+pub struct Round {
+    /// One limit per row in slices: a leaf's limit for the next round, another group's own limit.
+    pub limits: Vec<Option<u64>>,
+    /// One demand per row in slices: 1000000 at a hungry leaf, else what it used.
+    pub demands: Vec<u64>,
+    /// The plan of the demands.
+    pub amounts: Vec<u64>,
+    /// The certificate of the amounts, for the rows with the demands.
+    pub certificate: Certificate,
+}
+
+/// The limits of the next round, from what each leaf used in the last one.
+///
+/// The demand of each row is what it used, in slices rounded up. A flag of `hungry` tells for each row whether it would have used
+/// more; those of groups with children are not read.
+///
+/// # Errors
+/// 50 where there is not one flag for each row; and as of [`plan`].
+pub fn hold(host: Host, rows: &[Row], hungry: &[bool]) -> Result<Round, Fault> {
+    let columns = Columns::of(rows);
+    let flags: Vec<u8> = hungry.iter().map(|flag| u8::from(*flag)).collect();
+    let (mut held, mut demands) = (vec![0; rows.len()], vec![0; rows.len()]);
+    let (mut amounts, mut claim) = (vec![0; rows.len()], raw::Claim::zeros(rows.len()));
+    let number = columns.hold(
+        host,
+        &flags,
+        &mut held,
+        &mut demands,
+        &mut amounts,
+        &mut claim,
+    );
+    of_rows(number, &columns)?;
+    let limits = held
+        .into_iter()
+        .map(|limit| Some(limit).filter(|limit| *limit != raw::NO_LIMIT));
+    Ok(Round {
+        limits: limits.collect(),
+        demands,
+        amounts,
+        certificate: claim.certificate(),
+    })
+}
+
 /// The slices of one period that a group gets whatever the groups not under it ask for.
 ///
 /// They give it no less, and for some demands of theirs no more. `group` is its row.
@@ -395,6 +440,20 @@ mod tests {
 
     fn fault(number: u32, row: Option<u32>) -> Fault {
         Fault { number, row }
+    }
+
+    /// Of 20 slices `two` shares 7 and 13 if both ask for all. The first used 4, so the second may have 16.
+    #[test]
+    fn holds() {
+        let mut used = two();
+        (used[1].demand, used[2].demand) = (4, 10);
+        let round = hold(Host::default(), &used, &[false, false, true]).unwrap();
+        assert_eq!(round.limits, [None, Some(7), Some(16)]);
+        assert_eq!(round.demands, [0, 4, 1_000_000]);
+        assert_eq!(round.amounts, [20, 4, 16]);
+        used[2].demand = 1_000_000;
+        check(Host::default(), &used, &round.amounts, &round.certificate).unwrap();
+        assert_eq!(hold(Host::default(), &used, &[true]), Err(fault(50, None)));
     }
 
     #[test]
@@ -655,10 +714,7 @@ mod tests {
         let host = Host::default();
         assert_eq!(slices(host, 12_000, 100_000), Ok(2));
         assert_eq!(slices(host, 4999, 100_000), Ok(0));
-        assert_eq!(
-            slices(host, 1_000_000_000_000_001, 0),
-            Err(fault(14, None))
-        );
+        assert_eq!(slices(host, 1_000_000_000_000_001, 0), Err(fault(14, None)));
         assert_eq!(slices(host, 0, 999), Err(fault(15, None)));
         assert_eq!(demand(host, 51), Ok(2));
         assert_eq!(demand(host, 50_000_001), Err(fault(9, None)));

@@ -67,6 +67,13 @@ extern "C" {
                                 limits: *const u64, limits_length: usize,
                                 demands: *const u64, demands_length: usize,
                                 group: u32, amount: u64, least: *mut u64) -> u32;
+    fn arbiter_hold(processors: u64, period_us: u64, slice_us: u64,
+                    parents: *const u32, parents_length: usize, weights: *const u64, weights_length: usize,
+                    limits: *const u64, limits_length: usize, used: *const u64, used_length: usize,
+                    hungry: *const u8, hungry_length: usize, held: *mut u64, held_length: usize,
+                    demands: *mut u64, demands_length: usize, amounts: *mut u64, amounts_length: usize,
+                    flags: *mut u8, flags_length: usize, nums: *mut u64, nums_length: usize,
+                    dens: *mut u64, dens_length: usize, places: *mut u32, places_length: usize) -> u32;
     fn arbiter_refused_row(parents: *const u32, parents_length: usize, weights: *const u64, weights_length: usize,
                            limits: *const u64, limits_length: usize, demands: *const u64, demands_length: usize,
                            row: *mut u32) -> u32;
@@ -212,6 +219,21 @@ impl Columns {
                             self.demands.as_ptr(), self.demands.len(),
                             reasons.as_mut_ptr(), reasons.len(),
                             blamed.as_mut_ptr(), blamed.len())
+        }
+    }
+
+    #[rustfmt::skip]
+    pub(crate) fn hold(&self, host: Host, hungry: &[u8], held: &mut [u64], demands: &mut [u64], amounts: &mut [u64],
+                       claim: &mut Claim) -> u32 {
+        // SAFETY: as above
+        unsafe {
+            arbiter_hold(host.processors, host.period_us, host.slice_us,
+                         self.parents.as_ptr(), self.parents.len(), self.weights.as_ptr(), self.weights.len(),
+                         self.limits.as_ptr(), self.limits.len(), self.demands.as_ptr(), self.demands.len(),
+                         hungry.as_ptr(), hungry.len(), held.as_mut_ptr(), held.len(),
+                         demands.as_mut_ptr(), demands.len(), amounts.as_mut_ptr(), amounts.len(),
+                         claim.flags.as_mut_ptr(), claim.flags.len(), claim.nums.as_mut_ptr(), claim.nums.len(),
+                         claim.dens.as_mut_ptr(), claim.dens.len(), claim.places.as_mut_ptr(), claim.places.len())
         }
     }
 

@@ -1,0 +1,116 @@
+"""The limits that the C library gives for a round.
+
+They are compared with limits worked by hand, and on random trees with the slow model's plans.
+"""
+import random
+from typing import List, Optional, Sequence, Tuple
+
+import pytest
+
+import arbiter
+from plan_model import Instance, Row
+from support import same
+from test_library import number_of, random_tree
+
+SEED = 20261127
+TREES = 60
+# One processor of 20 slices.
+HOST = arbiter.Host(1, 100000, 5000)
+EVERYTHING = 1000000
+TWO = [Row(None), Row(0, demand=0), Row(0, weight=200, demand=0)]
+# `web` (1) has a limit of its own, `pod` (2) has one for its two leaves.
+POD = [Row(None), Row(0, limit=9), Row(0, limit=12), Row(2), Row(2)]
+Limits = List[Optional[int]]
+
+
+@pytest.fixture(scope="module")
+def module(library):
+    """The library under test, as the Python module calls it."""
+    return arbiter.Library(str(library))
+
+
+def using(rows: Sequence[Row], used: Sequence[int]) -> List[Row]:
+    """The rows, with what each used as its demand."""
+    return [Row(row.parent, row.weight, row.limit, demand) for row, demand in zip(rows, used)]
+
+
+@pytest.mark.parametrize("rows, used, hungry, limits, demands, amounts", [
+    # 20 slices of weights 100 and 200 are 7 and 13: the floors. What the first leaves is the
+    # second's.
+    (TWO, [0, 4, 10], [1, 0, 1], [None, 7, 16], [0, 4, EVERYTHING], [20, 4, 16]),
+    # Both are hungry: the floors are the plan.
+    (TWO, [0, 4, 10], [0, 1, 1], [None, 7, 13], [0, EVERYTHING, EVERYTHING], [20, 7, 13]),
+    # Nobody is hungry: the first has an eighth above its 8, the second its floor.
+    (TWO, [0, 8, 5], [0, 0, 0], [None, 9, 13], [0, 8, 5], [13, 8, 5]),
+    # The first used more than it is planned: its limit is the planned amount.
+    (TWO, [0, 16, 13], [0, 0, 0], [None, 7, 14], [0, 16, 13], [20, 7, 13]),
+    # `web` used 8 of its 9: an eighth more is 9. `pod` has 11 or 12 of 20, and keeps its limit.
+    # If all ask for all, web has 9 and the leaves of pod 6 and 5.
+    (POD, [0, 8, 0, 5, 2], [0, 0, 0, 1, 0], [None, 9, 12, 10, 5],
+     [0, 8, 0, EVERYTHING, 2], [20, 8, 12, 10, 2]),
+])
+def test_worked(module, rows, used, hungry, limits, demands, amounts):
+    rows = using(rows, used)
+    round_of = module.hold(HOST, rows, hungry)
+    same((round_of.limits, round_of.demands, round_of.amounts), (limits, demands, amounts))
+    asked = using(rows, demands)
+    module.check(HOST, asked, round_of.amounts, round_of.certificate)
+
+
+def by_model(rows: List[Row], capacity: int, hungry: Sequence[bool]
+             ) -> Tuple[Limits, List[int], List[int], Instance]:
+    """The limits, the demands, their plan and its instance, from the slow model's plans."""
+    inner = {row.parent for row in rows}
+    leaves = [number not in inner for number in range(len(rows))]
+    demands = [EVERYTHING if leaf and flag else row.demand
+               for leaf, flag, row in zip(leaves, hungry, rows)]
+    asked = Instance(using(rows, demands), capacity)
+    amounts = asked.plan()
+    most = [EVERYTHING if leaf else 0 for leaf in leaves]
+    floors = Instance(using(rows, most), capacity).plan()
+    limits: Limits = []
+    for row, leaf, flag, amount, floor in zip(rows, leaves, hungry, amounts, floors):
+        if not leaf:
+            limits.append(row.limit)
+        elif flag or amount < row.demand:
+            limits.append(max(floor, amount))
+        else:
+            room = row.demand + row.demand // 8
+            limits.append(max(floor, room if row.limit is None else min(row.limit, room)))
+    return limits, demands, amounts, asked
+
+
+@pytest.mark.parametrize("number", range(TREES))
+def test_random_tree(module, number):
+    chance = random.Random(SEED + number)
+    host, asked = random_tree(chance)
+    rows = [Row(row.parent, row.weight, row.limit, row.demand) for row in asked]
+    hungry = [chance.random() < 0.4 for _ in rows]
+    capacity = host.processors * (host.period_us // host.slice_us)
+    limits, demands, amounts, instance = by_model(rows, capacity, hungry)
+    round_of = module.hold(host, rows, hungry)
+    same((round_of.limits, round_of.demands, round_of.amounts), (limits, demands, amounts))
+    evidence = round_of.certificate
+    same(([bool(flag) for flag in evidence.flags], evidence.levels), instance.certificate(amounts))
+
+
+@pytest.mark.parametrize("flags", [0, 2, 4])
+def test_flag_for_each_row(module, flags):
+    same(number_of(module.hold, HOST, using(TWO, [0, 4, 10]), [True] * flags), (50, None))
+
+
+def test_rounds_reach_the_plan(module):
+    """From wide limits the plan of the wants is served from round 3 on, and stays.
+
+    The plan of the wants 4, 30 and 6 with weights 100, 100 and 200 is 4, 10 and 6: two leaves are
+    served whole.
+    """
+    rows = [Row(None), Row(0), Row(0), Row(0, weight=200)]
+    wants, used = [0, 4, 30, 6], [0, 4, 16, 0]
+    seen = []
+    for _ in range(5):
+        hungry = [have < want for have, want in zip(used, wants)]
+        limits = module.hold(HOST, using(rows, used), hungry).limits
+        used = [0] + [min(want, limit) for want, limit in zip(wants[1:], limits[1:])]
+        seen.append(used[1:])
+    same(seen[2:], [[4, 10, 6]] * 3)
