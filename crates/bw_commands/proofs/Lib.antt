@@ -6,3 +6,5 @@ mod Totals
 mod Within
 mod PathLists
 mod OnlyMemory
+mod Kept
+pub mod CallerLemmas

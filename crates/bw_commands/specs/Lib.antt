@@ -1,6 +1,7 @@
 -- The files of definitions.
 pub mod State
 pub mod Faults
+pub mod Lines
 pub mod Word
 pub mod Command
 pub mod Parsed

@@ -8,6 +8,9 @@ ghost use Rattle.bw_commands.specs.Parsed.{meaning_of, request_of};
 use crate::fault::ScriptFault;
 use crate::word::split_word;
 
+/// Maximum length of a line in bytes. A longer line is refused.
+pub const LINE_BYTES: usize = 65536;
+
 /// The request of a line of a script.
 #[derive(Clone, Copy)]
 pub enum Command<'a> {
@@ -62,14 +65,45 @@ impl<'a> Command<'a> {
     ghost use Rattle.std.specs.Prelude.{◌≡◌};
     ghost use Rattle.bw_commands.specs.Command.{command_of_line};
     ghost use Rattle.bw_commands.specs.Parsed.{request_of};
+    ghost use Rattle.bw_commands.specs.Script.{kept_of, request_of_kept};
 
-    /// Reads the command that a line names.
+    /// Reads the command of a line, without its newline.
     ///
     /// # Errors
     ///
-    /// `BadCommand` if its first word names no command, or not with that number of words.
+    /// The first that applies:
+    /// - `LineTooLong` if it has more than `LINE_BYTES` bytes.
+    /// - `BadText` if it is not UTF-8.
+    /// - `BadCommand` if its first word names no command, or not with that number of words.
+    pub fn of_bytes(line: &'a [u8]) -> Result<Command<'a>, ScriptFault>
+        ensures { request_of result ≡ request_of_kept (kept_of line.now) }
+    {
+        if line.len() > LINE_BYTES {
+            return Err(ScriptFault::LineTooLong);
+        }
+        match str::from_utf8(line) {
+            Ok(text) => Command::parse(text),
+            Err(_) => Err(ScriptFault::BadText),
+        }
+    }
+
+    /// Reads the command of a line that is known to be UTF-8, as `of_bytes` does.
+    ///
+    /// # Errors
+    ///
+    /// The first that applies: `LineTooLong`, `BadCommand`.
+    pub fn of_text(line: &'a str) -> Result<Command<'a>, ScriptFault>
+        ensures { request_of result ≡ request_of_kept (kept_of line.now) }
+    {
+        if line.len() > LINE_BYTES {
+            return Err(ScriptFault::LineTooLong);
+        }
+        Command::parse(line)
+    }
+
+    // The command that the words of a line name.
     #[tactic(auto, unfolding(crate::specs::Command::command_of_line))]
-    pub fn parse(line: &'a str) -> Result<Command<'a>, ScriptFault>
+    fn parse(line: &'a str) -> Result<Command<'a>, ScriptFault>
         ensures { request_of result ≡ command_of_line line.now }
     {
         let (verb, rest) = split_word(line);

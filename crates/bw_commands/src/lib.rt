@@ -10,7 +10,7 @@ mod script_state;
 mod span;
 mod word;
 
-pub use command::Command;
+pub use command::{Command, LINE_BYTES};
 pub use fault::ScriptFault;
 pub use refusal::{REFUSAL_BYTES, put_error};
 pub use script_state::Script;

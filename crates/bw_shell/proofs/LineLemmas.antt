@@ -4,7 +4,7 @@ use Rattle.std.proofs.Common.{take, drop, slice_index, refl, ap, subst, arith, i
 use Rattle.std.proofs.lemmas.Bool.{cases_Bool}
 use Rattle.std.proofs.lemmas.Bool.Decides.{eqb_tells}
 use Rattle.memchr.specs.Find.{Nowhere, NoneBefore, Passes, is_byte}
-use Rattle.bw_shell.specs.Lines.{lines_of, whole_lines_of, onto_first}
+use Rattle.bw_commands.specs.Lines.{lines_of, whole_lines_of, onto_first}
 
 -- no byte is a newline
 abbrev pub NoNewline : List ℕ → Type 0

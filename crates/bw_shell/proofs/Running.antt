@@ -2,7 +2,7 @@
 use Rattle.std.proofs.Common.{ℕ, List, ◌++◌, Option}
 use Rattle.std.specs.Io.KnownBytes.{Appends, Consumes, Keeps}
 use Rattle.bw_commands.specs.State.{State}
-use Rattle.bw_shell.specs.Lines.{lines_of, whole_lines_of}
+use Rattle.bw_commands.specs.Lines.{lines_of, whole_lines_of}
 use Rattle.bw_shell.specs.Scan.{Scan, TakesBytes, Finishes, begin}
 use Rattle.bw_shell.specs.Stream.{Transcribes, TranscribesFront}
 use Rattle.bw_streams.specs.Fronts.{AppendsFront}

@@ -11,9 +11,10 @@ use Rattle.bw_commands.specs.Script.Outcome.{Report}
 use Rattle.bw_commands.specs.Faults.{error_line}
 use Rattle.bw_commands.specs.declared.fault.ScriptFault.TheVariants.{OutOfMemory}
 use Rattle.bw_shell.specs.Transcript.{Answers, IsTranscript}
-use Rattle.bw_shell.specs.Lines.{lines_of, whole_lines_of}
+use Rattle.bw_commands.specs.Lines.{lines_of, whole_lines_of}
 use Rattle.bw_shell.specs.Scan.{Scan, TakesByte, TakesBytes, TakesLine, Finishes, kept_with}
 use Rattle.bw_shell.specs.Scan.{kept_after, begin}
+use Rattle.bw_commands.proofs.CallerLemmas.{kept_of-long, kept_of-short}
 use Rattle.bw_shell.proofs.LineLemmas.{NoNewline, last_line, NoNewline-push, lines_of-cut}
 use Rattle.bw_shell.proofs.LineLemmas.{whole_lines_of-cut, lines_of-newline, whole_lines_of-newline}
 
@@ -132,12 +133,6 @@ unfolding Answers
 Answers-one s t line text p = (text, [], t, p, (refl, refl), sym (append-nil text))
 
 -- ---- what is kept of a line
-
-pub kept_of-long : (line : List ℕ) → 65536 < length line → kept_of line ≡ None
-kept_of-long line h = rw (lt-ltb 65536 (length line) h) refl
-
-pub kept_of-short : (line : List ℕ) → length line ≤ 65536 → kept_of line ≡ Some line
-kept_of-short line h = rw (le-ltb 65536 (length line) h) refl
 
 kept_with-kept_of : (cur : List ℕ) (x : ℕ) → kept_with (kept_of cur) x ≡ kept_of (cur ++ x ∷ [])
 kept_with-kept_of cur x =

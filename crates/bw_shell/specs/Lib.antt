@@ -1,5 +1,4 @@
 -- The files of definitions.
-pub mod Lines
 pub mod Transcript
 pub mod Scan
 pub mod Stream

@@ -2,7 +2,7 @@
 use Rattle.std.specs.Prelude.{ℕ, ◌≡◌, ◌≤◌, ◌⊎◌, ◌||◌, List, Option, Result, true, OnOk, IsErrOf}
 use Rattle.std.specs.Io.KnownBytes.{IsAtEnd}
 use Rattle.bw_commands.specs.State.{State}
-use Rattle.bw_shell.specs.Lines.{lines_of, whole_lines_of}
+use Rattle.bw_commands.specs.Lines.{lines_of, whole_lines_of}
 use Rattle.bw_shell.specs.Stream.{Transcribes, TranscribesFront}
 use Rattle.bw_streams.specs.Reading.{EndIsReadOnce}
 use Rattle.bw_streams.specs.Watched.{inner_of, has_failed, has_stalled, read_calls, is_flushed}

@@ -11,8 +11,7 @@ mod session;
 mod status;
 mod waiting;
 
-pub use bw_commands::ScriptFault;
+pub use bw_commands::{LINE_BYTES, ScriptFault};
 pub use laws::script_numbers;
 pub use script::{run, run_gated};
-pub use session::LINE_BYTES;
 pub use status::status_of_run;

@@ -1,8 +1,7 @@
 //! Answers whole lines of a script.
-ghost use Rattle.std.specs.Prelude.{◌≡◌, ◌≤◌, ◌||◌, not, [], Ok, Err, true, OnOk, MatchResult};
+ghost use Rattle.std.specs.Prelude.{◌≡◌, ◌≤◌, ◌||◌, not, [], Ok, true, OnOk};
 ghost use Rattle.std.specs.Vec.{vec_capacity};
 ghost use Rattle.bw_commands.specs.Command.{Period};
-ghost use Rattle.bw_commands.specs.Command.{command_of_line};
 ghost use Rattle.bw_commands.specs.Parsed.{request_of};
 ghost use Rattle.bw_commands.specs.Script.{kept_of, request_of_kept};
 ghost use Rattle.bw_streams.specs.Watched.{is_flushed, HasNoFault};
@@ -11,7 +10,6 @@ ghost use Rattle.bw_shell.specs.Piece.{bytes_of};
 ghost use Rattle.bw_commands.specs.declared.refusal.TheConstants.{REFUSAL_BYTES};
 
 use crate::piece::Piece;
-use crate::session::LINE_BYTES;
 use crate::waiting::{WAITING_BYTES, flush_waiting, gather, send_waiting};
 use bw_commands::{Command, REFUSAL_BYTES, Script, ScriptFault, put_error};
 use bw_model::HostShape;
@@ -24,31 +22,13 @@ use std::rt::Clock;
 use std::sync::Wait;
 use std::thread::Threads;
 
-// The text of a line, or the refusal of the line.
-fn text_of(line: Piece<'_>) -> Result<&str, ScriptFault>
-    ensures { MatchResult result
-        (λ text. request_of_kept (kept_of (bytes_of line.entry)) ≡ command_of_line text.now)
-        (λ fault. request_of_kept (kept_of (bytes_of line.entry)) ≡ Err fault) }
-{
-    if line.bytes().len() > LINE_BYTES {
-        return Err(ScriptFault::LineTooLong);
-    }
-    match line {
-        Piece::Text(text) => Ok(text),
-        Piece::Bytes(bytes) => match str::from_utf8(bytes) {
-            Ok(text) => Ok(text),
-            Err(_) => Err(ScriptFault::BadText),
-        },
-    }
-}
-
 // The command that a line asks for, or the refusal of the line.
 fn command_of(line: Piece<'_>) -> Result<Command<'_>, ScriptFault>
     ensures { request_of result ≡ request_of_kept (kept_of (bytes_of line.entry)) }
 {
-    match text_of(line) {
-        Ok(text) => Command::parse(text),
-        Err(fault) => Err(fault),
+    match line {
+        Piece::Text(text) => Command::of_text(text),
+        Piece::Bytes(bytes) => Command::of_bytes(bytes),
     }
 }
 

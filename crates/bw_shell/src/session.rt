@@ -7,6 +7,7 @@ ghost use Rattle.bw_streams.specs.Writes.{Writes};
 
 use crate::piece::Piece;
 use crate::responder::Responder;
+use bw_commands::LINE_BYTES;
 use bw_model::HostShape;
 use bw_streams::{RunFault, Watched};
 use bw_workers::Gate;
@@ -17,9 +18,6 @@ use std::io::Write;
 use std::rt::Clock;
 use std::sync::Wait;
 use std::thread::Threads;
-
-/// Maximum length of a line in bytes. A longer line is refused.
-pub const LINE_BYTES: usize = 65536;
 
 // Number of bytes that are kept of a line: one more than its maximum shows that it is too long.
 pub(crate) const KEPT_BYTES: usize = LINE_BYTES + 1;

@@ -1,0 +1,4 @@
+-- The files of lemmas.
+mod Parts
+mod Taken
+mod Served
