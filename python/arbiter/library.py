@@ -2,6 +2,7 @@
 from __future__ import annotations
 
 import ctypes
+import functools
 import os
 from array import array
 from collections.abc import Sequence
@@ -69,10 +70,12 @@ class Library:
         self.calls.arbiter_refused_row(*columns.given, ctypes.byref(row))
         return self.refused(number, row_or_none(row.value) if number in OF_ROWS else None)
 
-    def host(self, host: Host) -> list[int]:
+    @staticmethod
+    @functools.lru_cache(maxsize=64)
+    def host(host: Host) -> tuple[int, ...]:
         """The numbers of a host as C takes them."""
-        return [in_range(number, 64, "host")
-                for number in (host.processors, host.period_us, host.slice_us)]
+        return tuple(in_range(number, 64, "host")
+                     for number in (host.processors, host.period_us, host.slice_us))
 
     def ask(self, name: str, host: Host, columns: Columns, *words: object) -> None:
         """One call about a tree. `words` are those behind its columns."""

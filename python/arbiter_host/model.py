@@ -50,7 +50,7 @@ def planned(host: Host) -> Host:
                     " CPUs and at most 1000 slices: another slice has such a number", 2)
 
 
-@dataclass
+@dataclass(slots=True)
 class Group:
     """One group below the root. Its quota, period and burst are microseconds.
 
@@ -102,6 +102,8 @@ class Model:
     refused: list[str] = field(default_factory=list)
     # Whether the source itself named the host.
     names_host: bool = False
+    # Conversions that the source knows, which are those of its host.
+    slices: Slices | None = None
 
     def add(self, group: Group) -> Group:
         """Adds a group whose parent is there."""
@@ -126,11 +128,13 @@ class Model:
 
     def rows(self, library: Library) -> list[Row]:
         """The rows that the planner takes, the root first."""
-        place, slices = {".": 0}, Slices(library, self.host)
-        rows = [Row(None, units.DEFAULT_WEIGHT, None, 0)]
+        slices = self.slices
+        if slices is None or not slices.are_of(self.host):
+            slices = Slices(library, self.host)
+        place, rows = {"": 0}, [Row(None, units.DEFAULT_WEIGHT, None, 0)]
         for path, group in self.groups.items():
             place[path] = len(rows)
-            rows.append(Row(place[names.parent_path(path)], group.weight,
+            rows.append(Row(place[path.rpartition("/")[0]], group.weight,
                             group.limit_slices(slices), slices.demand(group.usable)))
         return rows
 

@@ -1,7 +1,6 @@
 """Names of groups: what a path can hold, and what a terminal or a page can show."""
 from __future__ import annotations
 
-import hashlib
 import itertools
 import os
 import re
@@ -147,6 +146,7 @@ def path_name(raw: str, taken: Container[str]) -> str:
     if name in ("", ".", ".."):
         name = "%" + name
     if len(name.encode()) > MAX_NAME:
+        import hashlib  # (few names are so long)
         name = shortened(name, hashlib.sha256(name.encode()).hexdigest()[:KEPT])
     marked = (shortened(name, str(number)) for number in range(2, MOST_ALIKE + 1))
     for each in itertools.chain([name], marked):

@@ -17,7 +17,7 @@ from arbiter_host.model import Group, Model, checked, planned
 from arbiter_host.names import last_name, short, shown
 
 
-@dataclass
+@dataclass(slots=True)
 class Planned:
     """One group of a plan. Row 0 is the root, whose limit is the capacity."""
 

@@ -90,6 +90,10 @@ class Slices:
         self.limits: dict[tuple[int, int], int] = {}
         self.demands: dict[tuple[int, int], int] = {}
 
+    def are_of(self, host: Host) -> bool:
+        """Whether they are those of a host."""
+        return (self.host.period_us, self.host.slice_us) == (host.period_us, host.slice_us)
+
     def limit(self, usec: int, own_period: int) -> int:
         """Slices that a quota or burst allows, rounded down."""
         found = self.limits.get((usec, own_period))
@@ -106,7 +110,7 @@ class Slices:
 
     def demand(self, thousandths: Fraction) -> int:
         """Slices that a demand takes, rounded up, at most 1000000."""
-        key = thousandths.numerator, thousandths.denominator
+        key = thousandths.as_integer_ratio()
         found = self.demands.get(key)
         if found is None:
             found = self.demands[key] = self.asked_demand(*key)
