@@ -284,7 +284,7 @@ def test_series_by_hand(ctl, folder):
         text = "a,b,c\n" + "".join(",".join(row) + "\n" for row in cells)
         # A row of empty cells is a sample all the same.
         (folder / f"{unit}.csv").write_text(text)
-        words = [folder / "s", folder / f"{unit}.csv", *shown, "--unit", unit]
+        words = [folder / "s", folder / f"{unit}.csv", *shown, "--unit", unit, "--holes", "keep"]
         out, _ = ctl.run("series", *words)
         table = cells_of(out)
         assert [[each.lstrip("0123456789/") for each in row[1:]] for row in table[1:]] == [
