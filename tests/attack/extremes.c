@@ -36,8 +36,10 @@ static uint64_t told(const uint32_t *parents, const uint64_t *weights, const uin
     uint64_t *amounts = guard_block(n * 8, 0), *nums = guard_block(n * 8, 0), *dens = guard_block(n * 8, 0), rest = 7, sum = 0, least[4] = {7, 7, 7, 7};
     uint32_t *places = guard_block(n * 4, 0), *groups = guard_block(n * 4, 0), count = 7, row = 7;
     /* bytes may stand at any address */
-    uint8_t *flags = guard_block(n, 0), *reasons = guard_block(n, 0);
-    uint32_t answers[9];
+    uint8_t *flags = guard_block(n, 0), *reasons = guard_block(n, 0), *tights = guard_block(n, 0);
+    uint64_t *wants = guard_block(n * 8, 0), *mosts = guard_block(n * 8, 1), *shares = guard_block(n * 8, 0), *withheld = guard_block(n * 8, 1);
+    uint32_t *actives = guard_block(n * 4, 1);
+    uint32_t answers[10];
 
     answers[0] = arbiter_plan(HOST, ALL(n), amounts, n);
     answers[1] = arbiter_certify(HOST, ALL(n), amounts, n, flags, n, nums, n, dens, n, places, n);
@@ -48,15 +50,19 @@ static uint64_t told(const uint32_t *parents, const uint64_t *weights, const uin
     answers[6] = arbiter_least_weight(HOST, ALL(n), (uint32_t)n - 1, 5, &least[1]);
     answers[7] = arbiter_least_limit(HOST, ALL(n), (uint32_t)n - 1, 5, &least[2]);
     answers[8] = arbiter_least_processors(HOST, ALL(n), (uint32_t)n - 1, 5, &least[3]);
-    for (int each = 0; each < 9; each++)
+    answers[9] = arbiter_figures(HOST, ALL(n), wants, n, mosts, n, tights, n, actives, n, shares, n, withheld, n);
+    for (int each = 0; each < 10; each++)
         sum = sum * 31 + answers[each];
+    for (size_t g = 0; g < n; g++)
+        sum = sum * 31 + wants[g] + 3 * mosts[g] + 5 * tights[g] + 7 * actives[g] + 11 * shares[g] + 13 * withheld[g];
     for (size_t g = 0; g < n; g++)
         sum = sum * 31 + amounts[g] + 3 * nums[g] + 5 * dens[g] + 7 * flags[g] + 11 * places[g] + 13 * groups[g] + 17 * reasons[g];
     for (int each = 0; each < 4; each++)
         sum = sum * 31 + least[each];
-    calls += 9;
+    calls += 10;
     demand(1, __LINE__);
     guard_drop(amounts), guard_drop(nums), guard_drop(dens), guard_drop(places), guard_drop(groups), guard_drop(flags), guard_drop(reasons);
+    guard_drop(tights), guard_drop(wants), guard_drop(mosts), guard_drop(shares), guard_drop(withheld), guard_drop(actives);
     return sum * 31 + rest + count + row;
 }
 
@@ -115,6 +121,7 @@ static void nothing(void)
     IS(5, arbiter_limiting(HOST, ALL(0), places, 0, &count, &number));
     IS(5, arbiter_reasons(HOST, ALL(0), flags, 0, places, 0));
     IS(5, arbiter_guarantee(HOST, ALL(0), 0, &number));
+    IS(5, arbiter_figures(HOST, ALL(0), amounts, 0, weights, 0, flags, 0, parents, 0, limits, 0, demands, 0));
     IS(5, arbiter_least_weight(HOST, ALL(0), UINT32_MAX, UINT64_MAX, &number));
     IS(5, arbiter_refused_row(ALL(0), &row));
     IS(50, arbiter_plan(0, 0, 0, parents, 0, weights, 0, limits, 0, demands, 0, &number, 1));
@@ -142,7 +149,7 @@ static void millions(void)
     uint64_t *weights = mapped(n * 8), *limits = weights, *demands = weights, *amounts = mapped(n * 8), number = 7;
     uint32_t *parents = mapped(n * 4), *places = mapped(n * 4), count = 7, row = 7;
     uint8_t *flags = mapped(n);
-    uint64_t *nums = mapped(n * 8), *dens = mapped(n * 8);
+    uint64_t *nums = mapped(n * 8), *dens = mapped(n * 8), *more = mapped(n * 8);
 
     IS(4, arbiter_plan(HOST, ALL(n), amounts, n));
     IS(4, arbiter_certify(HOST, ALL(n), amounts, n, flags, n, nums, n, dens, n, places, n));
@@ -150,6 +157,7 @@ static void millions(void)
     IS(4, arbiter_limiting(HOST, ALL(n), places, n, &count, &number));
     IS(4, arbiter_reasons(HOST, ALL(n), flags, n, places, n));
     IS(4, arbiter_guarantee(HOST, ALL(n), 0, &number));
+    IS(4, arbiter_figures(HOST, ALL(n), amounts, n, nums, n, flags, n, places, n, dens, n, more, n));
     IS(4, arbiter_least_processors(HOST, ALL(n), 0, 1, &number));
     IS(50, arbiter_plan(HOST, parents, n, weights, 3, limits, n, demands, n, amounts, n));
     IS(50, arbiter_plan(HOST, ALL(n), amounts, n - 1));
@@ -162,7 +170,7 @@ static void millions(void)
     IS(13, arbiter_name(57, (char *)flags, n));
     demand(!strcmp((char *)flags, "LastMarkAbove"), __LINE__);
     IS(strlen(ARBITER_VERSION), arbiter_version((char *)flags, n));
-    munmap(weights, n * 8), munmap(amounts, n * 8), munmap(parents, n * 4), munmap(places, n * 4), munmap(flags, n), munmap(nums, n * 8), munmap(dens, n * 8);
+    munmap(weights, n * 8), munmap(amounts, n * 8), munmap(parents, n * 4), munmap(places, n * 4), munmap(flags, n), munmap(nums, n * 8), munmap(dens, n * 8), munmap(more, n * 8);
 }
 
 /* A text at each place of a word, and cut behind each of its letters. */

@@ -285,6 +285,32 @@ static void hold_reasons(struct host host, struct rows rows, const uint64_t *amo
     guard_drop(blamed);
 }
 
+/* The figures of each row, which are worked out here from the last row to the first. */
+static void hold_figures(struct host host, struct rows rows, const uint64_t *amounts)
+{
+    size_t n = rows.parents_length;
+    uint64_t *wants = marked(n, 8), *mosts = marked(n, 8), *weights = marked(n, 8), *withheld = marked(n, 8);
+    uint64_t below[MOST] = {0}, active_weights[MOST] = {0};
+    uint32_t *actives = marked(n, 4), many[MOST] = {0};
+    uint8_t *tights = marked(n, 1), is_inner[MOST] = {0};
+
+    demand(counted(arbiter_figures(HOST(host), ROWS(rows), wants, n, mosts, n, tights, n, actives, n, weights, n, withheld, n)) == 0, "no figures");
+    for (size_t row = n; row--;) {
+        uint64_t want = is_inner[row] ? below[row] : rows.demands[row];
+        uint64_t limit = row ? rows.limits[row] : host.processors * (host.period / host.slice);
+        uint64_t most = want < limit ? want : limit;
+        demand(wants[row] == want && mosts[row] == most && tights[row] == (limit < want), "other figures");
+        demand(actives[row] == many[row] && weights[row] == active_weights[row], "other children");
+        demand(withheld[row] == (row ? want - most : 0) && amounts[row] <= most, "other slices withheld");
+        if (row) {
+            uint32_t above = rows.parents[row];
+            is_inner[above] = 1, below[above] += most, many[above] += most > 0;
+            active_weights[above] += most > 0 ? rows.weights[row] : 0;
+        }
+    }
+    guard_drop(wants), guard_drop(mosts), guard_drop(weights), guard_drop(withheld), guard_drop(actives), guard_drop(tights);
+}
+
 /* The least value reaches the amount, and one less does not. */
 static void hold_least(struct host host, struct rows rows, uint32_t group, uint64_t amount)
 {
@@ -326,6 +352,9 @@ static void hold_refusal(struct host host, struct rows rows, struct answer *foun
     demand(counted(arbiter_limiting(HOST(host), ROWS(rows), found->places, n, &count, &number_)) == answer, "limiting answers another number");
     demand(counted(arbiter_reasons(HOST(host), ROWS(rows), found->flags, n, found->places, n)) == answer, "reasons answer another number");
     demand(counted(arbiter_guarantee(HOST(host), ROWS(rows), 0, &number_)) == answer, "guarantee answers another number");
+    demand(counted(arbiter_figures(HOST(host), ROWS(rows), found->amounts, n, found->nums, n, found->flags, n, found->places, n, found->dens, n,
+                                   found->amounts, n)) == answer, "figures answer another number");
+    demand(is_marked(found->amounts, n * 8) && is_marked(found->nums, n * 8) && is_marked(found->dens, n * 8), "a refused call wrote");
     demand(count == 77 && number_ == 77 && is_marked(found->places, n * 4) && is_marked(found->flags, n), "a refused call wrote");
     uint32_t which = counted(arbiter_refused_row(ROWS(rows), &row));
     demand(answer < 4 || which == answer, "refused_row answers another number");
@@ -356,6 +385,7 @@ static void hold_answer(struct host host, struct rows rows, struct answer *found
     hold_text(host, rows, found);
     hold_limiting(host, rows, amounts);
     hold_reasons(host, rows, amounts);
+    hold_figures(host, rows, amounts);
     uint32_t group = (uint32_t)(taken(1) % found->count);
     hold_least(host, rows, group, number(64));
     hold_check(host, rows, found);

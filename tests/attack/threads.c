@@ -11,12 +11,13 @@
 
 #define THREADS 16
 #define MOST 200
+#define CALLS 11
 #define NONE ARBITER_NO_LIMIT
 
 struct answers {
-    uint64_t amounts[MOST], nums[MOST], dens[MOST], rest, least[4];
-    uint32_t places[MOST], groups[MOST], blamed[MOST], count, row, numbers[10];
-    uint8_t flags[MOST], reasons[MOST];
+    uint64_t amounts[MOST], nums[MOST], dens[MOST], wants[MOST], mosts[MOST], weights[MOST], withheld[MOST], rest, least[4];
+    uint32_t places[MOST], groups[MOST], blamed[MOST], actives[MOST], count, row, numbers[CALLS];
+    uint8_t flags[MOST], reasons[MOST], tights[MOST];
 };
 
 struct tree {
@@ -61,7 +62,8 @@ static void ask(const struct tree *tree, struct answers *found)
     numbers[7] = arbiter_least_limit(HOST, ROWS, last, 3, &found->least[2]);
     numbers[8] = arbiter_least_processors(HOST, ROWS, last, 3, &found->least[3]);
     numbers[9] = arbiter_check_text((const uint8_t *)"bw 1 1 100000 5000 1\n- 100 max 0 0 0 -\n", 39, &found->row);
-    atomic_fetch_add(&calls, 10);
+    numbers[10] = arbiter_figures(HOST, ROWS, found->wants, n, found->mosts, n, found->tights, n, found->actives, n, found->weights, n, found->withheld, n);
+    atomic_fetch_add(&calls, CALLS);
 }
 
 static void *run(void *given)
@@ -87,7 +89,7 @@ int main(int count, char **words)
     for (unsigned each = 0; each < THREADS; each++) {
         make(&trees[each], each);
         ask(&trees[each], &trees[each].alone);
-        for (int number = 0; number < 10; number++)
+        for (int number = 0; number < CALLS; number++)
             if (trees[each].alone.numbers[number])
                 return 2;
     }
