@@ -37,6 +37,13 @@ def crates() -> list:
     return [line.split(":")[0].split()[0] for line in lines if line and not line.startswith("#")]
 
 
+def test_docs_are_small():
+    """All of docs/ but its pictures has at most 260 KB: a page says what holds today."""
+    sizes = {str(path.relative_to(ROOT)): path.stat().st_size
+             for path in (ROOT / "docs").rglob("*") if path.is_file() and path.suffix != ".svg"}
+    assert sum(sizes.values()) <= 260_000, sorted(sizes.items(), key=lambda item: -item[1])
+
+
 # Links
 
 
