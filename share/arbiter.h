@@ -92,6 +92,30 @@ uint32_t arbiter_check(uint64_t processors, uint64_t period_us, uint64_t slice_u
 /* The same for a certified text (docs/EMBEDDING.md); `row` is written for 51 to 58, and is as it was otherwise. */
 uint32_t arbiter_check_text(const uint8_t *text, size_t text_length, uint32_t *row);
 
+/* Reads a script, as `arbiter run` does on this host, and writes the groups after its last line and the refused lines. Lines that
+ * only ask for an answer change nothing. Each `period` serves the plan where every leaf uses its slices, without a thread.
+ *
+ * Groups stand in order of creation, the root first, one entry in each of the eight columns that begin with `parents`. The first
+ * four, cut to `count` entries, are what arbiter_plan takes: a limit is that of the next period. A quota and a burst are in
+ * microseconds of each own period, of which `periods` has the length, as they were written. A carry is the slices of its limit
+ * that the last period left. ARBITER_NO_LIMIT is no limit, and no quota. `names` has the last name of each group, none for the
+ * root, each with a newline behind it, which no name has: `names_count` bytes.
+ *
+ * Line refused_lines[i] of the script, where the first is 1, was refused by the number refused_faults[i], and changed nothing:
+ * 7 to 9, 11 to 17, 20 to 28, 30, 31, 33, or 80 to 82, as docs/NUMBERS.md has them. There are `refused_count` such lines.
+ *
+ * Answers 50 where the eight columns differ in length, or the two of refused lines do; then 1 to 3; then 71, or 50 where a column
+ * is too short. For a text with n newlines n + 2 groups, and never more than 16384, text_length + 1 bytes of names, and n + 1
+ * refused lines have room. What stands behind the written entries is as it was. */
+uint32_t arbiter_script(uint64_t processors, uint64_t period_us, uint64_t slice_us, const uint8_t *text, size_t text_length,
+                        uint32_t *parents, size_t parents_length, uint64_t *weights, size_t weights_length,
+                        uint64_t *limits, size_t limits_length, uint64_t *demands, size_t demands_length,
+                        uint64_t *quotas, size_t quotas_length, uint64_t *periods, size_t periods_length,
+                        uint64_t *bursts, size_t bursts_length, uint64_t *carries, size_t carries_length,
+                        uint8_t *names, size_t names_length, uint64_t *refused_lines, size_t refused_lines_length,
+                        uint32_t *refused_faults, size_t refused_faults_length,
+                        uint32_t *count, uint64_t *names_count, uint64_t *refused_count);
+
 /* Writes the rows of the groups whose limits hold the total down to the beginning of `groups`, how many they are to `count`, and
  * what is wanted outside them to `rest`: their limits and the rest add up to the greatest total. */
 uint32_t arbiter_limiting(uint64_t processors, uint64_t period_us, uint64_t slice_us,

@@ -40,6 +40,11 @@ int main(void)
     const uint64_t used[3] = {0, 4, 10};
     const uint8_t hungry[3] = {0, 0, 1};
     uint64_t caps[3] = {0, 0, 0}, asks[3];
+    /* a pod with a limit, a burst and a carry over a group; and a refused line */
+    const char script[] = "mkdir web\nwrite web cpu.max 50000\nwrite web cpu.max.burst 25000\nmkdir web/a\ndemand web/a 4\nperiod\nmkdir web\n";
+    uint32_t up[3], fault[1];
+    uint64_t heavy[3], capped[3], asked[3], quotas[3], periods[3], bursts[3], carries[3], line[1], names_count = 9, refused_count = 9;
+    char path[8];
 
     if (arbiter_plan(0, 100000, 5000, parents, 3, weights, 3, limits, 3, demands, 3, amounts, 3) != 1 || amounts[0] != 1)
         return 1;
@@ -133,5 +138,18 @@ int main(void)
         return 40;
     if (arbiter_check(1, 100000, 5000, parents, 3, weights, 3, limits, 3, asks, 3, amounts, 3, flags, 3, nums, 3, dens, 3, places, 3, &row) != 0)
         return 41;
+    if (arbiter_script(1, 100000, 5000, (const uint8_t *)script, sizeof script - 1, up, 3, heavy, 3, capped, 3, asked, 3, quotas, 3, periods, 3,
+                       bursts, 3, carries, 2, (uint8_t *)path, 7, line, 1, fault, 1, &count, &names_count, &refused_count) != 50 || count != 1)
+        return 42;
+    if (arbiter_script(1, 100000, 5000, (const uint8_t *)script, sizeof script - 1, up, 3, heavy, 3, capped, 3, asked, 3, quotas, 3, periods, 3,
+                       bursts, 3, carries, 3, (uint8_t *)path, 7, line, 1, fault, 1, &count, &names_count, &refused_count) != 0)
+        return 43;
+    path[7] = 0;
+    if (count != 3 || names_count != 7 || refused_count != 1 || !is_same(path, "\nweb\na\n") || line[0] != 7 || fault[0] != 21)
+        return 44;
+    if (up[0] != ARBITER_NO_PARENT || up[1] != 0 || up[2] != 1 || heavy[1] != 100 || asked[2] != 4 || quotas[1] != 50000 || periods[1] != 100000)
+        return 45;
+    if (bursts[1] != 25000 || carries[1] != 6 || capped[1] != 15 || capped[2] != ARBITER_NO_LIMIT || quotas[2] != ARBITER_NO_LIMIT)
+        return 46;
     return 0;
 }

@@ -41,10 +41,16 @@ static uint64_t amounts[5], nums[5], dens[5], caps[5], asks[5], rest;
 static uint64_t wants[5], mosts[5], active_weights[5], withheld[5];
 static uint8_t flags[5], reasons[5], tights[5];
 static uint32_t places[5], groups[5], blamed[5], actives[5], count, row;
+/* Each command of a script, a name that takes memory, a period with a carry, and refused lines. */
+static const char script[] = "mkdir pod\nmkdir pod/a-name-of-more-than-24-bytes\nmkdir pod/y\nwrite pod cpu.max 50000\n"
+                             "write pod cpu.max.burst 25000\ndemand pod/y 4\nread pod cpu.max\nperiod\nmkdir pod\nrmdir x\n";
+static uint32_t above[5], faults[5];
+static uint64_t columns[7][5], lines[5], names_count, refused_count;
+static uint8_t names[64];
 
 #define ROWS 1, 100000, 5000, parents, 5, weights, 5, limits, 5, demands, 5
 /* The calls before the check. */
-#define CALLS 11
+#define CALLS 12
 
 static void mark(void)
 {
@@ -52,9 +58,13 @@ static void mark(void)
         amounts[g] = nums[g] = dens[g] = caps[g] = asks[g] = 7;
         wants[g] = mosts[g] = active_weights[g] = withheld[g] = 7;
         flags[g] = reasons[g] = tights[g] = 7;
-        places[g] = groups[g] = blamed[g] = actives[g] = 7;
+        places[g] = groups[g] = blamed[g] = actives[g] = above[g] = faults[g] = 7;
+        for (int column = 0; column < 7; column++)
+            columns[column][g] = 7;
+        lines[g] = names[g] = 7;
     }
     rest = count = row = 7;
+    names_count = refused_count = 7;
 }
 
 static int is_marked(void)
@@ -62,9 +72,14 @@ static int is_marked(void)
     for (int g = 0; g < 5; g++)
         if (amounts[g] != 7 || nums[g] != 7 || dens[g] != 7 || flags[g] != 7 || places[g] != 7 || groups[g] != 7
                 || reasons[g] != 7 || blamed[g] != 7 || wants[g] != 7 || mosts[g] != 7 || tights[g] != 7
-                || actives[g] != 7 || active_weights[g] != 7 || withheld[g] != 7 || caps[g] != 7 || asks[g] != 7)
+                || actives[g] != 7 || active_weights[g] != 7 || withheld[g] != 7 || caps[g] != 7 || asks[g] != 7
+                || above[g] != 7 || faults[g] != 7 || lines[g] != 7 || names[g] != 7)
             return 0;
-    return rest == 7 && count == 7 && row == 7;
+    for (int g = 0; g < 5; g++)
+        for (int column = 0; column < 7; column++)
+            if (columns[column][g] != 7)
+                return 0;
+    return rest == 7 && count == 7 && row == 7 && names_count == 7 && refused_count == 7;
 }
 
 static uint32_t call(int which)
@@ -81,6 +96,9 @@ static uint32_t call(int which)
     case 8: return arbiter_least_processors(ROWS, 4, 15, &rest);
     case 9: return arbiter_figures(ROWS, wants, 5, mosts, 5, tights, 5, actives, 5, active_weights, 5, withheld, 5);
     case 10: return arbiter_hold(ROWS, hungry, 5, caps, 5, asks, 5, amounts, 5, flags, 5, nums, 5, dens, 5, places, 5);
+    case 11: return arbiter_script(1, 100000, 5000, (const uint8_t *)script, sizeof script - 1, above, 5, columns[0], 5,
+                                  columns[1], 5, columns[2], 5, columns[3], 5, columns[4], 5, columns[5], 5, columns[6], 5,
+                                  names, sizeof names, lines, 5, faults, 5, &count, &names_count, &refused_count);
     default: return arbiter_check(ROWS, amounts, 5, flags, 5, nums, 5, dens, 5, places, 5, &row);
     }
 }
@@ -97,13 +115,13 @@ int main(void)
             turn = 0;
             uint32_t number = call(which);
             if (held != 0)
-                return 10 + which;
+                return 60 + which;
             if (number != 0 && (number != 71 || !is_marked()))
-                return 20 + which;
+                return 80 + which;
             refusals += number != 0;
         } while (turn >= refused_turn);
         if (refusals < 3)
-            return 30 + which;
+            return 100 + which;
     }
     /* the check of a certificate that holds */
     refused_turn = 0;

@@ -6,3 +6,4 @@ mod Fit
 mod RefusedRow
 mod Questions
 mod Reasoned
+mod ScriptLemmas

@@ -12,3 +12,5 @@ pub mod Units
 pub mod RefusedRow
 pub mod Questions
 pub mod Reasoned
+pub mod Script
+pub mod ScriptTold

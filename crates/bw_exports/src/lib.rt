@@ -26,6 +26,8 @@ mod reasons_call;
 mod refusal;
 mod refused_row;
 mod refused_row_call;
+mod script_call;
+mod script_columns;
 mod shares_call;
 mod slices_call;
 mod version_call;

@@ -121,6 +121,41 @@ pub enum Reason {
     HostFull,
 }
 
+/// A group after a script.
+#[derive(Clone, Debug, PartialEq, Eq)]
+pub struct Group {
+    /// Its last name, empty at the root.
+    pub name: String,
+    /// Its row in the next period.
+    pub row: Row,
+    /// Its quota in microseconds of each own period.
+    pub quota: Option<u64>,
+    /// The length of its own period in microseconds.
+    pub period: u64,
+    /// Its burst in microseconds of each own period.
+    pub burst: u64,
+    /// The slices of its limit that the last period left.
+    pub carry: u64,
+}
+
+/// A line of a script that was refused.
+#[derive(Clone, Copy, Debug, PartialEq, Eq)]
+pub struct RefusedLine {
+    /// Its number. The first line has 1.
+    pub line: u64,
+    /// Why it was refused.
+    pub fault: Fault,
+}
+
+/// What a script leads to.
+#[derive(Clone, Debug, PartialEq, Eq)]
+pub struct Script {
+    /// The groups in order of creation, the root first.
+    pub groups: Vec<Group>,
+    /// The refused lines in order.
+    pub refused: Vec<RefusedLine>,
+}
+
 /// What a call answers in place of 0.
 #[derive(Clone, Copy, Debug, PartialEq, Eq)]
 pub struct Fault {
@@ -218,6 +253,18 @@ pub fn check_text(text: &[u8]) -> Result<(), Fault> {
     let mut row = u32::MAX;
     let number = raw::check_text(text, &mut row);
     answered(number, Some(row).filter(|row| *row != u32::MAX))
+}
+
+/// The groups after a script, as `arbiter run` reads it, and its refused lines.
+///
+/// Each `period` serves the plan where every leaf uses its slices.
+///
+/// # Errors
+/// The host is refused (1 to 3), or memory is (71).
+pub fn script(host: Host, text: &[u8]) -> Result<Script, Fault> {
+    let mut told = raw::Told::room(text);
+    answered(told.read(host, text), None)?;
+    Ok(told.script())
 }
 
 /// The groups whose limits hold the total down, and what is wanted outside them: their limits and the rest add up to it.
@@ -667,6 +714,40 @@ mod tests {
             Err(fault(52, Some(0)))
         );
         assert_eq!(check_text(b""), Err(fault(42, None)));
+    }
+
+    #[test]
+    fn reads_scripts() {
+        let text = b"mkdir web\nwrite web cpu.max 50000\nmkdir web/x\ndemand web/x 20\nmkdir web\n";
+        let read = script(Host::default(), text).unwrap();
+        let names: Vec<&str> = read
+            .groups
+            .iter()
+            .map(|group| group.name.as_str())
+            .collect();
+        assert_eq!(names, ["", "web", "x"]);
+        assert_eq!(read.groups[1].row.limit, Some(10));
+        assert_eq!(read.groups[1].quota, Some(50_000));
+        assert_eq!(
+            read.groups[2].row,
+            Row {
+                demand: 20,
+                ..Row::under(1)
+            }
+        );
+        assert_eq!(
+            read.refused,
+            [RefusedLine {
+                line: 5,
+                fault: fault(21, None)
+            }]
+        );
+        let none = Host {
+            processors: 0,
+            ..Host::default()
+        };
+        assert_eq!(script(none, text), Err(fault(1, None)));
+        assert_eq!(script(Host::default(), b"").unwrap().groups.len(), 1);
     }
 
     #[test]

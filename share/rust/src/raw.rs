@@ -1,10 +1,11 @@
 //! The calls of `arbiter.h`, on slices. Each call has what the header asks: lengths that are those of the slices, pointers that
 //! are not null (a slice has none), and no memory that is written and read at once (a `&mut` overlaps nothing).
-use crate::{Certificate, Host, Level, Reason, Row};
+use crate::{Certificate, Fault, Group, Host, Level, Reason, RefusedLine, Row, Script};
 
 const NO_PARENT: u32 = u32::MAX;
 pub(crate) const NO_LIMIT: u64 = u64::MAX;
 pub(crate) const NAME_ROOM: usize = 17;
+const MOST_GROUPS: usize = 16_384;
 
 #[rustfmt::skip]
 extern "C" {
@@ -25,6 +26,14 @@ extern "C" {
                      nums: *const u64, nums_length: usize, dens: *const u64, dens_length: usize,
                      places: *const u32, places_length: usize, row: *mut u32) -> u32;
     fn arbiter_check_text(text: *const u8, text_length: usize, row: *mut u32) -> u32;
+    fn arbiter_script(processors: u64, period_us: u64, slice_us: u64, text: *const u8, text_length: usize,
+                      parents: *mut u32, parents_length: usize, weights: *mut u64, weights_length: usize,
+                      limits: *mut u64, limits_length: usize, demands: *mut u64, demands_length: usize,
+                      quotas: *mut u64, quotas_length: usize, periods: *mut u64, periods_length: usize,
+                      bursts: *mut u64, bursts_length: usize, carries: *mut u64, carries_length: usize,
+                      names: *mut u8, names_length: usize, refused_lines: *mut u64, refused_lines_length: usize,
+                      refused_faults: *mut u32, refused_faults_length: usize,
+                      count: *mut u32, names_count: *mut u64, refused_count: *mut u64) -> u32;
     fn arbiter_limiting(processors: u64, period_us: u64, slice_us: u64,
                         parents: *const u32, parents_length: usize, weights: *const u64, weights_length: usize,
                         limits: *const u64, limits_length: usize, demands: *const u64, demands_length: usize,
@@ -345,6 +354,99 @@ impl Claim {
             levels: (0..self.nums.len())
                 .map(|g| (self.nums[g] > 0 && self.dens[g] > 0).then(|| level(g)))
                 .collect(),
+        }
+    }
+}
+
+/// The groups after a script and its refused lines, by column.
+pub(crate) struct Told {
+    parents: Vec<u32>,
+    weights: Vec<u64>,
+    limits: Vec<u64>,
+    demands: Vec<u64>,
+    quotas: Vec<u64>,
+    periods: Vec<u64>,
+    bursts: Vec<u64>,
+    carries: Vec<u64>,
+    names: Vec<u8>,
+    refused_lines: Vec<u64>,
+    refused_faults: Vec<u32>,
+    count: u32,
+    names_count: u64,
+    refused_count: u64,
+}
+
+impl Told {
+    /// Room for whatever a text of so many lines leads to.
+    pub(crate) fn room(text: &[u8]) -> Told {
+        let lines = text.iter().filter(|byte| **byte == b'\n').count() + 1;
+        let groups = MOST_GROUPS.min(lines + 1);
+        Told {
+            parents: vec![0; groups],
+            weights: vec![0; groups],
+            limits: vec![0; groups],
+            demands: vec![0; groups],
+            quotas: vec![0; groups],
+            periods: vec![0; groups],
+            bursts: vec![0; groups],
+            carries: vec![0; groups],
+            names: vec![0; text.len() + 1],
+            refused_lines: vec![0; lines],
+            refused_faults: vec![0; lines],
+            count: 0,
+            names_count: 0,
+            refused_count: 0,
+        }
+    }
+
+    #[rustfmt::skip]
+    pub(crate) fn read(&mut self, host: Host, text: &[u8]) -> u32 {
+        // SAFETY: as above
+        unsafe {
+            arbiter_script(host.processors, host.period_us, host.slice_us, text.as_ptr(), text.len(),
+                           self.parents.as_mut_ptr(), self.parents.len(), self.weights.as_mut_ptr(), self.weights.len(),
+                           self.limits.as_mut_ptr(), self.limits.len(), self.demands.as_mut_ptr(), self.demands.len(),
+                           self.quotas.as_mut_ptr(), self.quotas.len(), self.periods.as_mut_ptr(), self.periods.len(),
+                           self.bursts.as_mut_ptr(), self.bursts.len(), self.carries.as_mut_ptr(), self.carries.len(),
+                           self.names.as_mut_ptr(), self.names.len(),
+                           self.refused_lines.as_mut_ptr(), self.refused_lines.len(),
+                           self.refused_faults.as_mut_ptr(), self.refused_faults.len(),
+                           &mut self.count, &mut self.names_count, &mut self.refused_count)
+        }
+    }
+
+    fn group(&self, g: usize, name: &[u8]) -> Group {
+        let some = |number: u64| Some(number).filter(|number| *number != NO_LIMIT);
+        Group {
+            name: String::from_utf8_lossy(name).into_owned(),
+            row: Row {
+                parent: Some(self.parents[g]).filter(|parent| *parent != NO_PARENT),
+                weight: self.weights[g],
+                limit: some(self.limits[g]),
+                demand: self.demands[g],
+            },
+            quota: some(self.quotas[g]),
+            period: self.periods[g],
+            burst: self.bursts[g],
+            carry: self.carries[g],
+        }
+    }
+
+    pub(crate) fn script(&self) -> Script {
+        let names = self.names[..self.names_count as usize].split(|byte| *byte == b'\n');
+        let refused = (0..self.refused_count as usize).map(|i| RefusedLine {
+            line: self.refused_lines[i],
+            fault: Fault {
+                number: self.refused_faults[i],
+                row: None,
+            },
+        });
+        Script {
+            groups: (0..self.count as usize)
+                .zip(names)
+                .map(|(g, name)| self.group(g, name))
+                .collect(),
+            refused: refused.collect(),
         }
     }
 }

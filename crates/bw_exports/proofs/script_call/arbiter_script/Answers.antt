@@ -1,0 +1,134 @@
+-- The goals of `arbiter_script` that are answered by hand.
+use Rattle.std.proofs.Common.{rules, ◌≡◌, ◌∙◌, true, false, length, refl, sym, subst}
+use Rattle.bw_model.specs.Host.{Shape, IsHost}
+use Rattle.bw_model.specs.Faults.{host_fault_number}
+use Rattle.bw_script.specs.Reading.{IsRead}
+use Rattle.bw_exports.specs.Asked.{asked_host}
+use Rattle.bw_exports.specs.Script.{Room, room_of, columns_with, columns_of, is_even, fits}
+use Rattle.bw_exports.proofs.ScriptLemmas.{uneven, no_host, no_memory, no_room, all_told, AreThose}
+use Rattle.bw_exports.proofs.ScriptLemmas.{front_by, room_by}
+use Rattle.bw_exports.proofs.script_call.arbiter_script.Goals as goal
+
+pub returns-then-not-are_even : goal.returns-then-not-are_even
+returns-then-not-are_even c =
+    let before : Room =
+    room_of
+    (columns_with c.args.parents.now c.args.weights.now c.args.limits.now c.args.demands.now
+    c.args.quotas.now c.args.periods.now c.args.bursts.now c.args.carries.now c.args.names.now)
+    c.args.refused_lines.now c.args.refused_faults.now c.args.count.now c.args.names_count.now
+    c.args.refused_count.now in
+    let shape : Shape = asked_host c.args.processors c.args.period_us c.args.slice_us in
+    let text = c.args.text.now in
+    let odd : c.are_even.result ≡ false = search rules in
+    uneven shape text before c.number.result (sym c.are_even.ensures ∙ odd) c.number.ensures
+
+pub returns-in-Err : goal.returns-in-Err
+returns-in-Err c =
+    let before : Room =
+    room_of
+    (columns_with c.args.parents.now c.args.weights.now c.args.limits.now c.args.demands.now
+    c.args.quotas.now c.args.periods.now c.args.bursts.now c.args.carries.now c.args.names.now)
+    c.args.refused_lines.now c.args.refused_faults.now c.args.count.now c.args.names_count.now
+    c.args.refused_count.now in
+    let shape : Shape = asked_host c.args.processors c.args.period_us c.args.slice_us in
+    let text = c.args.text.now in
+    let even : c.are_even.result ≡ true = search rules in
+    let e : is_even before ≡ true = sym c.are_even.ensures ∙ even in
+    let is : c.from.result ≡ host_fault_number c.in-Err.fault = search rules in
+    no_host shape text before c.from.result c.in-Err.fault e c.in-Err.ensures.err is
+
+pub returns-in-Err-told_by : goal.returns-in-Err-told_by
+returns-in-Err-told_by c =
+    let before : Room =
+    room_of
+    (columns_with c.args.parents.now c.args.weights.now c.args.limits.now c.args.demands.now
+    c.args.quotas.now c.args.periods.now c.args.bursts.now c.args.carries.now c.args.names.now)
+    c.args.refused_lines.now c.args.refused_faults.now c.args.count.now c.args.names_count.now
+    c.args.refused_count.now in
+    let shape : Shape = asked_host c.args.processors c.args.period_us c.args.slice_us in
+    let text = c.args.text.now in
+    let even : c.are_even.result ≡ true = search rules in
+    let e : is_even before ≡ true = sym c.are_even.ensures ∙ even in
+    let host : IsHost shape = subst IsHost c.in-Ok.ensures.ok c.in-Ok.ensures.valid in
+    let is : c.number-in-Err-told_by.result ≡ 71 = search rules in
+    no_memory shape text before c.number-in-Err-told_by.result e host is
+
+pub returns-then-not-fits : goal.returns-then-not-fits
+returns-then-not-fits c =
+    let before : Room =
+    room_of
+    (columns_with c.args.parents.now c.args.weights.now c.args.limits.now c.args.demands.now
+    c.args.quotas.now c.args.periods.now c.args.bursts.now c.args.carries.now c.args.names.now)
+    c.args.refused_lines.now c.args.refused_faults.now c.args.count.now c.args.names_count.now
+    c.args.refused_count.now in
+    let shape : Shape = asked_host c.args.processors c.args.period_us c.args.slice_us in
+    let text = c.args.text.now in
+    let even : c.are_even.result ≡ true = search rules in
+    let e : is_even before ≡ true = sym c.are_even.ensures ∙ even in
+    let host : IsHost shape = subst IsHost c.in-Ok.ensures.ok c.in-Ok.ensures.valid in
+    let told = c.in-Ok-told_by.told in
+    let t = c.in-Ok-told_by.ensures.told in
+    let read : IsRead shape text t.refused t.last =
+    subst (λ s. IsRead s text t.refused t.last) c.in-Ok.ensures.ok t.read in
+    let those : AreThose t.last t.refused (columns_of told.groups) told.lines.items
+    told.faults.items =
+    record { groups = t.groups; lines_are = t.lines; faults_are = t.faults } in
+    let few : c.fits.result ≡ false = search rules in
+    no_room shape text before c.number-then-not-fits.result t.last t.refused
+    (columns_of told.groups) told.lines.items told.faults.items e host read those
+    (sym c.fits.ensures ∙ few) c.number-then-not-fits.ensures
+
+pub returns : goal.returns
+returns c =
+    let before : Room =
+    room_of
+    (columns_with c.args.parents.now c.args.weights.now c.args.limits.now c.args.demands.now
+    c.args.quotas.now c.args.periods.now c.args.bursts.now c.args.carries.now c.args.names.now)
+    c.args.refused_lines.now c.args.refused_faults.now c.args.count.now c.args.names_count.now
+    c.args.refused_count.now in
+    let shape : Shape = asked_host c.args.processors c.args.period_us c.args.slice_us in
+    let text = c.args.text.now in
+    let even : c.are_even.result ≡ true = search rules in
+    let e : is_even before ≡ true = sym c.are_even.ensures ∙ even in
+    let host : IsHost shape = subst IsHost c.in-Ok.ensures.ok c.in-Ok.ensures.valid in
+    let told = c.in-Ok-told_by.told in
+    let t = c.in-Ok-told_by.ensures.told in
+    let read : IsRead shape text t.refused t.last =
+    subst (λ s. IsRead s text t.refused t.last) c.in-Ok.ensures.ok t.read in
+    let those : AreThose t.last t.refused (columns_of told.groups) told.lines.items
+    told.faults.items =
+    record { groups = t.groups; lines_are = t.lines; faults_are = t.faults } in
+    let enough : c.fits.result ≡ true = search rules in
+    let groups : c.len.result ≡ length told.groups.parents.items = search rules in
+    let bytes : c.len-2.result ≡ length told.groups.names.items = search rules in
+    let lines : c.len-3.result ≡ length told.lines.items = search rules in
+    let room = room_by (columns_of told.groups) told.lines.items told.faults.items before
+    c.write_front.new.into c.write_front-2.new.into c.write_front-3.new.into
+    c.write_front-4.new.into c.write_front-5.new.into c.write_front-6.new.into
+    c.write_front-7.new.into c.write_front-8.new.into c.write_front-9.new.into
+    c.write_front-10.new.into c.write_front-11.new.into c.len.result c.len-2.result c.len-3.result
+    (front_by c.as_slice.result.now told.groups.parents.items c.args.parents.now
+    c.write_front.new.into c.write_front.ensures c.as_slice.ensures.value)
+    (front_by c.as_slice-2.result.now told.groups.weights.items c.args.weights.now
+    c.write_front-2.new.into c.write_front-2.ensures c.as_slice-2.ensures.value)
+    (front_by c.as_slice-3.result.now told.groups.limits.items c.args.limits.now
+    c.write_front-3.new.into c.write_front-3.ensures c.as_slice-3.ensures.value)
+    (front_by c.as_slice-4.result.now told.groups.demands.items c.args.demands.now
+    c.write_front-4.new.into c.write_front-4.ensures c.as_slice-4.ensures.value)
+    (front_by c.as_slice-5.result.now told.groups.quotas.items c.args.quotas.now
+    c.write_front-5.new.into c.write_front-5.ensures c.as_slice-5.ensures.value)
+    (front_by c.as_slice-6.result.now told.groups.periods.items c.args.periods.now
+    c.write_front-6.new.into c.write_front-6.ensures c.as_slice-6.ensures.value)
+    (front_by c.as_slice-7.result.now told.groups.bursts.items c.args.bursts.now
+    c.write_front-7.new.into c.write_front-7.ensures c.as_slice-7.ensures.value)
+    (front_by c.as_slice-8.result.now told.groups.carries.items c.args.carries.now
+    c.write_front-8.new.into c.write_front-8.ensures c.as_slice-8.ensures.value)
+    (front_by c.as_slice-9.result.now told.groups.names.items c.args.names.now
+    c.write_front-9.new.into c.write_front-9.ensures c.as_slice-9.ensures.value)
+    (front_by c.as_slice-10.result.now told.lines.items c.args.refused_lines.now
+    c.write_front-10.new.into c.write_front-10.ensures c.as_slice-10.ensures.value)
+    (front_by c.as_slice-11.result.now told.faults.items c.args.refused_faults.now
+    c.write_front-11.new.into c.write_front-11.ensures c.as_slice-11.ensures.value)
+    groups bytes lines in
+    all_told shape text before _ 0 t.last t.refused (columns_of told.groups) told.lines.items
+    told.faults.items e host read those (sym c.fits.ensures ∙ enough) refl room
