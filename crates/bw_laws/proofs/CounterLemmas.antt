@@ -1,25 +1,32 @@
 -- Counters stand under ids that were given.
-use Rattle.std.proofs.Common.{◌≡◌, ◌≢◌, ◌⊎◌, inl, inr, ℕ, ◌+◌, ◌<◌, ◌≤◌, true, false, cond}
-use Rattle.std.proofs.Common.{List, [], ◌∷◌, Option, None, Some, refl, sym, ap, subst, ◌∙◌}
-use Rattle.std.proofs.Common.{arith, eqb}
+use Rattle.std.proofs.Common.{◌≡◌, ◌≢◌, ◌⊎◌, inl, inr, ℕ, ◌<◌, ◌≤◌, true, false, cond}
+use Rattle.std.proofs.Common.{List, [], ◌∷◌, Option, None, Some, refl, sym, ap, ◌∙◌, arith, eqb}
+use Rattle.std.proofs.Common.{true≢false}
 use Rattle.std.proofs.lemmas.Bool.Decides.{eqb_tells}
-use Rattle.std.specs.Prelude.{⊤}
-use Rattle.std.specs.Prelude.{Result, Ok, Err}
+use Rattle.std.specs.Prelude.{⊤, Result, Ok, Err, IfOk}
 use Rattle.std.specs.Map.{remove_entry, keys_of}
-use Rattle.std.specs.Path.{rsplit_once}
 use Rattle.std.proofs.lemmas.Bool.{ne_eqb}
 use Rattle.bw_model.specs.declared.row.Row.{Row}
 use Rattle.bw_model.specs.declared.stat.Stat.{Stat}
 use Rattle.bw_stat.specs.Books.{Share, added, or_zeros, stat_at, with_share, booked, shares_of}
 use Rattle.bw_stat.specs.Books.{forgotten}
 use Rattle.bw_stat.proofs.CallerLemmas.{stat_insert}
-use Rattle.bw_tree.specs.Groups.{TreeState, GroupFields, AllBefore}
-use Rattle.bw_tree.specs.Tree.{mkdir_refusal, rmdir_refusal, with_group, without_group}
-use Rattle.bw_tree.specs.declared.fault.TreeFault.{TreeFault}
+use Rattle.bw_tree.specs.Groups.{GroupFields, AllBefore, has_group}
+use Rattle.bw_tree.specs.Tree.{rmdir_refusal, demand_refusal, without_group, with_setting}
+use Rattle.bw_tree.specs.Tree.{set_demand}
 use Rattle.bw_hierarchy.specs.declared.fault.Fault.{Fault}
-use Rattle.bw_hierarchy.specs.Calls.{mkdir_split, unless, and_then, found_at}
-use Rattle.bw_hierarchy.specs.State.{HierarchyState, with_tree, with_books, delete_of}
-use Rattle.bw_laws.specs.Counters.{AreOfGivenIds, NewGroupsCountNothing}
+use Rattle.bw_hierarchy.specs.Builder.{built}
+use Rattle.bw_hierarchy.specs.CallLists.{Call, called, left_after, after_calls}
+use Rattle.bw_hierarchy.specs.CallLists.Call.{Mkdir, Rmdir, Delete, SetDemand, WriteFile}
+use Rattle.bw_hierarchy.specs.CallLists.Call.{SetShares, SetCfs, Build, Book}
+use Rattle.bw_hierarchy.specs.Calls.{found_at, mkdir_of, set_shares_of, set_cfs_of}
+use Rattle.bw_hierarchy.specs.Files.{write_of}
+use Rattle.bw_hierarchy.specs.State.{HierarchyState, new_hierarchy, with_tree, with_books}
+use Rattle.bw_hierarchy.specs.State.{delete_of}
+use Rattle.bw_laws.specs.Counters.{NewGroupsCountNothing}
+use Rattle.bw_laws.specs.Ids.{has_id, ran}
+use Rattle.bw_laws.proofs.CallRuns.{unless_ok, any_ok, called_keeps}
+use Rattle.bw_laws.proofs.IdLemmas.{Grows, grows_kept, grows_not, new_below}
 
 none_some : (x : Stat) → Some x ≡ None → ⊥
 none_some x w = cc
@@ -79,62 +86,83 @@ keys_below : (groups : List (ℕ × GroupFields)) (n : ℕ) → AllBefore n grou
 keys_below [] n before = tt
 keys_below (e ∷ es) n before = (before.0, keys_below es n before.1)
 
--- the group that is made has the next id, and the next one is one more
-made : (r : Option TreeFault) (t u : TreeState) (parent : ℕ) (name : List ℕ) (id : ℕ)
-    → unless {A = ℕ × TreeState} r (t.next, with_group t parent name) ≡ Ok (id, u)
-    → (t.next ≡ id) × (t.next + 1 ≡ u.next)
-made (Some fault) t u parent name id e = cc
-made None t u parent name id e =
-    let pair : ℕ × TreeState = (t.next, with_group t parent name) in
-    let other : ℕ × TreeState = (id, u) in
-    let same : pair ≡ other = cc in
-    (ap (λ (p : ℕ × TreeState). p.0) same, ap (λ (p : ℕ × TreeState). p.1.next) same)
+-- of an earlier hierarchy's ids, those that were not given yet have no counters
+abbrev CountsNoneFrom : HierarchyState → HierarchyState → Type 0
+CountsNoneFrom h after = (id : ℕ) → h.tree.next ≤ id → stat_at after.books id ≡ None
 
-made_below : (r : Result ℕ Fault) (t u : TreeState) (name : List ℕ) (id : ℕ)
-    → and_then {A = ℕ} {B = ℕ × TreeState} r
-    (λ parent. unless {A = ℕ × TreeState} (mkdir_refusal t parent name)
-    (t.next, with_group t parent name))
-    ≡ Ok (id, u) → (t.next ≡ id) × (t.next + 1 ≡ u.next)
-made_below (Err fault) t u name id e = cc
-made_below (Ok parent) t u name id e = made (mkdir_refusal t parent name) t u parent name id e
+deleted : (h : HierarchyState) (id : ℕ) → CountsNoneFrom h h
+    → IfOk (delete_of h id) (CountsNoneFrom h)
+deleted h id given = unless_ok (CountsNoneFrom h) (rmdir_refusal h.tree id)
+    (with_books (with_tree h (without_group h.tree id)) (forgotten h.books id))
+    (λ q from. removed h.books id q (given q from))
 
-pub made_at : (t u : TreeState) (o : Option (List ℕ × List ℕ)) (path : List ℕ) (id : ℕ)
-    → mkdir_split t o path ≡ Ok (id, u)
-    → (t.next ≡ id) × (t.next + 1 ≡ u.next)
-made_at t u None path id e = made (mkdir_refusal t 0 path) t u 0 path id e
-made_at t u (Some parts) path id e = made_below (found_at t parts.0) t u parts.1 id e
+-- any call
+counts : (h : HierarchyState) (c : Call) → AllBefore h.tree.next h.tree.groups → CountsNoneFrom h h
+    → IfOk (called h c) (CountsNoneFrom h)
+counts h (Mkdir path) all given =
+    any_ok (CountsNoneFrom h) (mkdir_of h.tree path) _ (λ made. given)
+counts h (Rmdir path) all given = any_ok (CountsNoneFrom h) (found_at h.tree path) (delete_of h)
+    (λ id. deleted h id given)
+counts h (Delete id) all given = deleted h id given
+counts h (SetDemand path demand) all given =
+    any_ok (CountsNoneFrom h) (found_at h.tree path) _
+    (λ id. unless_ok (CountsNoneFrom h) (demand_refusal h.tree id demand)
+    (with_tree h (with_setting (set_demand demand) h.tree id)) given)
+counts h (WriteFile path file text) all given =
+    any_ok (CountsNoneFrom h) (write_of h.tree path file text) _ (λ t. given)
+counts h (SetShares id shares) all given =
+    any_ok (CountsNoneFrom h) (set_shares_of h.tree id shares) _ (λ t. given)
+counts h (SetCfs id quota period) all given =
+    any_ok (CountsNoneFrom h) (set_cfs_of h.tree id quota period) _ (λ t. given)
+counts h (Build path shares quota period) all given =
+    any_ok (CountsNoneFrom h) (built h.tree path shares quota period) _ (λ made. given)
+counts h (Book rows base wants drawn) all given = λ id from.
+    booked_others (shares_of h.shape.slice_us rows (keys_of h.tree.groups) base wants drawn)
+    h.books h.tree.next id
+    (shares_below h.shape.slice_us rows (keys_of h.tree.groups) base wants drawn h.tree.next
+    (keys_below h.tree.groups h.tree.next all))
+    from (given id from)
 
-tree_keeps : (h : HierarchyState) (t : TreeState) → h.tree.next ≤ t.next → AreOfGivenIds h
-    → AreOfGivenIds (with_tree h t)
-tree_keeps h t le given = λ id from. given id (omega (arith, le, from))
+grows_by : (h : HierarchyState) (c : Call) → AllBefore h.tree.next h.tree.groups
+    → IfOk (called h c) (λ after. Grows h.tree after.tree)
+grows_by h c all = called_keeps (Grows h.tree) (grows_kept h.tree) h c (grows_not h.tree all)
 
-deleted : (h new : HierarchyState) (id : ℕ) (r : Option TreeFault)
-    → unless r (with_books (with_tree h (without_group h.tree id)) (forgotten h.books id)) ≡ Ok new
-    → AreOfGivenIds h → AreOfGivenIds new
-deleted h new id (Some fault) e given = cc
-deleted h new id None e given =
-    let same : with_books (with_tree h (without_group h.tree id)) (forgotten h.books id) ≡ new =
-    cc in
-    subst AreOfGivenIds same (λ q from. removed h.books id q (given q from))
+-- what stands after each call
+record Stands (h : HierarchyState) : Type 0 where
+  pub all : AllBefore h.tree.next h.tree.groups
+  pub given : CountsNoneFrom h h
 
-deleted_at : (h new : HierarchyState) (r : Result ℕ Fault) → and_then r (delete_of h) ≡ Ok new
-    → AreOfGivenIds h → AreOfGivenIds new
-deleted_at h new (Err fault) e given = cc
-deleted_at h new (Ok id) e given = deleted h new id (rmdir_refusal h.tree id) e given
+left_stands : (h : HierarchyState) (r : Result HierarchyState Fault) → Stands h
+    → IfOk r (λ after. Grows h.tree after.tree) → IfOk r (CountsNoneFrom h)
+    → Stands (left_after h r)
+left_stands h (Err fault) was grown none = was
+left_stands h (Ok after) was grown none = record {
+  all = grown.below;
+  given = λ id from. none id (let le = grown.next in omega (arith, le, from));
+}
+
+all_stand : (calls : List Call) (h : HierarchyState) → Stands h → Stands (after_calls h calls)
+all_stand [] h was = was
+all_stand (c ∷ calls) h was = all_stand calls (left_after h (called h c))
+    (left_stands h (called h c) was (grows_by h c was.all) (counts h c was.all was.given))
+
+-- what comes by one call has no counters
+comes : (h : HierarchyState) (r : Result HierarchyState Fault) (id : ℕ)
+    → IfOk r (λ after. Grows h.tree after.tree) → IfOk r (CountsNoneFrom h)
+    → has_id h id ≡ false → has_id (left_after h r) id ≡ true
+    → stat_at (left_after h r).books id ≡ None
+comes h (Err fault) id grown none absent there = absurd (true≢false (sym there ∙ absent))
+comes h (Ok after) id grown none absent there = by (grown.ids id there)
+  where
+    by : (has_group h.tree.groups id ≡ true)
+        ⊎ ((h.tree.next ≤ id) × (id < after.tree.next)) → stat_at after.books id ≡ None
+    by (inl same) = absurd (true≢false (sym same ∙ absent))
+    by (inr new) = none id new.0
 
 pub new_groups : NewGroupsCountNothing
-new_groups = record {
-  begins = λ shape id from. refl;
-  tree = tree_keeps;
-  rmdir = λ h new path e given. deleted_at h new (found_at h.tree path) e given;
-  period = λ h rows base wants drawn tree given id from.
-      booked_others (shares_of h.shape.slice_us rows (keys_of h.tree.groups) base wants drawn)
-      h.books h.tree.next id
-      (shares_below h.shape.slice_us rows (keys_of h.tree.groups) base wants drawn h.tree.next
-      (keys_below h.tree.groups h.tree.next tree.below_next))
-      from (given id from);
-  mkdir = λ h path id t e given.
-      let m = made_at h.tree t (rsplit_once 47 path) path id e in
-      let next = m.1 in let own = m.0 in
-      (given id (omega (arith, own)), tree_keeps h t (omega (arith, next)) given);
-}
+new_groups shape calls call id absent there =
+    let h = ran shape calls in
+    let stands = all_stand calls (new_hierarchy shape)
+    (record { all = new_below shape; given = λ q from. refl }) in
+    comes h (called h call) id (grows_by h call stands.all)
+    (counts h call stands.all stands.given) absent there

@@ -1,35 +1,27 @@
--- Ids of new groups, over any calls in a row.
-use Rattle.std.specs.Prelude.{◌≡◌, ℕ, ◌+◌, ◌≤◌, List, [], ◌∷◌, Ok, ⊤}
-use Rattle.bw_tree.specs.Groups.{TreeState}
+-- Ids of groups, over any calls in a row.
+use Rattle.std.specs.Prelude.{◌≡◌, ℕ, ◌<◌, Bool, true, false, List, Ok}
+use Rattle.bw_model.specs.Host.{Shape}
+use Rattle.bw_tree.specs.Groups.{TreeState, has_group}
 use Rattle.bw_hierarchy.specs.Calls.{mkdir_of}
-use Rattle.bw_hierarchy.specs.State.{HierarchyState, rmdir_of}
+use Rattle.bw_hierarchy.specs.CallLists.{Call, after_calls}
+use Rattle.bw_hierarchy.specs.State.{HierarchyState, new_hierarchy}
 
--- a call on a tree: a `mkdir` that is not refused, with the id of its group, or another call; and
--- the tree after it
-pub data Step : Type 0 where
-  Made : (path : List ℕ) (id : ℕ) (after : TreeState) → Step
-  Changed : (after : TreeState) → Step
+-- whether a hierarchy has a group with this id
+abbrev pub has_id : HierarchyState → ℕ → Bool
+has_id h id = has_group h.tree.groups id
 
--- calls in a row from a tree on, of which none takes an id back
-abbrev pub AreSteps : TreeState → List Step → Type 0
-AreSteps t [] = ⊤
-AreSteps t (Made path id after ∷ steps) = (mkdir_of t path ≡ Ok (id, after)) × AreSteps after steps
-AreSteps t (Changed after ∷ steps) = (t.next ≤ after.next) × AreSteps after steps
+-- a new hierarchy after calls in a row
+abbrev pub ran : Shape → List Call → HierarchyState
+ran shape calls = after_calls (new_hierarchy shape) calls
 
--- ids of the groups that were made
-abbrev pub ids_made : List Step → List ℕ
-ids_made [] = []
-ids_made (Made path id after ∷ steps) = id ∷ ids_made steps
-ids_made (Changed after ∷ steps) = ids_made steps
-
--- the first is at least this number, and each later one above the one before
-abbrev pub AreRisingFrom : ℕ → List ℕ → Type 0
-AreRisingFrom least [] = ⊤
-AreRisingFrom least (id ∷ ids) = (least ≤ id) × AreRisingFrom (id + 1) ids
-
--- Over any calls in a row ids rise, so none is given twice; and `rmdir` takes none back.
+-- Over any calls on a new hierarchy.
 pub record IdsAreGivenOnce : Type 0 where
-  pub rise : (t : TreeState) (steps : List Step) → AreSteps t steps
-      → AreRisingFrom t.next (ids_made steps)
-  pub rmdir : (h new : HierarchyState) (path : List ℕ) → rmdir_of h path ≡ Ok new
-      → h.tree.next ≤ new.tree.next
+  -- a group that comes has a greater id than each group that was ever there: no id is given twice
+  pub rise : (shape : Shape) (first between later : List Call) (old new : ℕ)
+      → has_id (ran shape first) old ≡ true
+      → has_id (after_calls (ran shape first) between) new ≡ false
+      → has_id (after_calls (after_calls (ran shape first) between) later) new ≡ true → old < new
+  -- the id that `mkdir` answers is that of a group that comes
+  pub made : (shape : Shape) (calls : List Call) (path : List ℕ) (id : ℕ) (t : TreeState)
+      → mkdir_of (ran shape calls).tree path ≡ Ok (id, t)
+      → (has_id (ran shape calls) id ≡ false) × (has_group t.groups id ≡ true)
