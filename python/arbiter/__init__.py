@@ -11,10 +11,11 @@
 The package needs the standard library alone. The code that plans and checks is proved; this
 package is not.
 """
-from arbiter.columns import Certificate, Columns, Figures, Host, Kind, Level, Reason, Round, Row
+from arbiter.columns import (Certificate, Columns, Figures, Host, Kind, Level, Reason, Round, Row,
+                             Script)
 from arbiter.found import Unavailable
 from arbiter.library import Library, Refused
 
 __all__ = ["Certificate", "Columns", "Figures", "Host", "Kind", "Level", "Library", "Reason",
-           "Refused", "Round", "Row", "Unavailable"]
+           "Refused", "Round", "Row", "Script", "Unavailable"]
 __version__ = "1.0.0"

@@ -31,6 +31,7 @@ WORDS: dict[str, list[Any]] = {
     "least_limit": TREE + [U32, U64, POINTER],
     "least_processors": TREE + [U32, U64, POINTER],
     "refused_row": COLUMN * 4 + [POINTER],
+    "script": HOST + COLUMN * 12 + [POINTER] * 3,
     "slices": HOST + [U64, U64, POINTER],
     "demand": HOST + [U64, POINTER],
     "weight_of_shares": [U64, U32],

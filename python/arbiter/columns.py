@@ -153,6 +153,25 @@ class Columns:
         return given(self.parents, self.weights, self.limits, self.demands)
 
 
+class Script(NamedTuple):
+    """The groups at the end of a script, a row each, and the lines that it refuses.
+
+    Quotas, periods and bursts are microseconds, as they were written; a quota of NO_LIMIT is none.
+    Carries are slices that a `period` left over.
+    """
+
+    # The rows as a plan takes them. A limit is that of the next period.
+    columns: Columns
+    # The last name of each group; that of the root is empty.
+    names: list[str]
+    quotas: array[int]
+    periods: array[int]
+    bursts: array[int]
+    carries: array[int]
+    # The number of each refused line, 1 for the first, and of its fault.
+    refused: list[tuple[int, int]]
+
+
 class Certificate(NamedTuple):
     """Evidence that amounts are a plan, one entry for each row.
 

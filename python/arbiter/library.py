@@ -10,10 +10,12 @@ from typing import TypeAlias
 
 from arbiter import c, found
 from arbiter.columns import (U8, U32, U64, Certificate, Columns, Figures, Host, Kind, Reason, Round,
-                             Row, column, given, in_range, zeros)
+                             Row, Script, column, given, in_range, zeros)
 
 # The rows of a tree, or their columns, which are made once for several calls.
 Rows: TypeAlias = Sequence[Row] | Columns
+# Most groups of a tree, the root among them.
+MOST_GROUPS = 16384
 CONVERSIONS = {"linear": 1, "logarithmic": 2}
 KINDS = tuple(Kind)
 # The numbers of faults that speak of a row of the tree.
@@ -196,6 +198,27 @@ class Library:
         20 NotFound if the group is no row.
         """
         return self.of_group("least_processors", host, rows, group, amount) or None
+
+    def script(self, host: Host, text: bytes) -> Script:
+        """What a script makes of a host: the groups at its end, and the lines that it refuses.
+
+        `text` may be any bytes. Comments change nothing.
+        """
+        lines = text.count(b"\n") + 1
+        groups = min(lines + 1, MOST_GROUPS)
+        tree = [zeros(kind, groups) for kind in (U32, U64, U64, U64)]
+        settings = [zeros(U64, groups) for _ in range(4)]
+        names, at, faults = zeros(U8, len(text) + 1), zeros(U64, lines), zeros(U32, lines)
+        count, length, refused = c.U32(), c.U64(), c.U64()
+        number = self.calls.arbiter_script(
+            *self.host(host), *given(array(U8, text), *tree, *settings, names, at, faults),
+            ctypes.byref(count), ctypes.byref(length), ctypes.byref(refused))
+        if number:
+            raise self.refused(number)
+        told = names[:length.value].tobytes().decode().split("\n")[:-1]
+        quotas, periods, bursts, carries = (each[:count.value] for each in settings)
+        return Script(Columns(*(each[:count.value] for each in tree)), told, quotas, periods,
+                      bursts, carries, list(zip(at[:refused.value], faults[:refused.value])))
 
     def slices(self, host: Host, usec: int, own_period_us: int = 100000) -> int:
         """The whole slices of one period that a quota or burst allows, rounded down.

@@ -147,3 +147,35 @@ def test_figures_by_hand(calls):
         "wants": [35, 8, 6, 3, 0, 30], "mosts": [20, 5, 6, 2, 0, 30],
         "tights": [1, 1, 0, 1, 0, 0], "actives": [2, 2, 0, 0, 0, 0],
         "active_weights": [210, 400, 0, 0, 0, 0], "withheld": [0, 3, 0, 1, 0, 0]}
+
+
+def test_a_script_by_hand(calls):
+    """The groups in the order of their lines, and the lines that are refused."""
+    text = (b"mkdir a\nmkdir a/b\nwrite a cpu.max 50000\nfrob\nwrite a cpu.weight 7\n"
+            b"demand a/b 3\n# tasks 1\nmkdir ./c\nwrite c cpu.max.burst 5000\n"
+            b"write c cpu.max 999\n")
+    found = calls.script(arbiter.Host(1, 100000, 5000), text)
+    assert [list(each) for each in (found.columns.parents, found.columns.weights,
+                                    found.columns.limits, found.columns.demands)] == [
+        [c.NO_PARENT, 0, 1, 0], [100, 7, 100, 100],
+        [c.NO_LIMIT, 10, c.NO_LIMIT, c.NO_LIMIT], [0, 0, 3, 0]]
+    assert (found.names, found.refused) == (["", "a", "b", "c"], [(4, 80), (10, 13)])
+    assert list(found.quotas) == [c.NO_LIMIT, 50000, c.NO_LIMIT, c.NO_LIMIT]
+    assert list(found.bursts) == [0, 0, 0, 5000] and list(found.periods)[1:] == [100000] * 3
+
+
+def test_a_script_that_saves_up(calls):
+    """6 of 10 slices are left over, and the next limit is at most 10 and 5."""
+    text = (b"mkdir a\nwrite a cpu.max 50000\nwrite a cpu.max.burst 25000\ndemand a 4\nperiod\n")
+    found = calls.script(arbiter.Host(1, 100000, 5000), text)
+    assert (list(found.carries), list(found.columns.limits)) == ([0, 6], [c.NO_LIMIT, 15])
+
+
+@pytest.mark.parametrize("text, names, refused", [
+    (b"", [""], []), (b"\n", [""], []), (b"#", [""], []), (b"mkdir a", ["", "a"], []),
+    (b"\xff", [""], [(1, 81)]), (b"#" * 65537, [""], [(1, 82)]), (b"\0" * 9, [""], [(1, 80)]),
+], ids=["nothing", "a newline", "a comment", "no newline", "no text", "a long line", "zeros"])
+def test_scripts_of_one_line(calls, text, names, refused):
+    """Each text has the root. A line without a newline is a line."""
+    found = calls.script(arbiter.Host(), text)
+    assert (found.names, found.refused) == (names, refused)

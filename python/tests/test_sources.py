@@ -112,6 +112,31 @@ def test_script_saves_up(engine):
     assert plan(engine, model).groups[1].limit == 15
 
 
+AGAIN = "demand a 0\nrmdir a\nmkdir a\n"
+
+
+@pytest.mark.parametrize("text, tasks, demand, place", [
+    ("", 1, 3000, "x"), ("demand a 4\n", 1, 200, "x"), ("# tasks 2\ndemand a 4\n", 2, 200, "x"),
+    ("demand a 5000000\n", 1, 3000, "x"), (f"{AGAIN}demand a 4\n", None, 200, ""),
+    (f"{AGAIN}mkdir a\n", None, 0, ""), ("# at y\nmkdir ./a\n", 1, 3000, "x"),
+])
+def test_comments_of_later_lines(engine, text, tasks, demand, place):
+    """A later demand keeps the tasks, and a group that is made again has none."""
+    first = "# at x\nmkdir ./a\n# tasks 1, asks 3cpu\ndemand a 20\n"
+    group = script.read((first + text).encode(), "F", engine, Host()).groups["a"]
+    assert (group.tasks, group.demand, group.place) == (tasks, demand, place)
+
+
+def test_script_for_many_cpus(engine):
+    """Above 64 CPUs a script is read as for 64, but not where a period left a burst over."""
+    text = b"mkdir a\nwrite a cpu.max 50000\ndemand a 4\nperiod\n"
+    host = Host(96, 100000, 5000)
+    assert script.read(text, "F", engine, host).groups["a"].quota == 50000
+    burst = b"write a cpu.max.burst 25000\n"
+    with pytest.raises(HostFault, match="96 CPUs: a script with bursts and `period` lines"):
+        script.read(text.replace(b"demand", burst + b"demand"), "F", engine, host)
+
+
 def test_script_warns(engine):
     assert "no head line" in script.read(b"mkdir a\n", "F", engine).notes[0]
     head = b"# arbiter run --processors 4 --period 100000 --slice 1000\n"

@@ -1,31 +1,32 @@
 """Scripts of the program: reads one as the program answers it, and writes one for a model.
 
-The reader makes the changes of `mkdir`, `rmdir`, `demand`, `write` and `period`, and refuses a
-line by the number that the program answers. Other commands change nothing.
+The C library reads it. The head line, and what comments say of groups, are read here: they are
+comments to the program.
 """
 from __future__ import annotations
 
 import re
-from collections.abc import Callable
-from dataclasses import dataclass, replace
+from dataclasses import replace
 
-from arbiter import Host, Library
+from arbiter import Host, Library, Script
+from arbiter.c import NO_LIMIT
 from arbiter_host import names, units
-from arbiter_host.engine import Engine
+from arbiter_host.engine import Engine, asking
 from arbiter_host.faults import HostFault
-from arbiter_host.model import MAX_DEPTH, MAX_GROUPS, Group, Model, checked
+from arbiter_host.model import MAX_PROCESSORS, Group, Model, checked
 from arbiter_host.units import Slices
 
 HEAD = re.compile(r"^#\s*(?:\./)?arbiter run((?:\s+--[a-z]+[ =][0-9]{1,9})+)\s*(?:<.*)?$")
+# Lines above which a comment may speak of a group.
+NOTED = re.compile(rb"[ \t]*(?:mkdir|rmdir|demand)[ \t]")
 # Above a `mkdir` stands `# at FOLDER`, where the path does not say the group's place.
 # Above a `demand`: the tasks that bound it, and what is asked where they cut it.
 TASKS = re.compile(r"# tasks ([0-9]{1,9})(?:, asks ([0-9]{1,30}[a-z]{0,3}))?")
 OPTION = re.compile(r"--([a-z]+)[ =]([0-9]+)")
-NUMBER = re.compile(r"0|[1-9][0-9]*")
-MAX_LINE = 65536
+# Most lines that are refused, one by one.
 MAX_REFUSED = 100000
-FILES = ("cpu.weight", "cpu.max", "cpu.max.burst", "cpu.stat")
-NAMES = {
+# Names of faults with their ranges, by their numbers.
+FAULTS = {
     7: "TooDeep", 8: "InnerDemand", 9: "DemandTooLarge (0 to 1000000 slices)", 11: "BadNumber",
     12: "WeightOutOfRange (1 to 10000)", 13: "QuotaTooSmall (1000 to 10^15 microseconds)",
     14: "QuotaTooLarge (at most 10^15 microseconds)",
@@ -35,169 +36,6 @@ NAMES = {
     31: "ReadOnly", 33: "BurstAboveQuota", 80: "BadCommand", 81: "BadText",
     82: "LineTooLong (65536 bytes)",
 }
-
-
-class RefusedLine(Exception):
-    """A line that the program refuses, by its number."""
-
-    def __init__(self, number: int) -> None:
-        super().__init__(NAMES[number])
-        self.number = number
-
-
-def refuse(holds: bool, number: int) -> None:
-    """Refuses the line where something holds."""
-    if holds:
-        raise RefusedLine(number)
-
-
-def number_of(word: str) -> int:
-    """The number that a word spells; numbers of more than 40 digits are as great as those."""
-    refuse(NUMBER.fullmatch(word) is None, 11)
-    return int(word[:40])
-
-
-@dataclass
-class Reader:
-    """The state of a script between two lines."""
-
-    model: Model
-    engine: Engine
-
-    def __post_init__(self) -> None:
-        self.children: dict[str, int] = {".": 0}
-
-    def group(self, path: str) -> Group:
-        """A group that is not the root."""
-        refuse(path not in self.model.groups, 20)
-        return self.model.groups[path]
-
-    def exists(self, path: str) -> None:
-        """Refuses a path of no group."""
-        refuse(path != "." and path not in self.model.groups, 20)
-
-    def mkdir(self, path: str) -> None:
-        """Makes a group, after the tests in the program's order."""
-        parent, _, name = path.rpartition("/")
-        above = parent if "/" in path else "."
-        self.exists(above)
-        refuse(name in ("", ".", "..") or "\0" in name or len(name.encode()) > names.MAX_NAME, 22)
-        path = names.joined(above, name)
-        refuse(path in self.model.groups, 21)
-        refuse(len(self.model.groups) + 1 >= MAX_GROUPS, 27)
-        refuse(path.count("/") >= MAX_DEPTH, 7)
-        refuse(above != "." and self.model.groups[above].demand > 0, 25)
-        self.model.groups[path] = Group(path)
-        self.children[path] = 0
-        self.children[above] += 1
-
-    def rmdir(self, path: str) -> None:
-        """Removes a group."""
-        refuse(path == ".", 26)
-        group = self.group(path)
-        refuse(self.children[path] > 0, 23)
-        refuse(group.demand > 0, 24)
-        del self.model.groups[path], self.children[path]
-        self.children[names.parent_path(path)] -= 1
-
-    def demand(self, path: str, word: str) -> None:
-        """Sets a demand, which the script has in slices."""
-        slices = number_of(word)
-        refuse(path == ".", 26)
-        group = self.group(path)
-        refuse(slices > 0 and self.children[path] > 0, 8)
-        refuse(slices > units.MAX_DEMAND, 9)
-        host = self.model.host
-        group.demand = units.thousandths_of_slices(slices, host.period_us, host.slice_us)
-
-    def file(self, path: str, file: str) -> None:
-        """Refuses a file that a group does not have."""
-        self.exists(path)
-        refuse(file not in FILES or path == "." and file != "cpu.stat", 30)
-
-    def write(self, path: str, file: str, text: str) -> None:
-        """Writes to a file of a group."""
-        self.file(path, file)
-        refuse(file == "cpu.stat", 31)
-        group, words = self.model.groups[path], re.findall(r"[^ \t\n]+", text)
-        if file == "cpu.max":
-            write_max(group, words)
-        elif file == "cpu.weight":
-            group.weight = one_number(words)
-        else:
-            write_burst(group, words)
-
-    def period(self) -> None:
-        """Serves one period: what each group leaves of its limit is saved up."""
-        if all(group.burst == 0 and group.saved == 0 for group in self.model.groups.values()):
-            return
-        rows = self.model.rows(self.engine.library)
-        amounts = self.engine.plan(self.model.host, rows).amounts
-        for group, row, gets in zip(self.model.groups.values(), rows[1:], amounts[1:]):
-            group.saved = 0 if row.limit is None else row.limit - gets
-
-    def line(self, text: str) -> None:
-        """Makes the change of a line, or refuses it."""
-        words = text.replace("\t", " ").split(" ")
-        found = [word for word in words if word]
-        command, rest = found[0], found[1:]
-        if command == "write" and len(rest) >= 2:
-            behind = re.sub(r"^[ \t]*write[ \t]+[^ \t]+[ \t]+[^ \t]+", "", text)
-            self.write(rest[0], rest[1], behind)
-            return
-        take = COMMANDS.get((command, len(rest)))
-        refuse(take is None, 80)
-        assert take is not None
-        take(self, *rest)
-
-
-def read_file(reader: Reader, path: str, file: str) -> None:
-    """`read` changes nothing."""
-    reader.file(path, file)
-
-
-def nothing(_: Reader) -> None:
-    """A command that changes nothing."""
-
-
-COMMANDS: dict[tuple[str, int], Callable[..., None]] = {
-    ("mkdir", 1): Reader.mkdir, ("rmdir", 1): Reader.rmdir, ("demand", 2): Reader.demand,
-    ("read", 2): read_file, ("period", 0): Reader.period, ("total", 0): nothing,
-    ("plan", 0): nothing, ("cert", 0): nothing, ("report", 0): nothing,
-}
-
-
-def one_number(words: list[str]) -> int:
-    """A weight."""
-    refuse(not words, 17)
-    refuse(len(words) > 1, 16)
-    weight = number_of(words[0])
-    refuse(not units.MIN_WEIGHT <= weight <= units.MAX_WEIGHT, 12)
-    return weight
-
-
-def write_max(group: Group, words: list[str]) -> None:
-    """Sets a quota, and a period where one is given."""
-    refuse(not words, 17)
-    refuse(len(words) > 2, 16)
-    quota = None if words[0] == "max" else number_of(words[0])
-    if quota is not None:
-        refuse(quota < units.MIN_QUOTA, 13)
-        refuse(quota > units.MAX_QUOTA, 14)
-    period = group.period if len(words) == 1 else number_of(words[1])
-    refuse(not units.MIN_PERIOD <= period <= units.MAX_PERIOD, 15)
-    refuse(quota is not None and group.burst > quota, 33)
-    group.quota, group.period = quota, period
-
-
-def write_burst(group: Group, words: list[str]) -> None:
-    """Sets a burst."""
-    refuse(not words, 17)
-    refuse(len(words) > 1, 16)
-    burst = number_of(words[0])
-    refuse(burst > units.MAX_QUOTA, 14)
-    refuse(group.quota is not None and burst > group.quota, 33)
-    group.burst = burst
 
 
 def head_line(host: Host) -> str:
@@ -227,40 +65,85 @@ def is_blank(line: bytes) -> bool:
     return not stripped or stripped.startswith(b"#")
 
 
-def take_line(reader: Reader, line: bytes) -> None:
-    """Makes the change of one line, or refuses it."""
-    refuse(len(line) > MAX_LINE, 82)
-    try:
-        text = line.decode()
-    except UnicodeDecodeError as error:
-        raise RefusedLine(81) from error
-    if not is_blank(line):
-        reader.line(text)
+def words_of(line: bytes) -> list[str]:
+    """The words of a line that was not refused."""
+    return [word for word in line.decode().replace("\t", " ").split(" ") if word]
 
 
-def take_tasks(reader: Reader, before: bytes, line: bytes) -> None:
-    """Takes what the comment above a `demand` says of tasks, unless it is of another demand."""
-    if not before.startswith(b"# tasks"):
-        return
-    found = TASKS.fullmatch(before.decode(errors="replace"))
-    if not found or not line.lstrip(b" \t").startswith(b"demand"):
-        return
-    path = re.split(r"[ \t]+", line.decode().strip(" \t"))[1]
-    group = reader.model.groups[path]
-    asks = units.parse_cpu(found.group(2)) if found.group(2) else group.demand
-    told = replace(group, tasks=int(found.group(1)), demand=asks)
-    slices = Slices(reader.engine.library, reader.model.host)
-    if slices.demand(told.usable) == slices.demand(group.usable):
-        reader.model.groups[path] = told
+class Noted:
+    """What the comments of a script say of its groups, which are told of each line in turn."""
+
+    def __init__(self, slices: Slices) -> None:
+        self.slices = slices
+        self.groups: dict[str, Group] = {}
+
+    def take(self, before: bytes, line: bytes) -> None:
+        """Takes a line that was not refused, and the line above it."""
+        words = words_of(line)
+        if words[0] == "mkdir":
+            path = words[1].removeprefix("./")
+            self.groups[path] = Group(path)
+            if before.startswith(b"# at "):
+                self.groups[path].place = names.place_of(before[5:].decode(errors="replace"))
+        elif words[0] == "rmdir":
+            del self.groups[words[1]]
+        else:
+            host, group = self.slices.host, self.groups[words[1]]
+            group.demand = units.thousandths_of_slices(int(words[2]), host.period_us,
+                                                       host.slice_us)
+            self.take_tasks(group, before)
+
+    def take_tasks(self, group: Group, before: bytes) -> None:
+        """Takes what the comment above a demand says of tasks, unless it is of another demand."""
+        found = TASKS.fullmatch(before.decode(errors="replace"))
+        if not found:
+            return
+        asks = units.parse_cpu(found.group(2)) if found.group(2) else group.demand
+        told = replace(group, tasks=int(found.group(1)), demand=asks)
+        if self.slices.demand(told.usable) == self.slices.demand(group.usable):
+            group.tasks, group.demand = told.tasks, told.demand
 
 
-def take_place(model: Model, before: bytes, line: bytes) -> None:
-    """Takes what the comment above a `mkdir` says of the group's place on its host."""
-    words = line.split()
-    if not before.startswith(b"# at ") or words[:1] != [b"mkdir"] or len(words) != 2:
-        return
-    group = model.groups[words[1].decode().removeprefix("./")]
-    group.place = names.place_of(before[5:].decode(errors="replace"))
+def take_comments(model: Model, lines: list[bytes], refused: set[int], slices: Slices) -> None:
+    """Takes what the comments say of the groups: their places, tasks and what they ask for."""
+    noted = Noted(slices)
+    for number, (before, line) in enumerate(zip([b"", *lines], lines), 1):
+        if NOTED.match(line) and number not in refused:
+            noted.take(before, line)
+    for path, group in noted.groups.items():
+        taken = model.groups[path]
+        taken.place, taken.tasks, taken.demand = group.place, group.tasks, group.demand
+
+
+def add_groups(model: Model, found: Script, slices: Slices) -> None:
+    """Adds the groups of a script, and takes what the library has converted for them."""
+    host, tree, demands = model.host, found.columns, {}
+    for demand in set(tree.demands):
+        demands[demand] = units.thousandths_of_slices(demand, host.period_us, host.slice_us)
+        slices.demands[demands[demand].as_integer_ratio()] = demand
+    paths: list[str] = []
+    for (parent, name, weight, limit, demand, quota, period, burst, carry) in zip(
+            tree.parents, found.names, tree.weights, tree.limits, tree.demands, found.quotas,
+            found.periods, found.bursts, found.carries):
+        paths.append(f"{paths[parent]}/{name}" if paths and parent else name)
+        if quota != NO_LIMIT and burst == 0:
+            slices.limits[quota, period] = limit
+        model.groups[paths[-1]] = Group(paths[-1], weight, None if quota == NO_LIMIT else quota,
+                                        period, burst, demands[demand], None, carry)
+    del model.groups[""]
+
+
+def asked_of(library: Library, host: Host, data: bytes) -> Script:
+    """What the library makes of a script.
+
+    On more than 64 CPUs it is asked for 64: that decides only what a `period` leaves over.
+    """
+    with asking("the script"):
+        found = library.script(replace(host, processors=min(host.processors, MAX_PROCESSORS)), data)
+    if host.processors > MAX_PROCESSORS and any(map(min, found.bursts, found.carries)):
+        raise HostFault(f"{host.processors} CPUs: a script with bursts and `period` lines is read"
+                        f" for at most {MAX_PROCESSORS}")
+    return found
 
 
 def script_lines(data: bytes) -> list[bytes]:
@@ -283,18 +166,18 @@ def read(data: bytes, name: str, engine: Engine, host: Host | None = None) -> Mo
     if lines and all(line.endswith(b"\r") for line in lines):
         model.notes.append("its lines end with carriage returns, which are parts of words here:"
                            " write newlines alone")
-    reader = Reader(model, engine)
-    for number, (before, line) in enumerate(zip([b"", *lines], lines), 1):
-        try:
-            take_line(reader, line)
-            take_tasks(reader, before, line)
-            take_place(model, before, line)
-        except RefusedLine as refused:
-            text = names.shown(names.cut(line[:400].decode(errors="replace"), 120))
-            model.refused.append(f"{name}:{number}: error {refused.number} {refused}: {text}")
-            if len(model.refused) > MAX_REFUSED:
-                raise HostFault(f"{name}:{number}: more than {MAX_REFUSED} refused lines: this is"
-                                " no script") from refused
+    found = asked_of(engine.library, model.host, data)
+    if len(found.refused) > MAX_REFUSED:
+        raise HostFault(f"{name}:{found.refused[MAX_REFUSED][0]}: more than {MAX_REFUSED} refused"
+                        " lines: this is no script")
+    model.slices = Slices(engine.library, model.host)
+    add_groups(model, found, model.slices)
+    if b"# tasks" in data or b"# at " in data:
+        take_comments(model, lines, {number for number, _ in found.refused}, model.slices)
+    for number, fault in found.refused:
+        text = names.shown(names.cut(lines[number - 1][:400].decode(errors="replace"), 120))
+        words = FAULTS.get(fault) or engine.library.name(fault)
+        model.refused.append(f"{name}:{number}: error {fault} {words}: {text}")
     return model
 
 
