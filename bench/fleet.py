@@ -5,8 +5,7 @@ usage: bench/fleet.py [--hosts N] [--groups N] [--library PATH] [--parts WORD,..
 Makes a fleet of scripts, by default 10,000 hosts of 500 groups, and runs `arbiterctl fleet plan`
 over it: in one process, on four and on two workers of which one is killed in mid-run, and over a
 fifth of it on one, two and four workers. It fails if the bytes of any run over the whole fleet
-differ from those of one process. Parts: one, killed4, killed2, growth. One process takes some
-30 ms a host.
+differ from those of one process. Parts: one, killed4, killed2, growth.
 """
 import argparse
 import hashlib
