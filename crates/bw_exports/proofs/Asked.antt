@@ -3,7 +3,6 @@ use Rattle.std.proofs.Common.{◌&&◌, not, filter, subst, count_by, ◌≡◌,
 use Rattle.std.proofs.Common.{false, cond, Option, None, Some, List, length, refl, ap, sym}
 use Rattle.std.proofs.Common.{◌∙◌, inl, inr}
 use Rattle.std.specs.Option.{option_map_or}
-use Rattle.std.proofs.lemmas.Bool.{ne_eqb, eq-eqb}
 use Rattle.std.proofs.lemmas.List.FromFn.{length-map-range_with_len, length-range_with_len}
 use Rattle.bw_model.specs.declared.host.HostFault.{HostFault}
 use Rattle.bw_model.specs.declared.instance_fault.InstanceFault.{InstanceFault}
@@ -24,10 +23,8 @@ use Rattle.std.proofs.lemmas.List.Sums.{length-filter, count_by-le-length}
 use Rattle.bw_model.specs.declared.limits.TheConstants.{MAX_GROUPS}
 use Rattle.std.specs.List.{range_with_len}
 use Rattle.bw_model.proofs.CallerLemmas.{IsHost-accepted, IsInstance-accepted}
-use Rattle.bw_exports.specs.declared.columns.Columns.{Columns}
-use Rattle.bw_exports.specs.declared.asked_instance.Host.{Host}
-use Rattle.bw_exports.specs.Asked.{Table, table_of, shape_of, row_in, rows_in, groups_in, are_even}
-use Rattle.bw_exports.specs.Asked.{refusal_number, asked_number, asked_number_with, Answers}
+use Rattle.bw_exports.specs.Asked.{Table, row_in, rows_in, groups_in, are_even}
+use Rattle.bw_exports.specs.Asked.{refusal_number, asked_number, Answers}
 use Rattle.bw_exports.specs.Asked.{IsAfterMemory}
 
 -- uneven columns
@@ -40,13 +37,6 @@ asked_even : (shape : Shape) (table : Table) → are_even table ≡ true
     → asked_number shape table ≡ refusal_number (groups_in shape table)
 unfolding asked_number
 asked_even shape table e = ap (λ (b : Bool). cond b (refusal_number (groups_in shape table)) 50) e
-
--- what is asked by the same host and the same columns
-pub asked_by : {one two : Host} {these those : Columns} → one ≡ two → these ≡ those →
-    asked_number (shape_of one) (table_of these) ≡ asked_number (shape_of two) (table_of those)
-asked_by {one} {two} {these} {those} host columns =
-    ap (λ (h : Host). asked_number (shape_of h) (table_of these)) host
-    ∙ ap (λ (c : Columns). asked_number (shape_of two) (table_of c)) columns
 
 -- even columns, and no such host
 pub host_refused : (shape : Shape) (table : Table) (fault : HostFault) → are_even table ≡ true
@@ -119,20 +109,6 @@ planned_length shape table amounts plan =
     ap (length {A = ℕ}) plan.amounts_are
     ∙ length-map-range_with_len (total (rows_in table) plan.allocation) 0 (length (rows_in table))
     ∙ length-map-range_with_len (row_in table) 0 (length table.parents)
-
--- a list for the answer of another length
-pub asked_short : (count : ℕ) (shape : Shape) (table : Table) → (count ≡ length table.parents → ⊥)
-    → asked_number_with count shape table ≡ 50
-unfolding asked_number_with
-asked_short count shape table e =
-    ap (λ (b : Bool). cond b (asked_number shape table) 50) (ne_eqb count (length table.parents) e)
-
--- and of this length
-pub asked_long : (count : ℕ) (shape : Shape) (table : Table) → count ≡ length table.parents
-    → asked_number_with count shape table ≡ asked_number shape table
-unfolding asked_number_with
-asked_long count shape table e =
-    ap (λ (b : Bool). cond b (asked_number shape table) 50) (eq-eqb count (length table.parents) e)
 
 -- no more groups limit than there are rows
 pub limiting_short : (shape : Shape) (table : Table) (most : List ℕ)

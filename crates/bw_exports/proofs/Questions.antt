@@ -11,9 +11,7 @@ use Rattle.bw_model.specs.declared.instance_fault.InstanceFault.TheVariants.{Dem
 use Rattle.bw_model.specs.declared.instance_fault.InstanceFault.TheVariants.{RootLimited}
 use Rattle.bw_model.specs.declared.instance_fault.InstanceFault.TheVariants.{OutOfMemory}
 use Rattle.bw_model.specs.Groups.{Groups}
-use Rattle.bw_questions.specs.declared.guaranteed.fault.GuaranteeFault.{GuaranteeFault}
 use Rattle.bw_questions.specs.declared.guaranteed.fault.GuaranteeFault.TheVariants as of_group
-use Rattle.bw_questions.specs.Fault.{guarantee_fault_number, IsRefused}
 use Rattle.bw_exports.specs.declared.asked_instance.Host.{Host}
 use Rattle.bw_exports.specs.declared.columns.Columns.{Columns}
 use Rattle.bw_exports.specs.declared.refusal.Refusal.{Refusal}
@@ -21,7 +19,10 @@ use Rattle.bw_exports.specs.declared.refusal.Refusal.TheVariants as of_refusal
 use Rattle.bw_exports.specs.Asked.{Answers, IsAfterMemory}
 use Rattle.bw_exports.specs.Numbers.{number_of_refusal}
 use Rattle.bw_exports.specs.Questions.{group_number, root_number, first_refusal}
-use Rattle.bw_exports.specs.Questions.{question_refusal_of, limit_question_refusal_of}
+use Rattle.bw_exports.specs.declared.question.Question.{Question}
+use Rattle.bw_exports.specs.declared.question.Question.TheVariants.{Guarantee, LeastWeight}
+use Rattle.bw_exports.specs.declared.question.Question.TheVariants.{LeastLimit, LeastProcessors}
+use Rattle.bw_exports.specs.Questions.{question_refusal_of, own_number, refusal_of_question}
 
 -- nothing refuses first
 pub first_none : (number next : ℕ) → number ≡ 0 → first_refusal number next ≡ next
@@ -77,13 +78,6 @@ question_carried number groups group refusal answers =
     carried number (group_number groups group) (number_of_refusal refusal)
     (refusal_positive refusal) (row_later (nat_lt group (length groups.rows))) answers
 
-pub limit_carried : (number group : ℕ) (refusal : Refusal)
-    → Answers number (number_of_refusal refusal)
-    → Answers (first_refusal number (root_number group)) (number_of_refusal refusal)
-limit_carried number group refusal answers =
-    carried number (root_number group) (number_of_refusal refusal) (refusal_positive refusal)
-    (root_later (group == 0)) answers
-
 -- a group that is a row, and one that is none
 pub question_none : (number : ℕ) (groups : Groups) (group : ℕ) → number ≡ 0
     → group < length groups.rows → first_refusal number (group_number groups group) ≡ 0
@@ -97,39 +91,24 @@ question_past number groups group none past =
     first_none number (group_number groups group) none
     ∙ ap (λ (b : Bool). cond b 0 20) (le-ltb group (length groups.rows) past)
 
--- a group below the root, and the root
-pub limit_none : (number group : ℕ) → number ≡ 0 → (group ≡ 0 → ⊥)
-    → first_refusal number (root_number group) ≡ 0
-limit_none number group none below =
-    first_none number (root_number group) none
-    ∙ ap (λ (b : Bool). cond b 10 0) (ne_eqb group 0 below)
+-- Where nothing else refuses, a question is refused by what refuses it alone.
+pub asked_own : (host : Host) (columns : Columns) (group : ℕ) (question : Question)
+    → question_refusal_of host columns group ≡ 0
+    → refusal_of_question host columns group question ≡ own_number group question
+asked_own host columns group Guarantee none = none
+asked_own host columns group (LeastWeight amount) none = none
+asked_own host columns group (LeastLimit amount) none =
+    first_none (question_refusal_of host columns group) (root_number group) none
+asked_own host columns group (LeastProcessors amount) none = none
 
-pub limit_root : (number group : ℕ) → number ≡ 0 → group ≡ 0
-    → first_refusal number (root_number group) ≡ 10
-limit_root number group none root =
-    first_none number (root_number group) none
-    ∙ ap (λ (b : Bool). cond b 10 0) (eq-eqb group 0 root)
-
--- the refusal of a guarantee
-pub guarantee_refused : (number : ℕ) (groups : Groups) (group : ℕ) (fault : GuaranteeFault)
-    → number ≡ 0 → IsRefused groups group fault
-    → Answers (first_refusal number (group_number groups group)) (guarantee_fault_number fault)
-guarantee_refused number groups group of_group.NotFound none past =
-    inl (sym (question_past number groups group none past))
-guarantee_refused number groups group of_group.OutOfMemory none within =
-    inr (refl, inl (question_none number groups group none within))
-
--- what is asked by the same host and the same columns
-pub question_by : {one two : Host} {these those : Columns} → one ≡ two → these ≡ those
-    → (group : ℕ)
-    → question_refusal_of one these group ≡ question_refusal_of two those group
-question_by {one} {two} {these} {those} host columns group =
-    ap (λ (h : Host). question_refusal_of h these group) host
-    ∙ ap (λ (c : Columns). question_refusal_of two c group) columns
-
-pub limit_question_by : {one two : Host} {these those : Columns} → one ≡ two → these ≡ those
-    → (group : ℕ)
-    → limit_question_refusal_of one these group ≡ limit_question_refusal_of two those group
-limit_question_by {one} {two} {these} {those} host columns group =
-    ap (λ (h : Host). limit_question_refusal_of h these group) host
-    ∙ ap (λ (c : Columns). limit_question_refusal_of two c group) columns
+-- What refuses host, rows and group refuses each question, too.
+pub asked_carried : (host : Host) (columns : Columns) (group : ℕ) (question : Question)
+    (refusal : Refusal)
+    → Answers (question_refusal_of host columns group) (number_of_refusal refusal)
+    → Answers (refusal_of_question host columns group question) (number_of_refusal refusal)
+asked_carried host columns group Guarantee refusal answers = answers
+asked_carried host columns group (LeastWeight amount) refusal answers = answers
+asked_carried host columns group (LeastLimit amount) refusal answers =
+    carried (question_refusal_of host columns group) (root_number group)
+    (number_of_refusal refusal) (refusal_positive refusal) (root_later (group == 0)) answers
+asked_carried host columns group (LeastProcessors amount) refusal answers = answers

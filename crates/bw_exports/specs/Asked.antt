@@ -108,16 +108,16 @@ IsAfterMemory refused = (refused ≡ 0) ⊎ ((3 < refused) × (refused ≢ 50))
 abbrev pub Answers : ℕ → ℕ → Type 0
 Answers refused number = (number ≡ refused) ⊎ ((number ≡ 71) × IsAfterMemory refused)
 
--- the refusal of a request whose list for the answer has `count` entries: 50 also where `count`
--- differs from the number of rows
-unfoldable pub asked_number_with : ℕ → Shape → Table → ℕ
-asked_number_with count shape table =
-    if count == length table.parents then asked_number shape table else 50
-
 -- the number that refuses what is asked, 50 also where the columns for the answer are not of the
 -- rows' length
 unfoldable pub asked_number_where : Bool → Shape → Table → ℕ
 asked_number_where fit shape table = if fit then asked_number shape table else 50
+
+-- the number that refuses a request whose list for the answer has `count` entries: 50 also where
+-- `count` differs from the number of rows
+abbrev pub asked_number_with : ℕ → Shape → Table → ℕ
+asked_number_with count shape table =
+    asked_number_where (count == length table.parents) shape table
 
 -- the number that refuses the program's host and columns, 50 also where the columns for the answer
 -- are not of the rows' length

@@ -5,10 +5,14 @@ use Rattle.bw_model.specs.declared.limits.TheConstants.{MIN_WEIGHT, MAX_WEIGHT, 
 use Rattle.bw_model.specs.Host.{Shape}
 use Rattle.bw_model.specs.Groups.{Groups}
 use Rattle.bw_questions.specs.Change.{with_weight, with_processors}
+use Rattle.bw_questions.specs.Guarantee.{IsGuaranteed}
 use Rattle.bw_questions.specs.Least.{Reaches, IsLeast, IsLeastLimit}
 use Rattle.bw_exports.specs.declared.asked_instance.Host.{Host}
 use Rattle.bw_exports.specs.declared.columns.Columns.{Columns}
 use Rattle.bw_exports.specs.declared.columns.TheConstants.{NO_LIMIT}
+use Rattle.bw_exports.specs.declared.question.Question.{Question}
+use Rattle.bw_exports.specs.declared.question.Question.TheVariants.{Guarantee, LeastWeight}
+use Rattle.bw_exports.specs.declared.question.Question.TheVariants.{LeastLimit, LeastProcessors}
 use Rattle.bw_exports.specs.Asked.{Table, shape_of, table_of, groups_in, asked_number}
 
 -- the number that refuses a group, 0 where none does: 20 where it is no row
@@ -39,11 +43,6 @@ abbrev pub question_refusal_of : Host → Columns → ℕ → ℕ
 question_refusal_of host columns group =
     question_number (shape_of host) (table_of columns) group
 
--- the number that refuses one about a limit by the program's host and columns, 0 where none does
-abbrev pub limit_question_refusal_of : Host → Columns → ℕ → ℕ
-limit_question_refusal_of host columns group =
-    limit_question_number (shape_of host) (table_of columns) group
-
 -- the number of a limit: the greatest of 64 bits where there is none
 abbrev pub limit_number : Option ℕ → ℕ
 limit_number None = NO_LIMIT
@@ -67,3 +66,28 @@ IsLeastProcessorsNumber groups group amount number =
     (processors : Option ℕ)
     × IsLeast (λ n. Reaches (with_processors groups n) group amount) 1 MAX_PROCESSORS processors
     × (number ≡ unwrap_or processors 0)
+
+-- the number that refuses a question of a group that is a row, 0 where none does
+abbrev pub own_number : ℕ → Question → ℕ
+own_number group Guarantee = 0
+own_number group (LeastWeight amount) = 0
+own_number group (LeastLimit amount) = root_number group
+own_number group (LeastProcessors amount) = 0
+
+-- the number that refuses a question by the program's host and columns, 0 where none does
+abbrev pub refusal_of_question : Host → Columns → ℕ → Question → ℕ
+refusal_of_question host columns group Guarantee = question_refusal_of host columns group
+refusal_of_question host columns group (LeastWeight amount) =
+    question_refusal_of host columns group
+refusal_of_question host columns group (LeastLimit amount) =
+    limit_question_number (shape_of host) (table_of columns) group
+refusal_of_question host columns group (LeastProcessors amount) =
+    question_refusal_of host columns group
+
+-- the number that answers a question
+abbrev pub IsAnswer : Groups → ℕ → Question → ℕ → Type 0
+IsAnswer groups group Guarantee number = IsGuaranteed groups group number
+IsAnswer groups group (LeastWeight amount) number = IsLeastWeightNumber groups group amount number
+IsAnswer groups group (LeastLimit amount) number = IsLeastLimitNumber groups group amount number
+IsAnswer groups group (LeastProcessors amount) number =
+    IsLeastProcessorsNumber groups group amount number

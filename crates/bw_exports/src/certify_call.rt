@@ -1,12 +1,12 @@
 //! `arbiter_certify`: the planner with a certificate, called from C.
 ghost use Rattle.std.specs.Prelude.{◌≡◌, ◌<◌, ◌∷◌, [], true, length, IfOk, IfErr, OnOk};
-ghost use Rattle.bw_exports.specs.Asked.{groups_asked, refusal_of, are_of_length, Answers};
+ghost use Rattle.bw_exports.specs.Asked.{groups_asked, refusal_where, are_of_length, Answers};
 ghost use Rattle.bw_exports.specs.Asked.{asked_host, asked_table, groups_in, asked_number_where};
 ghost use Rattle.bw_exports.specs.Certified.{IsCertifiedPlan, claimed_in, AreLong};
 ghost use Rattle.bw_exports.specs.Checked.{claimed_columns};
 ghost use Rattle.bw_exports.specs.Numbers.{number_of_refusal};
 
-use crate::asked_instance::{Host, instance_of};
+use crate::asked_instance::{Host, instance_where};
 use crate::certificate_columns::{dens, flag_numbers, nums, places};
 use crate::columns::Columns;
 use crate::refusal::Refusal;
@@ -26,14 +26,16 @@ struct Found {
 }
 
 // The plan of a host and its rows, with its certificate.
-fn found_in(alloc: Global, host: Host, columns: &Columns<'_>) -> Result<Found, Refusal>
+fn found_in(alloc: Global, fit: bool, host: Host, columns: &Columns<'_>) -> Result<Found, Refusal>
     ensures held { IfOk result
         (λ f. IsCertifiedPlan (groups_asked host columns.now) f.amounts.items (claimed_in f)) }
     ensures long { IfOk result (λ f. AreLong f (length columns.now.parents.now)) }
-    ensures none { OnOk result (refusal_of host columns.now ≡ 0) }
-    ensures err { IfErr result (λ e. Answers (refusal_of host columns.now) (number_of_refusal e)) }
+    ensures fit { OnOk result (fit ≡ true) }
+    ensures none { OnOk result (refusal_where fit host columns.now ≡ 0) }
+    ensures err { IfErr result
+        (λ e. Answers (refusal_where fit host columns.now) (number_of_refusal e)) }
 {
-    let instance = instance_of(alloc, host, columns)?;
+    let instance = instance_where(alloc, fit, host, columns)?;
     let gathered = gather_rows(alloc, &instance)?;
     let plan = plan_rows(alloc, &instance, &gathered)?;
     let certificate = certify_gathered(alloc, &instance, gathered, &plan)?;
@@ -107,12 +109,10 @@ pub extern "C" fn arbiter_certify(
     ensures dens_kept { 0 < result → dens.new ≡ dens.old }
     ensures places_kept { 0 < result → places.new ≡ places.old }
 {
-    if !are_fit(parents.len(), amounts, flags, nums, dens, places) {
-        return Refusal::WrongLength.number();
-    }
+    let fit = are_fit(parents.len(), amounts, flags, nums, dens, places);
     let host = Host::new(processors, period_us, slice_us);
     let columns = Columns::new(parents, weights, limits, demands);
-    match found_in(alloc, host, &columns) {
+    match found_in(alloc, fit, host, &columns) {
         Ok(found) => {
             amounts.copy_from_slice(found.amounts.as_slice());
             flags.copy_from_slice(found.flags.as_slice());

@@ -1,6 +1,7 @@
 //! The rows of a tree that a caller gives, by column.
 ghost use Rattle.std.specs.Prelude.{◌≡◌, ◌<◌, length, IfOk, true};
 ghost use Rattle.bw_exports.specs.Asked.{table_of, parent_in, limit_in, row_in, rows_in, are_even};
+ghost use Rattle.bw_exports.specs.Questions.{limit_number};
 
 use bw_model::Row;
 use std::alloc::{AllocError, Global};
@@ -38,6 +39,13 @@ fn limit_of(number: u64) -> Option<u64>
     } else {
         Some(number)
     }
+}
+
+/// The number of a limit, [`NO_LIMIT`] for none.
+pub(crate) fn limit_number(limit: Option<u64>) -> u64
+    ensures { result ≡ limit_number limit }
+{
+    limit.unwrap_or(NO_LIMIT)
 }
 
 impl<'a> Columns<'a> {

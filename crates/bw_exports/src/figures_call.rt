@@ -125,17 +125,8 @@ pub extern "C" fn arbiter_figures(
         active_weights,
         withheld,
     );
-    let host = Host {
-        processors,
-        period_us,
-        slice_us,
-    };
-    let columns = Columns {
-        parents,
-        weights,
-        limits,
-        demands,
-    };
+    let host = Host::new(processors, period_us, slice_us);
+    let columns = Columns::new(parents, weights, limits, demands);
     match figures_of(alloc, fit, host, &columns) {
         Ok(found) => {
             wants.copy_from_slice(found.gathered.want.as_slice());

@@ -1,35 +1,14 @@
 //! `arbiter_guarantee`: the least that a group gets, called from C.
-ghost use Rattle.std.specs.Prelude.{◌≡◌, ◌<◌, IfOk, IfErr, OnOk};
+ghost use Rattle.std.specs.Prelude.{◌≡◌, ◌<◌};
 ghost use Rattle.bw_questions.specs.Guarantee.{IsGuaranteed};
-ghost use Rattle.bw_exports.specs.Asked.{groups_asked, Answers};
+ghost use Rattle.bw_exports.specs.Asked.{Answers};
 ghost use Rattle.bw_exports.specs.Asked.{asked_host, asked_table, groups_in};
-ghost use Rattle.bw_exports.specs.Numbers.{number_of_refusal};
-ghost use Rattle.bw_exports.specs.Questions.{question_number, question_refusal_of};
+ghost use Rattle.bw_exports.specs.Questions.{question_number};
 
-use crate::asked_instance::{Host, instance_of};
+use crate::asked_instance::Host;
 use crate::columns::Columns;
-use crate::refusal::Refusal;
-use bw_questions::guarantee;
+use crate::question::{Question, ask};
 use std::alloc::Global;
-
-// The guarantee of a group of a host and its rows.
-fn guarantee_of(
-    alloc: Global,
-    host: Host,
-    columns: &Columns<'_>,
-    group: u32,
-) -> Result<u64, Refusal>
-    ensures guaranteed { IfOk result (IsGuaranteed (groups_asked host columns.now) group) }
-    ensures none { OnOk result (question_refusal_of host columns.now group ≡ 0) }
-    ensures err { IfErr result
-        (λ e. Answers (question_refusal_of host columns.now group) (number_of_refusal e)) }
-{
-    let instance = instance_of(alloc, host, columns)?;
-    match guarantee(alloc, &instance, group) {
-        Ok(amount) => Ok(amount),
-        Err(fault) => Err(Refusal::Group(fault)),
-    }
-}
 
 /// The amount that a group is guaranteed, in slices of one period: 0 to 64000.
 ///
@@ -63,11 +42,5 @@ pub extern "C" fn arbiter_guarantee(
 {
     let host = Host::new(processors, period_us, slice_us);
     let columns = Columns::new(parents, weights, limits, demands);
-    match guarantee_of(alloc, host, &columns, group) {
-        Ok(found) => {
-            *amount = found;
-            0
-        }
-        Err(refusal) => refusal.number(),
-    }
+    ask(alloc, host, &columns, group, Question::Guarantee, amount)
 }

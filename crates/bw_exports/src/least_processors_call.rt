@@ -1,38 +1,15 @@
 //! `arbiter_least_processors`: the least number of processors that reaches an amount, called from
 //! C.
-ghost use Rattle.std.specs.Prelude.{◌≡◌, ◌<◌, IfOk, IfErr, OnOk};
-ghost use Rattle.bw_exports.specs.Asked.{groups_asked, Answers};
+ghost use Rattle.std.specs.Prelude.{◌≡◌, ◌<◌};
+ghost use Rattle.bw_exports.specs.Asked.{Answers};
 ghost use Rattle.bw_exports.specs.Asked.{asked_host, asked_table, groups_in};
-ghost use Rattle.bw_exports.specs.Numbers.{number_of_refusal};
-ghost use Rattle.bw_exports.specs.Questions.{question_number, question_refusal_of};
+ghost use Rattle.bw_exports.specs.Questions.{question_number};
 ghost use Rattle.bw_exports.specs.Questions.{IsLeastProcessorsNumber};
 
-use crate::asked_group::instance_with;
 use crate::asked_instance::Host;
 use crate::columns::Columns;
-use crate::refusal::Refusal;
-use bw_questions::least_processors;
+use crate::question::{Question, ask};
 use std::alloc::Global;
-
-// The least number of processors with which a group of a host and its rows reaches an amount, 0
-// for none.
-fn least_processors_of(
-    alloc: Global,
-    host: Host,
-    columns: &Columns<'_>,
-    group: u32,
-    amount: u64,
-) -> Result<u64, Refusal>
-    ensures least { IfOk result
-        (IsLeastProcessorsNumber (groups_asked host columns.now) group amount) }
-    ensures none { OnOk result (question_refusal_of host columns.now group ≡ 0) }
-    ensures err { IfErr result
-        (λ e. Answers (question_refusal_of host columns.now group) (number_of_refusal e)) }
-{
-    let instance = instance_with(alloc, host, columns, group)?;
-    let processors = least_processors(alloc, &instance, group, amount)?;
-    Ok(processors.unwrap_or(0))
-}
 
 /// The least number of processors, 1 to 64, with which the plan gives a group at least so many
 /// slices.
@@ -68,11 +45,12 @@ pub extern "C" fn arbiter_least_processors(
 {
     let host = Host::new(processors, period_us, slice_us);
     let columns = Columns::new(parents, weights, limits, demands);
-    match least_processors_of(alloc, host, &columns, group, amount) {
-        Ok(found) => {
-            *least = found;
-            0
-        }
-        Err(refusal) => refusal.number(),
-    }
+    ask(
+        alloc,
+        host,
+        &columns,
+        group,
+        Question::LeastProcessors(amount),
+        least,
+    )
 }

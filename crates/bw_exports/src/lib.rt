@@ -21,6 +21,7 @@ mod least_weight_call;
 mod limiting_call;
 mod name_call;
 mod plan_call;
+mod question;
 mod reason_columns;
 mod reasons_call;
 mod refusal;

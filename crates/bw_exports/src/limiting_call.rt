@@ -1,11 +1,11 @@
 //! `arbiter_limiting`: the limiting groups of a tree, called from C.
-ghost use Rattle.std.specs.Prelude.{◌≡◌, ◌<◌, ◌≤◌, length, IfOk, IfErr, OnOk};
-ghost use Rattle.bw_exports.specs.Asked.{groups_asked, refusal_of, Answers};
+ghost use Rattle.std.specs.Prelude.{◌≡◌, ◌<◌, ◌≤◌, true, length, IfOk, IfErr, OnOk};
+ghost use Rattle.bw_exports.specs.Asked.{groups_asked, refusal_where, Answers};
 ghost use Rattle.bw_exports.specs.Asked.{asked_host, asked_table, groups_in, asked_number_with};
 ghost use Rattle.bw_exports.specs.Limited.{IsLimiting, IsListed};
 ghost use Rattle.bw_exports.specs.Numbers.{number_of_refusal};
 
-use crate::asked_instance::{Host, instance_of};
+use crate::asked_instance::{Host, instance_where};
 use crate::columns::Columns;
 use crate::front::write_front;
 use crate::refusal::Refusal;
@@ -14,15 +14,22 @@ use bw_model::limits::MAX_GROUPS;
 use std::alloc::Global;
 
 // The limiting groups of a host and its rows.
-fn limiting_of(alloc: Global, host: Host, columns: &Columns<'_>) -> Result<Limiting, Refusal>
+fn limiting_of(
+    alloc: Global,
+    fit: bool,
+    host: Host,
+    columns: &Columns<'_>,
+) -> Result<Limiting, Refusal>
     ensures limiting { IfOk result
         (λ l. IsLimiting (groups_asked host columns.now) l.groups.items l.rest) }
     ensures short { IfOk result (λ l. length l.groups.items ≤ length columns.now.parents.now) }
     ensures few { IfOk result (λ l. length l.groups.items ≤ MAX_GROUPS) }
-    ensures none { OnOk result (refusal_of host columns.now ≡ 0) }
-    ensures err { IfErr result (λ e. Answers (refusal_of host columns.now) (number_of_refusal e)) }
+    ensures fit { OnOk result (fit ≡ true) }
+    ensures none { OnOk result (refusal_where fit host columns.now ≡ 0) }
+    ensures err { IfErr result
+        (λ e. Answers (refusal_where fit host columns.now) (number_of_refusal e)) }
 {
-    let instance = instance_of(alloc, host, columns)?;
+    let instance = instance_where(alloc, fit, host, columns)?;
     let gathered = gather_rows(alloc, &instance)?;
     Ok(limiting(alloc, &instance, &gathered)?)
 }
@@ -62,12 +69,10 @@ pub extern "C" fn arbiter_limiting(
     ensures count_kept { 0 < result → count.new ≡ count.old }
     ensures rest_kept { 0 < result → rest.new ≡ rest.old }
 {
-    if groups.len() != parents.len() {
-        return Refusal::WrongLength.number();
-    }
+    let fit = groups.len() == parents.len();
     let host = Host::new(processors, period_us, slice_us);
     let columns = Columns::new(parents, weights, limits, demands);
-    match limiting_of(alloc, host, &columns) {
+    match limiting_of(alloc, fit, host, &columns) {
         Ok(found) => {
             write_front(groups, found.groups.as_slice());
             *count = found.groups.len() as u32;

@@ -1,40 +1,27 @@
 //! `arbiter_plan`: the planner, called from C.
-ghost use Rattle.std.specs.Prelude.{◌≡◌, ◌<◌, length, IfOk, IfErr, OnOk};
+ghost use Rattle.std.specs.Prelude.{◌≡◌, ◌<◌, true, length, IfOk, IfErr, OnOk};
 ghost use Rattle.bw_model.specs.Plan.{IsPlan};
-ghost use Rattle.bw_exports.specs.Asked.{groups_asked, refusal_of, Answers};
+ghost use Rattle.bw_exports.specs.Asked.{groups_asked, refusal_where, Answers};
 ghost use Rattle.bw_exports.specs.Asked.{asked_host, asked_table, groups_in, asked_number_with};
 ghost use Rattle.bw_exports.specs.Numbers.{number_of_refusal};
 
-use crate::asked_instance::{Host, instance_of};
+use crate::asked_instance::{Host, instance_where};
 use crate::columns::Columns;
 use crate::refusal::Refusal;
 use bw_plan::{Plan, plan};
 use std::alloc::Global;
 
 // The plan of a host and its rows.
-fn plan_of(alloc: Global, host: Host, columns: &Columns<'_>) -> Result<Plan, Refusal>
+fn plan_of(alloc: Global, fit: bool, host: Host, columns: &Columns<'_>) -> Result<Plan, Refusal>
     ensures plan { IfOk result (λ p. IsPlan (groups_asked host columns.now) p.amounts.items) }
-    ensures none { OnOk result (refusal_of host columns.now ≡ 0) }
-    ensures err { IfErr result (λ e. Answers (refusal_of host columns.now) (number_of_refusal e)) }
+    ensures long { IfOk result (λ p. length p.amounts.items ≡ length columns.now.parents.now) }
+    ensures fit { OnOk result (fit ≡ true) }
+    ensures none { OnOk result (refusal_where fit host columns.now ≡ 0) }
+    ensures err { IfErr result
+        (λ e. Answers (refusal_where fit host columns.now) (number_of_refusal e)) }
 {
-    let instance = instance_of(alloc, host, columns)?;
+    let instance = instance_where(alloc, fit, host, columns)?;
     Ok(plan(alloc, &instance)?)
-}
-
-// Writes the plan of a host and its rows. A refusal leaves the amounts unchanged.
-fn write_plan(alloc: Global, host: Host, columns: &Columns<'_>, amounts: &mut [u64]) -> u32
-    requires { length amounts.old ≡ length columns.now.parents.now }
-    ensures number { Answers (refusal_of host columns.now) result }
-    ensures plan { result ≡ 0 → IsPlan (groups_asked host columns.now) amounts.new }
-    ensures kept { 0 < result → amounts.new ≡ amounts.old }
-{
-    match plan_of(alloc, host, columns) {
-        Ok(plan) => {
-            amounts.copy_from_slice(plan.amounts.as_slice());
-            0
-        }
-        Err(refusal) => refusal.number(),
-    }
 }
 
 /// The plan of the rows of a tree, in slices of one period.
@@ -70,10 +57,14 @@ pub extern "C" fn arbiter_plan(
         (asked_table parents.now weights.now limits.now demands.now)) amounts.new }
     ensures kept { 0 < result → amounts.new ≡ amounts.old }
 {
-    if amounts.len() != parents.len() {
-        return Refusal::WrongLength.number();
-    }
+    let fit = amounts.len() == parents.len();
     let host = Host::new(processors, period_us, slice_us);
     let columns = Columns::new(parents, weights, limits, demands);
-    write_plan(alloc, host, &columns, amounts)
+    match plan_of(alloc, fit, host, &columns) {
+        Ok(plan) => {
+            amounts.copy_from_slice(plan.amounts.as_slice());
+            0
+        }
+        Err(refusal) => refusal.number(),
+    }
 }

@@ -1,11 +1,11 @@
 //! `arbiter_reasons`: why each group gets what it gets, called from C.
-ghost use Rattle.std.specs.Prelude.{◌≡◌, ◌<◌, ◌∷◌, [], length, IfOk, IfErr, OnOk};
-ghost use Rattle.bw_exports.specs.Asked.{groups_asked, refusal_of, are_of_length, Answers};
+ghost use Rattle.std.specs.Prelude.{◌≡◌, ◌<◌, ◌∷◌, [], true, length, IfOk, IfErr, OnOk};
+ghost use Rattle.bw_exports.specs.Asked.{groups_asked, refusal_where, are_of_length, Answers};
 ghost use Rattle.bw_exports.specs.Asked.{asked_host, asked_table, groups_in, asked_number_where};
 ghost use Rattle.bw_exports.specs.Numbers.{number_of_refusal};
 ghost use Rattle.bw_exports.specs.Reasoned.{AreReasonColumns};
 
-use crate::asked_instance::{Host, instance_of};
+use crate::asked_instance::{Host, instance_where};
 use crate::columns::Columns;
 use crate::reason_columns::{blamed_rows, reason_numbers};
 use crate::refusal::Refusal;
@@ -22,16 +22,23 @@ struct Reasoned {
 }
 
 // The reasons of the plan of a host and its rows.
-fn reasons_of(alloc: Global, host: Host, columns: &Columns<'_>) -> Result<Reasoned, Refusal>
+fn reasons_of(
+    alloc: Global,
+    fit: bool,
+    host: Host,
+    columns: &Columns<'_>,
+) -> Result<Reasoned, Refusal>
     ensures held { IfOk result
         (λ r. AreReasonColumns (groups_asked host columns.now) r.numbers.items r.blamed.items) }
     ensures numbers { IfOk result
         (λ r. length r.numbers.items ≡ length columns.now.parents.now) }
     ensures blamed { IfOk result (λ r. length r.blamed.items ≡ length columns.now.parents.now) }
-    ensures none { OnOk result (refusal_of host columns.now ≡ 0) }
-    ensures err { IfErr result (λ e. Answers (refusal_of host columns.now) (number_of_refusal e)) }
+    ensures fit { OnOk result (fit ≡ true) }
+    ensures none { OnOk result (refusal_where fit host columns.now ≡ 0) }
+    ensures err { IfErr result
+        (λ e. Answers (refusal_where fit host columns.now) (number_of_refusal e)) }
 {
-    let instance = instance_of(alloc, host, columns)?;
+    let instance = instance_where(alloc, fit, host, columns)?;
     let gathered = gather_rows(alloc, &instance)?;
     let planned = plan_rows(alloc, &instance, &gathered)?;
     let found = reasons(alloc, &instance, &gathered, &planned)?;
@@ -86,12 +93,10 @@ pub extern "C" fn arbiter_reasons(
     ensures reasons_kept { 0 < result → reasons.new ≡ reasons.old }
     ensures blamed_kept { 0 < result → blamed.new ≡ blamed.old }
 {
-    if !are_fit(parents.len(), reasons, blamed) {
-        return Refusal::WrongLength.number();
-    }
+    let fit = are_fit(parents.len(), reasons, blamed);
     let host = Host::new(processors, period_us, slice_us);
     let columns = Columns::new(parents, weights, limits, demands);
-    match reasons_of(alloc, host, &columns) {
+    match reasons_of(alloc, fit, host, &columns) {
         Ok(found) => {
             reasons.copy_from_slice(found.numbers.as_slice());
             blamed.copy_from_slice(found.blamed.as_slice());
