@@ -13,6 +13,8 @@ mod figure_cases;
 #[cfg(test)]
 mod guarantee_cases;
 #[cfg(test)]
+mod hold_cases;
+#[cfg(test)]
 mod instances;
 #[cfg(test)]
 mod known_keys;
