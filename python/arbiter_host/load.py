@@ -65,6 +65,9 @@ def add_source_options(parser: argparse.ArgumentParser) -> None:
     group.add_argument("--conversion", choices=tuple(units.CONVERSIONS), default="linear",
                        help="shares to weights: `linear` before runc 1.3.2 and crun 1.23, `log`"
                        " from these on (default linear)")
+    for name, written in (("kubelet", "kubepods, classes and pods"), ("runtime", "containers")):
+        group.add_argument(f"--{name}", choices=tuple(units.CONVERSIONS),
+                           help=f"the conversion of {written} alone (default: --conversion)")
     group.add_argument("--driver", choices=("systemd", "cgroupfs"), default="systemd",
                        help="how the runtime names groups (default systemd)")
     group.add_argument("--strict", action="store_true",
@@ -216,7 +219,8 @@ def read_pods(options: argparse.Namespace, files: Sequence[tuple[str, bytes]],
               library: Library) -> Model:
     """Pods and a node."""
     from arbiter_host.sources import kubernetes
-    wish = kubernetes.Wish(options.node, options.conversion, options.driver,
+    wish = kubernetes.Wish(options.node, options.kubelet or options.conversion,
+                           options.runtime or options.conversion, options.driver,
                            options.want or "request")
     if options.cpus is None:
         model = kubernetes.read(files, None, library, wish)
@@ -229,7 +233,8 @@ def read_containers(options: argparse.Namespace, files: Sequence[tuple[str, byte
                     library: Library) -> Model:
     """Containers."""
     from arbiter_host.sources import containers
-    wish = containers.Wish(options.conversion, options.driver, options.want or "limit")
+    wish = containers.Wish(options.runtime or options.conversion, options.driver,
+                           options.want or "limit")
     return containers.read(files, machine(options), library, wish)
 
 

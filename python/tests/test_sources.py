@@ -438,9 +438,40 @@ def test_pods(engine):
 
 def test_pods_with_the_newer_conversion(engine):
     """runc from 1.3.2 on: 1024 shares are 100, 256 are 35, 2 are 1."""
-    titles = {each.title: each.weight for each in pods(engine, conversion="log").groups.values()}
+    found = pods(engine, kubelet="log", runtime="log")
+    titles = {each.title: each.weight for each in found.groups.values()}
     assert titles["prod/db-0/postgres"] == 100 and titles["prod/web-7c9f/nginx"] == 35
     assert titles["batch/report-x"] == 1
+
+
+# kubepods of 3500m, burstable of 1200m, a pod of 2000m, containers of 1000m and of 250m: their
+# shares are 3584, 1228, 2048, 1024 and 256. With l = log2(shares) the newer weight is
+# 10 ** ((l * l + 125 * l) / 612 - 7 / 34), rounded up.
+CONVERTED = ("kubepods", "kubepods/burstable", "kubepods/prod:db-0", "kubepods/prod:db-0/postgres",
+             "kubepods/burstable/prod:web-7c9f/nginx")
+
+
+@pytest.mark.parametrize("words, wanted", [
+    ((), [137, 47, 79, 39, 10]),
+    (("--runtime", "log"), [137, 47, 79, 100, 35]),
+    (("--kubelet", "log"), [272, 116, 174, 39, 10]),
+    (("--conversion", "log"), [272, 116, 174, 100, 35]),
+    (("--conversion", "log", "--kubelet", "linear"), [137, 47, 79, 100, 35]),
+])
+def test_conversions_of_kubelet_and_runtime(ctl, words, wanted):
+    """kubelet's weights and those of the runtime are two choices."""
+    out, _ = ctl.run("import", "kubernetes", FIXTURES / "pods.json", FIXTURES / "node.json",
+                     "--to", "json", *words)
+    groups = json.loads(out)["groups"]
+    assert [groups[path].get("weight", 100) for path in CONVERTED] == wanted
+
+
+def test_docker_by_a_newer_runtime(ctl):
+    """2048 shares are 174 where the runtime is a newer one; kubelet has no part in it."""
+    file = FIXTURES / "docker.json"
+    for word, wanted in (("--runtime", 174), ("--kubelet", 79)):
+        out, _ = ctl.run("import", "docker", file, "--to", "json", "--cpus", "8", word, "log")
+        assert json.loads(out)["groups"]["system.slice/web"]["weight"] == wanted
 
 
 def test_pods_by_cgroupfs(engine):

@@ -39,9 +39,11 @@ _arbiterctl() {
                 --depth-read) ;;
                 --node) ;;
                 --conversion) mapfile -t COMPREPLY < <(compgen -W "linear log" -- "$word") ;;
+                --kubelet) mapfile -t COMPREPLY < <(compgen -W "linear log" -- "$word") ;;
+                --runtime) mapfile -t COMPREPLY < <(compgen -W "linear log" -- "$word") ;;
                 --driver) mapfile -t COMPREPLY < <(compgen -W "systemd cgroupfs" -- "$word") ;;
                 *)
-                    [[ $word == -* ]] && mapfile -t COMPREPLY < <(compgen -W "--only --sort --depth --unit --width --all --full-names --json --cpus --processors --period --slice --library --from --want --scale --interval --samples --later --own --depth-read --node --conversion --driver --strict -h --help" -- "$word")
+                    [[ $word == -* ]] && mapfile -t COMPREPLY < <(compgen -W "--only --sort --depth --unit --width --all --full-names --json --cpus --processors --period --slice --library --from --want --scale --interval --samples --later --own --depth-read --node --conversion --kubelet --runtime --driver --strict -h --help" -- "$word")
                     ;;
             esac
             ;;
@@ -66,9 +68,11 @@ _arbiterctl() {
                 --depth-read) ;;
                 --node) ;;
                 --conversion) mapfile -t COMPREPLY < <(compgen -W "linear log" -- "$word") ;;
+                --kubelet) mapfile -t COMPREPLY < <(compgen -W "linear log" -- "$word") ;;
+                --runtime) mapfile -t COMPREPLY < <(compgen -W "linear log" -- "$word") ;;
                 --driver) mapfile -t COMPREPLY < <(compgen -W "systemd cgroupfs" -- "$word") ;;
                 *)
-                    [[ $word == -* ]] && mapfile -t COMPREPLY < <(compgen -W "--set --only --sort --depth --unit --width --all --full-names --json --cpus --processors --period --slice --library --from --want --scale --interval --samples --later --own --depth-read --node --conversion --driver --strict -h --help" -- "$word")
+                    [[ $word == -* ]] && mapfile -t COMPREPLY < <(compgen -W "--set --only --sort --depth --unit --width --all --full-names --json --cpus --processors --period --slice --library --from --want --scale --interval --samples --later --own --depth-read --node --conversion --kubelet --runtime --driver --strict -h --help" -- "$word")
                     ;;
             esac
             ;;
@@ -88,9 +92,11 @@ _arbiterctl() {
                 --depth-read) ;;
                 --node) ;;
                 --conversion) mapfile -t COMPREPLY < <(compgen -W "linear log" -- "$word") ;;
+                --kubelet) mapfile -t COMPREPLY < <(compgen -W "linear log" -- "$word") ;;
+                --runtime) mapfile -t COMPREPLY < <(compgen -W "linear log" -- "$word") ;;
                 --driver) mapfile -t COMPREPLY < <(compgen -W "systemd cgroupfs" -- "$word") ;;
                 *)
-                    [[ $word == -* ]] && mapfile -t COMPREPLY < <(compgen -W "--unit --json --cpus --processors --period --slice --library --from --want --scale --interval --samples --later --own --depth-read --node --conversion --driver --strict -h --help" -- "$word")
+                    [[ $word == -* ]] && mapfile -t COMPREPLY < <(compgen -W "--unit --json --cpus --processors --period --slice --library --from --want --scale --interval --samples --later --own --depth-read --node --conversion --kubelet --runtime --driver --strict -h --help" -- "$word")
                     ;;
             esac
             ;;
@@ -111,9 +117,11 @@ _arbiterctl() {
                 --depth-read) ;;
                 --node) ;;
                 --conversion) mapfile -t COMPREPLY < <(compgen -W "linear log" -- "$word") ;;
+                --kubelet) mapfile -t COMPREPLY < <(compgen -W "linear log" -- "$word") ;;
+                --runtime) mapfile -t COMPREPLY < <(compgen -W "linear log" -- "$word") ;;
                 --driver) mapfile -t COMPREPLY < <(compgen -W "systemd cgroupfs" -- "$word") ;;
                 *)
-                    [[ $word == -* ]] && mapfile -t COMPREPLY < <(compgen -W "--group --unit --json --cpus --processors --period --slice --library --from --want --scale --interval --samples --later --own --depth-read --node --conversion --driver --strict -h --help" -- "$word")
+                    [[ $word == -* ]] && mapfile -t COMPREPLY < <(compgen -W "--group --unit --json --cpus --processors --period --slice --library --from --want --scale --interval --samples --later --own --depth-read --node --conversion --kubelet --runtime --driver --strict -h --help" -- "$word")
                     ;;
             esac
             ;;
@@ -136,9 +144,11 @@ _arbiterctl() {
                 --depth-read) ;;
                 --node) ;;
                 --conversion) mapfile -t COMPREPLY < <(compgen -W "linear log" -- "$word") ;;
+                --kubelet) mapfile -t COMPREPLY < <(compgen -W "linear log" -- "$word") ;;
+                --runtime) mapfile -t COMPREPLY < <(compgen -W "linear log" -- "$word") ;;
                 --driver) mapfile -t COMPREPLY < <(compgen -W "systemd cgroupfs" -- "$word") ;;
                 *)
-                    [[ $word == -* ]] && mapfile -t COMPREPLY < <(compgen -W "-o --output --unit --depth --rows --cpus --processors --period --slice --library --from --want --scale --interval --samples --later --own --depth-read --node --conversion --driver --strict -h --help" -- "$word")
+                    [[ $word == -* ]] && mapfile -t COMPREPLY < <(compgen -W "-o --output --unit --depth --rows --cpus --processors --period --slice --library --from --want --scale --interval --samples --later --own --depth-read --node --conversion --kubelet --runtime --driver --strict -h --help" -- "$word")
                     ;;
             esac
             ;;
@@ -162,9 +172,11 @@ _arbiterctl() {
                 --depth-read) ;;
                 --node) ;;
                 --conversion) mapfile -t COMPREPLY < <(compgen -W "linear log" -- "$word") ;;
+                --kubelet) mapfile -t COMPREPLY < <(compgen -W "linear log" -- "$word") ;;
+                --runtime) mapfile -t COMPREPLY < <(compgen -W "linear log" -- "$word") ;;
                 --driver) mapfile -t COMPREPLY < <(compgen -W "systemd cgroupfs" -- "$word") ;;
                 *)
-                    [[ $word == -* ]] && mapfile -t COMPREPLY < <(compgen -W "-o --output --unit --before --set --title --cpus --processors --period --slice --library --from --want --scale --interval --samples --later --own --depth-read --node --conversion --driver --strict -h --help" -- "$word")
+                    [[ $word == -* ]] && mapfile -t COMPREPLY < <(compgen -W "-o --output --unit --before --set --title --cpus --processors --period --slice --library --from --want --scale --interval --samples --later --own --depth-read --node --conversion --kubelet --runtime --driver --strict -h --help" -- "$word")
                     ;;
             esac
             ;;
@@ -196,9 +208,11 @@ _arbiterctl() {
                 --depth-read) ;;
                 --node) ;;
                 --conversion) mapfile -t COMPREPLY < <(compgen -W "linear log" -- "$word") ;;
+                --kubelet) mapfile -t COMPREPLY < <(compgen -W "linear log" -- "$word") ;;
+                --runtime) mapfile -t COMPREPLY < <(compgen -W "linear log" -- "$word") ;;
                 --driver) mapfile -t COMPREPLY < <(compgen -W "systemd cgroupfs" -- "$word") ;;
                 *)
-                    [[ $word == -* ]] && mapfile -t COMPREPLY < <(compgen -W "--csv --unit --sample --groups --map --holes --summary --to -o --output --prometheus --query --start --end --step --label --cpus --processors --period --slice --library --from --want --scale --interval --samples --later --own --depth-read --node --conversion --driver --strict -h --help" -- "$word")
+                    [[ $word == -* ]] && mapfile -t COMPREPLY < <(compgen -W "--csv --unit --sample --groups --map --holes --summary --to -o --output --prometheus --query --start --end --step --label --cpus --processors --period --slice --library --from --want --scale --interval --samples --later --own --depth-read --node --conversion --kubelet --runtime --driver --strict -h --help" -- "$word")
                     ;;
             esac
             ;;
@@ -223,9 +237,11 @@ _arbiterctl() {
                 --depth-read) ;;
                 --node) ;;
                 --conversion) mapfile -t COMPREPLY < <(compgen -W "linear log" -- "$word") ;;
+                --kubelet) mapfile -t COMPREPLY < <(compgen -W "linear log" -- "$word") ;;
+                --runtime) mapfile -t COMPREPLY < <(compgen -W "linear log" -- "$word") ;;
                 --driver) mapfile -t COMPREPLY < <(compgen -W "systemd cgroupfs" -- "$word") ;;
                 *)
-                    [[ $word == -* ]] && mapfile -t COMPREPLY < <(compgen -W "--count --only --sort --depth --unit --width --all --full-names --json --cpus --processors --period --slice --library --from --want --scale --interval --samples --later --own --depth-read --node --conversion --driver --strict -h --help" -- "$word")
+                    [[ $word == -* ]] && mapfile -t COMPREPLY < <(compgen -W "--count --only --sort --depth --unit --width --all --full-names --json --cpus --processors --period --slice --library --from --want --scale --interval --samples --later --own --depth-read --node --conversion --kubelet --runtime --driver --strict -h --help" -- "$word")
                     ;;
             esac
             ;;
@@ -264,9 +280,11 @@ _arbiterctl() {
                 --depth-read) ;;
                 --node) ;;
                 --conversion) mapfile -t COMPREPLY < <(compgen -W "linear log" -- "$word") ;;
+                --kubelet) mapfile -t COMPREPLY < <(compgen -W "linear log" -- "$word") ;;
+                --runtime) mapfile -t COMPREPLY < <(compgen -W "linear log" -- "$word") ;;
                 --driver) mapfile -t COMPREPLY < <(compgen -W "systemd cgroupfs" -- "$word") ;;
                 *)
-                    [[ $word == -* ]] && mapfile -t COMPREPLY < <(compgen -W "--hosts --by --set --json --html --db --rows --unit --sample --map --host-label --prometheus --query --start --end --step --label --workers --scheduler --recheck --deadline --cpus --processors --period --slice --library --from --want --scale --interval --samples --later --own --depth-read --node --conversion --driver --strict -h --help" -- "$word")
+                    [[ $word == -* ]] && mapfile -t COMPREPLY < <(compgen -W "--hosts --by --set --json --html --db --rows --unit --sample --map --host-label --prometheus --query --start --end --step --label --workers --scheduler --recheck --deadline --cpus --processors --period --slice --library --from --want --scale --interval --samples --later --own --depth-read --node --conversion --kubelet --runtime --driver --strict -h --help" -- "$word")
                     ((COMP_CWORD == 2)) && [[ $word != -* ]] && mapfile -t COMPREPLY < <(compgen -W "plan series place what-if" -- "$word")
                     ;;
             esac
@@ -290,9 +308,11 @@ _arbiterctl() {
                 --depth-read) ;;
                 --node) ;;
                 --conversion) mapfile -t COMPREPLY < <(compgen -W "linear log" -- "$word") ;;
+                --kubelet) mapfile -t COMPREPLY < <(compgen -W "linear log" -- "$word") ;;
+                --runtime) mapfile -t COMPREPLY < <(compgen -W "linear log" -- "$word") ;;
                 --driver) mapfile -t COMPREPLY < <(compgen -W "systemd cgroupfs" -- "$word") ;;
                 *)
-                    [[ $word == -* ]] && mapfile -t COMPREPLY < <(compgen -W "--set --root --by --undo --yes --cpus --processors --period --slice --library --from --want --scale --interval --samples --later --own --depth-read --node --conversion --driver --strict -h --help" -- "$word")
+                    [[ $word == -* ]] && mapfile -t COMPREPLY < <(compgen -W "--set --root --by --undo --yes --cpus --processors --period --slice --library --from --want --scale --interval --samples --later --own --depth-read --node --conversion --kubelet --runtime --driver --strict -h --help" -- "$word")
                     ;;
             esac
             ;;
@@ -321,9 +341,11 @@ _arbiterctl() {
                 --depth-read) ;;
                 --node) ;;
                 --conversion) mapfile -t COMPREPLY < <(compgen -W "linear log" -- "$word") ;;
+                --kubelet) mapfile -t COMPREPLY < <(compgen -W "linear log" -- "$word") ;;
+                --runtime) mapfile -t COMPREPLY < <(compgen -W "linear log" -- "$word") ;;
                 --driver) mapfile -t COMPREPLY < <(compgen -W "systemd cgroupfs" -- "$word") ;;
                 *)
-                    [[ $word == -* ]] && mapfile -t COMPREPLY < <(compgen -W "--to -o --output --set --cpus --processors --period --slice --library --from --want --scale --interval --samples --later --own --depth-read --node --conversion --driver --strict -h --help" -- "$word")
+                    [[ $word == -* ]] && mapfile -t COMPREPLY < <(compgen -W "--to -o --output --set --cpus --processors --period --slice --library --from --want --scale --interval --samples --later --own --depth-read --node --conversion --kubelet --runtime --driver --strict -h --help" -- "$word")
                     ((COMP_CWORD == 2)) && [[ $word != -* ]] && mapfile -t COMPREPLY < <(compgen -W "script toml yaml json cgroup kubernetes systemd docker any" -- "$word")
                     ;;
             esac
@@ -346,9 +368,11 @@ _arbiterctl() {
                 --depth-read) ;;
                 --node) ;;
                 --conversion) mapfile -t COMPREPLY < <(compgen -W "linear log" -- "$word") ;;
+                --kubelet) mapfile -t COMPREPLY < <(compgen -W "linear log" -- "$word") ;;
+                --runtime) mapfile -t COMPREPLY < <(compgen -W "linear log" -- "$word") ;;
                 --driver) mapfile -t COMPREPLY < <(compgen -W "systemd cgroupfs" -- "$word") ;;
                 *)
-                    [[ $word == -* ]] && mapfile -t COMPREPLY < <(compgen -W "--to -o --output --set --cpus --processors --period --slice --library --from --want --scale --interval --samples --later --own --depth-read --node --conversion --driver --strict -h --help" -- "$word")
+                    [[ $word == -* ]] && mapfile -t COMPREPLY < <(compgen -W "--to -o --output --set --cpus --processors --period --slice --library --from --want --scale --interval --samples --later --own --depth-read --node --conversion --kubelet --runtime --driver --strict -h --help" -- "$word")
                     ;;
             esac
             ;;

@@ -11,7 +11,7 @@ from arbiter_host.faults import UsageFault
 
 # The options that say how a host's file is read.
 READING = ("kind", "want", "scale", "interval", "samples", "later", "own", "depth_read", "node",
-           "conversion", "driver", "strict", "cpus", "period", "slice")
+           "conversion", "kubelet", "runtime", "driver", "strict", "cpus", "period", "slice")
 
 
 def canonical(data: Any) -> str:

@@ -21,7 +21,7 @@ NANO = 10**9
 class Wish:
     """How containers are read: the conversion of shares, the driver, the rule for demands."""
 
-    conversion: str = "linear"
+    runtime: str = "linear"
     driver: str = "systemd"
     want: str = "limit"
 
@@ -79,7 +79,7 @@ def set_weight(group: Group, config: dict[str, Any], library: Library, wish: Wis
     """Sets the weight of the shares. None are the default."""
     shares = number(config, "CpuShares")
     if shares > 0:
-        group.weight = units.weight_of_shares(library, shares, wish.conversion)
+        group.weight = units.weight_of_shares(library, shares, wish.runtime)
 
 
 def parent_path(model: Model, folder: str) -> str:

@@ -36,10 +36,14 @@ SUFFIXES = {"": Fraction(1), "n": Fraction(1, 10**9), "u": Fraction(1, 10**6),
 
 @dataclass(frozen=True)
 class Wish:
-    """How pods are read: the node, the conversion of shares, the driver, the rule for demands."""
+    """How pods are read: the node, the conversions of shares, the driver, the rule for demands.
+
+    kubelet writes the weights of kubepods, classes and pods, the runtime those of containers.
+    """
 
     node: str = ""
-    conversion: str = "linear"
+    kubelet: str = "linear"
+    runtime: str = "linear"
     driver: str = "systemd"
     want: str = "request"
 
@@ -275,10 +279,10 @@ class Builder:
         self.measured: dict[str, Measured] = {}
         self.taken: dict[str, set[str]] = {}
 
-    def weight(self, amount: int) -> int:
-        """The weight that a request gets."""
+    def weight(self, amount: int, conversion: str) -> int:
+        """The weight that a request gets by a conversion."""
         shares = units.shares_of_thousandths(amount)
-        return units.weight_of_shares(self.library, shares, self.wish.conversion)
+        return units.weight_of_shares(self.library, shares, conversion)
 
     def name(self, parent: str, raw: str) -> str:
         """The path of a child that no other has."""
@@ -289,11 +293,12 @@ class Builder:
 
     def classes(self, pods: Sequence[Pod], allocatable: int | None) -> None:
         """Makes kubepods and its two classes."""
-        weight = 100 if allocatable is None else self.weight(allocatable)
+        kubelet = self.wish.kubelet
+        weight = 100 if allocatable is None else self.weight(allocatable, kubelet)
         self.model.add(Group(TOP, weight=weight, place=self.folder("")))
         burstable = sum(pod.amounts.request or 0 for pod in pods if pod.quality == "Burstable")
         for quality, amount in (("burstable", burstable), ("besteffort", 0)):
-            self.model.add(Group(f"{TOP}/{quality}", weight=self.weight(amount),
+            self.model.add(Group(f"{TOP}/{quality}", weight=self.weight(amount, kubelet),
                                  place=self.folder(quality)))
             self.taken.setdefault(TOP, set()).add(quality)
 
@@ -309,7 +314,8 @@ class Builder:
         path = self.name(CLASSES[pod.quality], f"{pod.namespace}:{pod.name}")
         folder = folder_of(pod, self.wish.driver)
         request = 0 if pod.quality == "BestEffort" else pod.amounts.request or 0
-        group = Group(path, self.weight(request), title=pod.title, place=folder)
+        group = Group(path, self.weight(request, self.wish.kubelet), title=pod.title,
+                      place=folder)
         if pod.amounts.limit and pod.quality != "BestEffort":
             group.quota = units.quota_of_thousandths(pod.amounts.limit)
         self.model.add(group)
@@ -322,7 +328,7 @@ class Builder:
     def container(self, pod: Pod, parent: str, folder: str, container: Container) -> None:
         """Makes a container."""
         path, amounts = self.name(parent, container.name), container.amounts
-        group = Group(path, self.weight(amounts.request or 0),
+        group = Group(path, self.weight(amounts.request or 0, self.wish.runtime),
                       title=f"{pod.title}/{container.name}",
                       place=scope_of(folder, container, self.wish.driver))
         if amounts.limit:
