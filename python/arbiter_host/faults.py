@@ -17,6 +17,10 @@ class UsageFault(HostFault):
         super().__init__(message, 2)
 
 
+class NoHost(HostFault):
+    """A source does not say how many CPUs its host has."""
+
+
 class NoLibrary(HostFault):
     """The C library is missing, or older than this package: status 3."""
 

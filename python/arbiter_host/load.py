@@ -25,6 +25,8 @@ MAX_FILE = 512 << 20
 TOO_LONG = f"more than {MAX_FILE >> 20} MiB"
 PIECE = 1 << 20
 MAX_SECONDS = 86400
+# A name and its bytes; None stands for a folder.
+File = tuple[str, bytes | None]
 
 
 def add_host_options(parser: argparse.ArgumentParser) -> None:
@@ -270,18 +272,48 @@ def read_files(options: argparse.Namespace, kind: str, files: Sequence[tuple[str
     return read_host_file(options, kind, name, data)
 
 
+def opened(options: argparse.Namespace, paths: Sequence[str]) -> list[File]:
+    """The files of some paths, after the options were checked."""
+    check_options(options)
+    return [(path, None if os.path.isdir(path) else file_bytes(path)) for path in paths]
+
+
+def part_of(options: argparse.Namespace, file: File) -> str:
+    """What a file is a part of: `pods`, `node` for one of nodes alone, else its kind."""
+    kind = str(options.kind or kind_of(*file))
+    if kind != "kubernetes" or file[1] is None:
+        return kind
+    kinds = set(re.findall(rb'"kind"\s*:\s*"(Pod|Node)(?:List)?"', file[1]))
+    return "node" if kinds == {b"Node"} else "pods"
+
+
+def sources(options: argparse.Namespace, paths: Sequence[str]) -> list[list[File]]:
+    """The sources that some paths are: pods and their node, side by side, are one."""
+    found: list[list[File]] = []
+    for file in opened(options, paths):
+        pair = [part_of(options, each) for each in (*(found[-1] if found else ()), file)]
+        if sorted(pair) == ["node", "pods"]:
+            found[-1].append(file)
+        else:
+            found.append([file])
+    return found
+
+
 def load(options: argparse.Namespace, paths: Sequence[str], engine: Engine) -> Model:
     """The model of one source, which may be several files."""
-    check_options(options)
-    files = [(path, None if os.path.isdir(path) else file_bytes(path)) for path in paths]
+    return of_files(options, opened(options, paths), engine)
+
+
+def of_files(options: argparse.Namespace, files: Sequence[File], engine: Engine) -> Model:
+    """The model of one source whose files were read."""
     kind = options.kind or kind_of(*files[0])
     found = [(names.shown(path), data) for path, data in files if data is not None]
     if kind == "cgroup":
-        if len(paths) > 1:
+        if len(files) > 1:
             raise UsageFault("one folder is one tree")
-        model = read_cgroup(options, paths[0])
+        model = read_cgroup(options, files[0][0])
     elif len(found) < len(files):
-        raise HostFault(f"{names.shown(paths[0])}: Is a directory")
+        raise HostFault(f"{names.shown(files[0][0])}: Is a directory")
     else:
         model = read_files(options, kind, found, engine)
     return finished(options, model)

@@ -190,6 +190,46 @@ def test_compare_with_changes(ctl):
     assert "after   2 CPUs" in out and "pod (0.75)" in out
 
 
+PODS, NODE = FIXTURES / "pods.json", FIXTURES / "node.json"
+HALF = ("--set", "prod/db-0/postgres.max=500m")
+
+
+@pytest.mark.parametrize("files", [(PODS, NODE), (NODE, PODS)])
+def test_compare_of_pods_and_their_node(ctl, files):
+    """The two files are one source: requests of 1950m, and 500m less where postgres may not."""
+    out, _ = ctl.run("compare", *files, *HALF, "--json")
+    changed = {each["group"]: each for each in json.loads(out)["changed"]}
+    assert set(changed) == {".", "kubepods", "kubepods/prod:db-0", "kubepods/prod:db-0/postgres"}
+    assert "1.45 of 4.00 CPUs" in ctl.run("compare", *files, *HALF)[0]
+
+
+def test_compare_of_two_nodes(ctl, folder):
+    """Two pairs are BEFORE and AFTER."""
+    found = json.loads(NODE.read_bytes())
+    found["status"]["capacity"]["cpu"] = "8"
+    (folder / "node8.json").write_text(json.dumps(found))
+    out, _ = ctl.run("compare", PODS, NODE, PODS, folder / "node8.json")
+    assert "before  4 CPUs" in out and "after   8 CPUs" in out
+    words = ["compare", PODS, NODE, PODS, NODE, PODS]
+    assert "compare takes one source or two" in ctl.run(*words, status=2)[1]
+
+
+def test_compare_of_pods_without_their_node(ctl):
+    """The CPUs of the command are those of both plans."""
+    out, _ = ctl.run("compare", PODS, "--cpus", "16", *HALF)
+    assert "before  16 CPUs" in out and "after   16 CPUs" in out
+    assert "pass the node's JSON or --cpus" in ctl.run("compare", PODS, *HALF, status=1)[1]
+
+
+def test_apply_of_pods_and_their_node(ctl):
+    """The pair is BEFORE; the place of a container is its group."""
+    out, _ = ctl.run("apply", PODS, NODE, "--set", "prod/db-0/postgres.weight=80", "--by", "files",
+                     "--root", "/r")
+    folder = "kubepods.slice/kubepods-pod00000002_0b1c_4d2e_8f3a_0123456789ab.slice"
+    assert out == f"echo 80 > /r/{folder}/cri-containerd-{'a3' * 32}.scope/cpu.weight  # was 39\n"
+    assert "or BEFORE and --set" in ctl.run("apply", PODS, NODE, status=2)[1]
+
+
 # bad use
 
 def test_strict(ctl, folder):

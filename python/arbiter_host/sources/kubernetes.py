@@ -17,7 +17,7 @@ from typing import Any
 from arbiter import Host, Library
 from arbiter_host import demands, names, units
 from arbiter_host.demands import Measured
-from arbiter_host.faults import HostFault
+from arbiter_host.faults import HostFault, NoHost
 from arbiter_host.model import Group, Model, check_count, checked
 from arbiter_host.names import NOWHERE, shown
 from arbiter_host.sources.data import loads, table, tables, text
@@ -359,7 +359,7 @@ def read(files: Sequence[tuple[str, bytes]], host: Host | None, library: Library
                              for key in ("capacity", "allocatable"))
     if host is None:
         if not capacity:
-            raise HostFault("number of CPUs unknown: pass the node's JSON or --cpus")
+            raise NoHost("number of CPUs unknown: pass the node's JSON or --cpus")
         host = Host(max(capacity // 1000, 1), units.DEFAULT_PERIOD, 1000)
     model = Model(checked(host), notes=notes, names_host=capacity is not None)
     pods = pods_on(items, name, notes)

@@ -43,10 +43,11 @@ def warn(found: Iterable[str]) -> None:
 
 def run_apply(options: argparse.Namespace) -> None:
     """Prints the steps from one source to another; with --yes makes them."""
-    if len(options.source) > 2 or (len(options.source) == 1) != bool(options.set):
+    sources = load.sources(options, options.source)
+    if len(sources) > 2 or (len(sources) == 1) != bool(options.set):
         raise UsageFault("apply takes BEFORE and AFTER, or BEFORE and --set")
     by = engine.find(options.library)
-    models = [load.load(options, [path], by) for path in options.source]
+    models = [load.of_files(options, files, by) for files in sources]
     after = change.changed(models[-1], options.set)
     root, is_systemd = beneath.Root(options.root), options.by == "systemd"
     found, left = apply.changes(models[0], after, root)
@@ -110,6 +111,7 @@ DETAILS = (
     " file is made there. Each group is open from the first reading to the last writing. If BEFORE"
     " is a tree, a group that was made again since it was read is refused. A unit is set only if"
     " its group is the folder that changes.",
+    "The JSON of pods and that of their node, side by side, are one source.",
 )
 UNDO_DETAILS = (
     "A value that is neither what `apply` found nor what it wrote was set by somebody since. It is"

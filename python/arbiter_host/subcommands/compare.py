@@ -2,9 +2,12 @@
 from __future__ import annotations
 
 import argparse
+from collections.abc import Sequence
 
 from arbiter_host import change, compare, load
-from arbiter_host.faults import UsageFault
+from arbiter_host.engine import Engine
+from arbiter_host.faults import NoHost, UsageFault
+from arbiter_host.model import Model
 from arbiter_host.output import emit_json, emit_styled
 from arbiter_host.plan import Plan, plan
 from arbiter_host.subcommands.base import (Subcommand, add_answer_options, found_engine,
@@ -14,18 +17,26 @@ from arbiter_host.subcommands.base import (Subcommand, add_answer_options, found
 def compared(options: argparse.Namespace) -> tuple[Plan, Plan]:
     """The two plans: of two sources, or of one and of it with changes."""
     by = found_engine(options)
-    if len(options.source) > 2:
+    sources = load.sources(options, options.source)
+    if len(sources) > 2:
         raise UsageFault("compare takes one source or two")
-    host = {key: getattr(options, key) for key in ("cpus", "period", "slice")}
-    if len(options.source) == 2:
-        models = [load.load(options, [path], by) for path in options.source]
+    if len(sources) == 2:
+        models = [load.of_files(options, files, by) for files in sources]
     else:
-        before = argparse.Namespace(**{**vars(options), **dict.fromkeys(host)})
-        models = [load.load(before, options.source, by)]
+        models = [as_it_is(options, sources[0], by)]
         models.append(models[0].with_host(load.chosen_host(options, models[0].host)))
-    for model, path in zip(models, options.source):
-        load.warn(model, source_name([path]))
+    for model, files in zip(models, sources):
+        load.warn(model, source_name([path for path, _ in files]))
     return plan(by, models[0]), plan(by, change.changed(models[1], options.set))
+
+
+def as_it_is(options: argparse.Namespace, files: Sequence[load.File], by: Engine) -> Model:
+    """A source on its own host; on that of the options where it tells none."""
+    own = argparse.Namespace(**{**vars(options), **dict.fromkeys(("cpus", "period", "slice"))})
+    try:
+        return load.of_files(own, files, by)
+    except NoHost:
+        return load.of_files(options, files, by)
 
 
 def run(options: argparse.Namespace) -> None:
@@ -50,10 +61,13 @@ def add_words(parser: argparse.ArgumentParser) -> None:
 DETAILS = (
     "A change is GROUP.KEY=VALUE, with KEY one of weight, max, burst, period, demand, tasks. `*`"
     " in GROUP stands for any letters. Groups that are the same in both plans are counted alone.",
+    "The JSON of pods and that of their node, side by side, are one source.",
 )
 EXAMPLES = (
     ("a greater weight on a host with more CPUs",
      "arbiterctl compare host.toml --set web.weight=400 --cpus 32"),
+    ("another weight on a Kubernetes node",
+     "arbiterctl compare pods.json node.json --set prod/db-0.weight=300"),
     ("two sources, as JSON", "arbiterctl compare before.script after.script --json"),
 )
 COMPARE = Subcommand("compare",
