@@ -488,6 +488,34 @@ def test_quality_without_a_status():
     assert [kubernetes.pod_of(each, []).quality for each in found["items"]] == wanted
 
 
+def member(limit, is_sidecar=False):
+    """A container, as a pod's JSON has it."""
+    found = {"name": "c", "resources": {"limits": {"cpu": limit} if limit else {}}}
+    return {**found, "restartPolicy": "Always"} if is_sidecar else found
+
+
+@pytest.mark.parametrize("begin, own, wanted", [
+    # An init container alone decides by its own limit.
+    ([member("3")], {}, 3000), ([member(None)], {}, None), ([member("0")], {}, None),
+    # A sidecar's limit covers what stands behind it, and nothing before it.
+    ([member("200m", True), member(None)], {}, 1200),
+    ([member("200m", True), member(None, True)], {}, 1200),
+    ([member(None), member("200m", True)], {}, None),
+    ([member(None, True), member("200m", True)], {}, None),
+    # The limit of the pod itself holds whatever its containers have.
+    ([member(None)], {"limits": {"cpu": "2"}}, 2000),
+])
+def test_limits_of_pods_with_init_containers(begin, own, wanted):
+    """kubelet's rule for `cpu.max` of a pod whose one container has a limit of 1000m."""
+    spec = {"initContainers": begin, "containers": [member("1")], "resources": own}
+    assert kubernetes.pod_of({"metadata": {"name": "p"}, "spec": spec}, []).amounts.limit == wanted
+
+
+def test_no_sidecar_covers_a_container():
+    spec = {"initContainers": [member("200m", True)], "containers": [member("1"), member(None)]}
+    assert kubernetes.pod_of({"metadata": {"name": "p"}, "spec": spec}, []).amounts.limit is None
+
+
 def test_pods_of_several_nodes(engine):
     found = json.loads(fixture("pods.json")[1])
     found["items"][0]["spec"]["nodeName"] = "n2"

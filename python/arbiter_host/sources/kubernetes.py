@@ -156,16 +156,30 @@ def requested(containers: Sequence[Container], key: str) -> int:
     return max(sum(value(each) for each in containers if not each.is_init) + sidecars, most)
 
 
+def is_limited(containers: Sequence[Container]) -> bool:
+    """Whether kubelet sets a limit of CPU for the pod of these containers.
+
+    Each container needs a limit. kubelet counts an init container or sidecar together with the
+    sidecars before it, so one without a limit is covered where such a sidecar has one.
+    """
+    sidecars = 0
+    for each in containers:
+        limit = each.amounts.limit or 0
+        if limit + (sidecars if each.is_init else 0) == 0:
+            return False
+        sidecars += limit if each.is_sidecar else 0
+    return bool(containers)
+
+
 def pod_amounts(pod: dict[str, Any], containers: Sequence[Container], where: str,
                 notes: list[str]) -> Amounts:
-    """Request and limit of a whole pod, with its overhead. A limit needs one of each container."""
+    """Request and limit of a whole pod, with its overhead."""
     spec = table(pod, "spec")
     overhead = thousandths(table(spec, "overhead").get("cpu"), where, notes) or 0
     own = amounts_of(table(spec, "resources"), where, notes)
-    lasting = [each for each in containers if not each.is_init or each.is_sidecar]
     request = requested(containers, "request") if own.request is None else own.request
     limit = own.limit
-    if limit is None and lasting and all(each.amounts.limit for each in lasting):
+    if limit is None and is_limited(containers):
         limit = requested(containers, "limit")
     return Amounts(request + overhead, None if limit is None else limit + overhead)
 
