@@ -120,11 +120,24 @@ def note_throttled(group: Group, measured: Measured, model: Model) -> None:
                            " wanted more than it used (--want psi)")
 
 
+def note_idle(leaves: Sequence[str], measured: dict[str, Measured], model: Model) -> None:
+    """Tells how many groups are not busy, since they have no task.
+
+    A group that is known to request nothing, as a pause container, is not meant to be busy.
+    """
+    known = [measured[path] for path in leaves if path in measured]
+    idle = sum(each.tasks == 0 and each.request is None for each in known)
+    if idle:
+        model.notes.append(f"groups without a task, which ask for nothing: {idle} of {len(leaves)}"
+                           " (--want busy)")
+
+
 def set_demands(model: Model, measured: dict[str, Measured], want: str, seconds: Fraction) -> None:
     """Sets the demand of each group without children."""
-    for path, below in model.children().items():
-        if path == "." or below:
-            continue
+    leaves = [path for path, below in model.children().items() if path != "." and not below]
+    if want == "busy":
+        note_idle(leaves, measured, model)
+    for path in leaves:
         group, found = model.groups[path], measured.get(path, Measured())
         demand = wanted(want, group, found, model.host, seconds)
         if demand is None:

@@ -300,6 +300,19 @@ def test_wants(folder, want, demand):
     assert cgroup2.read(top, EIGHT, wish).groups["web"].demand == demand
 
 
+def test_busy_without_tasks(folder, engine):
+    """One line tells how many groups have no task and so ask for nothing."""
+    trees.root2(folder)
+    for path, threads in (("a", 2), ("b", 0), ("c", 0), ("c/in", 0)):
+        trees.group2(folder / path, threads=threads)
+    for want, wanted in (("limit", []), ("busy", ["groups without a task, which ask for nothing:"
+                                                  " 2 of 3 (--want busy)"])):
+        model = cgroup2.read(str(folder), EIGHT, cgroups.Wish(Fraction(1, 1000), want=want))
+        assert [note for note in model.notes if "without a task" in note] == wanted
+    assert [each.demand for each in model.groups.values()] == [8000, 0, 0, 0]
+    assert not any("without a task" in note for note in pods(engine, want="busy").notes)
+
+
 def test_pressure_alone(folder):
     """400m used with pressure in half of the time is a demand of 800m."""
     top, wish = copies(folder, web={"usage": 4 * 10**6, "waited": 5 * 10**6})
