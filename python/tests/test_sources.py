@@ -251,6 +251,10 @@ def test_host_file():
     ("[groups.a]\ndemand = 1\n[groups.'a/b']\n", "h:2: a: a group with children has no demand"),
     ("[groups]\na = 1\n", "h:2: a: a group is a table"), ("a = 1\n", "h:1: no table 'a'"),
     ("[host]\ncpus = \n", "h:2: "), ("[groups.'a b']\n", "without blanks"),
+    # Comments and texts hold words that are no keys, and lines that are no heads.
+    ("[groups.a]\n# weight = 7\ntitle = 'weight = 3'\n\nweight = 0\n", "h:5: a: weight 0:"),
+    ("[groups.b]\ntitle = '''\n[groups.a]\nweight = 1\n'''\n[groups.a]\nweight = 0\n", "h:7: a: "),
+    ('[groups."a#1"]\ntitle = "weight = \\"3"\n"weight" = 0\n', "h:3: a#1: weight 0:"),
 ])
 def test_host_file_names_the_line(text, words):
     with pytest.raises(HostFault) as fault:
@@ -261,6 +265,33 @@ def test_host_file_names_the_line(text, words):
 def test_host_file_in_yaml_names_the_line():
     with pytest.raises(HostFault, match="h:3: "):
         hostfile.read(b"host:\n  cpus: 2\n bad\n", "h", "yaml")
+
+
+@pytest.mark.parametrize("text, words", [
+    ('groups:\n  a:\n    # weight: 5\n    title: "weight: 3"\n    weight: 0\n',
+     "h:5: a: weight 0:"),
+    ("groups:\n  b: {weight: 3}\n  a:\n    ? weight\n    : 0\n", "h:4: a: weight 0:"),
+    ("groups:\n- title: a\n  path: b\n- path: a\n\n  weight: 0\n", "h:6: a: weight 0:"),
+    # A group may have the name of a table, a key may come from another group.
+    ("groups:\n  host: {}\nhost:\n  cpus: 0\n", "h:3: host: CPUs 0:"),
+    ("groups:\n  host:\n    weight: 0\nhost: {}\n", "h:3: host: weight 0:"),
+    ("groups:\n  b: &b\n    burst: x\n  a:\n    <<: *b\n", "h:3: b: burst:"),
+    ("groups:\n  a: 1\n", "h:2: a: a group is a table"), ("\na: 1\n", "h:2: no table 'a'"),
+    ("groups:\n- 1\n", "h:1: each group of a list has a path"),
+    ("groups:\n  b: {}\n  7: {}\n", "h:3: 7: 7 is no path"),
+    ("", "h:1: a host file is a table"),
+])
+def test_faults_of_yaml_name_the_line(text, words):
+    """The lines are those of the keys that YAML has, whatever its comments and texts hold."""
+    with pytest.raises(HostFault) as fault:
+        hostfile.read(text.encode(), "h", "yaml")
+    assert words in fault.value.message
+
+
+def test_faults_of_json_name_the_line():
+    text = '{"groups": {\n"a": {"title": "\\"weight\\": 3", "tasks": 1,\n"weight": 0}}}'
+    with pytest.raises(HostFault, match="h:3: a: weight 0:"):
+        hostfile.read(text.encode(), "h", "json")
 
 
 # cgroups

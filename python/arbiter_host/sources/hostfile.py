@@ -22,6 +22,7 @@ from arbiter import Host
 from arbiter_host import names, units
 from arbiter_host.faults import HostFault
 from arbiter_host.model import Group, Model, check_count, check_settings, checked
+from arbiter_host.sources.positions import NodePlaces, Places, WordPlaces
 
 # The keys of `host`, and the fields that they set.
 HOST_KEYS = {"cpus": "processors", "period": "period_us", "slice": "slice_us"}
@@ -34,43 +35,14 @@ MAX_NESTING, MAX_NODES, MAX_MERGED, MAX_DIGITS = 100, 500000, 100000, 40
 MAX_DOTS = 10**9
 
 
-class Places:
-    """Where keys stand in a file, by their words."""
-
-    def __init__(self, name: str, text: str) -> None:
-        self.name, self.lines = name, text.split("\n")
-
-    def line(self, path: str, key: str = "") -> int:
-        """The line of a key of a group, the first line of the group, or the first line."""
-        begin = next((place for place, line in enumerate(self.lines) if is_head(line, path)), 0)
-        if key:
-            for place in range(begin, len(self.lines)):
-                if re.search(rf"(^|[\s{{,\"']){re.escape(key)}[\"']?\s*[:=]", self.lines[place]):
-                    return place + 1
-        return begin + 1
-
-    def fault(self, message: str, path: str = "", key: str = "") -> HostFault:
-        """A fault with file and line."""
-        which = f"{names.shown(path)}: " if path else ""
-        return HostFault(f"{self.name}:{self.line(path, key)}: {which}{message}")
-
-
-def is_head(line: str, path: str) -> bool:
-    """Whether a line begins a group or a table of a name."""
-    bare = re.escape(path)
-    quoted = re.escape(json.dumps(path, ensure_ascii=False))
-    return bool(path) and bool(
-        re.match(rf"\s*\[?(groups\.)?(\"{bare}\"|'{bare}'|{bare}|{quoted})\s*[\]:=]", line))
-
-
-def parsed(text: str, name: str, kind: str) -> Any:
-    """The data of a file."""
+def parsed(text: str, name: str, kind: str) -> tuple[Places, Any]:
+    """The places and the data of a file."""
     try:
         if kind == "toml":
             check_dots(text, name)
-            return tomllib.loads(text)
+            return WordPlaces(name, text), tomllib.loads(text)
         if kind == "json":
-            return json.loads(text)
+            return WordPlaces(name, text), json.loads(text)
         return parsed_yaml(text, name)
     except tomllib.TOMLDecodeError as error:
         found = re.search(r"\(at line (\d+)", str(error))
@@ -131,11 +103,13 @@ def check_dots(text: str, name: str) -> None:
             raise HostFault(f"{name}:{number}: too many names with dots")
 
 
-def parsed_yaml(text: str, name: str) -> Any:
-    """The data of YAML."""
+def parsed_yaml(text: str, name: str) -> tuple[Places, Any]:
+    """The places and the data of YAML."""
     import yaml
     try:
-        return yaml.load(text, bounded_loader())
+        loader = bounded_loader()(text)
+        root = loader.get_single_node()
+        return NodePlaces(name, root), root and loader.construct_document(root)
     except yaml.YAMLError as error:
         mark = getattr(error, "problem_mark", None)
         line = mark.line + 1 if mark else 1
@@ -273,27 +247,28 @@ def flattened(places: Places, groups: Any) -> dict[str, Any]:
             found[entry["path"]] = {key: each for key, each in entry.items() if key != "path"}
         return found
     if not isinstance(groups, dict):
-        raise places.fault("groups is a table of paths", "groups")
+        raise places.fault("groups is a table of paths", "groups", table="")
     return groups
 
 
 def read_host(places: Places, entry: Any) -> Host:
     """The table `host`."""
     if not isinstance(entry, dict):
-        raise places.fault("host is a table", "host")
+        raise places.fault("host is a table", "host", table="")
     host = Host()
     for key, value in entry.items():
         if key not in HOST_KEYS:
-            raise places.fault(f"no key {text_of(key)}: {', '.join(HOST_KEYS)}", "host", str(key))
+            raise places.fault(f"no key {text_of(key)}: {', '.join(HOST_KEYS)}", "host", str(key),
+                               table="")
         try:
             number = whole(value) if key == "cpus" else time(value)
         except HostFault as fault:
-            raise places.fault(f"{key}: {fault.message}", "host", key) from fault
+            raise places.fault(f"{key}: {fault.message}", "host", key, table="") from fault
         host = replace(host, **{HOST_KEYS[key]: number})
     try:
         return checked(host)
     except HostFault as fault:
-        raise places.fault(fault.message, "host") from fault
+        raise places.fault(fault.message, "host", table="") from fault
 
 
 def check_demands(places: Places, model: Model) -> None:
@@ -313,12 +288,12 @@ def read(data: bytes, name: str, kind: str, host: Host | None = None) -> Model:
     except UnicodeDecodeError as error:
         line = data[:error.start].count(b"\n") + 1
         raise HostFault(f"{name}:{line}: not UTF-8") from error
-    places, entry = Places(name, text_), parsed(text_, name, kind)
+    places, entry = parsed(text_, name, kind)
     if not isinstance(entry, dict):
         raise HostFault(f"{name}:1: a host file is a table with host and groups")
     for key in entry:
         if key not in ("host", "groups"):
-            line = places.line(str(key))
+            line = places.line(str(key), table="")
             raise HostFault(f"{name}:{line}: no table {text_of(key)}: host, groups")
     model = Model(host or read_host(places, entry.get("host", {})), names_host="host" in entry)
     checked(model.host)
