@@ -542,6 +542,21 @@ def test_hosts_of_lists_and_folders(folder):
         hosts.of_word(str(folder / "empty"))
 
 
+@pytest.mark.parametrize("text", ['{\n"kind": "List",\n"items": []\n}\n', " [\n]", "\ufeff{}"])
+def test_a_document_is_no_list_of_hosts(ctl, folder, text):
+    """The JSON of pods is told in one line, and not taken for names of files."""
+    (folder / "pods.json").write_text(text)
+    _, err = ctl.run("fleet", "plan", folder / "pods.json", status=1)
+    assert f"{folder}/pods.json: one JSON document, no list of hosts: " in err
+    assert err.count("\n") == 1
+
+
+def test_a_list_may_name_files_in_brackets(folder):
+    """Names of files may begin as JSON does."""
+    (folder / "list").write_text("{a.toml\n[b.toml\n")
+    assert [host.name for host in hosts.of_word(str(folder / "list"))] == ["[b", "{a"]
+
+
 def test_quantiles():
     """Nearest ranks, with weights."""
     assert figures.quantiles([]) == []

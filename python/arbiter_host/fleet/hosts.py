@@ -1,6 +1,7 @@
 """The hosts of a fleet: a file each, below a folder or named by a list."""
 from __future__ import annotations
 
+import json
 import os
 from collections.abc import Iterator, Sequence
 from dataclasses import dataclass
@@ -27,12 +28,26 @@ def below(folder: str) -> Iterator[str]:
         yield from (os.path.join(top, each) for each in files if not each.startswith("."))
 
 
+def is_document(text: str) -> bool:
+    """Whether a text is one JSON document, and so no list of files."""
+    if text.lstrip("\ufeff \t\r\n")[:1] not in ("{", "["):
+        return False
+    try:
+        json.loads(text.lstrip("\ufeff"))
+    except (ValueError, RecursionError):
+        return False
+    return True
+
+
 def listed(path: str) -> list[str]:
     """The paths that a list names, one a line, relative to its folder."""
     try:
         text = load.file_bytes(path).decode("utf-8")
     except UnicodeDecodeError as error:
         raise HostFault(f"{names.shown(path)}: no list of files: not UTF-8") from error
+    if is_document(text):
+        raise HostFault(f"{names.shown(path)}: one JSON document, no list of hosts: name a folder"
+                        " of their files, or a list with one file a line")
     folder = "" if path == "-" else os.path.dirname(path)
     lines = [line.strip() for line in text.split("\n")]
     return [os.path.join(folder, line) for line in lines if line and not line.startswith("#")]
