@@ -15,6 +15,7 @@ import subprocess
 from collections.abc import Container, Iterator, Sequence
 from contextlib import suppress
 from dataclasses import asdict, dataclass, field, replace
+from enum import Enum
 from fractions import Fraction
 from typing import Any
 
@@ -28,6 +29,17 @@ from arbiter_host.sources import data
 UNIT = re.compile(r"[A-Za-z0-9:_.\\@-]+\.(service|slice|scope)")
 SECONDS = 60
 VERSION = 1
+
+
+class By(Enum):
+    """By which changes are made: files alone, or properties of units where a group is one.
+
+    systemd drops properties at the next boot, or keeps them.
+    """
+
+    FILES = "files"
+    RUNTIME = "runtime"
+    PERSISTENT = "persistent"
 
 
 @dataclass(frozen=True)
@@ -65,6 +77,8 @@ class Step:
     old: str
     new: str
     unit: str = ""
+    # How the properties of the unit are set.
+    by: By = By.RUNTIME
 
     def words(self, root: Root) -> str:
         """The step as a line of a shell, with what is there before."""
@@ -198,30 +212,30 @@ def percent(settings: Settings) -> str | None:
     return f"{units.decimal(exact, 2)}%" if (exact * 100).denominator == 1 else None
 
 
-def unit_of(folder: str, is_systemd: bool) -> str:
+def unit_of(folder: str, by: By) -> str:
     """The unit whose group a folder is; empty where it is none."""
     names = folder.split("/")
-    if is_systemd and all(UNIT.fullmatch(name) for name in names):
+    if by is not By.FILES and all(UNIT.fullmatch(name) for name in names):
         return names[-1]
     return ""
 
 
-def max_step(change: Change, one: Settings, two: Settings, unit: str) -> Step:
+def max_step(change: Change, one: Settings, two: Settings, unit: str, by: By) -> Step:
     """The step that sets a quota and its period."""
     written = percent(two)
     if not unit or written is None:
         return Step(change.folder, "cpu.max", one.maximum, two.maximum)
     new = f"CPUQuota={written} CPUQuotaPeriodSec={two.period}us"
-    return Step(change.folder, "cpu.max", one.maximum, new, unit)
+    return Step(change.folder, "cpu.max", one.maximum, new, unit, by)
 
 
-def steps_of(change: Change, one: Settings, is_systemd: bool) -> Iterator[Step]:
+def steps_of(change: Change, one: Settings, by: By) -> Iterator[Step]:
     """The steps from settings that stand to those wanted, in an order that the kernel takes."""
-    two, unit = change.after, unit_of(change.folder, is_systemd)
+    two, unit = change.after, unit_of(change.folder, by)
     if one.weight != two.weight:
         new = f"CPUWeight={two.weight}" if unit else str(two.weight)
-        yield Step(change.folder, "cpu.weight", str(one.weight), new, unit)
-    limit = [max_step(change, one, two, unit)] if one.maximum != two.maximum else []
+        yield Step(change.folder, "cpu.weight", str(one.weight), new, unit, by)
+    limit = [max_step(change, one, two, unit, by)] if one.maximum != two.maximum else []
     burst = ([Step(change.folder, "cpu.max.burst", str(one.burst), str(two.burst))]
              if one.burst != two.burst else [])
     # A lower burst fits the old quota; a greater one may need the new quota.
@@ -230,7 +244,8 @@ def steps_of(change: Change, one: Settings, is_systemd: bool) -> Iterator[Step]:
 
 def command_of(step: Step) -> list[str]:
     """The command that sets the properties of a unit."""
-    return ["systemctl", "set-property", "--runtime", "--", step.unit, *step.new.split(" ")]
+    until_boot = ["--runtime"] if step.by is By.RUNTIME else []
+    return ["systemctl", "set-property", *until_boot, "--", step.unit, *step.new.split(" ")]
 
 
 def do(step: Step, root: Root) -> None:
@@ -241,11 +256,12 @@ def do(step: Step, root: Root) -> None:
     systemctl(command_of(step)[1:])
 
 
-def undo_text(root: Root, found: Sequence[Change], is_systemd: bool) -> str:
+def undo_text(root: Root, found: Sequence[Change], by: By) -> str:
     """The old settings of all groups that change, and the new ones."""
     groups = [{"folder": change.folder, **asdict(change.before), "after": asdict(change.after)}
               for change in found]
-    return json.dumps({"arbiter_undo": VERSION, "root": root.path, "systemd": is_systemd,
+    return json.dumps({"arbiter_undo": VERSION, "root": root.path,
+                       "systemd": by is not By.FILES, "persistent": by is By.PERSISTENT,
                        "groups": groups}, indent=1) + "\n"
 
 
@@ -289,9 +305,15 @@ def check_after(root: Root, found: Sequence[Change]) -> None:
         raise HostFault("\n".join(["read back, the host is not what was written:", *wrong]))
 
 
-def planned_steps(found: Sequence[Change], is_systemd: bool) -> list[Step]:
+def planned_steps(found: Sequence[Change], by: By) -> list[Step]:
     """All steps."""
-    return [step for change in found for step in steps_of(change, change.before, is_systemd)]
+    return [step for change in found for step in steps_of(change, change.before, by)]
+
+
+def passing(steps: Sequence[Step]) -> list[str]:
+    """The steps that no boot keeps, although the others are kept, in words."""
+    return [f"{step.folder}: {step.file} is set by its file, which is not kept at the next boot"
+            for step in steps if not step.unit]
 
 
 def systemctl(words: Sequence[str]) -> str:
@@ -304,7 +326,8 @@ def systemctl(words: Sequence[str]) -> str:
     except subprocess.TimeoutExpired as error:
         raise HostFault(f"systemctl: no answer in {SECONDS} seconds") from error
     if ended.returncode:
-        raise HostFault(f"systemctl: {shown(ended.stderr.strip()[:400])}")
+        said = shown(ended.stderr.strip()[:400]) or f"status {ended.returncode}, without a word"
+        raise HostFault(f"systemctl: {said}")
     return ended.stdout
 
 
@@ -326,16 +349,15 @@ def check_units(steps: Sequence[Step]) -> None:
         raise HostFault("\n".join([*wrong.values(), "so nothing is changed"]))
 
 
-def make(root: Root, found: Sequence[Change], is_systemd: bool, undo: str,
-         done: list[Step]) -> None:
+def make(root: Root, found: Sequence[Change], by: By, undo: str, done: list[Step]) -> None:
     """Makes the changes: the host is looked at, the undo file written, the result read back.
 
     `done` gets the steps that were made.
     """
-    steps = planned_steps(found, is_systemd)
+    steps = planned_steps(found, by)
     check_host(root, found)
     check_units(steps)
-    write_synced(undo, undo_text(root, found, is_systemd))
+    write_synced(undo, undo_text(root, found, by))
     try:
         for step in steps:
             do(step, root)
@@ -351,7 +373,7 @@ class Back:
     """The way back of an undo file from what the host holds now."""
 
     root: Root
-    is_systemd: bool
+    by: By
     changes: list[Change] = field(default_factory=list)
     # What is left alone, in words: groups that are gone, and values that somebody else set.
     left: list[str] = field(default_factory=list)
@@ -359,7 +381,8 @@ class Back:
     def steps(self, by_files: Container[str] = ()) -> list[Step]:
         """All steps. `by_files` are folders that are written without their unit."""
         return [step for change in self.changes for step in
-                steps_of(change, change.before, self.is_systemd and change.folder not in by_files)]
+                steps_of(change, change.before,
+                         By.FILES if change.folder in by_files else self.by)]
 
 
 def settings_from(entry: dict[str, Any]) -> Settings:
@@ -407,12 +430,19 @@ def take_back(back: Back, entry: dict[str, Any], is_forced: bool) -> bool:
     return True
 
 
+def by_of(found: dict[str, Any]) -> By:
+    """By what the changes of an undo file were made."""
+    if found.get("systemd") is not True:
+        return By.FILES
+    return By.PERSISTENT if found.get("persistent") is True else By.RUNTIME
+
+
 def read_undo(content: bytes, name: str, is_forced: bool = False) -> Back:
     """The way back of an undo file. `is_forced`: also over what somebody set since."""
     found = data.loads(content, name)
     if data.number(found, "arbiter_undo") != VERSION or not data.text(found, "root"):
         raise HostFault(f"{name}: no undo file of `arbiterctl apply`")
-    back = Back(Root(found["root"]), found.get("systemd") is True)
+    back = Back(Root(found["root"]), by_of(found))
     are_there = [take_back(back, entry, is_forced) for entry in data.tables(found, "groups")]
     if are_there and not any(are_there):
         raise HostFault(f"{shown(back.root.path)}: none of the groups of {name} is there")

@@ -10,7 +10,7 @@ import pytest
 import trees
 from arbiter import Host
 from arbiter_host import apply, beneath
-from arbiter_host.apply import Change, Settings
+from arbiter_host.apply import By, Change, Settings
 from arbiter_host.faults import HostFault
 from arbiter_host.sources import cgroup2, cgroups
 from hypothesis import HealthCheck, given, settings
@@ -122,6 +122,30 @@ def test_by_systemctl(ctl, tree):
     _, err = ctl.run(*words, "--undo", tree.parent / "u2", status=1)
     assert "systemctl: Access denied" in err and "to undo: arbiterctl undo" in err
     assert (tree.parent / "u2").exists()
+    (bin_ / "systemctl").write_text('#!/bin/sh\n[ "$1" = show ] && exec echo "/$5"\nexit 7\n')
+    _, err = ctl.run(*words, "--undo", tree.parent / "u3", status=1)
+    assert "systemctl: status 7, without a word" in err
+
+
+def test_persistent(ctl, tree):
+    """Properties are set without --runtime, and undone so; what no boot keeps is told."""
+    before, bin_ = imported(ctl, tree), tree.parent / "bin"
+    bin_.mkdir()
+    (bin_ / "systemctl").write_text(
+        f'#!/bin/sh\n[ "$1" = show ] && exec echo "/$5"\necho "$@" >> {bin_}/log\n'
+        f'echo "${{4#CPUWeight=}}" > {tree}/web.service/cpu.weight\n')
+    (bin_ / "systemctl").chmod(0o755)
+    ctl.environment["PATH"] = f"{bin_}:{os.environ['PATH']}"
+    words = ["apply", before, "--root", tree, "--persistent", "--set", "web.service.weight=200"]
+    made = "systemctl set-property -- web.service CPUWeight=200  # was 100\n"
+    assert ctl.run(*words) == (made, "") and not (bin_ / "log").exists()
+    assert ctl.run(*words, "--yes", "--undo", tree.parent / "u")[0] == made
+    ctl.run("undo", tree.parent / "u", "--yes")
+    assert (bin_ / "log").read_text() == ("set-property -- web.service CPUWeight=200\n"
+                                          "set-property -- web.service CPUWeight=100\n")
+    _, err = ctl.run(*words, "--set", "box.weight=7")
+    assert "box: cpu.weight is set by its file, which is not kept at the next boot" in err
+    assert "belongs to --by systemd" in ctl.run(*words, "--by", "files", status=2)[1]
 
 
 @pytest.mark.parametrize("path", ["../out", "a/../../out", "/etc", "", ".", "a//b", "a/."])
@@ -195,7 +219,7 @@ def test_interrupted_anywhere_and_undone(tmp_path_factory, pairs, stop, late):
     host(folder / "t", [(f"g{place}", old) for place, (old, _) in enumerate(pairs)])
     found = [Change(f"g{place}", old, new) for place, (old, new) in enumerate(pairs)]
     try:
-        apply.make(Kernel(str(folder / "t"), stop, late), found, False, str(folder / "undo"), [])
+        apply.make(Kernel(str(folder / "t"), stop, late), found, By.FILES, str(folder / "undo"), [])
         assert [holds(folder / "t", change.folder) for change in found] == [
             change.after for change in found]
     except Stop:
@@ -228,7 +252,7 @@ def test_stopped_inside_a_write_and_undone(folder, monkeypatch, call, late, want
     with monkeypatch.context() as patched:
         patched.setattr(os, call, stop)
         with pytest.raises(Stop):
-            apply.make(beneath.Root(str(folder)), [Change("a", old, new)], False,
+            apply.make(beneath.Root(str(folder)), [Change("a", old, new)], By.FILES,
                        str(folder / "undo"), [])
     assert holds(folder, "a").weight == wanted
     apply.undo(apply.read_undo((folder / "undo").read_bytes(), "undo"), [])
@@ -264,7 +288,7 @@ def test_group_that_goes_while_others_are_undone(folder):
     host(folder / "t", [("a", OLD), ("b", OLD)])
     new = Settings(7, 50000, 100000, 20000)
     found = [Change(name, OLD, new) for name in "ab"]
-    apply.make(beneath.Root(str(folder / "t")), found, False, str(folder / "undo"), [])
+    apply.make(beneath.Root(str(folder / "t")), found, By.FILES, str(folder / "undo"), [])
     back = apply.read_undo((folder / "undo").read_bytes(), "undo")
     assert back.left == []
 
@@ -299,15 +323,16 @@ def test_idle_group(folder):
     (folder / "t/a/cpu.weight").write_text("0\n")
     found = [Change("a", Settings(1, 100000, 100000, 20000), OLD)]
     with pytest.raises(HostFault, match="idle"):
-        apply.make(beneath.Root(str(folder / "t")), found, False, str(folder / "undo"), [])
+        apply.make(beneath.Root(str(folder / "t")), found, By.FILES, str(folder / "undo"), [])
 
 
 def test_quota_that_systemd_cannot_hold():
     """A percentage of more than two decimals is written to the file."""
     change = Change("a.slice", OLD, Settings(100, 33333, 100000, 20000))
-    step, = apply.steps_of(change, OLD, True)
+    step, = apply.steps_of(change, OLD, By.RUNTIME)
     assert (step.unit, step.new) == ("", "33333 100000")
-    step, = apply.steps_of(Change("a.slice", OLD, Settings(100, 33330, 100000, 20000)), OLD, True)
+    change = Change("a.slice", OLD, Settings(100, 33330, 100000, 20000))
+    step, = apply.steps_of(change, OLD, By.RUNTIME)
     assert step.new == "CPUQuota=33.33% CPUQuotaPeriodSec=100000us"
 
 

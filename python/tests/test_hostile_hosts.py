@@ -8,7 +8,7 @@ import pytest
 import trees
 from arbiter import Host
 from arbiter_host import apply, beneath, names
-from arbiter_host.apply import Change, Settings
+from arbiter_host.apply import By, Change, Settings
 from arbiter_host.faults import HostFault
 from arbiter_host.model import Group, Model
 from arbiter_host.sources import cgroup2, cgroups, hostfile, script
@@ -226,7 +226,7 @@ def test_a_group_made_again_after_the_reading(folder, tree):
     root = beneath.Root(str(tree))
     found, _ = apply.changes(before, after, root)
     with pytest.raises(HostFault, match="box: is another group than the one that was read"):
-        apply.make(root, found, False, str(folder / "u"), [])
+        apply.make(root, found, By.FILES, str(folder / "u"), [])
     assert weights(tree, "box") == [100] and not (folder / "u").exists()
 
 
@@ -241,7 +241,7 @@ def test_a_group_made_again_before_the_writing(folder, tree, monkeypatch):
 
     monkeypatch.setattr(apply, "write_synced", write_synced)
     new = Settings(9, None, 100000, 0)
-    apply.make(beneath.Root(str(tree)), [Change("box", OLD, new)], False, str(folder / "u"), [])
+    apply.make(beneath.Root(str(tree)), [Change("box", OLD, new)], By.FILES, str(folder / "u"), [])
     assert weights(folder, "t/box", "old") == [100, 9]
 
 
@@ -257,7 +257,7 @@ def test_a_link_put_in_place_of_a_group(folder, tree, monkeypatch):
 
     monkeypatch.setattr(apply, "write_synced", write_synced)
     new = Settings(9, None, 100000, 0)
-    apply.make(beneath.Root(str(tree)), [Change("box", OLD, new)], False, str(folder / "u"), [])
+    apply.make(beneath.Root(str(tree)), [Change("box", OLD, new)], By.FILES, str(folder / "u"), [])
     assert weights(folder, "out", "old") == [100, 9]
 
 
@@ -280,7 +280,7 @@ def test_many_groups(folder):
     resource.setrlimit(resource.RLIMIT_NOFILE, (256, limits[1]))
     root = beneath.Root(str(folder / "t"))
     try:
-        apply.make(root, found, False, str(folder / "u"), [])
+        apply.make(root, found, By.FILES, str(folder / "u"), [])
     finally:
         root.close()
         resource.setrlimit(resource.RLIMIT_NOFILE, limits)
@@ -317,7 +317,7 @@ def test_undo_of_a_unit_that_has_another_group_now(ctl, folder, tree):
     new = Settings(9, None, 100000, 0)
     root = beneath.Root(str(tree))
     (tree / "web.service/cpu.weight").write_text("9\n")
-    (folder / "u").write_text(apply.undo_text(root, [Change("web.service", OLD, new)], True))
+    (folder / "u").write_text(apply.undo_text(root, [Change("web.service", OLD, new)], By.RUNTIME))
     systemctl(ctl, folder, "/user.slice/web.service")
     ctl.run("undo", folder / "u", "--yes")
     assert weights(tree, "web.service") == [100] and not (folder / "log").exists()

@@ -312,7 +312,7 @@ _arbiterctl() {
                 --runtime) mapfile -t COMPREPLY < <(compgen -W "linear log" -- "$word") ;;
                 --driver) mapfile -t COMPREPLY < <(compgen -W "systemd cgroupfs" -- "$word") ;;
                 *)
-                    [[ $word == -* ]] && mapfile -t COMPREPLY < <(compgen -W "--set --root --by --undo --yes --cpus --processors --period --slice --library --from --want --scale --interval --samples --later --own --depth-read --node --conversion --kubelet --runtime --driver --strict -h --help" -- "$word")
+                    [[ $word == -* ]] && mapfile -t COMPREPLY < <(compgen -W "--set --root --by --persistent --undo --yes --cpus --processors --period --slice --library --from --want --scale --interval --samples --later --own --depth-read --node --conversion --kubelet --runtime --driver --strict -h --help" -- "$word")
                     ;;
             esac
             ;;

@@ -276,6 +276,7 @@ complete -c arbiterctl -n '__fish_seen_subcommand_from fleet; and not __fish_see
 complete -c arbiterctl -n '__fish_seen_subcommand_from apply' -l set -x -d 'a change of BEFORE, in place of AFTER'
 complete -c arbiterctl -n '__fish_seen_subcommand_from apply' -l root -r -F -d 'the top of the tree (default /sys/fs/cgroup); nothing outside it is opened for writing'
 complete -c arbiterctl -n '__fish_seen_subcommand_from apply' -l by -x -a 'systemd files' -d '`systemd` sets properties of units by systemctl and files else; `files` writes files alone (default systemd)'
+complete -c arbiterctl -n '__fish_seen_subcommand_from apply' -l persistent -d 'properties of units are kept over a boot; `undo` keeps the old ones so too'
 complete -c arbiterctl -n '__fish_seen_subcommand_from apply' -l undo -r -F -d 'the undo file, which must be new (default arbiter-undo-DATE-TIME.json here)'
 complete -c arbiterctl -n '__fish_seen_subcommand_from apply' -l yes -d 'do it'
 complete -c arbiterctl -n '__fish_seen_subcommand_from apply' -l cpus -l processors -x -d 'CPUs of the host (default: what the source says, else this machine\'s for cgroups, systemd and containers, else 1)'

@@ -41,6 +41,15 @@ def warn(found: Iterable[str]) -> None:
         print(f"arbiterctl: warning: {names.shown(words)}", file=sys.stderr)
 
 
+def way_of(options: argparse.Namespace) -> apply.By:
+    """By what the options ask that changes are made."""
+    if options.by == "files":
+        if options.persistent:
+            raise UsageFault("--persistent belongs to --by systemd: no boot keeps files")
+        return apply.By.FILES
+    return apply.By.PERSISTENT if options.persistent else apply.By.RUNTIME
+
+
 def run_apply(options: argparse.Namespace) -> None:
     """Prints the steps from one source to another; with --yes makes them."""
     sources = load.sources(options, options.source)
@@ -49,15 +58,16 @@ def run_apply(options: argparse.Namespace) -> None:
     by = engine.find(options.library)
     models = [load.of_files(options, files, by) for files in sources]
     after = change.changed(models[-1], options.set)
-    root, is_systemd = beneath.Root(options.root), options.by == "systemd"
+    root, way = beneath.Root(options.root), way_of(options)
     found, left = apply.changes(models[0], after, root)
-    warn(left)
+    steps = apply.planned_steps(found, way)
+    warn([*left, *(apply.passing(steps) if options.persistent else [])])
     if not options.yes or not found:
-        print_steps(root, apply.planned_steps(found, is_systemd))
+        print_steps(root, steps)
         return
     undo = options.undo or f"arbiter-undo-{time.strftime('%Y%m%d-%H%M%S')}.json"
     with printing(root) as done:
-        apply.make(root, found, is_systemd, undo, done)
+        apply.make(root, found, way, undo, done)
         print(f"arbiterctl: done and read back; to undo: arbiterctl undo {names.shown(undo)} --yes",
               file=sys.stderr)
 
@@ -88,6 +98,9 @@ def add_apply_words(parser: argparse.ArgumentParser) -> None:
     parser.add_argument("--by", choices=("systemd", "files"), default="systemd",
                         help="`systemd` sets properties of units by systemctl and files else;"
                         " `files` writes files alone (default systemd)")
+    parser.add_argument("--persistent", action="store_true",
+                        help="properties of units are kept over a boot; `undo` keeps the old ones"
+                        " so too")
     parser.add_argument("--undo", metavar="FILE", help="the undo file, which must be new"
                         " (default arbiter-undo-DATE-TIME.json here)")
     parser.add_argument("--yes", action="store_true", help="do it")
