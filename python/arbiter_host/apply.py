@@ -397,15 +397,16 @@ def settings_from(entry: dict[str, Any]) -> Settings:
     return settings_of(group)
 
 
-def wanted_back(now: Settings, old: Settings, new: Settings) -> Settings:
-    """The old settings, but what is neither old nor new stays: somebody else set it.
+def wanted_back(now: Settings, old: Settings, written: Sequence[Settings]) -> Settings:
+    """The old settings, but what is neither old nor written stays: somebody else set it.
 
     A limit is one setting with its burst, since one bounds the other.
     """
-    wanted = old
-    if now.weight not in (old.weight, new.weight):
+    wanted, ours = old, [old, *written]
+    if now.weight not in [each.weight for each in ours]:
         wanted = replace(wanted, weight=now.weight)
-    if now.maximum not in (old.maximum, new.maximum) or now.burst not in (old.burst, new.burst):
+    if (now.maximum not in [each.maximum for each in ours]
+            or now.burst not in [each.burst for each in ours]):
         wanted = replace(wanted, quota=now.quota, period=now.period, burst=now.burst)
     return wanted
 
@@ -414,14 +415,15 @@ def take_back(back: Back, entry: dict[str, Any], is_forced: bool) -> bool:
     """Takes an entry of an undo file. Returns whether its group is there."""
     folder, old = str(entry.get("folder", "")), settings_from(entry)
     after = data.table(entry, "after")
-    new = settings_from(after) if after else old
+    written = [settings_from(each)
+               for each in [*([after] if after else []), *data.tables(entry, "earlier")]]
     try:
         back.root.keep(folder)
         now = current(back.root, folder)
     except Gone:
         back.left.append(f"{folder}: the group is gone, nothing of it is undone")
         return False
-    wanted = old if is_forced else wanted_back(now, old, new)
+    wanted = old if is_forced else wanted_back(now, old, written)
     if wanted != old:
         back.left.append(f"{folder}: holds {told(now)}, which is neither what `apply` found"
                          f" ({told(old)}) nor what it wrote: what differs is left (--force)")

@@ -98,6 +98,10 @@ class Root:
         if identity is not None and identity_of(found) != identity:
             raise HostFault(f"{shown(folder)}: is another group than the one that was read")
 
+    def let_go(self, folder: str) -> None:
+        """Closes a folder that is kept."""
+        os.close(self.kept.pop(folder))
+
     @contextmanager
     def at(self, folder: str) -> Iterator[int]:
         """A folder: the one that is kept, else the one that is there."""

@@ -15,7 +15,7 @@ _arbiterctl() {
         given=$before
     fi
     if ((COMP_CWORD == 1)); then
-        mapfile -t COMPREPLY < <(compgen -W "explain compare need guarantee picture report series top fleet apply undo import from-cgroup -h --help -V --version" -- "$word")
+        mapfile -t COMPREPLY < <(compgen -W "explain compare need guarantee picture report series top fleet apply undo hold import from-cgroup -h --help -V --version" -- "$word")
         return
     fi
     case ${COMP_WORDS[1]} in
@@ -320,6 +320,21 @@ _arbiterctl() {
             case $given in
                 *)
                     [[ $word == -* ]] && mapfile -t COMPREPLY < <(compgen -W "--force --yes -h --help" -- "$word")
+                    ;;
+            esac
+            ;;
+        hold)
+            case $given in
+                --root) ;;
+                --interval) ;;
+                --for) ;;
+                --undo) ;;
+                --cpus|--processors) ;;
+                --period) ;;
+                --slice) ;;
+                --library) ;;
+                *)
+                    [[ $word == -* ]] && mapfile -t COMPREPLY < <(compgen -W "--root --interval --for --once --dry-run --undo --force --cpus --processors --period --slice --library -h --help" -- "$word")
                     ;;
             esac
             ;;

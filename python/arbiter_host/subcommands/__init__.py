@@ -31,6 +31,7 @@ PLACES = {
     "fleet": Place("fleet", "FLEET", "ask many hosts at once, on all processors"),
     "apply": Place("apply", "APPLY", "set weights and limits on a host; without --yes only print"),
     "undo": Place("apply", "UNDO", "bring the settings before `apply` back"),
+    "hold": Place("hold", "HOLD", "hold the plan on a host by limits of each round"),
     "import": Place("imports", "IMPORT", "write what a source holds as a script or a host file"),
     "from-cgroup": Place("imports", "FROM_CGROUP", "the same as import cgroup"),
 }

@@ -1,0 +1,447 @@
+"""Hold: the limits of worked readings, what is put back at each end, and what is refused."""
+import fcntl
+import json
+import os
+import random
+import shutil
+import signal
+import subprocess
+import sys
+import time
+
+import pytest
+import trees
+from arbiter import Host
+from arbiter_host import apply, beneath, hold, record
+from arbiter_host.apply import Settings
+from arbiter_host.faults import HostFault
+from places import PACKAGE
+
+TWO = Host(2, 100000, 1000)
+SECOND = 10**9
+FREE = "max 100000"
+
+
+class World:
+    """A tree of plain files with a clock, whose groups use and wait as the test says."""
+
+    def __init__(self, folder, groups):
+        self.tree, self.now, self.lines, self.after = folder / "t", 0, [], []
+        self.counters = {}
+        trees.root2(self.tree)
+        for path, weight, maximum in groups:
+            self.add(path, weight, maximum)
+
+    def add(self, path, weight=100, maximum=FREE, burst=0):
+        self.counters[path] = [0, 0, 0]
+        trees.group2(self.tree / path, weight, maximum, burst)
+
+    def uses(self, path, slices, throttled=0, waited=0):
+        """One second in which a group uses so many slices in each period."""
+        mine = self.counters[path]
+        for place, rise in enumerate((slices * 10 * 1000, throttled, waited)):
+            mine[place] += rise
+        usage, stopped, pressed = mine
+        text = {"cpu.stat": trees.STAT.format(usage=usage, periods=10, throttled=stopped),
+                "cpu.pressure": trees.PRESSURE.format(waited=pressed)}
+        for name, each in text.items():
+            (self.tree / path / f"{name}.new").write_text(each)
+            os.replace(self.tree / path / f"{name}.new", self.tree / path / name)
+
+    def wait(self, seconds):
+        """A second of the clock, in which the next step of the test happens; True at its end."""
+        assert 0 <= seconds <= 1
+        if not self.after:
+            return True
+        self.now += SECOND
+        self.after.pop(0)()
+        return False
+
+    def loop(self, engine, undo=None, **words):
+        kept = None if undo is None else record.Record(str(undo))
+        return hold.Loop(engine, beneath.Root(str(self.tree)), str(self.tree), TWO, kept,
+                         clock=lambda: self.now, **words)
+
+    def run(self, loop, *steps, times=hold.Times(SECOND)):
+        """Rounds, a step before each. Returns the lines and what stood at each line."""
+        self.after, lines = list(steps), []
+
+        def emit(text):
+            lines.append((json.loads(text), {path: self.maximum(path) for path in self.counters
+                                             if (self.tree / path).exists()}))
+        hold.run(loop, times, self.wait, emit)
+        return lines
+
+    def maximum(self, path):
+        return (self.tree / path / "cpu.max").read_text().strip()
+
+
+@pytest.fixture
+def world(folder):
+    """Weights 100, 100 and 200 on two CPUs: 200 slices, guarantees 50, 50 and 100."""
+    return World(folder, [("a", 100, FREE), ("b", 100, FREE), ("c", 200, FREE)])
+
+
+def test_limits_of_worked_readings(world, engine, folder):
+    """a wants 20, then 80; b and c want all. The plans are 20, 60, 120 and 50, 50, 100."""
+    loop = world.loop(engine, folder / "undo")
+
+    def first():
+        world.uses("a", 20)
+        world.uses("b", 90, waited=600000)
+        world.uses("c", 90, waited=600000)
+
+    def second():
+        world.uses("a", 80)
+        world.uses("b", 60, throttled=3)
+        world.uses("c", 60, throttled=1)
+
+    (one, stood), (two, then) = world.run(loop, first, second)
+    # a: used 20 + 2 of headroom, but its guarantee is 50. b, c: 180 shared out by 100 to 200.
+    assert one["groups"] == {
+        "a": {"want": 20, "plan": 20, "used": 20, "limit": 50, "hungry": False},
+        "b": {"want": 1000000, "plan": 60, "used": 90, "limit": 60, "hungry": True},
+        "c": {"want": 1000000, "plan": 120, "used": 90, "limit": 120, "hungry": True}}
+    assert stood == {"a": "50000 100000", "b": "60000 100000", "c": "120000 100000"}
+    # a uses more than its plan of 50, so it is held at that.
+    assert [(each["plan"], each["limit"]) for each in two["groups"].values()] == [
+        (50, 50), (50, 50), (100, 100)]
+    assert then == {"a": "50000 100000", "b": "50000 100000", "c": "100000 100000"}
+    assert (one["round"], one["written"], two["round"], two["written"]) == (1, 3, 2, 2)
+    assert [world.maximum(path) for path in "abc"] == [FREE] * 3
+    assert not (folder / "undo").exists() and not (folder / "undo.part").exists()
+
+
+def test_headroom_own_limits_and_a_burst(folder, engine):
+    """Without hunger a leaf has an eighth above its use, and never more than its own limit."""
+    world = World(folder, [("a", 100, FREE), ("b", 100, FREE), ("c", 200, "80000 100000")])
+    trees.group2(world.tree / "b", 100, "150000 100000", 60000)
+    loop = world.loop(engine, folder / "undo")
+
+    def step():
+        world.uses("a", 112)
+        world.uses("b", 10, waited=900000)
+        world.uses("c", 8)
+
+    (line, stood), = world.run(loop, step)
+    # Guarantees: c 80 by its limit, and 60 each for a and b. b is not hungry: its limit stood, so
+    # that it waited says nothing. a: 112 + 14.
+    assert {path: each["limit"] for path, each in line["groups"].items()} == {
+        "a": 126, "b": 60, "c": 80}
+    assert stood == {"a": "126000 100000", "b": "60000 100000", "c": "80000 100000"}
+    assert apply.current(loop.root, "b") == Settings(100, 150000, 100000, 60000)
+
+
+def test_inner_limits_and_rounding_up(folder, engine, capsys):
+    """A group with children keeps its limit. A leaf without a slice gets 1 ms, told once."""
+    world = World(folder, [("in", 10000, "40000 100000"), ("in/x", 100, FREE), ("z", 1, FREE)])
+
+    def step():
+        world.uses("in/x", 40, waited=10**6)
+        world.uses("z", 0)
+
+    lines = world.run(world.loop(engine, folder / "undo"), step, step)
+    # First it is hungry without a limit; then it uses 40 below a limit that does not stop it.
+    assert [line["groups"]["in/x"]["limit"] for line, _ in lines] == [40, 45]
+    assert lines[0][1]["in"] == "40000 100000"
+    # z is guaranteed the 160 slices that `in` may not use.
+    assert lines[0][1]["z"] == "160000 100000"
+    world = World(folder / "two", [("y", 10000, FREE), ("z", 1, FREE)])
+
+    def idle():
+        world.uses("y", 200, waited=10**6)
+        world.uses("z", 0)
+
+    loop = world.loop(engine, folder / "undo2")
+    assert world.run(loop, idle, idle)[1][1]["z"] == "1000 100000"
+    assert capsys.readouterr().err.count("z: a limit below 1 ms is rounded up to it") == 1
+
+
+def test_groups_come_and_go(world, engine, folder):
+    """A new group is held from its second reading on; one that goes costs nothing."""
+    loop, undo = world.loop(engine, folder / "undo"), folder / "undo"
+
+    def step(*paths):
+        for path in paths:
+            world.uses(path, 10)
+
+    def come():
+        step(*"abc")
+        world.add("d", 100, "190000 100000")
+
+    def go():
+        step(*"abd")
+        shutil.rmtree(world.tree / "c")
+
+    def again():
+        step(*"ab")
+        shutil.rmtree(world.tree / "d")
+        world.add("d", 100, "170000 100000")
+
+    seen = []
+    lines = world.run(loop, lambda: step(*"abc"), come, lambda: step(*"abcd"), go, again,
+                      lambda: seen.append(json.loads(undo.read_text())) or step(*"abd"),
+                      lambda: seen.append(json.loads(undo.read_text())) or step(*"abd"))
+    assert [sorted(line["groups"]) for line, _ in lines] == [
+        list("abc"), list("abc"), list("abcd"), list("abd"), list("ab"), list("abd"), list("abd")]
+    # Weights 100, 100, 200 and 100 on 200 slices guarantee d 40, and 66 or 67 without c.
+    assert lines[2][1]["d"] == "40000 100000"
+    assert lines[3][1]["d"] in ("66000 100000", "67000 100000")
+    assert lines[4][1]["d"] == "170000 100000" and lines[5][1]["d"] != "170000 100000"
+    assert {each["folder"]: each["quota"] for each in seen[1]["groups"]} == {
+        "a": None, "b": None, "d": 170000}
+    assert [world.maximum(path) for path in "abd"] == [FREE, FREE, "170000 100000"]
+    assert not undo.exists() and loop.leaves.keys() == {"a", "b", "d"}
+
+
+def test_a_leaf_that_gets_children_has_its_own_limit_again(world, engine, folder):
+    stood = []
+    world.run(world.loop(engine, folder / "undo"), lambda: None,
+              lambda: world.add("a/in"), lambda: None,
+              lambda: stood.append((world.maximum("a"), world.maximum("a/in"))))
+    assert stood == [(FREE, "50000 100000")]
+    assert world.maximum("a/in") == FREE
+
+
+def test_somebody_sets_a_limit(world, engine, folder, capsys):
+    """What neither stood nor was written is left alone, and stays at the end."""
+    def other():
+        (world.tree / "a/cpu.max").write_text("70000 100000\n")
+
+    lines = world.run(world.loop(engine, folder / "undo"), lambda: None, other, lambda: None)
+    assert [stood["a"] for _, stood in lines] == ["50000 100000"] + ["70000 100000"] * 2
+    assert [world.maximum(path) for path in "abc"] == ["70000 100000", FREE, FREE]
+    assert capsys.readouterr().err.count("a: somebody set") == 1
+
+
+def test_an_older_reading_and_two_failed_ones(world, engine, folder, capsys):
+    """One costs a round in which nothing is written; two in a row put back what stood."""
+    def older():
+        world.counters["a"][0] -= 1
+        world.uses("a", 0)
+
+    loop = world.loop(engine, folder / "undo")
+    lines = world.run(loop, lambda: world.uses("a", 1), older, lambda: world.uses("a", 1))
+    assert [line["round"] for line, _ in lines] == [1, 2]
+    assert capsys.readouterr().err.count("a: its reading is older than the last") == 1
+    loop = world.loop(engine, folder / "undo")
+    held = []
+    with pytest.raises(HostFault, match="older than the last"):
+        world.run(loop, lambda: None, older, lambda: held.append(world.maximum("a")) or older())
+    assert held == ["50000 100000"] and world.maximum("a") == FREE
+
+
+def test_a_clock_that_stands_and_missed_rounds(world, engine, folder, capsys):
+    def late():
+        world.now += 2 * SECOND
+
+    loop = world.loop(engine)
+    loop.read()
+    with pytest.raises(HostFault, match="older than the last"):
+        loop.round()
+    lines = world.run(world.loop(engine), lambda: None, late)
+    assert [line["missed"] for line, _ in lines] == [0, 2]
+    assert "2 rounds missed" in capsys.readouterr().err
+
+
+def test_a_writing_that_fails_puts_back(world, engine, folder):
+    """A tree that takes one limit and refuses the next holds what stood."""
+    class Refusing(beneath.Root):
+        """A tree that refuses the limit of b."""
+
+        def write(self, folder, file, text):
+            if folder == "b" and not text.startswith("max"):
+                raise HostFault("b: Invalid argument")
+            super().write(folder, file, text)
+
+    loop = world.loop(engine, folder / "undo")
+    loop.root = Refusing(str(world.tree))
+    with pytest.raises(HostFault, match="Invalid argument"):
+        world.run(loop, lambda: None, lambda: None)
+    assert [world.maximum(path) for path in "abc"] == [FREE] * 3
+    assert not (folder / "undo").exists()
+
+
+def test_kubelet_and_other_trees_are_refused(ctl, world, engine, folder):
+    world.add("kubepods.slice")
+    words = ["hold", world.tree, "--root", world.tree, "--undo", folder / "u", "--once"]
+    _, err = ctl.run(*words, status=1)
+    assert "kubelet owns the limits there" in err and not (folder / "u").exists()
+    ctl.run(*words, "--force", "--dry-run")
+    _, err = ctl.run("hold", folder, "--root", world.tree, "--undo", folder / "u", status=1)
+    assert "no tree of cgroup v2" in err
+    for option, value in (("--period", "50ms"), ("--interval", "10ms")):
+        ctl.run(*words, option, value, status=2)
+
+
+def test_folder_of_the_undo_file(folder, world):
+    """Neither a folder that others may change nor a link is taken, nor a file that is there."""
+    for name, mode in (("open", 0o777), ("group", 0o770)):
+        (folder / name).mkdir()
+        (folder / name).chmod(mode)
+        for make in (lambda path: record.Record(str(path / "u")), lambda path: record.lock(
+                str(path))):
+            with pytest.raises(HostFault, match="other users may change"):
+                make(folder / name)
+    (folder / "link").symlink_to(folder / "t")
+    with pytest.raises(HostFault):
+        record.lock(str(folder / "link"))
+    (folder / "hold.lock").symlink_to(folder / "elsewhere")
+    with pytest.raises(HostFault):
+        record.lock(str(folder))
+    assert not (folder / "elsewhere").exists()
+    (folder / "u").write_text("mine")
+    with pytest.raises(HostFault, match="File exists"):
+        record.Record(str(folder / "u"))
+    record.lock(str(folder / "new"))
+    assert (folder / "new").stat().st_mode & 0o777 == 0o700
+
+
+def content(tree):
+    """The text of each file of a tree."""
+    return {str(path): path.read_text() for path in sorted(tree.rglob("*")) if path.is_file()}
+
+
+def started(ctl, world, undo, *words):
+    """A loop that runs, after it has told its first round."""
+    found = subprocess.Popen(
+        [sys.executable, str(PACKAGE / "arbiterctl"), "hold", str(world.tree), "--root",
+         str(world.tree), "--cpus", "2", "--interval", "100ms", "--undo", str(undo), *words],
+        env=ctl.environment, stdout=subprocess.PIPE, stderr=subprocess.PIPE)
+    assert json.loads(found.stdout.readline())["round"] == 1
+    return found
+
+
+@pytest.mark.parametrize("number", [signal.SIGTERM, signal.SIGINT])
+def test_signals_put_back(ctl, world, folder, number):
+    before = content(world.tree)
+    loop = started(ctl, world, folder / "u")
+    assert world.maximum("a") == "50000 100000" and (folder / "u").exists()
+    loop.send_signal(number)
+    _, err = loop.communicate(timeout=30)
+    assert (loop.returncode, err) == (0, b"")
+    assert content(world.tree) == before and not (folder / "u").exists()
+
+
+def test_two_loops_and_an_end(ctl, world, folder):
+    """The second is refused; the first ends by --for and a reader that goes costs nothing."""
+    before = content(world.tree)
+    loop = started(ctl, world, folder / "u", "--for", "3s")
+    words = ["hold", world.tree, "--root", world.tree, "--undo", folder / "u2", "--once"]
+    _, err = ctl.run(*words, status=1)
+    assert "another loop holds this host" in err and not (folder / "u2").exists()
+    assert loop.communicate(timeout=30)[1] == b"" and loop.returncode == 0
+    assert content(world.tree) == before
+    loop = started(ctl, world, folder / "u")
+    loop.stdout.close()
+    assert loop.wait(30) == 1 and content(world.tree) == before
+    loop.stderr.close()
+
+
+def test_dry_run_writes_nothing(ctl, world, folder):
+    before = content(folder)
+    out, _ = ctl.run("hold", world.tree, "--root", world.tree, "--cpus", "2", "--interval",
+                     "100ms", "--once", "--dry-run", "--undo", folder / "u")
+    line = json.loads(out)
+    assert {path: each["limit"] for path, each in line["groups"].items()} == {
+        "a": 50, "b": 50, "c": 100}
+    assert (line["written"], content(folder)) == (0, before)
+
+
+# A loop of 8 rounds in which a, b and c use more and less, and that is killed at one of its calls.
+KILLED = """
+import os, pathlib, signal, sys
+sys.path[:0] = {path!r}
+import test_hold
+from arbiter import Library
+from arbiter_host.engine import Engine
+folder, at, made = pathlib.Path({folder!r}), {at}, 0
+world = test_hold.World(folder, [("a", 100, "90000 100000"), ("b", 100, test_hold.FREE),
+                                 ("c", 200, test_hold.FREE)])
+(world.tree / "a/cpu.max.burst").write_text("90000\\n")
+(folder / "before").write_text(repr(test_hold.content(world.tree)))
+loop = world.loop(Engine(Library({library!r})), folder / "u")
+def step(turn):
+    world.uses("a", 5 + 60 * (turn % 2))
+    world.uses("b", 30 * turn, throttled=turn % 3)
+    world.uses("c", 90, throttled=turn % 2, waited=10**6)
+def counted(name):
+    real = getattr(os, name)
+    def call(*words, **more):
+        global made
+        if loop.is_counted:
+            made += 1
+            if made == at:
+                os.kill(os.getpid(), signal.SIGKILL)
+        return real(*words, **more)
+    setattr(os, name, call)
+real_write, loop.is_counted = loop.write, False
+def write(limits):
+    loop.is_counted = True
+    try:
+        return real_write(limits)
+    finally:
+        loop.is_counted = False
+loop.write = write
+real_end = loop.end
+def end():
+    loop.is_counted = True
+    real_end()
+loop.end = end
+for name in ("open", "write", "fsync", "rename", "link", "unlink", "ftruncate"):
+    counted(name)
+world.run(loop, *[lambda turn=turn: step(turn) for turn in range(8)])
+print(made)
+"""
+
+
+def killed(library, folder, at):
+    """The loop of KILLED: its status, and what it printed."""
+    folder.mkdir()
+    text = KILLED.format(path=sys.path, folder=str(folder), at=at, library=str(library))
+    ended = subprocess.run([sys.executable, "-c", text], capture_output=True, check=False,
+                           timeout=60)
+    assert b"Traceback" not in ended.stderr, ended.stderr.decode()
+    return ended.returncode, ended.stdout.decode()
+
+
+def limits(tree):
+    """The lines of the files that a loop writes. A kill may leave empty ones in a plain file."""
+    return {path: text.strip() for path, text in content(tree).items() if ".max" in path}
+
+
+def test_killed_at_random_points_and_undone(library, folder):
+    """At 40 of its calls that open, write or sync: `undo` brings back what stood, all of it."""
+    status, out = killed(library, folder / "whole", 0)
+    assert status == 0 and int(out) > 100
+    whole = limits(folder / "whole/t")
+    differed = 0
+    for at in sorted(random.Random(67).sample(range(1, int(out) + 1), 40)):
+        here = folder / str(at)
+        assert killed(library, here, at)[0] == -signal.SIGKILL
+        stood = {path.replace(str(folder / "whole"), str(here)): text
+                 for path, text in whole.items()}
+        differed += limits(here / "t") != stood
+        if (here / "u").exists():
+            back = apply.read_undo((here / "u").read_bytes(), "u")
+            apply.undo(back, [])
+            assert back.left == []
+        assert limits(here / "t") == stood, at
+        assert {path.name for path in here.iterdir()} <= {"t", "before", "u", "u.part"}
+    assert differed > 20
+
+
+def test_killed_at_random_times(ctl, world, folder):
+    """The command itself, killed while it runs, is undone by the command."""
+    before = content(world.tree)
+    for turn in range(3):
+        undo = folder / f"u{turn}"
+        loop = started(ctl, world, undo)
+        time.sleep(random.Random(turn).random() / 5)
+        loop.kill()
+        loop.communicate(timeout=30)
+        assert content(world.tree) != before
+        ctl.run("undo", undo, "--yes")
+        assert content(world.tree) == before
+        with open(folder / "hold.lock", "rb") as lock:
+            fcntl.flock(lock, fcntl.LOCK_EX | fcntl.LOCK_NB)
