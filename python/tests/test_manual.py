@@ -129,7 +129,7 @@ def example_command(command, folder):
         command += f" --count 1 {folder}/cgroup"
     if "fleet" in command:
         command += " --workers 0"
-    if "apply" in command:
+    if "apply" in command or "hold" in command:
         command += f" --root {folder}/cgroup"
     return command
 
