@@ -18,7 +18,7 @@ from typing import Any, NamedTuple
 
 from arbiter import Columns, Host, Row
 from arbiter_host import apply, demands, units
-from arbiter_host.apply import Back, Change, Settings
+from arbiter_host.apply import Back, By, Change, Settings
 from arbiter_host.beneath import Gone, Identity, Root
 from arbiter_host.demands import Reading
 from arbiter_host.engine import Engine, asking
@@ -279,7 +279,7 @@ class Loop:
         """Writes the target of a leaf. One that is gone is dropped by the next reading."""
         change = Change(leaf.folder, leaf.stands, leaf.target)
         with suppress(Gone):
-            for step in apply.steps_of(change, leaf.stands, False):
+            for step in apply.steps_of(change, leaf.stands, By.FILES):
                 apply.do(step, self.root)
             leaf.stands = leaf.target
 
@@ -294,7 +294,7 @@ class Loop:
 
     def put_back(self, leaves: Iterable[Leaf]) -> None:
         """Puts back what stood; what somebody else set stays, and is told."""
-        back = Back(self.root, False)
+        back = Back(self.root, By.FILES)
         for leaf in leaves:
             now = None if leaf.is_left else apply.standing(self.root, leaf.folder)
             if now is None:

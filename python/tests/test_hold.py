@@ -194,6 +194,14 @@ def test_groups_come_and_go(world, engine, folder):
     assert not undo.exists() and loop.leaves.keys() == {"a", "b", "d"}
 
 
+def test_units_are_written_by_their_files(world, engine, folder, monkeypatch):
+    """Weights 100, 100, 200 and 100 guarantee the unit 40 of 200 slices."""
+    monkeypatch.setattr(apply, "systemctl", None)
+    world.add("web.service")
+    (_, stood), = world.run(world.loop(engine, folder / "undo"), lambda: None)
+    assert stood["web.service"] == "40000 100000" and world.maximum("web.service") == FREE
+
+
 def test_a_leaf_that_gets_children_has_its_own_limit_again(world, engine, folder):
     stood = []
     world.run(world.loop(engine, folder / "undo"), lambda: None,
