@@ -11,5 +11,6 @@ mod rule;
 
 pub use laws::{
     guarantee_is_admitted, limits_admit_the_plan, none_above_its_limit, none_below_its_guarantee,
+    nothing_else_stays, plan_is_reached, plan_stays,
 };
 pub use rule::{Held, hold};
