@@ -38,10 +38,10 @@ def crates() -> list:
 
 
 def test_docs_are_small():
-    """All of docs/ but its pictures has at most 260 KB: a page says what holds today."""
+    """The pages of docs/ have at most 260 KB: a page says what holds today. Data are beside them."""
     sizes = {str(path.relative_to(ROOT)): path.stat().st_size
-             for path in (ROOT / "docs").rglob("*") if path.is_file() and path.suffix != ".svg"}
-    assert sum(sizes.values()) <= 260_000, sorted(sizes.items(), key=lambda item: -item[1])
+             for path in (ROOT / "docs").rglob("*.md")}
+    assert sum(sizes.values()) <= 260 * 1024, sorted(sizes.items(), key=lambda item: -item[1])
 
 
 # Links
