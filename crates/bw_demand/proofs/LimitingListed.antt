@@ -175,10 +175,3 @@ module _ (groups : Groups) (valid : IsInstance groups) (d : Demands)
             (limited-IsGreatestTotal groups valid.tree d.most
             (AreMaxTotals-capped groups valid.tree d.most known.mosts)),
       )
-
--- the default is not read within a list
-pub flag_within : (xs : List Bool) (i : ℕ) (x y : Bool) → i < length xs
-    → get_or xs i x ≡ get_or xs i y
-flag_within [] i x y h = absurd (omega arith)
-flag_within (b ∷ xs) zero x y h = refl
-flag_within (b ∷ xs) (suc i) x y h = flag_within xs i x y (omega arith)

@@ -4,7 +4,7 @@ use Rattle.std.proofs.Common.{refl, ap, sym, ◌∙◌, arith, inl, inr, ◌+◌
 use Rattle.std.specs.Prelude.{map, replicate, ◌&&◌, if◌then◌else◌}
 use Rattle.std.specs.List.{range_with_len}
 use Rattle.std.proofs.lemmas.Bool.{cases_lt, cases_Bool}
-use Rattle.std.proofs.lemmas.List.{get_or_past}
+use Rattle.std.proofs.lemmas.List.{get_or_default, get_or_past}
 use Rattle.std.proofs.lemmas.List.FromFn.{get_or-map-range_with_len, length-map-range_with_len}
 use Rattle.std.proofs.lemmas.List.FromFn.{get_or-range_with_len, length-range_with_len}
 use Rattle.bw_model.specs.declared.row.Row.{Row}
@@ -19,13 +19,6 @@ use Rattle.bw_plan_laws.specs.Tree.{IsSameTree}
 use Rattle.bw_plan_laws.proofs.CallerLemmas.{leaf_same}
 use Rattle.bw_hold.specs.Rule.{asking, row_asking, demand_where, own_limit, is_hungry, round_of}
 use Rattle.bw_hold.specs.Rule.{everyone, leaf_limit, round_limit}
-
--- A number within a list is there whatever stands for what is past it.
-pub within_list : (xs : List Bool) (g : ℕ) (d e : Bool) → g < length xs
-    → get_or xs g d ≡ get_or xs g e
-within_list [] g d e below = absurd (omega arith)
-within_list (x ∷ xs) zero d e below = refl
-within_list (x ∷ xs) (suc g) d e below = within_list xs g d e (omega (arith, below))
 
 -- A plan has one amount for each row.
 pub amount_each : (groups : Groups) → IsInstance groups → (amounts : List ℕ)
@@ -199,7 +192,7 @@ everyone-IsInstance groups valid = where-IsInstance groups valid (λ g. true)
 pub row_read : (rows : List Row) (hungry : List Bool) (g : ℕ) (d : Bool) → g < length hungry
     → row_asking rows (λ h. demand_where rows (get_or hungry g d) h) g
     ≡ row_asking rows (λ h. demand_where rows (is_hungry hungry h) h) g
-row_read rows hungry g d below = rw (within_list hungry g d false below) refl
+row_read rows hungry g d below = rw (get_or_default hungry g d false below) refl
 
 -- The limit of a row by its entries in three lists.
 pub limit_read : (used : Groups) (hungry : List Bool) (floors amounts : List ℕ) (g : ℕ) (d : Bool)
@@ -210,7 +203,7 @@ pub limit_read : (used : Groups) (hungry : List Bool) (floors amounts : List ℕ
     ≡ round_limit used hungry floors amounts g
 limit_read used hungry floors amounts g d f a flag floor amount =
     rw (
-      within_list hungry g d false flag,
+      get_or_default hungry g d false flag,
       get_or_within floors g f floor,
       get_or_within amounts g a amount,
     ) refl

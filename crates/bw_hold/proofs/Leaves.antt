@@ -1,28 +1,20 @@
 -- The total of a leaf, and totals of allocations that are no greater at each leaf.
 use Rattle.std.proofs.Common.{◌≡◌, ℕ, ◌+◌, ◌<◌, ◌≤◌, List, true, false, ◌&&◌, cond, None, Some}
 use Rattle.std.proofs.Common.{length, get_or, refl, ap, sym, ◌∙◌, arith, inl, inr}
-use Rattle.std.specs.Prelude.{slice_index}
 use Rattle.std.proofs.lemmas.Bool.{cases_eq, cases_lt, cases_Bool, ne_eqb, both_ways}
 use Rattle.std.proofs.lemmas.List.{get_or_past}
 use Rattle.bw_model.specs.declared.row.Row.{Row}
 use Rattle.bw_model.specs.Groups.{Groups, IsInstance, AreTreeRows, no_row, parent_of, is_leaf}
 use Rattle.bw_model.specs.Groups.{is_under, limit_of, demand_of}
-use Rattle.bw_model.specs.Allocation.{leaves_under, total}
+use Rattle.bw_model.specs.Allocation.{total}
 use Rattle.bw_model.specs.Demand.{want_of}
 use Rattle.bw_model.specs.Plan.{IsPlan}
 use Rattle.bw_model.proofs.CallerLemmas.{strong, sum_below, sum_below-le, sum_below-change}
-use Rattle.bw_model.proofs.CallerLemmas.{sum_below-zero, sum_by-filter_range, leaf_no_child}
+use Rattle.bw_model.proofs.CallerLemmas.{sum_below-zero, total-sum, leaf_no_child}
 use Rattle.bw_model.proofs.CallerLemmas.{is_child_from_parent, is_under-top, is_under-step}
 use Rattle.bw_model.proofs.CallerLemmas.{is_under-self, and_no, mosts, mosts-capped, parent_lt}
 use Rattle.bw_model.proofs.CallerLemmas.{most_le_limit, most_le_want}
 use Rattle.bw_plan.proofs.CallerLemmas.{plan-IsPlanning, at_most}
-
-total-sum : (rows : List Row) (a : List ℕ) (g : ℕ) →
-    total rows a g ≡ sum_below (length rows)
-    (λ l. cond (is_leaf rows l && is_under rows g l) (get_or a l 0) 0)
-unfolding total leaves_under
-total-sum rows a g =
-    sum_by-filter_range (λ l. is_leaf rows l && is_under rows g l) (slice_index a) (length rows)
 
 module _ (rows : List Row) (tree : AreTreeRows rows) where
   parent_within : (k p : ℕ) → parent_of rows k ≡ Some p → k < length rows

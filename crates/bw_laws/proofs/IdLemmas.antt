@@ -3,6 +3,7 @@ use Rattle.std.proofs.Common.{◌≡◌, ◌⊎◌, inl, inr, ℕ, ◌+◌, ◌<
 use Rattle.std.proofs.Common.{◌∷◌, Option, None, Some, refl, sym, ap, subst, ◌∙◌, arith, true≢false}
 use Rattle.std.specs.Prelude.{Result, Ok, Err, IfOk}
 use Rattle.std.specs.Path.{rsplit_once}
+use Rattle.std.proofs.lemmas.Bool.{false_from_ne_true}
 use Rattle.bw_model.specs.Host.{Shape}
 use Rattle.bw_tree.specs.Groups.{TreeState, group_at, has_group, AllBefore}
 use Rattle.bw_tree.specs.Snapshot.{left_over}
@@ -145,10 +146,6 @@ made_at : (t u : TreeState) (o : Option (List ℕ × List ℕ)) (path : List ℕ
 made_at t u None path id e = made (mkdir_refusal t 0 path) t u 0 path id e
 made_at t u (Some parts) path id e = made_below (found_at t parts.0) t u parts.1 id e
 
-not_there : (b : Bool) → (b ≡ true → ⊥) → b ≡ false
-not_there true no_way = absurd (no_way refl)
-not_there false no_way = refl
-
 pub given_once : IdsAreGivenOnce
 given_once = record {
   rise = rises;
@@ -156,7 +153,7 @@ given_once = record {
       let h = ran shape calls in
       let new = made_at h.tree t (rsplit_once 47 path) path id e in
       let all = (grown_from (new_hierarchy shape) calls (new_below shape)).below in (
-        not_there (has_id h id)
+        false_from_ne_true (has_id h id)
             (λ there. let lt = id_below h.tree.next h.tree.groups id all there in
             let own = new.0 in omega (arith, lt, own)),
         new.1,

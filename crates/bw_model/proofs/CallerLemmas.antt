@@ -12,7 +12,7 @@ pub use Rattle.bw_model.proofs.tree.Under.{parent_lt, path_up-top, path_up-step,
 pub use Rattle.bw_model.proofs.tree.Under.{is_under-step, is_under-self}
 pub use Rattle.bw_model.proofs.allocation.Totals.{parent_from_is_child, is_child_from_parent}
 pub use Rattle.bw_model.proofs.allocation.Totals.{is_child_no, sum_by-children, leaf_no_child}
-pub use Rattle.bw_model.proofs.allocation.Totals.{inner_has_child, total-inner}
+pub use Rattle.bw_model.proofs.allocation.Totals.{inner_has_child, total-sum, total-inner}
 pub use Rattle.bw_model.proofs.plan.Bounds.{total-le_bound, bounds-unique, children-le}
 pub use Rattle.bw_model.proofs.plan.BoundsCover.{bounds_cover}
 pub use Rattle.bw_model.proofs.tree.Places.{child_at}

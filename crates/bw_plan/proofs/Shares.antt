@@ -25,6 +25,7 @@ use Rattle.bw_model.proofs.CallerLemmas.{capacity_le, parent_lt, is_child_no, pa
 use Rattle.bw_model.proofs.CallerLemmas.{child_at, get_or-map, same_map, listed_child}
 use Rattle.bw_model.proofs.CallerLemmas.{parent_not_leaf, planned-IsPlan, capped, most_le_want}
 use Rattle.bw_model.proofs.CallerLemmas.{most_le_limit, zeros}
+use Rattle.bw_demand.proofs.CallerLemmas.{passing_few}
 use Rattle.std.proofs.lemmas.Option.{same_Some}
 
 some_none : (p : ℕ) → Some p ≡ None → ⊥
@@ -329,15 +330,6 @@ pub children_within : (rows : List Row) (g : ℕ) (children : List ℕ) → chil
     (k : ℕ) → k < length children → get_or children k 0 < length rows
 children_within rows g children e = rw e (λ k below. (child_at rows g k below).within)
 
-filter_le : (p : ℕ → Bool) (xs : List ℕ) → length (filter p xs) ≤ length xs
-filter_le p [] = omega arith
-filter_le p (x ∷ xs) = elim (cases_Bool (p x)) [
-  | inl e ↦ rw e
-      (let rest : length (filter p xs) ≤ length xs = filter_le p xs in omega (arith, rest))
-  | inr e ↦ rw e
-      (let rest : length (filter p xs) ≤ length xs = filter_le p xs in omega (arith, rest))
-]
-
 -- the root is no child, so there are fewer children than groups
 pub few_children : (rows : List Row) (g : ℕ) → AreTreeRows rows
     → length (children_of rows g) < length rows
@@ -351,7 +343,7 @@ few_children rows g tree = by (length rows) refl
         is_child_no rows g 0 (λ e. let wrong : None ≡ Some g =
         sym tree.root_on_top ∙ e in absurd cc) in
         let rest : length (filter (is_child rows g) (range_with_len 1 n))
-        ≤ length (range_with_len 1 n) = filter_le (is_child rows g) (range_with_len 1 n) in
+        ≤ length (range_with_len 1 n) = passing_few (is_child rows g) (range_with_len 1 n) in
         rw top (omega (arith, rest, length-range_with_len 1 n))
 
 -- what a group has can be split among its children

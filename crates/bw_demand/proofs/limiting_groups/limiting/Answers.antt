@@ -3,6 +3,7 @@ use Rattle.std.proofs.Common.{◌≡◌, ◌<◌, ◌≤◌, ◌+◌, ◌*◌, �
 use Rattle.std.proofs.Common.{append-nil, Vec, ◌&&◌, ◌||◌, not, Some, length, refl, ap, sym, ◌∙◌}
 use Rattle.std.proofs.Common.{arith, rules}
 use Rattle.std.specs.declared.alloc.Global.{Global}
+use Rattle.std.proofs.lemmas.List.{get_or_default}
 use Rattle.bw_model.specs.declared.row.Row.{Row}
 use Rattle.bw_model.specs.declared.limits.TheConstants.{MAX_DEMAND, MAX_GROUPS}
 use Rattle.bw_model.specs.Groups.{parent_of, is_leaf, demand_of}
@@ -10,7 +11,7 @@ use Rattle.bw_model.specs.Demand.{is_tight, has_tight_above}
 use Rattle.bw_model.proofs.CallerLemmas.{parent_lt}
 use Rattle.bw_demand.specs.Demands.{demands_of}
 use Rattle.bw_demand.proofs.LimitingListed.{nothing_listed, above_by_parent, listed_more}
-use Rattle.bw_demand.proofs.LimitingListed.{rest_small, all_listed, flag_within}
+use Rattle.bw_demand.proofs.LimitingListed.{rest_small, all_listed}
 use Rattle.bw_demand.proofs.limiting_groups.limiting.Goals as goal
 use Rattle.bw_demand.proofs.limiting_groups.limiting.Goals.{then-is_limiting+in_ok-push}
 use Rattle.bw_demand.proofs.limiting_groups.limiting.Goals.{else-is_limiting}
@@ -64,7 +65,7 @@ loop-g-preserved c =
     let tight : c.index-tight.result.now
     ≡ is_tight c.args.instance.now c.args.gathered.now.most.items c.loop-g.g =
     c.index-tight.ensures
-    ∙ flag_within c.args.gathered.now.tight.items c.loop-g.g c.index-tight.result.now false
+    ∙ get_or_default c.args.gathered.now.tight.items c.loop-g.g c.index-tight.result.now false
     (omega (arith, below, c.requires.gathered.flags_each))
     ∙ c.requires.gathered.flags c.loop-g.g below in
     let above : c.is_parent_covered-above.result

@@ -2,7 +2,7 @@
 use Rattle.std.proofs.Common.{◌≡◌, ◌≤◌, ◌*◌, ℕ, Bool, true, false, cond, ltb, List, length, ap}
 use Rattle.std.proofs.Common.{◌∙◌, arith}
 use mir.Val.{bool_byte}
-use Rattle.bw_plan.proofs.Few.{children-le}
+use Rattle.bw_demand.proofs.CallerLemmas.{children_few}
 use Rattle.bw_plan.proofs.by_depth.sharers.Goals as goal
 
 times_bit : (b : Bool) (n bit : ℕ) → bit ≡ bool_byte b → n * bit ≡ cond b n 0
@@ -24,5 +24,5 @@ returns-clause-small c =
     let cut = times_bit-le (ltb 1 (length c.children-children.result.now))
     (length c.children-children.result.now) c.from.result c.from.ensures in
     let listed = ap (length {A = ℕ}) c.children-children.ensures in
-    let few = children-le c.args.instance.now.rows c.args.g in
+    let few = children_few c.args.instance.now.rows c.args.g in
     omega (arith, cut, listed, few, c.rows-rows.ensures.valid.few)
