@@ -8,7 +8,7 @@ use Rattle.std.proofs.lemmas.List.{length-map}
 use Rattle.std.proofs.lemmas.List.Sums.{sum-map}
 use Rattle.bw_model.specs.declared.mark.Mark.{Mark}
 use Rattle.bw_model.specs.Groups.{Groups, IsInstance, children_of, is_leaf, limit_of, demand_of}
-use Rattle.bw_model.specs.Groups.{weight_of}
+use Rattle.bw_model.specs.Groups.{weight_of, parent_of}
 use Rattle.bw_model.specs.Marks.{MarkValue, price_of, last_mark, next_mark, IsBelow, IsAtMost}
 use Rattle.bw_model.specs.Split.{IsBestSplit, IsAtLevel}
 use Rattle.bw_model.specs.Plan.{child_weights, IsPlan}
@@ -83,6 +83,41 @@ module _ (groups : Groups) (valid : IsInstance groups) (most : List ℕ)
       (λ k lt. let w = weights_in_range groups valid g k lt in omega (arith, w.0))
       greatest
 
+  -- what a level says of one child, whose numbers stand at its place among its siblings
+  at_child : (g c : ℕ) (level : MarkValue) → c < length groups.rows
+      → parent_of groups.rows c ≡ Some g
+      → IsAtLevel level (child_weights groups.rows g)
+      (map (slice_index most) (children_of groups.rows g))
+      (map (slice_index amounts) (children_of groups.rows g))
+      → (0 < get_or amounts c 0 → IsAtMost (last_mark (get_or amounts c 0)
+      (weight_of groups.rows c) (sibling_place groups.rows g c)) level)
+      × (get_or amounts c 0 < get_or most c 0 → IsBelow level (next_mark (get_or amounts c 0)
+      (weight_of groups.rows c) (sibling_place groups.rows g c)))
+  at_child g c level here e at_level =
+      let cs : List ℕ = children_of groups.rows g in
+      let r : (k : ℕ) × (k < length cs) × (get_or cs k 0 ≡ c) =
+      listed_child groups.rows g c here e in
+      let place : r.0 ≡ sibling_place groups.rows g c =
+      sym (child_at groups.rows g r.0 r.1).place ∙ ap (sibling_place groups.rows g) r.2 in
+      let part : get_or (map (slice_index amounts) cs) r.0 0 ≡ get_or amounts c 0 =
+      get_or-map (slice_index amounts) cs r.0 r.1 ∙ ap (slice_index amounts) r.2 in
+      let bound : get_or (map (slice_index most) cs) r.0 0 ≡ get_or most c 0 =
+      get_or-map (slice_index most) cs r.0 r.1 ∙ ap (slice_index most) r.2 in
+      let weight : get_or (map (weight_of groups.rows) cs) r.0 0 ≡ weight_of groups.rows c =
+      get_or-map (weight_of groups.rows) cs r.0 r.1 ∙ ap (weight_of groups.rows) r.2 in
+      let long : length (map (slice_index amounts) cs) ≡ length cs =
+      length-map cs (slice_index amounts) in (
+        last_to (get_or (map (slice_index amounts) cs) r.0 0) (get_or amounts c 0)
+            (get_or (map (weight_of groups.rows) cs) r.0 0) (weight_of groups.rows c)
+            r.0 (sibling_place groups.rows g c) level part weight place
+            (at_level.last r.0 (omega (arith, r.1, long))),
+        next_to (get_or (map (slice_index amounts) cs) r.0 0) (get_or amounts c 0)
+            (get_or (map (weight_of groups.rows) cs) r.0 0) (weight_of groups.rows c)
+            r.0 (sibling_place groups.rows g c) (get_or (map (slice_index most) cs) r.0 0)
+            (get_or most c 0) level part weight place bound
+            (at_level.next r.0 (omega (arith, r.1, long))),
+      )
+
   module _ (certificate : Certified) (flags_each : length certificate.tight ≡ length groups.rows)
       (levels_each : length certificate.levels ≡ length groups.rows)
       (tight : (g : ℕ) → g < length groups.rows → is_flagged certificate g ≡ is_tight groups most g)
@@ -125,41 +160,8 @@ module _ (groups : Groups) (valid : IsInstance groups) (most : List ℕ)
           given g inner some (level_at certificate g) (levels g below);
       last_at_most = λ g c level below here e some is.
           let known : IsLevelAt groups amounts g (Some level) = level_is g level below is in
-          let at_level = levelled g level below known.0 known.2 in
-          let cs : List ℕ = children_of groups.rows g in
-          let r : (k : ℕ) × (k < length cs) × (get_or cs k 0 ≡ c) =
-          listed_child groups.rows g c here e in
-          let place : r.0 ≡ sibling_place groups.rows g c =
-          sym (child_at groups.rows g r.0 r.1).place ∙ ap (sibling_place groups.rows g) r.2 in
-          let part : get_or (map (slice_index amounts) cs) r.0 0 ≡ get_or amounts c 0 =
-          get_or-map (slice_index amounts) cs r.0 r.1 ∙ ap (slice_index amounts) r.2 in
-          let weight : get_or (map (weight_of groups.rows) cs) r.0 0 ≡ weight_of groups.rows c =
-          get_or-map (weight_of groups.rows) cs r.0 r.1 ∙ ap (weight_of groups.rows) r.2 in
-          let long : length (map (slice_index amounts) cs) ≡ length cs =
-          length-map cs (slice_index amounts) in
-          last_to (get_or (map (slice_index amounts) cs) r.0 0) (get_or amounts c 0)
-          (get_or (map (weight_of groups.rows) cs) r.0 0) (weight_of groups.rows c)
-          r.0 (sibling_place groups.rows g c) (price_of level) part weight place
-          (at_level.last r.0 (omega (arith, r.1, long)));
+          (at_child g c (price_of level) here e (levelled g level below known.0 known.2)).0;
       next_above = λ g c level below here e some is.
           let known : IsLevelAt groups amounts g (Some level) = level_is g level below is in
-          let at_level = levelled g level below known.0 known.2 in
-          let cs : List ℕ = children_of groups.rows g in
-          let r : (k : ℕ) × (k < length cs) × (get_or cs k 0 ≡ c) =
-          listed_child groups.rows g c here e in
-          let place : r.0 ≡ sibling_place groups.rows g c =
-          sym (child_at groups.rows g r.0 r.1).place ∙ ap (sibling_place groups.rows g) r.2 in
-          let part : get_or (map (slice_index amounts) cs) r.0 0 ≡ get_or amounts c 0 =
-          get_or-map (slice_index amounts) cs r.0 r.1 ∙ ap (slice_index amounts) r.2 in
-          let bound : get_or (map (slice_index most) cs) r.0 0 ≡ get_or most c 0 =
-          get_or-map (slice_index most) cs r.0 r.1 ∙ ap (slice_index most) r.2 in
-          let weight : get_or (map (weight_of groups.rows) cs) r.0 0 ≡ weight_of groups.rows c =
-          get_or-map (weight_of groups.rows) cs r.0 r.1 ∙ ap (weight_of groups.rows) r.2 in
-          let long : length (map (slice_index amounts) cs) ≡ length cs =
-          length-map cs (slice_index amounts) in
-          next_to (get_or (map (slice_index amounts) cs) r.0 0) (get_or amounts c 0)
-          (get_or (map (weight_of groups.rows) cs) r.0 0) (weight_of groups.rows c)
-          r.0 (sibling_place groups.rows g c) (get_or (map (slice_index most) cs) r.0 0)
-          (get_or most c 0) (price_of level) part weight place bound
-          (at_level.next r.0 (omega (arith, r.1, long)));
+          (at_child g c (price_of level) here e (levelled g level below known.0 known.2)).1;
     }

@@ -2,7 +2,7 @@
 ghost use Rattle.std.specs.Prelude.{◌≡◌, ◌<◌, ◌≤◌, false, length, map, slice_index, EachIndex};
 ghost use Rattle.std.specs.Prelude.{◌⊎◌, IfOk, IfSome, IfNone};
 ghost use Rattle.bw_model.specs.Groups.{is_leaf, sum_of_children, children_of};
-ghost use Rattle.bw_model.specs.Marks.{price_of, last_mark, IsBelow, IsAtMost};
+ghost use Rattle.bw_model.specs.Marks.{price_of, IsBelow, IsAtMost};
 ghost use Rattle.bw_model.specs.Split.{IsGreatestLast};
 ghost use Rattle.bw_model.specs.Plan.{IsPlan, child_weights};
 ghost use Rattle.bw_demand.specs.Demands.{demands_of, IsGathered};
@@ -11,23 +11,9 @@ ghost use Rattle.bw_cert.specs.Levels.{IsLevelAt, AreLevels, AreTightFlags};
 
 use bw_demand::{Gathered, gather_rows};
 use bw_model::limits::MAX_CAPACITY;
-use bw_model::{Certificate, Instance, Mark};
+use bw_model::{Certificate, Instance, Mark, last_mark};
 use bw_plan::Plan;
 use std::alloc::{AllocError, Global};
-
-// The mark of the last of so many slices, 1 to 64,000.
-fn last_mark(slices: u64, weight: u64, place: u32) -> Mark
-    requires some { 0 < slices }
-    requires small { slices ≤ MAX_CAPACITY }
-    requires weighed { 0 < weight }
-    ensures { price_of result ≡ last_mark slices weight place }
-{
-    Mark {
-        num: 2 * slices - 1,
-        den: weight,
-        place,
-    }
-}
 
 // The greater of two marks. The first may be missing.
 fn greater(best: Option<Mark>, mark: Mark) -> Mark

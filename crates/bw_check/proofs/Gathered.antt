@@ -7,6 +7,7 @@ use Rattle.std.proofs.lemmas.Bool.{cases_eq}
 use Rattle.std.proofs.lemmas.List.{get_or-set_same, get_or-set_other, length-replicate}
 use Rattle.std.proofs.lemmas.List.{get_or-replicate}
 use Rattle.std.proofs.Math.ListN.{length-set}
+use Rattle.std.proofs.lemmas.Grind.{get_or_default_zero}
 use Rattle.bw_model.specs.declared.row.Row.{Row}
 use Rattle.bw_model.specs.Groups.{parent_of, is_child, children_of}
 use Rattle.bw_model.proofs.CallerLemmas.{is_child_from_parent, is_child_no, sum_by-children}
@@ -152,3 +153,12 @@ module _ (rows : List Row) (n : ℕ) (places : List ℕ) (so_far : ArePlaces row
           rw (get_or-set_other places n c q 0 other) (so_far.each c g (omega (arith, other)) above)
     ];
   }
+
+-- A row that was visited has its parent in the table.
+pub read_parent : (rows : List Row) (sums : List ℕ) (count c p read : ℕ) → p < c → c < count
+    → count ≡ length rows → length sums ≡ length rows → read ≡ get_or sums p read
+    → (p < length rows) × (read ≡ get_or sums p 0)
+read_parent rows sums count c p read before below all one_each is = (
+  omega (arith, before, below, all),
+  is ∙ get_or_default_zero sums p read (omega (arith, before, below, all, one_each)),
+)

@@ -1,40 +1,12 @@
 //! The marks of a child against its parent's level.
 ghost use Rattle.std.specs.Prelude.{◌≡◌, ℕ, ◌<◌, ◌≤◌, ◌↔◌, IsTrue, length, slice_index};
 ghost use Rattle.bw_model.specs.Certificate.{certified_of, AreBounds};
-ghost use Rattle.bw_model.specs.Marks.{price_of, last_mark, next_mark};
 ghost use Rattle.bw_check.specs.Counts.{ArePlaces};
 ghost use Rattle.bw_check.specs.Levels.{level_above};
 ghost use Rattle.bw_check.specs.Verdict.{AreOnePerRow, IsLastMarkKept, IsNextMarkKept};
 
 use bw_model::limits::MAX_CAPACITY;
-use bw_model::{Certificate, Instance, Mark};
-
-// The mark of the last of so many slices, 1 to 64,000.
-fn last_mark(slices: u64, weight: u64, place: u32) -> Mark
-    requires some { 0 < slices }
-    requires small { slices ≤ MAX_CAPACITY }
-    requires weighed { 0 < weight }
-    ensures { price_of result ≡ last_mark slices weight place }
-{
-    Mark {
-        num: 2 * slices - 1,
-        den: weight,
-        place,
-    }
-}
-
-// The mark of one slice more than so many, 0 to 64,000.
-fn next_mark(slices: u64, weight: u64, place: u32) -> Mark
-    requires small { slices ≤ MAX_CAPACITY }
-    requires weighed { 0 < weight }
-    ensures { price_of result ≡ next_mark slices weight place }
-{
-    Mark {
-        num: 2 * slices + 1,
-        den: weight,
-        place,
-    }
-}
+use bw_model::{Certificate, Instance, Mark, last_mark, next_mark};
 
 // The level of a child's parent, or None if the parent has no level or nothing to share out.
 fn level_above(

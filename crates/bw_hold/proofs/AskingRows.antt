@@ -4,7 +4,7 @@ use Rattle.std.proofs.Common.{refl, ap, sym, ◌∙◌, arith, inl, inr, ◌+◌
 use Rattle.std.specs.Prelude.{map, replicate, ◌&&◌, if◌then◌else◌}
 use Rattle.std.specs.List.{range_with_len}
 use Rattle.std.proofs.lemmas.Bool.{cases_lt, cases_Bool}
-use Rattle.std.proofs.lemmas.List.{get_or_default, get_or_past}
+use Rattle.std.proofs.lemmas.List.{get_or_default}
 use Rattle.std.proofs.lemmas.List.FromFn.{get_or-map-range_with_len, length-map-range_with_len}
 use Rattle.std.proofs.lemmas.List.FromFn.{get_or-range_with_len, length-range_with_len}
 use Rattle.bw_model.specs.declared.row.Row.{Row}
@@ -12,36 +12,16 @@ use Rattle.bw_model.specs.declared.limits.TheConstants.{MAX_DEMAND}
 use Rattle.bw_model.specs.Groups.{Groups, IsInstance, AreTreeRows, no_row, parent_of, row_of}
 use Rattle.bw_model.specs.Groups.{weight_of, demand_of, limit_of, is_leaf, depth_of}
 use Rattle.bw_model.specs.Plan.{IsPlan}
-use Rattle.bw_model.proofs.CallerLemmas.{strong, parent_lt, depth_of-top, depth_of-step, mosts}
-use Rattle.bw_model.proofs.CallerLemmas.{mosts-capped, get_or_within}
-use Rattle.bw_plan.proofs.CallerLemmas.{plan-IsPlanning}
-use Rattle.bw_plan_laws.specs.Tree.{IsSameTree}
-use Rattle.bw_plan_laws.proofs.CallerLemmas.{leaf_same}
+use Rattle.bw_model.proofs.CallerLemmas.{get_or_within}
+use Rattle.bw_plan_laws.proofs.CallerLemmas.{planned, AreAlike, limits_same}
+use Rattle.bw_plan_laws.proofs.CallerLemmas.{other_demands-IsInstance}
 use Rattle.bw_hold.specs.Rule.{asking, row_asking, demand_where, own_limit, is_hungry, round_of}
 use Rattle.bw_hold.specs.Rule.{everyone, leaf_limit, round_limit}
 
 -- A plan has one amount for each row.
 pub amount_each : (groups : Groups) → IsInstance groups → (amounts : List ℕ)
     → IsPlan groups amounts → length amounts ≡ length groups.rows
-amount_each groups valid amounts is_plan =
-    (plan-IsPlanning groups valid (mosts groups valid.tree) (mosts-capped groups valid.tree)
-    amounts is_plan).one_each
-
--- Trees with the same parents have the same depths.
-module _ (rows others : List Row) (tree : AreTreeRows rows) (other_tree : AreTreeRows others)
-    (same : IsSameTree rows others) where
-  depth_same : (h : ℕ) → depth_of others h ≡ depth_of rows h
-  depth_same = strong (λ h. depth_of others h ≡ depth_of rows h) (λ h before.
-      (elim (parent_of rows h) as
-      (λ o. parent_of rows h ≡ o → depth_of others h ≡ depth_of rows h) [
-        | None ↦ λ none.
-            depth_of-top others other_tree h (same.parents h ∙ none)
-            ∙ sym (depth_of-top rows tree h none)
-        | Some p ↦ λ up.
-            depth_of-step others other_tree h p (same.parents h ∙ up)
-            ∙ ap (λ d. d + 1) (before p (parent_lt rows tree h p up))
-            ∙ sym (depth_of-step rows tree h p up)
-      ]) refl)
+amount_each groups valid amounts is_plan = (planned groups valid amounts is_plan).one_each
 
 module _ (groups : Groups) (demand : ℕ → ℕ) where
   pub as_many : length (asking groups demand).rows ≡ length groups.rows
@@ -53,81 +33,20 @@ module _ (groups : Groups) (demand : ℕ → ℕ) where
       get_or-map-range_with_len (row_asking groups.rows demand) 0 (length groups.rows) g g no_row
       below (omega arith)
 
-  row_past : (g : ℕ) → length groups.rows ≤ g
-      → row_of (asking groups demand).rows g ≡ row_of groups.rows g
-  row_past g past =
-      get_or_past (asking groups demand).rows g no_row (omega (arith, past, as_many))
-      ∙ sym (get_or_past groups.rows g no_row past)
-
   pub demand_at : (g : ℕ) → g < length groups.rows
       → demand_of (asking groups demand).rows g ≡ demand g
   demand_at g below = ap (λ (r : Row). r.demand) (row_at g below)
 
-  pub demand_past : (g : ℕ) → length groups.rows ≤ g
-      → demand_of (asking groups demand).rows g ≡ 0
-  demand_past g past =
-      ap (λ (r : Row). r.demand)
-      (get_or_past (asking groups demand).rows g no_row (omega (arith, past, as_many)))
+  pub asking_alike : AreAlike groups.rows (asking groups demand).rows
+  asking_alike = record {
+    one_each = as_many;
+    parents = λ g below. ap (λ (r : Row). r.parent) (row_at g below);
+    weights = λ g below. ap (λ (r : Row). r.weight) (row_at g below);
+    limits = λ g below. ap (λ (r : Row). r.limit) (row_at g below);
+  }
 
-  -- What does not depend on the demand is as it was.
-  kept : {A : Type 0} (f : Row → A)
-      → ((g : ℕ) → f (row_asking groups.rows demand g) ≡ f (row_of groups.rows g))
-      → (g : ℕ) → f (row_of (asking groups demand).rows g) ≡ f (row_of groups.rows g)
-  kept f same g = elim (cases_lt g (length groups.rows)) [
-    | inl within ↦ ap f (row_at g within) ∙ same g
-    | inr past ↦ ap f (row_past g past)
-  ]
-
-  pub parents_same : (g : ℕ) → parent_of (asking groups demand).rows g ≡ parent_of groups.rows g
-  parents_same = kept (λ r. r.parent) (λ g. refl)
-
-  pub weights_same : (g : ℕ) → weight_of (asking groups demand).rows g ≡ weight_of groups.rows g
-  weights_same = kept (λ r. r.weight) (λ g. refl)
-
-  pub own_limits_same : (g : ℕ)
-      → own_limit (asking groups demand).rows g ≡ own_limit groups.rows g
-  own_limits_same = kept (λ r. r.limit) (λ g. refl)
-
-  pub limits_same : (g : ℕ) → limit_of (asking groups demand) g ≡ limit_of groups g
-  limits_same zero = refl
-  limits_same (suc g) = own_limits_same (suc g)
-
-  pub same_tree : IsSameTree groups.rows (asking groups demand).rows
-  same_tree = record { as_many = as_many; parents = parents_same }
-
-  module _ (valid : IsInstance groups)
-      (small : (g : ℕ) → g < length groups.rows → demand g ≤ MAX_DEMAND)
-      (idle : (g : ℕ) → g < length groups.rows → is_leaf groups.rows g ≡ false → demand g ≡ 0)
-    where
-      inside : (g : ℕ) → g < length (asking groups demand).rows → g < length groups.rows
-      inside g below = omega (arith, below, as_many)
-
-      tree_kept : AreTreeRows (asking groups demand).rows
-      tree_kept = record {
-        has_root = omega (arith, valid.tree.has_root, as_many);
-        root_on_top = parents_same 0 ∙ valid.tree.root_on_top;
-        parent_before = λ g pos below.
-            let known : (p : ℕ) × (parent_of groups.rows g ≡ Some p) × (p < g) =
-            valid.tree.parent_before g pos (inside g below) in
-            (known.0, parents_same g ∙ known.1, known.2);
-      }
-
-      pub asking-IsInstance : IsInstance (asking groups demand)
-      asking-IsInstance = record {
-        host = valid.host;
-        tree = tree_kept;
-        few = omega (arith, valid.few, as_many);
-        weights = λ g below. rw (weights_same g) (valid.weights g (inside g below));
-        shallow = λ g below.
-            rw (depth_same groups.rows (asking groups demand).rows valid.tree tree_kept same_tree g)
-            (valid.shallow g (inside g below));
-        inner_idle = λ g below inner.
-            demand_at g (inside g below)
-            ∙ idle g (inside g below)
-            (sym (leaf_same groups.rows (asking groups demand).rows same_tree g) ∙ inner);
-        demands = λ g below. rw (demand_at g (inside g below)) (small g (inside g below));
-        root_unlimited = own_limits_same 0 ∙ valid.root_unlimited;
-      }
+  pub asking_limits : (g : ℕ) → limit_of (asking groups demand) g ≡ limit_of groups g
+  asking_limits = limits_same groups (asking groups demand).rows asking_alike
 
 -- Groups that ask for as much at each row are the same.
 pub asking_same : (groups : Groups) (f h : ℕ → ℕ) → ((g : ℕ) → g < length groups.rows → f g ≡ h g)
@@ -178,8 +97,14 @@ module _ (groups : Groups) (valid : IsInstance groups) (flag : ℕ → Bool) whe
 
   pub where-IsInstance : IsInstance (asking groups (λ g. demand_where groups.rows (flag g) g))
   where-IsInstance =
-      asking-IsInstance groups (λ g. demand_where groups.rows (flag g) g) valid where_small
-      where_idle
+      other_demands-IsInstance groups
+      (asking groups (λ g. demand_where groups.rows (flag g) g)).rows
+      (asking_alike groups (λ g. demand_where groups.rows (flag g) g)) valid
+      (λ g below. rw (demand_at groups (λ h. demand_where groups.rows (flag h) h) g below)
+      (where_small g below))
+      (λ g below inner.
+      demand_at groups (λ h. demand_where groups.rows (flag h) h) g below
+      ∙ where_idle g below inner)
 
 pub round-IsInstance : (used : Groups) → IsInstance used → (hungry : List Bool)
     → IsInstance (round_of used hungry)

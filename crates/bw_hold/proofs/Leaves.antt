@@ -14,7 +14,7 @@ use Rattle.bw_model.proofs.CallerLemmas.{sum_below-zero, total-sum, leaf_no_chil
 use Rattle.bw_model.proofs.CallerLemmas.{is_child_from_parent, is_under-top, is_under-step}
 use Rattle.bw_model.proofs.CallerLemmas.{is_under-self, and_no, mosts, mosts-capped, parent_lt}
 use Rattle.bw_model.proofs.CallerLemmas.{most_le_limit, most_le_want}
-use Rattle.bw_plan.proofs.CallerLemmas.{plan-IsPlanning, at_most}
+use Rattle.bw_plan_laws.proofs.CallerLemmas.{within_most}
 
 module _ (rows : List Row) (tree : AreTreeRows rows) where
   parent_within : (k p : ℕ) → parent_of rows k ≡ Some p → k < length rows
@@ -77,21 +77,13 @@ totals_less rows a b g less =
 
 module _ (groups : Groups) (valid : IsInstance groups) (amounts : List ℕ)
     (is_plan : IsPlan groups amounts) where
-  within_most : (g : ℕ) → g < length groups.rows
-      → get_or amounts g 0 ≤ get_or (mosts groups valid.tree) g 0
-  within_most g below =
-      at_most groups valid (mosts groups valid.tree) (mosts-capped groups valid.tree) (λ _. true) g
-      amounts
-      (plan-IsPlanning groups valid (mosts groups valid.tree) (mosts-capped groups valid.tree)
-      amounts is_plan) (λ p e. refl) below
-
   -- No group has more than its limit, and no leaf more than it asks for.
   pub within_limit : (g limit : ℕ) → g < length groups.rows → limit_of groups g ≡ Some limit
       → get_or amounts g 0 ≤ limit
   within_limit g limit below e =
       omega (
         arith,
-        within_most g below,
+        within_most groups valid amounts is_plan g below,
         most_le_limit groups valid.tree (mosts groups valid.tree) (mosts-capped groups valid.tree)
             g limit below e,
       )
@@ -103,7 +95,7 @@ module _ (groups : Groups) (valid : IsInstance groups) (amounts : List ℕ)
       rw leaf refl in
       omega (
         arith,
-        within_most l below,
+        within_most groups valid amounts is_plan l below,
         most_le_want groups valid.tree (mosts groups valid.tree) (mosts-capped groups valid.tree)
             l below,
         want,

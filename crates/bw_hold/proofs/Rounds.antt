@@ -20,16 +20,17 @@ use Rattle.bw_hold.specs.Rule.{leaf_limit, own_limit, round_limit, round_of}
 use Rattle.bw_hold.specs.Reading.{IsSameButDemands, IsTrueReading, limit_at, admitted_at, admitted}
 use Rattle.bw_hold.specs.Laws.{NoneBelowItsGuarantee, GuaranteeIsAdmitted, NoneAboveItsLimit}
 use Rattle.bw_hold.specs.Laws.{IsWithinPlan, LimitsAdmitThePlan}
-use Rattle.bw_hold.proofs.AskingRows.{as_many, demand_at, limits_same, same_tree, weights_same}
+use Rattle.bw_plan_laws.proofs.CallerLemmas.{same_tree, weights_same}
+use Rattle.bw_hold.proofs.AskingRows.{as_many, demand_at, asking_alike, asking_limits}
 use Rattle.bw_hold.proofs.AskingRows.{where-IsInstance, round-IsInstance, everyone-IsInstance}
 use Rattle.bw_hold.proofs.Leaves.{alone, leaf_total, totals_less, within_limit, within_demand}
 
 -- Instances that differ in demands alone.
 pub same_asking : (groups : Groups) (demand : ℕ → ℕ) → IsSameButDemands groups (asking groups demand)
 same_asking groups demand = record {
-  tree = same_tree groups demand;
-  weights = weights_same groups demand;
-  limits = limits_same groups demand;
+  tree = same_tree groups.rows (asking groups demand).rows (asking_alike groups demand);
+  weights = weights_same groups.rows (asking groups demand).rows (asking_alike groups demand);
+  limits = asking_limits groups demand;
 }
 
 pub turned : (a b : Groups) → IsSameButDemands a b → IsSameButDemands b a
@@ -146,12 +147,12 @@ none_above used hungry demands amounts limits l own valid round below leaf e =
     let floor : get_or round.floors l 0 ≤ own =
     within_limit (everyone used) (everyone-IsInstance used valid) round.floors round.floors_are l
     own (omega (arith, below, as_many used (λ g. demand_where used.rows true g)))
-    (limits_same used (λ g. demand_where used.rows true g) l ∙ limited) in
+    (asking_limits used (λ g. demand_where used.rows true g) l ∙ limited) in
     let amount : get_or amounts l 0 ≤ own =
     within_limit (round_of used hungry) (round-IsInstance used valid hungry) amounts
     round.amounts_are l own
     (omega (arith, below, as_many used (λ g. demand_where used.rows (is_hungry hungry g) g)))
-    (limits_same used (λ g. demand_where used.rows (is_hungry hungry g) g) l ∙ limited) in (
+    (asking_limits used (λ g. demand_where used.rows (is_hungry hungry g) g) l ∙ limited) in (
       leaf_limit (row_of used.rows l) (is_hungry hungry l) (get_or round.floors l 0)
           (get_or amounts l 0),
       limit_found used hungry demands amounts limits round l below leaf,
@@ -453,7 +454,7 @@ module _ (used wants : Groups) (hungry : List Bool) (demands amounts : List ℕ)
         let fits : get_or amounts l 0 ≤ own =
         within_limit (round_of used hungry) v_round amounts round.amounts_are l own
         (omega (arith, below, same_round.tree.as_many))
-        (limits_same used (λ g. demand_where used.rows (is_hungry hungry g) g) l
+        (asking_limits used (λ g. demand_where used.rows (is_hungry hungry g) g) l
         ∙ own_limit_is used reading.valid l own e) in
         omega (arith, fits, enough)) in
         omega (arith, admitted_is l below leaf, free.0, room)

@@ -8,3 +8,4 @@ mod Shares
 mod Backward
 mod Collected
 mod Done
+mod OneDepth

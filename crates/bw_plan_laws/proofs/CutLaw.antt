@@ -17,54 +17,15 @@ use Rattle.bw_split_laws.proofs.CallerLemmas.{find_greater}
 use Rattle.bw_plan_laws.specs.Cut.{LimitOnlyCuts}
 use Rattle.bw_plan_laws.specs.Room.{IsRoomierAt}
 use Rattle.bw_plan_laws.proofs.Above.{parent_above, one_above}
-use Rattle.bw_plan_laws.proofs.BusyLaw.{uncut, all_full}
+use Rattle.bw_plan_laws.proofs.BusyLaw.{uncut_most, all_full}
 use Rattle.bw_plan_laws.proofs.HostLaws.{mosts_less}
-use Rattle.bw_plan_laws.proofs.Lacking.{planned, within_most, no_more_below}
-use Rattle.bw_plan_laws.proofs.RoomLaw.{more_room_takes}
-use Rattle.bw_plan_laws.proofs.Trees.{want_same, split_beside, at_place, under_le}
+use Rattle.bw_plan_laws.proofs.Lacking.{within_most, no_more_below}
+use Rattle.bw_plan_laws.proofs.RoomLaw.{more_room_takes, most_same}
+use Rattle.bw_plan_laws.proofs.Trees.{planned, want_same, split_beside, at_place, under_le}
 
 module _ (a b : Groups) (group : ℕ) (xs ys : List ℕ) (va : IsInstance a) (vb : IsInstance b)
     (more : IsRoomierAt a b group) (group_in : group < length a.rows) (is_plan : IsPlan a xs)
     (is_other : IsPlan b ys) where
-  -- A group that is not above the one with more room can be given as much as before.
-  most_beside : (h : ℕ) → h < length a.rows → (is_under a.rows h group ≡ true → ⊥)
-      → get_or (mosts b vb.tree) h 0 ≡ get_or (mosts a va.tree) h 0
-  most_beside = from_the_last (length a.rows)
-      (λ h. (is_under a.rows h group ≡ true → ⊥)
-      → get_or (mosts b vb.tree) h 0 ≡ get_or (mosts a va.tree) h 0)
-      (λ h below later out.
-      let other : h ≢ group =
-      (λ same. out (ap (is_under a.rows h) (sym same) ∙ is_under-self a.rows va.tree h)) in
-      mosts-capped b vb.tree h (omega (arith, below, more.no_less.tree.as_many))
-      ∙ ap (λ l. capped l (want_of b (mosts b vb.tree) h)) (more.limits h other)
-      ∙ ap (capped (limit_of a h))
-      (want_same a b va vb more.no_less.tree (mosts a va.tree) (mosts b vb.tree) h
-      (more.demands h other)
-      (λ c c_in e. later c (parent_lt a.rows va.tree c h e) c_in
-      (λ under. out (parent_above a.rows va.tree c h e group under))))
-      ∙ sym (mosts-capped a va.tree h below))
-
-  -- A group above whose most is less was not cut there.
-  uncut_above : (p : ℕ) → p < length a.rows → p ≢ group → is_leaf a.rows p ≡ false
-      → get_or (mosts a va.tree) p 0 < get_or (mosts b vb.tree) p 0
-      → get_or (mosts a va.tree) p 0
-      ≡ sum (map (slice_index (mosts a va.tree)) (children_of a.rows p))
-  uncut_above p p_in other inner less =
-      let rule_a : get_or (mosts a va.tree) p 0
-      ≡ capped (limit_of a p) (want_of a (mosts a va.tree) p) = mosts-capped a va.tree p p_in in
-      let rule_b : get_or (mosts b vb.tree) p 0
-      ≡ capped (limit_of a p) (want_of b (mosts b vb.tree) p) =
-      mosts-capped b vb.tree p (omega (arith, p_in, more.no_less.tree.as_many))
-      ∙ ap (λ l. capped l (want_of b (mosts b vb.tree) p)) (more.limits p other) in
-      let cut : capped (limit_of a p) (want_of a (mosts a va.tree) p)
-      < capped (limit_of a p) (want_of b (mosts b vb.tree) p) = rw (rule_a, rule_b) at less in
-      let want : want_of a (mosts a va.tree) p
-      ≡ sum_of_children a.rows (mosts a va.tree) p = rw inner refl in
-      rule_a
-      ∙ uncut (limit_of a p) (want_of a (mosts a va.tree) p) (want_of b (mosts b vb.tree) p) cut
-      ∙ want
-      ∙ sym (sum-map (slice_index (mosts a va.tree)) (children_of a.rows p))
-
   -- Of a parent that has more in all than its children's mosts, the child above the group has at
   -- least its most of before.
   no_less_than_most : (c p : ℕ) → c < length a.rows → parent_of a.rows c ≡ Some p
@@ -114,7 +75,7 @@ module _ (a b : Groups) (group : ℕ) (xs ys : List ℕ) (va : IsInstance a) (vb
             omega (arith, less)
         | inr other ↦ absurd
             (let same : get_or (mosts b vb.tree) d 0 ≡ get_or (mosts a va.tree) d 0 =
-            most_beside d d_in
+            most_same a b group xs ys va vb more is_plan is_other d d_in
             (λ high. other (one_above a.rows va.tree d c p up e group high under)) in
             omega (
               arith,
@@ -145,9 +106,10 @@ module _ (a b : Groups) (group : ℕ) (xs ys : List ℕ) (va : IsInstance a) (vb
       within_most b vb ys is_other p (omega (arith, p_in, more.no_less.tree.as_many)) in
       let whole : get_or (mosts a va.tree) p 0
       ≡ sum (map (slice_index (mosts a va.tree)) (children_of a.rows p)) =
-      uncut_above p p_in
+      uncut_most a b va vb p p_in (omega (arith, p_in, more.no_less.tree.as_many))
+      (more.limits p
       (λ same. let up : c ≤ group = under_le a.rows va.tree c group under in
-      omega (arith, same, up, less))
+      omega (arith, same, up, less)))
       inner (omega (arith, over, fits)) in
       let same : map (slice_index (mosts a va.tree)) (children_of a.rows p)
       ≡ map (slice_index xs) (children_of a.rows p) =
@@ -206,7 +168,7 @@ module _ (a b : Groups) (group : ℕ) (xs ys : List ℕ) (va : IsInstance a) (vb
       → want_of b (mosts b vb.tree) group ≡ want_of a (mosts a va.tree) group
   want_kept demands =
       want_same a b va vb more.no_less.tree (mosts a va.tree) (mosts b vb.tree) group demands
-      (λ c c_in e. most_beside c c_in (λ under.
+      (λ c c_in e. most_same a b group xs ys va vb more is_plan is_other c c_in (λ under.
       let up : c ≤ group = under_le a.rows va.tree c group under in
       let less : group < c = parent_lt a.rows va.tree c group e in
       omega (arith, up, less)))

@@ -15,11 +15,10 @@ use Rattle.bw_model.specs.Split.{IsBestSplit}
 use Rattle.bw_model.proofs.CallerLemmas.{strong, from_the_last, capped, mosts, mosts-capped}
 use Rattle.bw_model.proofs.CallerLemmas.{parent_lt, parent_not_leaf, listed_child, child_at}
 use Rattle.bw_plan.specs.Shared.{IsPlanning}
-use Rattle.bw_plan.proofs.CallerLemmas.{plan-IsPlanning}
 use Rattle.bw_split_laws.proofs.CallerLemmas.{never_less}
 use Rattle.bw_plan_laws.specs.Tree.{IsSameTree}
 use Rattle.bw_plan_laws.specs.Host.{CapacityTakesNothing, IsRoomier, RaisedLimitsServeNoLess}
-use Rattle.bw_plan_laws.proofs.Trees.{want_same, split_over, weighted, at_place, leaf_same}
+use Rattle.bw_plan_laws.proofs.Trees.{planned, want_same, split_over, weighted, at_place, leaf_same}
 use Rattle.bw_plan_laws.proofs.Trees.{children_same}
 
 less_capped : (limit greater want : ℕ) → limit ≤ greater → min want limit ≤ min want greater
@@ -103,13 +102,11 @@ module _ (rows : List Row) (shape greater : Shape)
       (is_other : IsPlan (record { shape = greater; rows = rows }) ys) where
     pa : IsPlanning (record { shape = shape; rows = rows }) ma (λ _. true) xs
     unfolding ma
-    pa = plan-IsPlanning (record { shape = shape; rows = rows }) va ma
-        (mosts-capped (record { shape = shape; rows = rows }) va.tree) xs is_plan
+    pa = planned (record { shape = shape; rows = rows }) va xs is_plan
 
     pb : IsPlanning (record { shape = greater; rows = rows }) mb (λ _. true) ys
     unfolding mb
-    pb = plan-IsPlanning (record { shape = greater; rows = rows }) vb mb
-        (mosts-capped (record { shape = greater; rows = rows }) vb.tree) ys is_other
+    pb = planned (record { shape = greater; rows = rows }) vb ys is_other
 
     step : (g p : ℕ) → g < length rows → parent_of rows g ≡ Some p → get_or xs p 0 ≤ get_or ys p 0
         → get_or xs g 0 ≤ get_or ys g 0
@@ -197,8 +194,6 @@ module _ (a b : Groups) (va : IsInstance a) (vb : IsInstance b) (roomier : IsRoo
 
 pub serve_no_less : RaisedLimitsServeNoLess
 serve_no_less a b xs ys va vb roomier is_plan is_other =
-    let pa : IsPlanning a (mosts a va.tree) (λ _. true) xs =
-    plan-IsPlanning a va (mosts a va.tree) (mosts-capped a va.tree) xs is_plan in
-    let pb : IsPlanning b (mosts b vb.tree) (λ _. true) ys =
-    plan-IsPlanning b vb (mosts b vb.tree) (mosts-capped b vb.tree) ys is_other in
-    omega (arith, pa.top, pb.top, mosts_less a b va vb roomier 0 va.tree.has_root)
+    let before = planned a va xs is_plan in
+    let after = planned b vb ys is_other in
+    omega (arith, before.top, after.top, mosts_less a b va vb roomier 0 va.tree.has_root)

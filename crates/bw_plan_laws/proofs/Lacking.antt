@@ -12,19 +12,14 @@ use Rattle.bw_model.proofs.CallerLemmas.{strong, mosts, mosts-capped, parent_lt,
 use Rattle.bw_model.proofs.CallerLemmas.{listed_child, is_under-top, is_under-step, is_under-self}
 use Rattle.bw_model.proofs.CallerLemmas.{IsMost-unique, capped-IsMost}
 use Rattle.bw_plan.specs.Shared.{IsPlanning}
-use Rattle.bw_plan.proofs.CallerLemmas.{plan-IsPlanning, at_most}
+use Rattle.bw_plan.proofs.CallerLemmas.{at_most}
 use Rattle.bw_split_laws.proofs.CallerLemmas.{no_more_with_room}
 use Rattle.bw_plan_laws.specs.Cut.{NoMoreBelow}
 use Rattle.bw_plan_laws.specs.Host.{IsRoomier}
 use Rattle.bw_plan_laws.proofs.HostLaws.{mosts_less}
 use Rattle.bw_plan_laws.proofs.Siblings.{no_less_at}
-use Rattle.bw_plan_laws.proofs.Trees.{split_beside, weighted_beside, weighted, at_place, under_le}
-
-pub planned : (groups : Groups) (valid : IsInstance groups) (amounts : List ℕ)
-    → IsPlan groups amounts → IsPlanning groups (mosts groups valid.tree) (λ _. true) amounts
-planned groups valid amounts is_plan =
-    plan-IsPlanning groups valid (mosts groups valid.tree) (mosts-capped groups valid.tree) amounts
-    is_plan
+use Rattle.bw_plan_laws.proofs.Trees.{planned, split_beside, weighted_beside, weighted, at_place}
+use Rattle.bw_plan_laws.proofs.Trees.{under_le}
 
 -- No group is given more than its most.
 pub within_most : (groups : Groups) (valid : IsInstance groups) (amounts : List ℕ)

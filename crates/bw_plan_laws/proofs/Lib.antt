@@ -7,6 +7,7 @@ mod CutLaw
 mod HostLaws
 mod InsideLaw
 mod Lacking
+mod OtherDemands
 mod RaisedLimit
 mod RoomLaw
 mod Siblings

@@ -1,5 +1,5 @@
 -- Two instances of one tree: their children, their mosts and their plans, group by group.
-use Rattle.std.proofs.Common.{◌≡◌, ℕ, zero, suc, ◌<◌, ◌≤◌, List, [], ◌∷◌, Bool, cond}
+use Rattle.std.proofs.Common.{◌≡◌, ℕ, zero, suc, ◌+◌, ◌<◌, ◌≤◌, List, [], ◌∷◌, Bool, cond, ◌||◌}
 use Rattle.std.proofs.Common.{true, false, None, Some, length, get_or, refl, ap, sym, ◌∙◌}
 use Rattle.std.proofs.Common.{arith, inl, inr, eqb}
 use Rattle.std.specs.Prelude.{not}
@@ -11,15 +11,16 @@ use Rattle.std.proofs.lemmas.List.{length-map}
 use Rattle.std.proofs.lemmas.List.Sums.{sum-map}
 use Rattle.bw_model.specs.declared.row.Row.{Row}
 use Rattle.bw_model.specs.Groups.{Groups, IsInstance, AreTreeRows, parent_of, is_child, children_of}
-use Rattle.bw_model.specs.Groups.{is_leaf, weight_of, demand_of, limit_of, row_of, is_under}
+use Rattle.bw_model.specs.Groups.{is_leaf, weight_of, demand_of, limit_of, row_of, is_under, depth_of}
 use Rattle.bw_model.specs.Demand.{want_of}
-use Rattle.bw_model.specs.Plan.{child_weights}
+use Rattle.bw_model.specs.Plan.{IsPlan, child_weights}
 use Rattle.bw_model.specs.Split.{IsBestSplit}
 use Rattle.bw_model.proofs.CallerLemmas.{strong, same_map, get_or-map, listed_child, child_at}
 use Rattle.bw_model.proofs.CallerLemmas.{parent_not_leaf, parent_lt, is_under-step, is_under-top}
-use Rattle.bw_model.proofs.CallerLemmas.{IsBestSplit-unique, any-ap}
+use Rattle.bw_model.proofs.CallerLemmas.{IsBestSplit-unique, any-ap, depth_of-top, depth_of-step}
+use Rattle.bw_model.proofs.CallerLemmas.{mosts, mosts-capped}
 use Rattle.bw_plan.specs.Shared.{IsPlanning}
-use Rattle.bw_plan.proofs.CallerLemmas.{weights_in_range}
+use Rattle.bw_plan.proofs.CallerLemmas.{weights_in_range, plan-IsPlanning}
 use Rattle.bw_split_laws.specs.Change.{AreWeighted}
 use Rattle.bw_plan_laws.specs.Tree.{IsSameTree, IsNotBelow}
 
@@ -68,6 +69,13 @@ weighted groups valid most g = record {
   positive = λ k below. let w = weights_in_range groups valid g k below in omega (arith, w.0);
 }
 
+-- A plan shares out each group's most.
+pub planned : (groups : Groups) (valid : IsInstance groups) (amounts : List ℕ)
+    → IsPlan groups amounts → IsPlanning groups (mosts groups valid.tree) (λ _. true) amounts
+planned groups valid amounts is_plan =
+    plan-IsPlanning groups valid (mosts groups valid.tree) (mosts-capped groups valid.tree) amounts
+    is_plan
+
 -- The number at a child's place among its siblings.
 pub at_place : (rows : List Row) (values : List ℕ) (g k c : ℕ) → k < length (children_of rows g)
     → get_or (children_of rows g) k 0 ≡ c
@@ -113,6 +121,35 @@ module _ (rows : List Row) (tree : AreTreeRows rows) (group : ℕ) where
         | inl here ↦ eqb-true c group here
         | inr above ↦ absurd (out above)
       ]
+
+-- Trees with the same parents: what is under a group, and depths.
+module _ (rows others : List Row) (tree : AreTreeRows rows) (other_tree : AreTreeRows others)
+    (same : IsSameTree rows others) where
+  pub under_same : (g h : ℕ) → is_under others g h ≡ is_under rows g h
+  under_same g = strong (λ h. is_under others g h ≡ is_under rows g h) (λ h before.
+      (elim (parent_of rows h) as (λ o. parent_of rows h ≡ o
+      → is_under others g h ≡ is_under rows g h) [
+        | None ↦ λ none.
+            is_under-top others other_tree g h (same.parents h ∙ none)
+            ∙ sym (is_under-top rows tree g h none)
+        | Some p ↦ λ up.
+            is_under-step others other_tree g h p (same.parents h ∙ up)
+            ∙ ap (λ above. eqb h g || above) (before p (parent_lt rows tree h p up))
+            ∙ sym (is_under-step rows tree g h p up)
+      ]) refl)
+
+  pub depth_same : (h : ℕ) → depth_of others h ≡ depth_of rows h
+  depth_same = strong (λ h. depth_of others h ≡ depth_of rows h) (λ h before.
+      (elim (parent_of rows h) as
+      (λ o. parent_of rows h ≡ o → depth_of others h ≡ depth_of rows h) [
+        | None ↦ λ none.
+            depth_of-top others other_tree h (same.parents h ∙ none)
+            ∙ sym (depth_of-top rows tree h none)
+        | Some p ↦ λ up.
+            depth_of-step others other_tree h p (same.parents h ∙ up)
+            ∙ ap (λ d. d + 1) (before p (parent_lt rows tree h p up))
+            ∙ sym (depth_of-step rows tree h p up)
+      ]) refl)
 
 -- Two instances of one tree.
 module _ (a b : Groups) (va : IsInstance a) (vb : IsInstance b)

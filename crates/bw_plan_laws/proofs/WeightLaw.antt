@@ -11,28 +11,19 @@ use Rattle.bw_model.specs.Split.{IsBestSplit}
 use Rattle.bw_model.proofs.CallerLemmas.{strong, from_the_last, capped, mosts, mosts-capped}
 use Rattle.bw_model.proofs.CallerLemmas.{parent_lt, parent_not_leaf, listed_child}
 use Rattle.bw_model.proofs.CallerLemmas.{is_under-step, is_under-self}
-use Rattle.bw_plan.specs.Shared.{IsPlanning}
-use Rattle.bw_plan.proofs.CallerLemmas.{plan-IsPlanning}
 use Rattle.bw_split_laws.specs.Change.{AreWeighted, IsRaised}
 use Rattle.bw_split_laws.proofs.CallerLemmas.{raised_alone_gains}
 use Rattle.bw_plan_laws.specs.Tree.{IsNotBelow}
 use Rattle.bw_plan_laws.specs.Weight.{IsHeavier, RaisedWeightAloneGains}
 use Rattle.bw_plan_laws.proofs.Siblings.{raised_child}
 use Rattle.bw_plan_laws.proofs.Trees.{want_same, step_same, split_over, weighted, at_place}
-use Rattle.bw_plan_laws.proofs.Trees.{children_same, parent_not_below, child_not_below}
+use Rattle.bw_plan_laws.proofs.Trees.{planned, children_same, parent_not_below, child_not_below}
 
 module _ (a b : Groups) (group parent : ℕ) (xs ys : List ℕ) (va : IsInstance a) (vb : IsInstance b)
     (heavier : IsHeavier a b group) (group_in : group < length a.rows)
     (up : parent_of a.rows group ≡ Some parent) (is_plan : IsPlan a xs)
     (is_other : IsPlan b ys) where
-  ma : List ℕ
-  ma = mosts a va.tree
-
-  mb : List ℕ
-  mb = mosts b vb.tree
-
-  most_same : (h : ℕ) → h < length a.rows → get_or mb h 0 ≡ get_or ma h 0
-  unfolding ma mb
+  most_same : (h : ℕ) → h < length a.rows → get_or (mosts b vb.tree) h 0 ≡ get_or (mosts a va.tree) h 0
   most_same = from_the_last (length a.rows)
       (λ h. get_or (mosts b vb.tree) h 0 ≡ get_or (mosts a va.tree) h 0)
       (λ h below later.
@@ -42,14 +33,6 @@ module _ (a b : Groups) (group parent : ℕ) (xs ys : List ℕ) (va : IsInstance
       (want_same a b va vb heavier.tree (mosts a va.tree) (mosts b vb.tree) h (heavier.demands h)
       (λ c c_in e. later c (parent_lt a.rows va.tree c h e) c_in))
       ∙ sym (mosts-capped a va.tree h below))
-
-  pa : IsPlanning a ma (λ _. true) xs
-  unfolding ma
-  pa = plan-IsPlanning a va ma (mosts-capped a va.tree) xs is_plan
-
-  pb : IsPlanning b mb (λ _. true) ys
-  unfolding mb
-  pb = plan-IsPlanning b vb mb (mosts-capped b vb.tree) ys is_other
 
   -- The heavier group is below its parent.
   not_the_group : (h : ℕ) → IsNotBelow a.rows parent h → h ≢ group
@@ -68,14 +51,14 @@ module _ (a b : Groups) (group parent : ℕ) (xs ys : List ℕ) (va : IsInstance
   elsewhere = strong
       (λ h. h < length a.rows → IsNotBelow a.rows parent h → get_or ys h 0 ≡ get_or xs h 0)
       (λ h before below out. elim (cases_eq h 0) [
-        | inl root ↦ rw root (pb.top ∙ most_same 0 va.tree.has_root ∙ sym pa.top)
+        | inl root ↦ rw root ((planned b vb ys is_other).top ∙ most_same 0 va.tree.has_root ∙ sym (planned a va xs is_plan).top)
         | inr deeper ↦
             let known : (p : ℕ) × (parent_of a.rows h ≡ Some p) × (p < h) =
             va.tree.parent_before h (omega (arith, deeper)) below in
             let apart : is_under a.rows parent known.0 ≡ true → ⊥ =
             parent_not_below a.rows va.tree parent h known.0 known.1 out in
             let p_in : known.0 < length a.rows = omega (arith, known.2, below) in
-            step_same a b va vb heavier.tree ma mb xs ys pa pb h known.0 below p_in known.1
+            step_same a b va vb heavier.tree (mosts a va.tree) (mosts b vb.tree) xs ys (planned a va xs is_plan) (planned b vb ys is_other) h known.0 below p_in known.1
             (before known.0 known.2 p_in (λ under. absurd (apart under)))
             (λ s s_in e. heavier.weights s
             (not_the_group s (child_not_below a.rows va.tree parent known.0 s e apart)))
@@ -98,28 +81,28 @@ module _ (a b : Groups) (group parent : ℕ) (xs ys : List ℕ) (va : IsInstance
   same_parent : get_or ys parent 0 ≡ get_or xs parent 0
   same_parent = elsewhere parent parent_in (λ under. refl)
 
-  raised : IsRaised (child_weights a.rows parent) (map (slice_index ma) (children_of a.rows parent))
+  raised : IsRaised (child_weights a.rows parent) (map (slice_index (mosts a va.tree)) (children_of a.rows parent))
       (map (weight_of b.rows) (children_of a.rows parent))
-      (map (slice_index ma) (children_of a.rows parent)) place.0
-  raised = raised_child a.rows parent (weight_of a.rows) (weight_of b.rows) (slice_index ma)
-      (slice_index ma) place.0 group place.1 place.2 heavier.raised (omega arith)
+      (map (slice_index (mosts a va.tree)) (children_of a.rows parent)) place.0
+  raised = raised_child a.rows parent (weight_of a.rows) (weight_of b.rows) (slice_index (mosts a va.tree))
+      (slice_index (mosts a va.tree)) place.0 group place.1 place.2 heavier.raised (omega arith)
       (λ s s_in e other. heavier.weights s other) (λ s s_in e other. refl)
 
   more_weighted : AreWeighted (map (weight_of b.rows) (children_of a.rows parent))
-      (map (slice_index ma) (children_of a.rows parent))
-  more_weighted = rw (children_same a.rows b.rows heavier.tree parent) at (weighted b vb ma parent)
+      (map (slice_index (mosts a va.tree)) (children_of a.rows parent))
+  more_weighted = rw (children_same a.rows b.rows heavier.tree parent) at (weighted b vb (mosts a va.tree) parent)
 
   before_split : IsBestSplit (get_or xs parent 0) (child_weights a.rows parent)
-      (map (slice_index ma) (children_of a.rows parent))
+      (map (slice_index (mosts a va.tree)) (children_of a.rows parent))
       (map (slice_index xs) (children_of a.rows parent))
-  before_split = pa.splits parent parent_in refl inner
+  before_split = (planned a va xs is_plan).splits parent parent_in refl inner
 
   after_split : IsBestSplit (get_or xs parent 0)
       (map (weight_of b.rows) (children_of a.rows parent))
-      (map (slice_index ma) (children_of a.rows parent))
+      (map (slice_index (mosts a va.tree)) (children_of a.rows parent))
       (map (slice_index ys) (children_of a.rows parent))
   after_split = rw same_parent at
-      (split_over a b va vb heavier.tree ma mb xs ys pa pb parent parent_in inner
+      (split_over a b va vb heavier.tree (mosts a va.tree) (mosts b vb.tree) xs ys (planned a va xs is_plan) (planned b vb ys is_other) parent parent_in inner
       (λ s s_in e. most_same s s_in))
 
   gained : (slice_index (map (slice_index xs) (children_of a.rows parent)) place.0
@@ -128,12 +111,12 @@ module _ (a b : Groups) (group parent : ℕ) (xs ys : List ℕ) (va : IsInstance
       → slice_index (map (slice_index ys) (children_of a.rows parent)) k
       ≤ slice_index (map (slice_index xs) (children_of a.rows parent)) k)
   gained = raised_alone_gains (get_or xs parent 0) (child_weights a.rows parent)
-      (map (slice_index ma) (children_of a.rows parent))
+      (map (slice_index (mosts a va.tree)) (children_of a.rows parent))
       (map (weight_of b.rows) (children_of a.rows parent))
-      (map (slice_index ma) (children_of a.rows parent))
+      (map (slice_index (mosts a va.tree)) (children_of a.rows parent))
       (map (slice_index xs) (children_of a.rows parent))
       (map (slice_index ys) (children_of a.rows parent)) place.0
-      (weighted a va ma parent) more_weighted raised before_split after_split
+      (weighted a va (mosts a va.tree) parent) more_weighted raised before_split after_split
 
   sibling : (s : ℕ) → s < length a.rows → parent_of a.rows s ≡ Some parent → s ≢ group
       → get_or ys s 0 ≤ get_or xs s 0

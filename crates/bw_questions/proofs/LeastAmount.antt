@@ -6,22 +6,21 @@ use Rattle.std.proofs.lemmas.List.{get_or_past}
 use Rattle.bw_model.specs.declared.row.Row.{Row}
 use Rattle.bw_model.specs.Groups.{Groups, IsInstance, no_row, demand_of, is_leaf, is_under}
 use Rattle.bw_model.specs.Plan.{IsPlan}
-use Rattle.bw_model.proofs.CallerLemmas.{mosts, mosts-capped}
-use Rattle.bw_plan.proofs.CallerLemmas.{plan-IsPlanning}
 use Rattle.bw_plan_laws.specs.Room.{IsBusierAround}
 use Rattle.bw_plan_laws.proofs.CallerLemmas.{leaf_same, others_demands_give}
 use Rattle.bw_questions.specs.Guarantee.{IsAskedOtherwise, IsGuaranteed}
-use Rattle.bw_questions.proofs.BusyRows.{AreBusy, under_same, same_tree, demand_leaf}
-use Rattle.bw_questions.proofs.BusyRows.{busy-IsInstance, weights_same, limits_same, demands_under}
+use Rattle.bw_plan_laws.proofs.CallerLemmas.{planned, under_same, same_tree, weights_same}
+use Rattle.bw_plan_laws.proofs.CallerLemmas.{limits_same}
+use Rattle.bw_questions.proofs.BusyRows.{AreBusy, demand_leaf, busy-IsInstance, demands_under}
 
 module _ (groups : Groups) (valid : IsInstance groups) (group : ℕ) (busy : List Row)
     (are : AreBusy groups.rows group busy) where
   busy_asked : IsAskedOtherwise groups (record { shape = groups.shape; rows = busy }) group
   busy_asked = record {
     valid = busy-IsInstance groups valid group busy are;
-    tree = same_tree groups valid group busy are;
-    weights = weights_same groups valid group busy are;
-    limits = limits_same groups valid group busy are;
+    tree = same_tree groups.rows busy are.alike;
+    weights = weights_same groups.rows busy are.alike;
+    limits = limits_same groups busy are.alike;
     inside = demands_under groups valid group busy are;
   }
 
@@ -58,12 +57,12 @@ module _ (groups : Groups) (valid : IsInstance groups) (group : ℕ) (busy : Lis
     busier : IsBusierAround others (record { shape = groups.shape; rows = busy }) group
     busier = record {
       tree = record {
-        as_many = are.one_each ∙ sym asked.tree.as_many;
-        parents = λ g. (same_tree groups valid group busy are).parents g
+        as_many = are.alike.one_each ∙ sym asked.tree.as_many;
+        parents = λ g. (same_tree groups.rows busy are.alike).parents g
             ∙ sym (asked.tree.parents g);
       };
-      weights = λ h. weights_same groups valid group busy are h ∙ sym (asked.weights h);
-      limits = λ h. limits_same groups valid group busy are h ∙ sym (asked.limits h);
+      weights = λ h. weights_same groups.rows busy are.alike h ∙ sym (asked.weights h);
+      limits = λ h. limits_same groups busy are.alike h ∙ sym (asked.limits h);
       demands = demands_less;
       inside = λ h under.
           let high : is_under groups.rows group h ≡ true =
@@ -77,10 +76,8 @@ module _ (groups : Groups) (valid : IsInstance groups) (group : ℕ) (busy : Lis
   as_many amounts is_plan =
       let valid_busy : IsInstance (record { shape = groups.shape; rows = busy }) =
       busy-IsInstance groups valid group busy are in
-      let most : List ℕ = mosts (record { shape = groups.shape; rows = busy }) valid_busy.tree in
-      (plan-IsPlanning (record { shape = groups.shape; rows = busy }) valid_busy most
-      (mosts-capped (record { shape = groups.shape; rows = busy }) valid_busy.tree) amounts
-      is_plan).one_each ∙ are.one_each
+      (planned (record { shape = groups.shape; rows = busy }) valid_busy amounts is_plan).one_each
+      ∙ are.alike.one_each
 
   pub least : group < length groups.rows → (amounts : List ℕ)
       → IsPlan (record { shape = groups.shape; rows = busy }) amounts

@@ -14,7 +14,8 @@ use Rattle.bw_model.specs.Plan.{IsPlan}
 use Rattle.bw_model.proofs.CallerLemmas.{from_the_last, mosts, mosts-capped, capped_le_want}
 use Rattle.bw_model.proofs.CallerLemmas.{parent_lt, inner_has_child}
 use Rattle.bw_plan.specs.Shared.{IsPlanning}
-use Rattle.bw_plan.proofs.CallerLemmas.{plan-IsPlanning, at_most}
+use Rattle.bw_plan.proofs.CallerLemmas.{at_most}
+use Rattle.bw_plan_laws.proofs.CallerLemmas.{planned}
 use Rattle.bw_shape_laws.specs.Places.{later, renumbered, all_renumbered}
 use Rattle.bw_shape_laws.specs.Idle.{IdleGroupChangesNothing, with_group}
 use Rattle.bw_shape_laws.proofs.Places.{later-below, later-from, later-in, later-le, later-alike}
@@ -150,13 +151,11 @@ module _ (shape : Shape) (rows : List Row) (place : ℕ) (idle : Row)
       (is_other : IsPlan (record { shape = shape; rows = longer }) ys) where
     pa : IsPlanning (record { shape = shape; rows = rows }) ma (λ _. true) xs
     unfolding ma
-    pa = plan-IsPlanning (record { shape = shape; rows = rows }) va ma
-        (mosts-capped (record { shape = shape; rows = rows }) va.tree) xs is_plan
+    pa = planned (record { shape = shape; rows = rows }) va xs is_plan
 
     pb : IsPlanning (record { shape = shape; rows = longer }) mb (λ _. true) ys
     unfolding mb
-    pb = plan-IsPlanning (record { shape = shape; rows = longer }) vb mb
-        (mosts-capped (record { shape = shape; rows = longer }) vb.tree) ys is_other
+    pb = planned (record { shape = shape; rows = longer }) vb ys is_other
 
     nothing_new : get_or ys place 0 ≡ 0
     unfolding mb

@@ -14,7 +14,7 @@ use Rattle.bw_model.specs.Plan.{IsPlan}
 use Rattle.bw_model.proofs.CallerLemmas.{from_the_last, mosts, mosts-capped, parent_lt}
 use Rattle.bw_model.proofs.CallerLemmas.{parent_from_is_child, is_child_from_parent}
 use Rattle.bw_plan.specs.Shared.{IsPlanning}
-use Rattle.bw_plan.proofs.CallerLemmas.{plan-IsPlanning}
+use Rattle.bw_plan_laws.proofs.CallerLemmas.{planned}
 use Rattle.bw_shape_laws.specs.Places.{renumbered}
 use Rattle.bw_shape_laws.specs.Order.{IsReordered, RowOrderChangesNothing}
 use Rattle.bw_shape_laws.proofs.Rising.{IsIn, rising_same, filter_rising, in_filter, from_filter}
@@ -187,13 +187,11 @@ module _ (shape : Shape) (rows others : List Row) (number old : ℕ → ℕ)
       (is_other : IsPlan (record { shape = shape; rows = others }) ys) where
     pa : IsPlanning (record { shape = shape; rows = rows }) ma (λ _. true) xs
     unfolding ma
-    pa = plan-IsPlanning (record { shape = shape; rows = rows }) va ma
-        (mosts-capped (record { shape = shape; rows = rows }) va.tree) xs is_plan
+    pa = planned (record { shape = shape; rows = rows }) va xs is_plan
 
     pb : IsPlanning (record { shape = shape; rows = others }) mb (λ _. true) ys
     unfolding mb
-    pb = plan-IsPlanning (record { shape = shape; rows = others }) vb mb
-        (mosts-capped (record { shape = shape; rows = others }) vb.tree) ys is_other
+    pb = planned (record { shape = shape; rows = others }) vb ys is_other
 
     top : get_or ys (number 0) 0 ≡ get_or xs 0 0
     top =

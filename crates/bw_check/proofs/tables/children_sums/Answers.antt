@@ -3,10 +3,9 @@ use Rattle.std.proofs.Common.{◌≡◌, ℕ, ◌+◌, ◌-◌, ◌^◌, ◌<◌
 use Rattle.std.proofs.Common.{◌∙◌, arith}
 use Rattle.std.specs.Prelude.{slice_index}
 use Rattle.std.specs.declared.alloc.Global.{Global}
-use Rattle.std.proofs.lemmas.Grind.{get_or_default_zero}
 use Rattle.bw_model.specs.declared.limits.TheConstants.{MAX_GROUPS}
 use Rattle.bw_model.specs.Groups.{parent_of}
-use Rattle.bw_check.proofs.Gathered.{first-le, gathered_top, gathered_child}
+use Rattle.bw_check.proofs.Gathered.{first-le, gathered_top, gathered_child, read_parent}
 use Rattle.bw_check.proofs.tables.children_sums.Goals as goal
 use Rattle.bw_check.proofs.tables.children_sums.Goals.{in-Some, in_default}
 
@@ -15,23 +14,16 @@ overflow_add-sum c =
     let rows = c.args.instance.now.rows in
     let amounts = c.args.amounts.now in
     let sums = c.loop-c.sums.items in
-    let within : c.in-Some.parent < length rows =
-    omega (
-      arith,
-      c.in-Some.ensures.before,
-      c.loop-c-test.true,
-      c.group_count-count.ensures.count,
-    ) in
-    let read : c.index-sum.result.now ≡ get_or sums c.in-Some.parent 0 =
-    c.index-sum.ensures ∙ get_or_default_zero sums c.in-Some.parent c.index-sum.result.now
-    (omega (arith, within, c.loop-c.invariant.one_each)) in
+    let found = read_parent rows sums c.group_count-count.result c.loop-c.c c.in-Some.parent
+    c.index-sum.result.now c.in-Some.ensures.before c.loop-c-test.true
+    c.group_count-count.ensures.count c.loop-c.invariant.one_each c.index-sum.ensures in
     let most = first-le rows (slice_index amounts) (2 ^ 64 - 1) c.loop-c.c c.in-Some.parent
     (λ k _. omega (arith, c.type_inv.amounts k)) in
     let few : length rows ≤ MAX_GROUPS = c.group_count-count.ensures.valid.few in
     omega (
       arith,
-      read,
-      c.loop-c.invariant.each c.in-Some.parent within,
+      found.1,
+      c.loop-c.invariant.each c.in-Some.parent found.0,
       most,
       c.from.ensures,
       c.type_inv.amounts c.loop-c.c,
@@ -46,22 +38,15 @@ loop-c-preserved c = elim c.match-parent.branch [
       let rows = c.args.instance.now.rows in
       let amounts = c.args.amounts.now in
       let sums = c.loop-c.sums.items in
-      let within : w.in-Some.parent < length rows =
-      omega (
-        arith,
-        w.in-Some.ensures.before,
-        c.loop-c-test.true,
-        c.group_count-count.ensures.count,
-      ) in
-      let read : w.index-sum.result.now ≡ get_or sums w.in-Some.parent 0 =
-      w.index-sum.ensures ∙ get_or_default_zero sums w.in-Some.parent w.index-sum.result.now
-      (omega (arith, within, c.loop-c.invariant.one_each)) in
+      let found = read_parent rows sums c.group_count-count.result c.loop-c.c w.in-Some.parent
+      w.index-sum.result.now w.in-Some.ensures.before c.loop-c-test.true
+      c.group_count-count.ensures.count c.loop-c.invariant.one_each w.index-sum.ensures in
       let stored = ap (λ (v : Vec ℕ Global). v.items) w.sums-is in
       let up : parent_of rows c.loop-c.c ≡ Some w.in-Some.parent =
       sym c.parent.ensures.value ∙ w.in-Some.is in
       rw stored (gathered_child rows (slice_index amounts) c.loop-c.c w.in-Some.parent
-      (w.index-sum.result.now + w.from.result) sums up within
-      (omega (arith, read, w.from.ensures)) c.loop-c.invariant)
+      (w.index-sum.result.now + w.from.result) sums up found.0
+      (omega (arith, found.1, w.from.ensures)) c.loop-c.invariant)
   | in_default w ↦
       let stored = ap (λ (v : Vec ℕ Global). v.items) w.sums-is in
       rw stored (gathered_top c.args.instance.now.rows (slice_index c.args.amounts.now) c.loop-c.c

@@ -9,9 +9,9 @@ use Rattle.bw_model.proofs.CallerLemmas.{AreMaxTotals-capped, is_child_no}
 use Rattle.bw_demand.specs.ByDepth.{rows_of_depth}
 use Rattle.bw_demand.proofs.CallerLemmas.{IsListed, is_listed, depth_within, depth_row}
 use Rattle.bw_plan.specs.Shared.{AreParts, is_above}
-use Rattle.bw_plan.proofs.Shares.{can_share, given_more, same_done}
-use Rattle.bw_plan.proofs.Done.{done_at, first_done, last_done, next_done, fresh, closed}
-use Rattle.bw_plan.proofs.Done.{parent_done, parent_above, no_child}
+use Rattle.bw_plan.proofs.Shares.{can_share}
+use Rattle.bw_plan.proofs.Done.{parent_above, no_child}
+use Rattle.bw_plan.proofs.OneDepth.{none_shared, all_shared, next_shared}
 use Rattle.bw_plan.proofs.Collected.{at_place, zip_long}
 use Rattle.bw_plan.proofs.by_depth.share_in_pieces.Goals as goal
 
@@ -35,29 +35,16 @@ parts_of_each-requires-after_bounds g c = λ κs outlives k d lt.
 pub loop-k-init : goal.loop-k-init
 loop-k-init g c = record {
   planning =
-      let groups = c.args.instance.now in
-      let valid = c.rows-rows.ensures.valid in
-      let most = c.args.most.now in
-      same_done groups valid most (AreMaxTotals-capped groups valid.tree most c.requires.mosts)
-      (is_above groups.rows c.args.depth) (done_at groups.rows c.args.depth 0)
-      c.args.amounts.now.items
-      (λ h _. first_done groups.rows c.args.depth h) c.requires.planning;
+      none_shared c.args.instance.now c.rows-rows.ensures.valid c.args.most.now c.requires.mosts
+      c.args.depth c.args.amounts.now.items c.requires.planning;
   held = λ j _. refl;
 }
 
 pub returns : goal.returns
 returns g c =
-    let groups = c.args.instance.now in
-    let valid = c.rows-rows.ensures.valid in
-    let most = c.args.most.now in
-    let listed = c.rows_at-groups.ensures in
-    let whole : length (rows_of_depth groups.rows c.args.depth) ≤ c.loop-k.k =
-    omega (arith, c.loop-k-test.false, ap (length {A = ℕ}) listed) in
-    same_done groups valid most (AreMaxTotals-capped groups valid.tree most c.requires.mosts)
-    (done_at groups.rows c.args.depth c.loop-k.k) (is_above groups.rows (c.args.depth + 1))
-    c.loop-k.amounts.items
-    (λ h below. last_done groups.rows c.args.depth c.loop-k.k h below whole)
-    c.loop-k.invariant.planning
+    all_shared c.args.instance.now c.rows-rows.ensures.valid c.args.most.now c.requires.mosts
+    c.args.depth c.rows_at-groups.result.now c.rows_at-groups.ensures c.loop-k.k
+    c.loop-k.amounts.items (omega (arith, c.loop-k-test.false)) c.loop-k.invariant.planning
 
 pub index-requires : goal.index-requires
 index-requires g c =
@@ -115,15 +102,10 @@ loop-k-preserved g c =
     λ has two.
     rw (kept, parts_are) (found (rw kept at has) two) in
     record {
-      planning = given_more groups valid most
-          (AreMaxTotals-capped groups valid.tree most c.requires.mosts)
-          (done_at groups.rows d c.loop-k.k) (done_at groups.rows d (c.loop-k.k + 1)) row at.inside
-          (fresh groups.rows d c.loop-k.k row at.here at.is)
-          (λ h _. next_done groups.rows d c.loop-k.k row h at.here at.is)
-          (λ h p _ e up. closed groups.rows valid.tree d c.loop-k.k h p e up)
-          (λ p up. parent_done groups.rows valid.tree d c.loop-k.k row p at.deep up)
-          c.as_slice-in-loop-k.result.now c.loop-k.amounts.items c.give.new.amounts.items
-          c.loop-k.invariant.planning parts c.give.ensures;
+      planning = next_shared groups valid most c.requires.mosts d c.rows_at-groups.result.now
+          c.rows_at-groups.ensures c.loop-k.k c.loop-k-test.true c.as_slice-in-loop-k.result.now
+          c.loop-k.amounts.items c.give.new.amounts.items c.loop-k.invariant.planning parts
+          c.give.ensures;
       held = λ j lt.
           let other : ℕ = get_or c.rows_at-groups.result.now j 0 in
           let beside : IsListed groups.rows d j other =
