@@ -75,7 +75,7 @@ def by_model(rows: List[Row], capacity: int, hungry: Sequence[bool]
         elif flag or amount < row.demand:
             limits.append(max(floor, amount))
         else:
-            room = row.demand + row.demand // 8
+            room = row.demand + max(1, (row.demand + 7) // 8)
             limits.append(max(floor, room if row.limit is None else min(row.limit, room)))
     return limits, demands, amounts, asked
 

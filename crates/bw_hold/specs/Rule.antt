@@ -1,7 +1,8 @@
 -- The rule of a round: its demands, its plan and its limits, from a reading.
-use Rattle.std.specs.Prelude.{◌≡◌, ℕ, ◌+◌, ◌/◌, List, Bool, true, false, ◌&&◌, ◌||◌, Option, Some}
+use Rattle.std.specs.Prelude.{◌≡◌, ℕ, ◌+◌, List, Bool, true, false, ◌&&◌, ◌||◌, Option, Some}
 use Rattle.std.specs.Prelude.{length, map, min, max, nat_lt, slice_index, slice_index_or}
 use Rattle.std.specs.Prelude.{if◌then◌else◌}
+use Rattle.std.specs.Int.{div_ceil}
 use Rattle.std.specs.List.{range_with_len}
 use Rattle.std.specs.Option.{option_map_or}
 use Rattle.bw_model.specs.declared.row.Row.{Row}
@@ -49,10 +50,13 @@ round_of used hungry =
 abbrev pub everyone : Groups → Groups
 everyone groups = asking groups (λ g. demand_where groups.rows true g)
 
--- the slices that a leaf used and an eighth of it, or its own limit if that is less
+-- the slices that a leaf used, and an eighth of them, rounded up and at least one slice
+abbrev pub with_eighth : ℕ → ℕ
+with_eighth used = used + max 1 (div_ceil used 8)
+
+-- what a leaf used with its eighth, or its own limit if that is less
 abbrev pub headroom : Row → ℕ
-headroom row =
-    option_map_or (min (row.demand + row.demand / 8)) row.limit (row.demand + row.demand / 8)
+headroom row = option_map_or (min (with_eighth row.demand)) row.limit (with_eighth row.demand)
 
 -- The limit of a leaf: its planned amount if it is hungry or planned less than it used, else its
 -- headroom. It is never less than the floor.

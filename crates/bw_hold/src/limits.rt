@@ -9,12 +9,13 @@ ghost use Rattle.bw_hold.specs.Rule.{headroom, leaf_limit, own_limit, round_limi
 use bw_model::{Instance, Row};
 use std::alloc::{AllocError, Global};
 
-// Slices that a leaf used and an eighth of it, at most its own limit.
+// Slices that a leaf used and an eighth of them, at most its own limit. One slice is the least
+// eighth, so that a leaf that used few slices or none can use more.
 fn headroom(row: &Row) -> u64
     requires { row.now.demand ≤ MAX_DEMAND }
     ensures { result ≡ headroom row.now }
 {
-    let room = row.demand + row.demand / 8;
+    let room = row.demand + row.demand.div_ceil(8).max(1);
     match row.limit {
         None => room,
         Some(limit) => room.min(limit),

@@ -19,10 +19,10 @@ use Rattle.bw_plan_laws.specs.Asked.{UnusedDemandChangesNothing}
 use Rattle.bw_plan_laws.specs.Room.{IsRoomierAt}
 use Rattle.bw_plan_laws.proofs.BusyLaw.{roomier, leaf_no_more}
 use Rattle.bw_plan_laws.proofs.HostLaws.{mosts_less, sums_less}
-use Rattle.bw_plan_laws.proofs.Lacking.{planned, within_most}
+use Rattle.bw_plan_laws.proofs.Lacking.{within_most}
 use Rattle.bw_plan_laws.proofs.RoomLaw.{more_room_takes}
 use Rattle.bw_plan_laws.proofs.Siblings.{no_less_at}
-use Rattle.bw_plan_laws.proofs.Trees.{split_beside, at_place, at_children, leaf_same}
+use Rattle.bw_plan_laws.proofs.Trees.{planned, split_beside, at_place, at_children, leaf_same}
 
 -- What is within a want and within the limit of another want is within the limit of the want.
 within_capped : (limit : Option ℕ) (want greater amount : ℕ) → amount ≤ want
