@@ -41,8 +41,8 @@ pub fn nothing_else_stays()
     ensures { NothingElseStays }
 {}
 
-/// Law: on a host that serves what fits, from any limits, each round from number K + 1 on serves the
-/// plan of the wants. K is the number of leaves that this plan serves whole.
+/// Law: on a host that serves what fits, from any limits, each round from number K + 1 on serves
+/// the plan of the wants. K is the number of leaves that this plan serves whole.
 pub fn plan_is_reached()
     ensures { PlanIsReached }
 {

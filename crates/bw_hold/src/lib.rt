@@ -1,7 +1,7 @@
 //! Limits that hold the plan on a host, round by round, from what its groups used.
 //!
-//! A round reads what each leaf used and whether it would have used more. It plans these demands and
-//! gives each leaf a limit. Nothing is kept between rounds.
+//! A round reads what each leaf used and whether it would have used more. It plans these demands
+//! and gives each leaf a limit. Nothing is kept between rounds.
 #![tactic(auto)]
 
 mod asking;

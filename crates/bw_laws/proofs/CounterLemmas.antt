@@ -25,7 +25,7 @@ use Rattle.bw_hierarchy.specs.State.{HierarchyState, new_hierarchy, with_tree, w
 use Rattle.bw_hierarchy.specs.State.{delete_of}
 use Rattle.bw_laws.specs.Counters.{NewGroupsCountNothing}
 use Rattle.bw_laws.specs.Ids.{has_id, ran}
-use Rattle.bw_laws.proofs.CallRuns.{unless_ok, any_ok, called_keeps}
+use Rattle.bw_hierarchy.proofs.CallerLemmas.{unless_ok, any_ok, called_keeps}
 use Rattle.bw_laws.proofs.IdLemmas.{Grows, grows_kept, grows_not, new_below}
 
 none_some : (x : Stat) → Some x ≡ None → ⊥

@@ -14,7 +14,7 @@ use Rattle.bw_hierarchy.specs.CallLists.{Call, called, left_after, after_calls}
 use Rattle.bw_hierarchy.specs.Calls.{mkdir_split, unless, and_then, found_at}
 use Rattle.bw_hierarchy.specs.State.{HierarchyState, new_hierarchy}
 use Rattle.bw_laws.specs.Ids.{has_id, ran, IdsAreGivenOnce}
-use Rattle.bw_laws.proofs.CallRuns.{IsKept, called_keeps}
+use Rattle.bw_hierarchy.proofs.CallerLemmas.{IsKept, kept_by_any_setting, called_keeps}
 use Rattle.bw_laws.proofs.GroupLists.{has_changed, has_removed, has_pushed, pushed_there}
 use Rattle.bw_laws.proofs.GroupLists.{has_carried, below_more, below_changed, below_removed}
 use Rattle.bw_laws.proofs.GroupLists.{below_pushed, below_carried, id_below}
@@ -53,28 +53,27 @@ one_more t u parent name grown =
         inr (let from = grown.next in omega (arith, from, same), omega (arith, same))
 
 pub grows_kept : (t : TreeState) → IsKept (Grows t)
-grows_kept t = record {
-  made = λ u parent name grown. one_more t u parent name grown;
-  set = λ f u id grown. record {
-    next = grown.next;
-    below = below_changed u.next f u.groups id (group_at u.groups id) grown.below;
-    ids =
-        λ k there. grown.ids k
-        (sym (has_changed f u.groups id (group_at u.groups id) k) ∙ there);
-  };
-  removed = λ u id grown. record {
-    next = grown.next;
-    below = below_removed u.next u.groups id grown.below;
-    ids = λ k there. grown.ids k (has_removed u.groups id k there);
-  };
-  carried = λ u rows drawn grown. record {
-    next = grown.next;
-    below = below_carried u.next u.groups (left_over rows drawn) grown.below;
-    ids =
-        λ k there. grown.ids k
-        (sym (has_carried u.groups (left_over rows drawn) k) ∙ there);
-  };
-}
+grows_kept t = kept_by_any_setting (Grows t)
+    (λ u parent name grown. one_more t u parent name grown)
+    (λ f u id grown. record {
+      next = grown.next;
+      below = below_changed u.next f u.groups id (group_at u.groups id) grown.below;
+      ids =
+          λ k there. grown.ids k
+          (sym (has_changed f u.groups id (group_at u.groups id) k) ∙ there);
+    })
+    (λ u id grown. record {
+      next = grown.next;
+      below = below_removed u.next u.groups id grown.below;
+      ids = λ k there. grown.ids k (has_removed u.groups id k there);
+    })
+    (λ u rows drawn grown. record {
+      next = grown.next;
+      below = below_carried u.next u.groups (left_over rows drawn) grown.below;
+      ids =
+          λ k there. grown.ids k
+          (sym (has_carried u.groups (left_over rows drawn) k) ∙ there);
+    })
 
 left_grown : (t : TreeState) (h : HierarchyState) (r : Result HierarchyState Fault)
     → Grows t h.tree → IfOk r (λ after. Grows t after.tree) → Grows t (left_after h r).tree

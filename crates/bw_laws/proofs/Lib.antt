@@ -1,6 +1,5 @@
 -- The files of lemmas.
 mod BurstLemmas
-mod CallRuns
 mod CertLemmas
 mod CounterLemmas
 mod GroupLists

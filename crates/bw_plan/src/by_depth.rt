@@ -1,5 +1,6 @@
 //! The plan, one depth after another, with the groups of a depth side by side.
-ghost use Rattle.std.specs.Prelude.{◌≡◌, ◌+◌, ◌*◌, ◌<◌, ◌≤◌, ◌↔◌, None, length, All, IfOk, IfSome, OnOk};
+ghost use Rattle.std.specs.Prelude.{◌≡◌, ◌+◌, ◌*◌, ◌<◌, ◌≤◌, ◌↔◌, None, length};
+ghost use Rattle.std.specs.Prelude.{All, IfOk, IfSome, OnOk};
 ghost use Rattle.bw_model.specs.Plan.{IsPlan};
 ghost use Rattle.bw_demand.specs.Demands.{demands_of, IsGathered};
 ghost use Rattle.bw_demand.specs.ByDepth.{AreByDepth, rows_of_depth};
@@ -19,7 +20,7 @@ use std::alloc::{AllocError, Global};
 use std::thread::Threads;
 
 // Least number of children to split among in one piece of work. docs/MEASURED.md, 'Planning by
-// levels': several threads pay where the groups of a depth have twice as many.
+// depth': several threads pay where the groups of a depth have twice as many.
 const PIECE_CHILDREN: usize = 2048;
 
 // Number of children of a group that share its amount: 0 for an only child, which gets all. A

@@ -113,12 +113,14 @@ module _ (a b : Groups) (group : ℕ) (xs ys : List ℕ) (va : IsInstance a) (vb
       let spot : (k : ℕ) × (k < length (children_of a.rows p))
       × (get_or (children_of a.rows p) k 0 ≡ c) = listed_child a.rows p c c_in e in
       let split : IsBestSplit (get_or xs p 0) (child_weights a.rows p)
-      (map (slice_index (mosts a va.tree)) (children_of a.rows p)) (map (slice_index xs) (children_of a.rows p)) =
+      (map (slice_index (mosts a va.tree)) (children_of a.rows p))
+      (map (slice_index xs) (children_of a.rows p)) =
       (planned a va xs is_plan).splits p p_in refl inner in
       let same : map (slice_index (mosts a va.tree)) (children_of a.rows p)
       ≡ map (slice_index xs) (children_of a.rows p) =
       all_full (map (slice_index xs) (children_of a.rows p))
-      (map (slice_index (mosts a va.tree)) (children_of a.rows p)) split.split.lengths split.split.within
+      (map (slice_index (mosts a va.tree)) (children_of a.rows p)) split.split.lengths
+      split.split.within
       (omega (
         arith,
         split.split.whole,

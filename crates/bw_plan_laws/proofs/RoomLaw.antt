@@ -20,7 +20,8 @@ use Rattle.bw_plan_laws.proofs.Trees.{planned, under_le}
 
 module _ (a b : Groups) (group : ℕ) (xs ys : List ℕ) (va : IsInstance a) (vb : IsInstance b)
     (more : IsRoomierAt a b group) (is_plan : IsPlan a xs) (is_other : IsPlan b ys) where
-  most_less : (h : ℕ) → h < length a.rows → get_or (mosts a va.tree) h 0 ≤ get_or (mosts b vb.tree) h 0
+  most_less : (h : ℕ) → h < length a.rows
+      → get_or (mosts a va.tree) h 0 ≤ get_or (mosts b vb.tree) h 0
   most_less h below = mosts_less a b va vb more.no_less h below
 
   -- A group that is not above the one with more room can be given as much as before.
@@ -45,11 +46,14 @@ module _ (a b : Groups) (group : ℕ) (xs ys : List ℕ) (va : IsInstance a) (vb
   raised : (c p place : ℕ) → c < length a.rows → parent_of a.rows c ≡ Some p
       → is_under a.rows c group ≡ true → place < length (children_of a.rows p)
       → get_or (children_of a.rows p) place 0 ≡ c
-      → IsRaised (child_weights a.rows p) (map (slice_index (mosts a va.tree)) (children_of a.rows p))
-      (map (weight_of b.rows) (children_of a.rows p)) (map (slice_index (mosts b vb.tree)) (children_of a.rows p))
+      → IsRaised (child_weights a.rows p)
+      (map (slice_index (mosts a va.tree)) (children_of a.rows p))
+      (map (weight_of b.rows) (children_of a.rows p))
+      (map (slice_index (mosts b vb.tree)) (children_of a.rows p))
       place
   raised c p place c_in e under inside here =
-      raised_child a.rows p (weight_of a.rows) (weight_of b.rows) (slice_index (mosts a va.tree)) (slice_index (mosts b vb.tree))
+      raised_child a.rows p (weight_of a.rows) (weight_of b.rows) (slice_index (mosts a va.tree))
+      (slice_index (mosts b vb.tree))
       place c inside here (omega (arith, more.weights c)) (most_less c c_in)
       (λ s s_in up other. more.weights s)
       (λ s s_in up other. most_same s s_in
@@ -68,19 +72,30 @@ module _ (a b : Groups) (group : ℕ) (xs ys : List ℕ) (va : IsInstance a) (vb
         at_place a.rows ys p spot.0 c spot.1 spot.2,
       )
       at (child_keeps (get_or xs p 0) (get_or ys p 0) (child_weights a.rows p)
-      (map (slice_index (mosts a va.tree)) (children_of a.rows p)) (map (weight_of b.rows) (children_of a.rows p))
-      (map (slice_index (mosts b vb.tree)) (children_of a.rows p)) (map (slice_index xs) (children_of a.rows p))
+      (map (slice_index (mosts a va.tree)) (children_of a.rows p))
+      (map (weight_of b.rows) (children_of a.rows p))
+      (map (slice_index (mosts b vb.tree)) (children_of a.rows p))
+      (map (slice_index xs) (children_of a.rows p))
       (map (slice_index ys) (children_of a.rows p)) spot.0 (weighted a va (mosts a va.tree) p)
-      (weighted_beside a b va vb more.no_less.tree (mosts a va.tree) (mosts b vb.tree) xs ys (planned a va xs is_plan) (planned b vb ys is_other) p)
-      (raised c p spot.0 c_in e under spot.1 spot.2) ((planned a va xs is_plan).splits p p_in refl inner)
-      (split_beside a b va vb more.no_less.tree (mosts a va.tree) (mosts b vb.tree) xs ys (planned a va xs is_plan) (planned b vb ys is_other) p p_in inner) up)
+      (weighted_beside a b va vb more.no_less.tree (mosts a va.tree) (mosts b vb.tree) xs ys
+      (planned a va xs is_plan) (planned b vb ys is_other) p)
+      (raised c p spot.0 c_in e under spot.1 spot.2)
+      ((planned a va xs is_plan).splits p p_in refl inner)
+      (split_beside a b va vb more.no_less.tree (mosts a va.tree) (mosts b vb.tree) xs ys
+      (planned a va xs is_plan) (planned b vb ys is_other) p p_in inner) up)
 
   above : (h : ℕ) → h < length a.rows → is_under a.rows h group ≡ true
       → get_or xs h 0 ≤ get_or ys h 0
   above = strong
       (λ h. h < length a.rows → is_under a.rows h group ≡ true → get_or xs h 0 ≤ get_or ys h 0)
       (λ h before below under. elim (cases_eq h 0) [
-        | inl root ↦ rw root (omega (arith, (planned a va xs is_plan).top, (planned b vb ys is_other).top, most_less 0 va.tree.has_root))
+        | inl root ↦ rw root
+            (omega (
+              arith,
+              (planned a va xs is_plan).top,
+              (planned b vb ys is_other).top,
+              most_less 0 va.tree.has_root,
+            ))
         | inr deeper ↦
             let known : (p : ℕ) × (parent_of a.rows h ≡ Some p) × (p < h) =
             va.tree.parent_before h (omega (arith, deeper)) below in
@@ -107,13 +122,17 @@ module _ (a b : Groups) (group : ℕ) (xs ys : List ℕ) (va : IsInstance a) (vb
         at_place a.rows xs p spot.0 s spot.1 spot.2,
       )
       at (others_lose (get_or xs p 0) (get_or ys p 0) (child_weights a.rows p)
-      (map (slice_index (mosts a va.tree)) (children_of a.rows p)) (map (weight_of b.rows) (children_of a.rows p))
-      (map (slice_index (mosts b vb.tree)) (children_of a.rows p)) (map (slice_index xs) (children_of a.rows p))
+      (map (slice_index (mosts a va.tree)) (children_of a.rows p))
+      (map (weight_of b.rows) (children_of a.rows p))
+      (map (slice_index (mosts b vb.tree)) (children_of a.rows p))
+      (map (slice_index xs) (children_of a.rows p))
       (map (slice_index ys) (children_of a.rows p)) place.0 (weighted a va (mosts a va.tree) p)
-      (weighted_beside a b va vb more.no_less.tree (mosts a va.tree) (mosts b vb.tree) xs ys (planned a va xs is_plan) (planned b vb ys is_other) p)
+      (weighted_beside a b va vb more.no_less.tree (mosts a va.tree) (mosts b vb.tree) xs ys
+      (planned a va xs is_plan) (planned b vb ys is_other) p)
       (raised group p place.0 group_in e (is_under-self a.rows va.tree group) place.1 place.2)
       ((planned a va xs is_plan).splits p p_in refl inner)
-      (split_beside a b va vb more.no_less.tree (mosts a va.tree) (mosts b vb.tree) xs ys (planned a va xs is_plan) (planned b vb ys is_other) p p_in inner) less spot.0 apart)
+      (split_beside a b va vb more.no_less.tree (mosts a va.tree) (mosts b vb.tree) xs ys
+      (planned a va xs is_plan) (planned b vb ys is_other) p p_in inner) less spot.0 apart)
 
 pub more_room_takes : MoreRoomTakesNothing
 more_room_takes a b group xs ys va vb more group_in is_plan is_other = record {

@@ -11,7 +11,8 @@ use Rattle.std.proofs.lemmas.List.{length-map}
 use Rattle.std.proofs.lemmas.List.Sums.{sum-map}
 use Rattle.bw_model.specs.declared.row.Row.{Row}
 use Rattle.bw_model.specs.Groups.{Groups, IsInstance, AreTreeRows, parent_of, is_child, children_of}
-use Rattle.bw_model.specs.Groups.{is_leaf, weight_of, demand_of, limit_of, row_of, is_under, depth_of}
+use Rattle.bw_model.specs.Groups.{is_leaf, weight_of, demand_of, limit_of, row_of, is_under}
+use Rattle.bw_model.specs.Groups.{depth_of}
 use Rattle.bw_model.specs.Demand.{want_of}
 use Rattle.bw_model.specs.Plan.{IsPlan, child_weights}
 use Rattle.bw_model.specs.Split.{IsBestSplit}

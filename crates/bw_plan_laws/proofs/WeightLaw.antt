@@ -23,7 +23,8 @@ module _ (a b : Groups) (group parent : ℕ) (xs ys : List ℕ) (va : IsInstance
     (heavier : IsHeavier a b group) (group_in : group < length a.rows)
     (up : parent_of a.rows group ≡ Some parent) (is_plan : IsPlan a xs)
     (is_other : IsPlan b ys) where
-  most_same : (h : ℕ) → h < length a.rows → get_or (mosts b vb.tree) h 0 ≡ get_or (mosts a va.tree) h 0
+  most_same : (h : ℕ) → h < length a.rows
+      → get_or (mosts b vb.tree) h 0 ≡ get_or (mosts a va.tree) h 0
   most_same = from_the_last (length a.rows)
       (λ h. get_or (mosts b vb.tree) h 0 ≡ get_or (mosts a va.tree) h 0)
       (λ h below later.
@@ -51,14 +52,18 @@ module _ (a b : Groups) (group parent : ℕ) (xs ys : List ℕ) (va : IsInstance
   elsewhere = strong
       (λ h. h < length a.rows → IsNotBelow a.rows parent h → get_or ys h 0 ≡ get_or xs h 0)
       (λ h before below out. elim (cases_eq h 0) [
-        | inl root ↦ rw root ((planned b vb ys is_other).top ∙ most_same 0 va.tree.has_root ∙ sym (planned a va xs is_plan).top)
+        | inl root ↦ rw root
+            ((planned b vb ys is_other).top
+            ∙ most_same 0 va.tree.has_root
+            ∙ sym (planned a va xs is_plan).top)
         | inr deeper ↦
             let known : (p : ℕ) × (parent_of a.rows h ≡ Some p) × (p < h) =
             va.tree.parent_before h (omega (arith, deeper)) below in
             let apart : is_under a.rows parent known.0 ≡ true → ⊥ =
             parent_not_below a.rows va.tree parent h known.0 known.1 out in
             let p_in : known.0 < length a.rows = omega (arith, known.2, below) in
-            step_same a b va vb heavier.tree (mosts a va.tree) (mosts b vb.tree) xs ys (planned a va xs is_plan) (planned b vb ys is_other) h known.0 below p_in known.1
+            step_same a b va vb heavier.tree (mosts a va.tree) (mosts b vb.tree) xs ys
+            (planned a va xs is_plan) (planned b vb ys is_other) h known.0 below p_in known.1
             (before known.0 known.2 p_in (λ under. absurd (apart under)))
             (λ s s_in e. heavier.weights s
             (not_the_group s (child_not_below a.rows va.tree parent known.0 s e apart)))
@@ -81,16 +86,19 @@ module _ (a b : Groups) (group parent : ℕ) (xs ys : List ℕ) (va : IsInstance
   same_parent : get_or ys parent 0 ≡ get_or xs parent 0
   same_parent = elsewhere parent parent_in (λ under. refl)
 
-  raised : IsRaised (child_weights a.rows parent) (map (slice_index (mosts a va.tree)) (children_of a.rows parent))
+  raised : IsRaised (child_weights a.rows parent)
+      (map (slice_index (mosts a va.tree)) (children_of a.rows parent))
       (map (weight_of b.rows) (children_of a.rows parent))
       (map (slice_index (mosts a va.tree)) (children_of a.rows parent)) place.0
-  raised = raised_child a.rows parent (weight_of a.rows) (weight_of b.rows) (slice_index (mosts a va.tree))
+  raised = raised_child a.rows parent (weight_of a.rows) (weight_of b.rows)
+      (slice_index (mosts a va.tree))
       (slice_index (mosts a va.tree)) place.0 group place.1 place.2 heavier.raised (omega arith)
       (λ s s_in e other. heavier.weights s other) (λ s s_in e other. refl)
 
   more_weighted : AreWeighted (map (weight_of b.rows) (children_of a.rows parent))
       (map (slice_index (mosts a va.tree)) (children_of a.rows parent))
-  more_weighted = rw (children_same a.rows b.rows heavier.tree parent) at (weighted b vb (mosts a va.tree) parent)
+  more_weighted = rw (children_same a.rows b.rows heavier.tree parent) at
+      (weighted b vb (mosts a va.tree) parent)
 
   before_split : IsBestSplit (get_or xs parent 0) (child_weights a.rows parent)
       (map (slice_index (mosts a va.tree)) (children_of a.rows parent))
@@ -102,7 +110,8 @@ module _ (a b : Groups) (group parent : ℕ) (xs ys : List ℕ) (va : IsInstance
       (map (slice_index (mosts a va.tree)) (children_of a.rows parent))
       (map (slice_index ys) (children_of a.rows parent))
   after_split = rw same_parent at
-      (split_over a b va vb heavier.tree (mosts a va.tree) (mosts b vb.tree) xs ys (planned a va xs is_plan) (planned b vb ys is_other) parent parent_in inner
+      (split_over a b va vb heavier.tree (mosts a va.tree) (mosts b vb.tree) xs ys
+      (planned a va xs is_plan) (planned b vb ys is_other) parent parent_in inner
       (λ s s_in e. most_same s s_in))
 
   gained : (slice_index (map (slice_index xs) (children_of a.rows parent)) place.0

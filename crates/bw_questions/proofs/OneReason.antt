@@ -7,7 +7,8 @@ use Rattle.bw_model.specs.Plan.{IsPlan}
 use Rattle.bw_model.proofs.CallerLemmas.{strong}
 use Rattle.bw_demand.specs.Demands.{Demands, IsGathered}
 use Rattle.bw_questions.specs.declared.why.reason.Reason.{Reason}
-use Rattle.bw_questions.specs.declared.why.reason.Reason.TheVariants.{NothingAsked, AllWanted, OwnLimit}
+use Rattle.bw_questions.specs.declared.why.reason.Reason.TheVariants.{NothingAsked, AllWanted}
+use Rattle.bw_questions.specs.declared.why.reason.Reason.TheVariants.{OwnLimit}
 use Rattle.bw_questions.specs.declared.why.reason.Reason.TheVariants.{LimitAbove, HostFull}
 use Rattle.bw_questions.specs.Reasons.{IsBlamed, FitsReason}
 use Rattle.bw_questions.specs.Laws.{ThereIsOneReason}

@@ -2,7 +2,8 @@
 use Rattle.std.specs.Prelude.{ℕ, ◌<◌, ◌≤◌, List, length, codes}
 use Rattle.bw_model.specs.Groups.{Groups}
 use Rattle.bw_questions.specs.declared.guaranteed.fault.GuaranteeFault.{GuaranteeFault}
-use Rattle.bw_questions.specs.declared.guaranteed.fault.GuaranteeFault.TheVariants.{NotFound, OutOfMemory}
+use Rattle.bw_questions.specs.declared.guaranteed.fault.GuaranteeFault.TheVariants.{NotFound}
+use Rattle.bw_questions.specs.declared.guaranteed.fault.GuaranteeFault.TheVariants.{OutOfMemory}
 
 abbrev pub guarantee_fault_number : GuaranteeFault → ℕ
 guarantee_fault_number NotFound = 20

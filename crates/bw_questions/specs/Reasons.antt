@@ -3,7 +3,8 @@ use Rattle.std.specs.Prelude.{◌≡◌, ◌≢◌, ℕ, ◌<◌, List, length, 
 use Rattle.bw_model.specs.Groups.{Groups, is_under}
 use Rattle.bw_demand.specs.Demands.{Demands}
 use Rattle.bw_questions.specs.declared.why.reason.Reason.{Reason}
-use Rattle.bw_questions.specs.declared.why.reason.Reason.TheVariants.{NothingAsked, AllWanted, OwnLimit}
+use Rattle.bw_questions.specs.declared.why.reason.Reason.TheVariants.{NothingAsked, AllWanted}
+use Rattle.bw_questions.specs.declared.why.reason.Reason.TheVariants.{OwnLimit}
 use Rattle.bw_questions.specs.declared.why.reason.Reason.TheVariants.{LimitAbove, HostFull}
 
 -- The group to blame for another one's amount: from that one up, it is the first that gets all that

@@ -1,4 +1,4 @@
--- Law of one more level: an outer group around a group, which is its one child.
+-- Law of an outer group around a group, which is its one child.
 use Rattle.std.specs.Prelude.{◌≡◌, ℕ, ◌<◌, List, None, Some, length, insert, slice_index}
 use Rattle.std.specs.Prelude.{slice_set}
 use Rattle.bw_model.specs.declared.row.Row.{Row}

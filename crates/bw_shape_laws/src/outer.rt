@@ -1,4 +1,4 @@
-//! Law of one more level: an outer group around a group, which is its one child.
+//! Law of an outer group around a group, which is its one child.
 ghost use Rattle.bw_shape_laws.specs.Outer.{OuterGroupChangesNothing};
 
 /// Law: an outer group around a group has what the group has, and changes no other amount.

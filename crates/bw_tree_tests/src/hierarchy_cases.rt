@@ -113,7 +113,7 @@ static BUILDERS: [Build; 22] = [
     Build::Makes("t//u", None, None, None, 22),
     Build::Makes("t/u", None, Some(999), None, 13),
     Build::Makes("t/u", None, Some(1_000_000_000_000_001), None, 14),
-    // a group on the 65th level
+    // a group at depth 65
     Build::Makes(
         "d/d/d/d/d/d/d/d/d/d/d/d/d/d/d/d/d/d/d/d/d/d/d/d/d/d/d/d/d/d/d/d/d/d/d/d/d/d/d/d/d/d/d/d/d/d/d/d/d/d/d/d/d/d/d/d/d/d/d/d/d/d/d/d/d",
         None,

@@ -24,7 +24,7 @@ use Rattle.bw_words.specs.Words.{Uses, is_end, job_named, run_job}
 use Rattle.bw_words.specs.declared.words.Job.{Job}
 use Rattle.bw_words.specs.declared.words.Job.TheVariants as job
 use Rattle.bw_words.proofs.RunWalk.{state}
-use Rattle.bw_words.proofs.RunFaults.{built_app, names}
+use Rattle.bw_words.proofs.RunFaults.{built_app, faults_behind, names}
 use Rattle.bw_words.proofs.Refused.{RefusesWords, is_fault, contra, or_none, fault_left}
 use Rattle.bw_words.proofs.Refused.{fault_right, turn_of, trails, fault_at, long_fault_at}
 use Rattle.bw_words.proofs.Refused.{idle_other}
@@ -159,13 +159,7 @@ fault_below : (rest : List Text) → fault_of arbiter_app (codes "check" ∷ res
     ≡ or_else (level_fault check_shape [] nothing_held rest false []) []
 unfolding clap_on_literals
 fault_below rest =
-    ap₂ (λ (w : Walk) (k : Kinds).
-    or_else k (or_else (entered_fault built_app w.stopped)
-    (or_else (settle_fault built_app.top.rules false w.held)
-    (or_else (defaults_fault (settled built_app.top.rules w.held).rows built_app.top.rules)
-    (check_fault built_app.top (finished built_app.top.rules w.held)
-    (is_some (entered built_app w.stopped)))))))
-    (walk_check rest) (top_check rest)
+    ap₂ faults_behind (walk_check rest) (top_check rest)
 
 check_ends : (rest : List Text) → fault_of arbiter_app (codes "check" ∷ rest) ≡ []
     → is_end rest ≡ true

@@ -14,7 +14,7 @@ use Rattle.bw_words.specs.Found.{HasNumbers}
 use Rattle.bw_words.specs.Words.{Uses, job_named, run_job, uses_after}
 use Rattle.bw_words.specs.declared.words.Job.{Job}
 use Rattle.bw_words.specs.declared.words.Job.TheVariants as job
-use Rattle.bw_words.proofs.RunFaults.{at_start, built_app, run_reads, run_shape, top_run, walk_run}
+use Rattle.bw_words.proofs.RunFaults.{at_start, faults_behind, run_reads, run_shape, top_run, walk_run}
 use Rattle.bw_words.proofs.Refused.{or_none}
 use Rattle.bw_words.proofs.Sound.{run_refuses, sounds}
 use Rattle.bw_words.proofs.Named.{named_gives}
@@ -23,13 +23,7 @@ fault_below : (rest : List Text) → fault_of arbiter_app (codes "run" ∷ rest)
     ≡ or_else (level_fault run_shape [] nothing_held rest false []) []
 unfolding clap_on_literals
 fault_below rest =
-    ap₂ (λ (w : Walk) (k : Kinds).
-    or_else k (or_else (entered_fault built_app w.stopped)
-    (or_else (settle_fault built_app.top.rules false w.held)
-    (or_else (defaults_fault (settled built_app.top.rules w.held).rows built_app.top.rules)
-    (check_fault built_app.top (finished built_app.top.rules w.held)
-    (is_some (entered built_app w.stopped)))))))
-    (walk_run rest) (top_run rest)
+    ap₂ faults_behind (walk_run rest) (top_run rest)
 
 run_named : (rest : List Text) → fault_of arbiter_app (codes "run" ∷ rest) ≡ []
     → (g : Uses) × (uses_after [] None rest ≡ Some g)

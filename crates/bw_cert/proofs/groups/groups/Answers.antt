@@ -1,22 +1,18 @@
 -- The goals of `groups` that are answered by hand.
-use Rattle.std.proofs.Common.{map, sym, rules}
+use Rattle.std.proofs.Common.{sym, rules}
 use Rattle.std.specs.Option.{option_map}
 use Rattle.std.proofs.lemmas.Result.{err_from_is_err_and}
 use Rattle.std.proofs.lemmas.List.{map_push}
 use Rattle.bw_model.specs.Marks.{price_of}
-use Rattle.bw_cert.specs.Spelling.{Columns, text_lines}
+use Rattle.bw_cert.specs.Spelling.{text_lines}
 use Rattle.bw_cert.specs.Reading.{groups_at, group_view}
-use Rattle.bw_cert.proofs.Loop.{goes_on, group_ends, is_done}
+use Rattle.bw_cert.proofs.Loop.{columns_read, goes_on, group_ends, is_done}
 use Rattle.bw_cert.proofs.groups.groups.Goals as goal
 
 pub returns-in_err-next : goal.returns-in_err-next
 returns-in_err-next c =
-    let front : Columns = record {
-      rows = c.loop.rows.items;
-      amounts = c.loop.amounts.items;
-      flags = c.loop.tight.items;
-      levels = map (option_map price_of) c.loop.levels.items;
-    } in
+    let front = columns_read c.loop.rows.items c.loop.amounts.items c.loop.tight.items
+    c.loop.levels.items in
     let p = err_from_is_err_and c.from_residual-in_err-next.result
     c.from_residual-in_err-next.ensures.1 in
     rw (p.1, p.2)
@@ -27,12 +23,8 @@ returns-in_err-next c =
 
 pub loop-preserved : goal.loop-preserved
 loop-preserved c =
-    let front : Columns = record {
-      rows = c.loop.rows.items;
-      amounts = c.loop.amounts.items;
-      flags = c.loop.tight.items;
-      levels = map (option_map price_of) c.loop.levels.items;
-    } in
+    let front = columns_read c.loop.rows.items c.loop.amounts.items c.loop.tight.items
+    c.loop.levels.items in
     record {
       read = rw (
         c.push_reserved.ensures.items,
@@ -57,11 +49,7 @@ loop-preserved c =
 
 pub returns : goal.returns
 returns c =
-    let front : Columns = record {
-      rows = c.loop.rows.items;
-      amounts = c.loop.amounts.items;
-      flags = c.loop.tight.items;
-      levels = map (option_map price_of) c.loop.levels.items;
-    } in
+    let front = columns_read c.loop.rows.items c.loop.amounts.items c.loop.tight.items
+    c.loop.levels.items in
     is_done front c.args.count c.loop.counter (text_lines c.loop.rest.now)
     (groups_at c.args.count (text_lines c.args.text.now)) c.loop-test.false c.loop.invariant.read

@@ -1,5 +1,6 @@
 -- What every call keeps that each change of a tree keeps.
-use Rattle.std.proofs.Common.{ℕ, Bool, true, false, cond, not, List, [], ◌∷◌, Option, Some, None}
+use Rattle.std.proofs.Common.{◌≡◌, ℕ, Bool, true, false, cond, not, List, [], ◌∷◌, Option, Some}
+use Rattle.std.proofs.Common.{None, refl}
 use Rattle.std.specs.Prelude.{Result, Ok, Err, IfOk, ℤ}
 use Rattle.std.specs.Path.{rsplit_once}
 use Rattle.bw_text.specs.Words.{words}
@@ -8,7 +9,8 @@ use Rattle.bw_model.specs.declared.quota.Quota.{Quota}
 use Rattle.bw_tree.specs.Groups.{GroupFields, TreeState, group_at, has_group, find_path}
 use Rattle.bw_tree.specs.Snapshot.{carried_over}
 use Rattle.bw_tree.specs.Tree.{mkdir_refusal, rmdir_refusal, demand_refusal, with_group}
-use Rattle.bw_tree.specs.Tree.{with_setting, set_weight, set_max, set_burst, set_demand, without_group}
+use Rattle.bw_tree.specs.Tree.{with_setting, set_weight, set_max, set_burst, set_demand}
+use Rattle.bw_tree.specs.Tree.{without_group}
 use Rattle.bw_tree.specs.declared.fault.TreeFault.{TreeFault}
 use Rattle.bw_tree.specs.declared.fault.TreeFault.TheVariants.{NotFound}
 use Rattle.bw_files.specs.Reading.{weight_in, weight_of, max_of, burst_of}
@@ -50,21 +52,48 @@ pub any_ok : {A B : Type 0} (Q : B → Type 0) (r : Result A Fault) (f : A → R
 any_ok Q (Ok x) f next = next x
 any_ok Q (Err fault) f next = tt
 
-fitting_ok : {A : Type 0} (Q : A → Type 0) (burst : ℕ) (quota : Quota) (x : A) → Q x
-    → IfOk (fitting burst quota x) Q
-fitting_ok Q burst quota x q = by (is_above burst quota)
+fitting_ok : {A : Type 0} (Q : A → Type 0) (burst : ℕ) (quota : Quota) (x : A)
+    → (is_above burst quota ≡ false → Q x) → IfOk (fitting burst quota x) Q
+fitting_ok Q burst quota x h = by (is_above burst quota) refl
   where
-    by : (b : Bool) → IfOk (cond b (Err BurstAboveQuota) (Ok x)) Q
-    by true = tt
-    by false = q
+    by : (b : Bool) → is_above burst quota ≡ b
+        → IfOk (cond b (Err BurstAboveQuota) (Ok x)) Q
+    by true e = tt
+    by false e = h e
 
--- what a new group, a setting, a removal and a period keep
+-- what a new group, each setting, a removal and a period keep
 pub record IsKept (P : TreeState → Type 0) : Type 0 where
   pub made : (t : TreeState) (parent : ℕ) (name : List ℕ) → P t → P (with_group t parent name)
-  pub set : (f : GroupFields → GroupFields) (t : TreeState) (id : ℕ) → P t → P (with_setting f t id)
+  pub weighed : (w : ℕ) (t : TreeState) (id : ℕ) → P t → P (with_setting (set_weight w) t id)
+  pub demanded : (demand : ℕ) (t : TreeState) (id : ℕ) → P t
+      → P (with_setting (set_demand demand) t id)
+  -- a limit that the group's burst fits, and a burst that fits its limit
+  pub limited : (quota : Quota) (period : Option ℕ) (t : TreeState) (id : ℕ)
+      → is_above (burst_at (group_at t.groups id)) quota ≡ false → P t
+      → P (with_setting (set_max quota period) t id)
+  pub burst : (n : ℕ) (t : TreeState) (id : ℕ)
+      → is_above n (quota_at (group_at t.groups id)) ≡ false → P t
+      → P (with_setting (set_burst n) t id)
   pub removed : (t : TreeState) (id : ℕ) → P t → P (without_group t id)
   pub carried : (t : TreeState) (rows : List Row) (drawn : List ℕ) → P t
       → P (carried_over t rows drawn)
+
+-- the same of what any setting keeps
+pub kept_by_any_setting : (P : TreeState → Type 0)
+    → ((t : TreeState) (parent : ℕ) (name : List ℕ) → P t → P (with_group t parent name))
+    → ((f : GroupFields → GroupFields) (t : TreeState) (id : ℕ) → P t → P (with_setting f t id))
+    → ((t : TreeState) (id : ℕ) → P t → P (without_group t id))
+    → ((t : TreeState) (rows : List Row) (drawn : List ℕ) → P t → P (carried_over t rows drawn))
+    → IsKept P
+kept_by_any_setting P made set removed carried = record {
+  made = made;
+  weighed = λ w. set (set_weight w);
+  demanded = λ demand. set (set_demand demand);
+  limited = λ quota period t id fits. set (set_max quota period) t id;
+  burst = λ n t id fits. set (set_burst n) t id;
+  removed = removed;
+  carried = carried;
+}
 
 module _ (P : TreeState → Type 0) (kept : IsKept P) where
   abbrev Made : ℕ × TreeState → Type 0
@@ -77,7 +106,7 @@ module _ (P : TreeState → Type 0) (kept : IsKept P) where
       unless_ok Made (mkdir_refusal t parent name) (t.next, with_group t parent name)
       (kept.made t parent name p)
 
-  mkdir_keeps : (t : TreeState) (path : List ℕ) → P t → IfOk (mkdir_of t path) Made
+  pub mkdir_keeps : (t : TreeState) (path : List ℕ) → P t → IfOk (mkdir_of t path) Made
   mkdir_keeps t path p = by (rsplit_once 47 path)
     where
       by : (o : Option (List ℕ × List ℕ)) → IfOk (mkdir_split t o path) Made
@@ -89,13 +118,13 @@ module _ (P : TreeState → Type 0) (kept : IsKept P) where
 
   shares_keeps : (t : TreeState) (id n : ℕ) → P t → IfOk (set_shares_of t id n) P
   shares_keeps t id n p = any_ok P (setting t id) _
-      (λ g. any_ok P (from_file (weight_in n)) _ (λ w. kept.set (set_weight w) t id p))
+      (λ g. any_ok P (from_file (weight_in n)) _ (λ w. kept.weighed w t id p))
 
   max_keeps : (t : TreeState) (id : ℕ) (quota : Quota) (period : Option ℕ) → P t
       → IfOk (max_set t id quota period) P
   max_keeps t id quota period p =
       fitting_ok P (burst_at (group_at t.groups id)) quota
-      (with_setting (set_max quota period) t id) (kept.set (set_max quota period) t id p)
+      (with_setting (set_max quota period) t id) (λ fits. kept.limited quota period t id fits p)
 
   cfs_keeps : (t : TreeState) (id : ℕ) (quota : Option ℤ) (period : Option ℕ) → P t
       → IfOk (set_cfs_of t id quota period) P
@@ -106,12 +135,12 @@ module _ (P : TreeState → Type 0) (kept : IsKept P) where
   file_keeps : (t : TreeState) (id : ℕ) (text : List ℕ) (file : GroupFile) → P t
       → IfOk (file_write t id text file) P
   file_keeps t id text Weight p = any_ok P (from_file (weight_of (words text))) _
-      (λ w. kept.set (set_weight w) t id p)
+      (λ w. kept.weighed w t id p)
   file_keeps t id text Max p = any_ok P (from_file (max_of (words text))) _
       (λ (m : MaxWrite). max_keeps t id m.quota m.period p)
   file_keeps t id text MaxBurst p = any_ok P (from_file (burst_of (words text))) _
       (λ n. fitting_ok P n (quota_at (group_at t.groups id))
-      (with_setting (set_burst n) t id) (kept.set (set_burst n) t id p))
+      (with_setting (set_burst n) t id) (λ fits. kept.burst n t id fits p))
   file_keeps t id text Stat p = tt
 
   at_keeps : (t : TreeState) (id : ℕ) (name text : List ℕ) → P t
@@ -123,7 +152,7 @@ module _ (P : TreeState → Type 0) (kept : IsKept P) where
       by false = tt
       by true = any_ok P (file_of id (file_named name)) _ (λ file. file_keeps t id text file p)
 
-  write_keeps : (t : TreeState) (path file text : List ℕ) → P t
+  pub write_keeps : (t : TreeState) (path file text : List ℕ) → P t
       → IfOk (write_of t path file text) P
   write_keeps t path file text p = any_ok P (found_at t path) _ (λ id. at_keeps t id file text p)
 
@@ -166,18 +195,26 @@ module _ (P : TreeState → Type 0) (kept : IsKept P) where
       (with_books (with_tree h (without_group h.tree id)) (forgotten h.books id))
       (kept.removed h.tree id p)
 
+  pub rmdir_keeps : (h : HierarchyState) (path : List ℕ) → P h.tree
+      → IfOk (rmdir_of h path) (λ after. P after.tree)
+  rmdir_keeps h path p = any_ok Holds (found_at h.tree path) (delete_of h)
+      (λ id. deleted_keeps h id p)
+
+  pub demand_keeps : (h : HierarchyState) (path : List ℕ) (demand : ℕ) → P h.tree
+      → IfOk (demand_set_of h path demand) (λ after. P after.tree)
+  demand_keeps h path demand p = any_ok Holds (found_at h.tree path) _
+      (λ id. unless_ok Holds (demand_refusal h.tree id demand)
+      (with_tree h (with_setting (set_demand demand) h.tree id))
+      (kept.demanded demand h.tree id p))
+
   -- any call
   pub called_keeps : (h : HierarchyState) (c : Call) → P h.tree
       → IfOk (called h c) (λ after. P after.tree)
   called_keeps h (Mkdir path) p =
       then_ok Made Holds (mkdir_of h.tree path) _ (mkdir_keeps h.tree path p) (λ made still. still)
-  called_keeps h (Rmdir path) p = any_ok Holds (found_at h.tree path) (delete_of h)
-      (λ id. deleted_keeps h id p)
+  called_keeps h (Rmdir path) p = rmdir_keeps h path p
   called_keeps h (Delete id) p = deleted_keeps h id p
-  called_keeps h (SetDemand path demand) p = any_ok Holds (found_at h.tree path) _
-      (λ id. unless_ok Holds (demand_refusal h.tree id demand)
-      (with_tree h (with_setting (set_demand demand) h.tree id))
-      (kept.set (set_demand demand) h.tree id p))
+  called_keeps h (SetDemand path demand) p = demand_keeps h path demand p
   called_keeps h (WriteFile path file text) p =
       then_ok P Holds (write_of h.tree path file text) _ (write_keeps h.tree path file text p)
       (λ t still. still)
