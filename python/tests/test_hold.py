@@ -133,7 +133,7 @@ def test_headroom_own_limits_and_a_burst(folder, engine):
 
 
 def test_inner_limits_and_rounding_up(folder, engine, capsys):
-    """A group with children keeps its limit. A leaf without a slice gets 1 ms, told once."""
+    """A group with children keeps its limit. A leaf planned no slice gets 1 ms, told once."""
     world = World(folder, [("in", 10000, "40000 100000"), ("in/x", 100, FREE), ("z", 1, FREE)])
 
     def step():
@@ -148,12 +148,12 @@ def test_inner_limits_and_rounding_up(folder, engine, capsys):
     assert lines[0][1]["z"] == "160000 100000"
     world = World(folder / "two", [("y", 10000, FREE), ("z", 1, FREE)])
 
-    def idle():
+    def starved():
         world.uses("y", 200, waited=10**6)
-        world.uses("z", 0)
+        world.uses("z", 0, waited=10**6)
 
     loop = world.loop(engine, folder / "undo2")
-    assert world.run(loop, idle, idle)[1][1]["z"] == "1000 100000"
+    assert world.run(loop, starved, starved)[1][1]["z"] == "1000 100000"
     assert capsys.readouterr().err.count("z: a limit below 1 ms is rounded up to it") == 1
 
 

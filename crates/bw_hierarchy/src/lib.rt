@@ -8,6 +8,7 @@ mod fault;
 mod files;
 mod group_file;
 mod hierarchy;
+mod keys;
 mod laws;
 mod settings;
 
@@ -16,4 +17,5 @@ pub use cgroup::{Cgroup, CpuController, KeptCgroup};
 pub use fault::Fault;
 pub use group_file::{GroupFile, file_named};
 pub use hierarchy::Hierarchy;
+pub use keys::fixed_keys;
 pub use laws::{bursts_are_within_quotas, write_changes_one_value};

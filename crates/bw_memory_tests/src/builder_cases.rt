@@ -1,6 +1,5 @@
 //! The builder, which copies the tree before it changes it.
-use crate::known_keys::known_keys;
-use bw_hierarchy::{CgroupBuilder, Fault, Hierarchy};
+use bw_hierarchy::{CgroupBuilder, Fault, Hierarchy, fixed_keys};
 use bw_model::HostShape;
 use bw_tree::TreeFault;
 use std::alloc::Global;
@@ -9,7 +8,7 @@ use std::test::Fail;
 
 fn new_hierarchy(alloc: Global) -> Result<Hierarchy, Fail> {
     let shape = HostShape::new(1, 100_000, 5_000)?;
-    let keys = known_keys()?;
+    let keys = fixed_keys()?;
     match Hierarchy::new(alloc, keys, shape) {
         Err(_) => Ok(Hierarchy::new(alloc, keys, shape)?),
         Ok(hierarchy) => Ok(hierarchy),

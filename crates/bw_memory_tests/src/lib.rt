@@ -17,8 +17,6 @@ mod hold_cases;
 #[cfg(test)]
 mod instances;
 #[cfg(test)]
-mod known_keys;
-#[cfg(test)]
 mod least_cases;
 #[cfg(test)]
 mod name_cases;

@@ -23,7 +23,8 @@ pub use Rattle.bw_model.proofs.allocation.Reach.{capped, joined, joined_at, leng
 pub use Rattle.bw_model.proofs.allocation.Reach.{joined_zero, total-joined, capped_le_want}
 pub use Rattle.bw_model.proofs.allocation.Reach.{most_le_want, most_le_limit}
 pub use Rattle.bw_model.proofs.allocation.Reach.{reached, capped-IsMost}
-pub use Rattle.bw_model.proofs.plan.Planned.{parent_not_leaf, tight-bound_at, planned-IsPlan}
+pub use Rattle.bw_model.proofs.plan.Planned.{parent_not_leaf, part_le_most, tight-bound_at}
+pub use Rattle.bw_model.proofs.plan.Planned.{planned-IsPlan}
 pub use Rattle.bw_model.proofs.allocation.DemandOutside.{any-ap, above-top, above-child}
 pub use Rattle.bw_model.proofs.allocation.DemandOutside.{demand_outside-is}
 pub use Rattle.bw_model.proofs.allocation.Limiting.{limited_total-is, limited-IsGreatestTotal}

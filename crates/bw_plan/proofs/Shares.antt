@@ -23,7 +23,7 @@ use Rattle.bw_plan.specs.Shared.{IsShared, IsPlanning, CanShare, AreParts, IsGiv
 use Rattle.bw_plan.proofs.NoSearchNeeded.{given-IsShared, given-leaf}
 use Rattle.bw_model.proofs.CallerLemmas.{capacity_le, parent_lt, is_child_no, parent_from_is_child}
 use Rattle.bw_model.proofs.CallerLemmas.{child_at, get_or-map, same_map, listed_child}
-use Rattle.bw_model.proofs.CallerLemmas.{parent_not_leaf, planned-IsPlan, capped, most_le_want}
+use Rattle.bw_model.proofs.CallerLemmas.{parent_not_leaf, part_le_most, planned-IsPlan, capped, most_le_want}
 use Rattle.bw_model.proofs.CallerLemmas.{most_le_limit, zeros}
 use Rattle.bw_demand.proofs.CallerLemmas.{passing_few}
 use Rattle.std.proofs.lemmas.Option.{same_Some}
@@ -140,20 +140,10 @@ module _ (groups : Groups) (valid : IsInstance groups) (most : List ℕ)
     | inr lower ↦
         let known : (p : ℕ) × (parent_of groups.rows h ≡ Some p) × (p < h) =
         valid.tree.parent_before h (omega (arith, lower)) below in
-        let cs : List ℕ = children_of groups.rows known.0 in
-        let here : (k : ℕ) × (k < length cs) × (get_or cs k 0 ≡ h) =
-        listed_child groups.rows known.0 h below known.1 in
         let up : known.0 < length groups.rows = omega (arith, known.2, below) in
-        let parts : length (map (slice_index amounts) cs) ≡ length cs =
-        length-map cs (slice_index amounts) in
-        let w = (so_far.splits known.0 up (above known.0 known.1)
-        (parent_not_leaf groups.rows known.0 h below known.1)).split.within here.0
-        (omega (arith, here.1, parts)) in
-        let v = rw (
-          get_or-map (slice_index amounts) cs here.0 here.1,
-          get_or-map (slice_index most) cs here.0 here.1,
-        ) at w in
-        rw here.2 at v
+        part_le_most groups.rows amounts most known.0 h below known.1
+        (so_far.splits known.0 up (above known.0 known.1)
+        (parent_not_leaf groups.rows known.0 h below known.1)).split.within
   ]
 
   -- and at most what its children can be given

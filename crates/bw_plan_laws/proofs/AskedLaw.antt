@@ -10,7 +10,7 @@ use Rattle.bw_model.specs.Groups.{demand_of, limit_of}
 use Rattle.bw_model.specs.Demand.{want_of}
 use Rattle.bw_model.specs.Plan.{IsPlan, child_weights}
 use Rattle.bw_model.specs.Split.{IsBestSplit}
-use Rattle.bw_model.proofs.CallerLemmas.{strong, from_the_last, capped, mosts, mosts-capped}
+use Rattle.bw_model.proofs.CallerLemmas.{from_the_last, capped, mosts, mosts-capped}
 use Rattle.bw_model.proofs.CallerLemmas.{parent_lt, parent_not_leaf, listed_child, child_at}
 use Rattle.bw_model.proofs.CallerLemmas.{IsBestSplit-unique, capped_le_want}
 use Rattle.bw_plan_laws.specs.Asked.{IsBusier, DemandOnlyCuts}
@@ -22,7 +22,8 @@ use Rattle.bw_plan_laws.proofs.HostLaws.{mosts_less, sums_less}
 use Rattle.bw_plan_laws.proofs.Lacking.{within_most}
 use Rattle.bw_plan_laws.proofs.RoomLaw.{more_room_takes}
 use Rattle.bw_plan_laws.proofs.Siblings.{no_less_at}
-use Rattle.bw_plan_laws.proofs.Trees.{planned, split_beside, at_place, at_children, leaf_same}
+use Rattle.bw_plan_laws.proofs.Trees.{from_the_root, planned, split_beside, at_place, at_children}
+use Rattle.bw_plan_laws.proofs.Trees.{leaf_same}
 
 -- What is within a want and within the limit of another want is within the limit of the want.
 within_capped : (limit : Option ℕ) (want greater amount : ℕ) → amount ≤ want
@@ -145,22 +146,15 @@ module _ (a b : Groups) (xs ys : List ℕ) (va : IsInstance a) (vb : IsInstance 
       ∙ at_place a.rows xs p place.0 c place.1 place.2
 
   pub unused : (h : ℕ) → h < length a.rows → get_or ys h 0 ≡ get_or xs h 0
-  unused = strong (λ h. h < length a.rows → get_or ys h 0 ≡ get_or xs h 0)
-      (λ h before below. elim (cases_eq h 0) [
-        | inl root ↦ rw root
-            (omega (
-              arith,
-              (planned a va xs is_plan).top,
-              (planned b vb ys is_other).top,
-              below_most 0 va.tree.has_root,
-              most_less 0 va.tree.has_root,
-            ))
-        | inr deeper ↦
-            let known : (p : ℕ) × (parent_of a.rows h ≡ Some p) × (p < h) =
-            va.tree.parent_before h (omega (arith, deeper)) below in
-            step h known.0 below known.1
-            (before known.0 known.2 (omega (arith, known.2, below)))
-      ])
+  unused = from_the_root a.rows va.tree (λ h. get_or ys h 0 ≡ get_or xs h 0)
+      (omega (
+        arith,
+        (planned a va xs is_plan).top,
+        (planned b vb ys is_other).top,
+        below_most 0 va.tree.has_root,
+        most_less 0 va.tree.has_root,
+      ))
+      (λ h p below up same. step h p below up same)
 
 -- No leaf has more than it asks for.
 pub within_demand : (groups : Groups) (valid : IsInstance groups) (amounts : List ℕ)

@@ -2,7 +2,7 @@
 use Rattle.std.proofs.Common.{◌≡◌, ℕ, ◌<◌, ◌≤◌, ◌⊎◌, List, Option, true, false, None, Some, length}
 use Rattle.std.proofs.Common.{get_or, refl, ap, sym, ◌∙◌, arith, inl, inr, eqb}
 use Rattle.std.specs.Prelude.{map, min, sum, slice_index}
-use Rattle.std.proofs.lemmas.Bool.{cases_eq, cases_lt, or_right}
+use Rattle.std.proofs.lemmas.Bool.{cases_lt, or_right}
 use Rattle.std.proofs.lemmas.List.{length-map}
 use Rattle.std.proofs.lemmas.List.Sums.{sum-map}
 use Rattle.bw_model.specs.Groups.{Groups, IsInstance, parent_of, children_of, is_leaf, weight_of}
@@ -10,7 +10,7 @@ use Rattle.bw_model.specs.Groups.{limit_of, demand_of, is_under, sum_of_children
 use Rattle.bw_model.specs.Demand.{want_of}
 use Rattle.bw_model.specs.Plan.{IsPlan, child_weights}
 use Rattle.bw_model.specs.Split.{IsBestSplit}
-use Rattle.bw_model.proofs.CallerLemmas.{strong, from_the_last, capped, mosts, mosts-capped}
+use Rattle.bw_model.proofs.CallerLemmas.{from_the_last, capped, mosts, mosts-capped}
 use Rattle.bw_model.proofs.CallerLemmas.{parent_lt, parent_not_leaf, listed_child}
 use Rattle.bw_model.proofs.CallerLemmas.{is_under-self, is_under-step}
 use Rattle.bw_split_laws.proofs.CallerLemmas.{find_greater}
@@ -19,7 +19,7 @@ use Rattle.bw_plan_laws.specs.Host.{IsRoomier}
 use Rattle.bw_plan_laws.specs.Room.{OthersDemandsGiveNothing}
 use Rattle.bw_plan_laws.proofs.Above.{parent_above}
 use Rattle.bw_plan_laws.proofs.Lacking.{within_most, no_more_below}
-use Rattle.bw_plan_laws.proofs.Trees.{planned, want_same, at_place}
+use Rattle.bw_plan_laws.proofs.Trees.{from_the_root, planned, want_same, at_place}
 
 -- What a limit cuts below another want is not cut.
 pub uncut : (limit : Option ℕ) (want greater : ℕ) → capped limit want < capped limit greater
@@ -68,6 +68,29 @@ all_full parts most long within whole = elim (find_greater most parts (sym long)
       absurd (omega (arith, clash, found.2))
 ]
 
+-- The children of a group that has all that they can be given have their mosts.
+pub child_full : (a : Groups) (va : IsInstance a) (xs : List ℕ) → IsPlan a xs → (c p : ℕ)
+    → c < length a.rows → parent_of a.rows c ≡ Some p
+    → sum (map (slice_index (mosts a va.tree)) (children_of a.rows p)) ≤ get_or xs p 0
+    → get_or xs c 0 ≡ get_or (mosts a va.tree) c 0
+child_full a va xs is_plan c p c_in e enough =
+    let p_in : p < length a.rows = omega (arith, parent_lt a.rows va.tree c p e, c_in) in
+    let inner : is_leaf a.rows p ≡ false = parent_not_leaf a.rows p c c_in e in
+    let spot : (k : ℕ) × (k < length (children_of a.rows p))
+    × (get_or (children_of a.rows p) k 0 ≡ c) = listed_child a.rows p c c_in e in
+    let split : IsBestSplit (get_or xs p 0) (child_weights a.rows p)
+    (map (slice_index (mosts a va.tree)) (children_of a.rows p))
+    (map (slice_index xs) (children_of a.rows p)) =
+    (planned a va xs is_plan).splits p p_in refl inner in
+    let same : map (slice_index (mosts a va.tree)) (children_of a.rows p)
+    ≡ map (slice_index xs) (children_of a.rows p) =
+    all_full (map (slice_index xs) (children_of a.rows p))
+    (map (slice_index (mosts a va.tree)) (children_of a.rows p)) split.split.lengths
+    split.split.within (omega (arith, split.split.whole, enough)) in
+    sym (at_place a.rows xs p spot.0 c spot.1 spot.2)
+    ∙ ap (λ list. get_or list spot.0 0) (sym same)
+    ∙ at_place a.rows (mosts a va.tree) p spot.0 c spot.1 spot.2
+
 module _ (a b : Groups) (group : ℕ) (xs ys : List ℕ) (va : IsInstance a) (vb : IsInstance b)
     (busier : IsBusier a b) (is_plan : IsPlan a xs) (is_other : IsPlan b ys) where
   pub roomier : IsRoomier a b
@@ -110,51 +133,28 @@ module _ (a b : Groups) (group : ℕ) (xs ys : List ℕ) (va : IsInstance a) (vb
   step_full c p c_in e more full =
       let p_in : p < length a.rows = omega (arith, parent_lt a.rows va.tree c p e, c_in) in
       let inner : is_leaf a.rows p ≡ false = parent_not_leaf a.rows p c c_in e in
-      let spot : (k : ℕ) × (k < length (children_of a.rows p))
-      × (get_or (children_of a.rows p) k 0 ≡ c) = listed_child a.rows p c c_in e in
-      let split : IsBestSplit (get_or xs p 0) (child_weights a.rows p)
-      (map (slice_index (mosts a va.tree)) (children_of a.rows p))
-      (map (slice_index xs) (children_of a.rows p)) =
-      (planned a va xs is_plan).splits p p_in refl inner in
-      let same : map (slice_index (mosts a va.tree)) (children_of a.rows p)
-      ≡ map (slice_index xs) (children_of a.rows p) =
-      all_full (map (slice_index xs) (children_of a.rows p))
-      (map (slice_index (mosts a va.tree)) (children_of a.rows p)) split.split.lengths
-      split.split.within
-      (omega (
-        arith,
-        split.split.whole,
-        full,
-        uncut_most a b va vb p p_in (omega (arith, p_in, busier.tree.as_many)) (busier.limits p)
-            inner (omega (arith, more, full, within_b p p_in)),
-      )) in
-      sym (at_place a.rows xs p spot.0 c spot.1 spot.2)
-      ∙ ap (λ list. get_or list spot.0 0) (sym same)
-      ∙ at_place a.rows (mosts a va.tree) p spot.0 c spot.1 spot.2
+      let whole = uncut_most a b va vb p p_in (omega (arith, p_in, busier.tree.as_many))
+      (busier.limits p) inner (omega (arith, more, full, within_b p p_in)) in
+      child_full a va xs is_plan c p c_in e (omega (arith, full, whole))
 
   no_more : (h : ℕ) → h < length a.rows → is_under a.rows h group ≡ true → NoMore h
   unfolding NoMore
-  no_more = strong
-      (λ h. h < length a.rows → is_under a.rows h group ≡ true
+  no_more = from_the_root a.rows va.tree
+      (λ h. is_under a.rows h group ≡ true
       → (get_or ys h 0 ≤ get_or xs h 0) ⊎ (get_or xs h 0 ≡ get_or (mosts a va.tree) h 0))
-      (λ h before below under. elim (cases_eq h 0) [
-        | inl root ↦ inr (rw root (planned a va xs is_plan).top)
-        | inr deeper ↦
-            let known : (p : ℕ) × (parent_of a.rows h ≡ Some p) × (p < h) =
-            va.tree.parent_before h (omega (arith, deeper)) below in
-            elim (cases_lt (get_or xs h 0) (get_or (mosts a va.tree) h 0)) [
-              | inr full ↦ inr (omega (arith, full, within_most a va xs is_plan h below))
-              | inl room ↦ elim (cases_lt (get_or xs known.0 0) (get_or ys known.0 0)) [
-                | inr less ↦ inl
-                    (no_more_below a b va vb roomier busier.weights xs ys is_plan is_other h known.0
-                    below known.1 less room)
-                | inl more ↦ elim (before known.0 known.2 (omega (arith, known.2, below))
-                    (parent_above a.rows va.tree h known.0 known.1 group under)) [
-                      | inl less ↦ absurd (omega (arith, less, more))
-                      | inr full ↦ inr (step_full h known.0 below known.1 more full)
-                    ]
-              ]
-            ]
+      (λ under. inr (planned a va xs is_plan).top)
+      (λ h p below up known under.
+      elim (cases_lt (get_or xs h 0) (get_or (mosts a va.tree) h 0)) [
+        | inr full ↦ inr (omega (arith, full, within_most a va xs is_plan h below))
+        | inl room ↦ elim (cases_lt (get_or xs p 0) (get_or ys p 0)) [
+          | inr less ↦ inl
+              (no_more_below a b va vb roomier busier.weights xs ys is_plan is_other h p below up
+              less room)
+          | inl more ↦ elim (known (parent_above a.rows va.tree h p up group under)) [
+            | inl less ↦ absurd (omega (arith, less, more))
+            | inr full ↦ inr (step_full h p below up more full)
+          ]
+        ]
       ])
 
   -- A leaf has no more of what it asked for before.

@@ -7,6 +7,7 @@ pub use Rattle.bw_plan_laws.proofs.InsideLaw.{inside_stays}
 pub use Rattle.bw_plan_laws.proofs.RoomLaw.{more_room_takes}
 pub use Rattle.bw_plan_laws.proofs.Trees.{limit_below, children_same, leaf_same, at_children}
 pub use Rattle.bw_plan_laws.proofs.Trees.{at_place, weighted, planned, under_same, depth_same}
+pub use Rattle.bw_plan_laws.proofs.Trees.{from_the_root}
 pub use Rattle.bw_plan_laws.proofs.Lacking.{within_most}
 pub use Rattle.bw_plan_laws.proofs.OtherDemands.{AreAlike, same_tree, tree_kept, weights_same}
 pub use Rattle.bw_plan_laws.proofs.OtherDemands.{limits_same, other_demands-IsInstance}

@@ -10,18 +10,18 @@ use Rattle.bw_model.specs.Groups.{demand_of, limit_of, is_under, sum_of_children
 use Rattle.bw_model.specs.Demand.{want_of}
 use Rattle.bw_model.specs.Plan.{IsPlan, child_weights}
 use Rattle.bw_model.specs.Split.{IsBestSplit}
-use Rattle.bw_model.proofs.CallerLemmas.{strong, from_the_last, capped, mosts, mosts-capped}
+use Rattle.bw_model.proofs.CallerLemmas.{capped, mosts, mosts-capped}
 use Rattle.bw_model.proofs.CallerLemmas.{parent_lt, parent_not_leaf, listed_child, child_at}
 use Rattle.bw_model.proofs.CallerLemmas.{get_or-map, is_under-self}
 use Rattle.bw_split_laws.proofs.CallerLemmas.{find_greater}
 use Rattle.bw_plan_laws.specs.Cut.{LimitOnlyCuts}
 use Rattle.bw_plan_laws.specs.Room.{IsRoomierAt}
 use Rattle.bw_plan_laws.proofs.Above.{parent_above, one_above}
-use Rattle.bw_plan_laws.proofs.BusyLaw.{uncut_most, all_full}
+use Rattle.bw_plan_laws.proofs.BusyLaw.{uncut_most, child_full}
 use Rattle.bw_plan_laws.proofs.HostLaws.{mosts_less}
 use Rattle.bw_plan_laws.proofs.Lacking.{within_most, no_more_below}
 use Rattle.bw_plan_laws.proofs.RoomLaw.{more_room_takes, most_same}
-use Rattle.bw_plan_laws.proofs.Trees.{planned, want_same, split_beside, at_place, under_le}
+use Rattle.bw_plan_laws.proofs.Trees.{from_the_root, planned, want_same, split_beside, at_place, under_le}
 
 module _ (a b : Groups) (group : ℕ) (xs ys : List ℕ) (va : IsInstance a) (vb : IsInstance b)
     (more : IsRoomierAt a b group) (group_in : group < length a.rows) (is_plan : IsPlan a xs)
@@ -96,12 +96,6 @@ module _ (a b : Groups) (group : ℕ) (xs ys : List ℕ) (va : IsInstance a) (vb
       let less : p < c = parent_lt a.rows va.tree c p e in
       let p_in : p < length a.rows = omega (arith, less, c_in) in
       let inner : is_leaf a.rows p ≡ false = parent_not_leaf a.rows p c c_in e in
-      let spot : (k : ℕ) × (k < length (children_of a.rows p))
-      × (get_or (children_of a.rows p) k 0 ≡ c) = listed_child a.rows p c c_in e in
-      let split : IsBestSplit (get_or xs p 0) (child_weights a.rows p)
-      (map (slice_index (mosts a va.tree)) (children_of a.rows p))
-      (map (slice_index xs) (children_of a.rows p)) =
-      (planned a va xs is_plan).splits p p_in refl inner in
       let fits : get_or ys p 0 ≤ get_or (mosts b vb.tree) p 0 =
       within_most b vb ys is_other p (omega (arith, p_in, more.no_less.tree.as_many)) in
       let whole : get_or (mosts a va.tree) p 0
@@ -111,15 +105,8 @@ module _ (a b : Groups) (group : ℕ) (xs ys : List ℕ) (va : IsInstance a) (vb
       (λ same. let up : c ≤ group = under_le a.rows va.tree c group under in
       omega (arith, same, up, less)))
       inner (omega (arith, over, fits)) in
-      let same : map (slice_index (mosts a va.tree)) (children_of a.rows p)
-      ≡ map (slice_index xs) (children_of a.rows p) =
-      all_full (map (slice_index xs) (children_of a.rows p))
-      (map (slice_index (mosts a va.tree)) (children_of a.rows p)) split.split.lengths
-      split.split.within (omega (arith, split.split.whole, full, whole)) in
       let here : get_or xs c 0 ≡ get_or (mosts a va.tree) c 0 =
-      sym (at_place a.rows xs p spot.0 c spot.1 spot.2)
-      ∙ ap (λ list. get_or list spot.0 0) (sym same)
-      ∙ at_place a.rows (mosts a va.tree) p spot.0 c spot.1 spot.2 in
+      child_full a va xs is_plan c p c_in e (omega (arith, full, whole)) in
       omega (arith, here, no_less_than_most c p c_in e under (omega (arith, over, whole)))
 
   step_cut : (c p : ℕ) → c < length a.rows → parent_of a.rows c ≡ Some p
@@ -145,24 +132,17 @@ module _ (a b : Groups) (group : ℕ) (xs ys : List ℕ) (va : IsInstance a) (vb
 
   cut : (h : ℕ) → h < length a.rows → is_under a.rows h group ≡ true
       → get_or xs h 0 ≡ min (get_or ys h 0) (get_or (mosts a va.tree) h 0)
-  cut = strong
-      (λ h. h < length a.rows → is_under a.rows h group ≡ true
+  cut = from_the_root a.rows va.tree
+      (λ h. is_under a.rows h group ≡ true
       → get_or xs h 0 ≡ min (get_or ys h 0) (get_or (mosts a va.tree) h 0))
-      (λ h before below under. elim (cases_eq h 0) [
-        | inl root ↦ rw root
-            (omega (
-              arith,
-              (planned a va xs is_plan).top,
-              (planned b vb ys is_other).top,
-              mosts_less a b va vb more.no_less 0 va.tree.has_root,
-            ))
-        | inr deeper ↦
-            let known : (p : ℕ) × (parent_of a.rows h ≡ Some p) × (p < h) =
-            va.tree.parent_before h (omega (arith, deeper)) below in
-            step_cut h known.0 below known.1 under
-            (before known.0 known.2 (omega (arith, known.2, below))
-            (parent_above a.rows va.tree h known.0 known.1 group under))
-      ])
+      (λ under. omega (
+        arith,
+        (planned a va xs is_plan).top,
+        (planned b vb ys is_other).top,
+        mosts_less a b va vb more.no_less 0 va.tree.has_root,
+      ))
+      (λ h p below up so_far under.
+      step_cut h p below up under (so_far (parent_above a.rows va.tree h p up group under)))
 
   want_kept : demand_of b.rows group ≡ demand_of a.rows group
       → want_of b (mosts b vb.tree) group ≡ want_of a (mosts a va.tree) group

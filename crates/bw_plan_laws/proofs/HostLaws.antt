@@ -12,13 +12,13 @@ use Rattle.bw_model.specs.Host.{Shape, capacity_of}
 use Rattle.bw_model.specs.Demand.{want_of}
 use Rattle.bw_model.specs.Plan.{IsPlan, child_weights}
 use Rattle.bw_model.specs.Split.{IsBestSplit}
-use Rattle.bw_model.proofs.CallerLemmas.{strong, from_the_last, capped, mosts, mosts-capped}
+use Rattle.bw_model.proofs.CallerLemmas.{from_the_last, capped, mosts, mosts-capped}
 use Rattle.bw_model.proofs.CallerLemmas.{parent_lt, parent_not_leaf, listed_child, child_at}
 use Rattle.bw_plan.specs.Shared.{IsPlanning}
 use Rattle.bw_split_laws.proofs.CallerLemmas.{never_less}
 use Rattle.bw_plan_laws.specs.Tree.{IsSameTree}
 use Rattle.bw_plan_laws.specs.Host.{CapacityTakesNothing, IsRoomier, RaisedLimitsServeNoLess}
-use Rattle.bw_plan_laws.proofs.Trees.{planned, want_same, split_over, weighted, at_place, leaf_same}
+use Rattle.bw_plan_laws.proofs.Trees.{from_the_root, planned, want_same, split_over, weighted, at_place, leaf_same}
 use Rattle.bw_plan_laws.proofs.Trees.{children_same}
 
 less_capped : (limit greater want : ℕ) → limit ≤ greater → min want limit ≤ min want greater
@@ -137,15 +137,9 @@ module _ (rows : List Row) (shape greater : Shape)
         ) at less
 
     all_less : (g : ℕ) → g < length rows → get_or xs g 0 ≤ get_or ys g 0
-    all_less = strong (λ g. g < length rows → get_or xs g 0 ≤ get_or ys g 0)
-        (λ g before below. elim (cases_eq g 0) [
-          | inl root ↦ rw root (omega (arith, pa.top, pb.top, top_less))
-          | inr deeper ↦
-              let known : (p : ℕ) × (parent_of rows g ≡ Some p) × (p < g) =
-              va.tree.parent_before g (omega (arith, deeper)) below in
-              step g known.0 below known.1
-              (before known.0 known.2 (omega (arith, known.2, below)))
-        ])
+    all_less = from_the_root rows va.tree (λ g. get_or xs g 0 ≤ get_or ys g 0)
+        (omega (arith, pa.top, pb.top, top_less))
+        (λ g p below up less. step g p below up less)
 
 pub capacity_takes_nothing : CapacityTakesNothing
 capacity_takes_nothing rows shape greater xs ys va vb more is_plan is_other g below =

@@ -5,13 +5,14 @@ use Rattle.std.proofs.lemmas.Bool.{cases_eq}
 use Rattle.bw_model.specs.Groups.{Groups, IsInstance, parent_of, limit_of, is_under}
 use Rattle.bw_model.specs.Demand.{want_of}
 use Rattle.bw_model.specs.Plan.{IsPlan}
-use Rattle.bw_model.proofs.CallerLemmas.{strong, from_the_last, capped, AreMaxTotals-capped}
+use Rattle.bw_model.proofs.CallerLemmas.{from_the_last, capped, AreMaxTotals-capped}
 use Rattle.bw_model.proofs.CallerLemmas.{parent_lt}
 use Rattle.bw_plan.specs.Shared.{IsPlanning}
 use Rattle.bw_plan.proofs.CallerLemmas.{plan-IsPlanning}
 use Rattle.bw_plan_laws.specs.Tree.{IsNotBelow}
 use Rattle.bw_plan_laws.specs.Inside.{IsChangedInside, InsideStaysInside}
-use Rattle.bw_plan_laws.proofs.Trees.{want_same, step_same, parent_not_below, child_not_below}
+use Rattle.bw_plan_laws.proofs.Trees.{from_the_root, want_same, step_same, parent_not_below}
+use Rattle.bw_plan_laws.proofs.Trees.{child_not_below}
 
 module _ (a b : Groups) (group : ℕ) (ma mb xs ys : List ℕ) (va : IsInstance a) (vb : IsInstance b)
     (changed : IsChangedInside a b group ma mb) (is_plan : IsPlan a xs)
@@ -46,24 +47,17 @@ module _ (a b : Groups) (group : ℕ) (ma mb xs ys : List ℕ) (va : IsInstance 
 
   amounts_same : (h : ℕ) → h < length a.rows → IsNotBelow a.rows group h
       → get_or ys h 0 ≡ get_or xs h 0
-  amounts_same = strong
-      (λ h. h < length a.rows → IsNotBelow a.rows group h → get_or ys h 0 ≡ get_or xs h 0)
-      (λ h before below out. elim (cases_eq h 0) [
-        | inl root ↦ rw root
-            (pb.top ∙ most_same 0 va.tree.has_root (rw root at out) ∙ sym pa.top)
-        | inr deeper ↦
-            let known : (p : ℕ) × (parent_of a.rows h ≡ Some p) × (p < h) =
-            va.tree.parent_before h (omega (arith, deeper)) below in
-            let apart : is_under a.rows group known.0 ≡ true → ⊥ =
-            parent_not_below a.rows va.tree group h known.0 known.1 out in
-            let p_in : known.0 < length a.rows = omega (arith, known.2, below) in
-            step_same a b va vb changed.tree ma mb xs ys pa pb h known.0 below p_in known.1
-            (before known.0 known.2 p_in (λ under. absurd (apart under)))
-            (λ s s_in e. changed.weights s
-            (child_not_below a.rows va.tree group known.0 s e apart))
-            (λ s s_in e. most_same s s_in
-            (child_not_below a.rows va.tree group known.0 s e apart))
-      ])
+  amounts_same = from_the_root a.rows va.tree
+      (λ h. IsNotBelow a.rows group h → get_or ys h 0 ≡ get_or xs h 0)
+      (λ out. pb.top ∙ most_same 0 va.tree.has_root out ∙ sym pa.top)
+      (λ h p below up same out.
+      let apart : is_under a.rows group p ≡ true → ⊥ =
+      parent_not_below a.rows va.tree group h p up out in
+      let p_in : p < length a.rows = omega (arith, parent_lt a.rows va.tree h p up, below) in
+      step_same a b va vb changed.tree ma mb xs ys pa pb h p below p_in up
+      (same (λ under. absurd (apart under)))
+      (λ s s_in e. changed.weights s (child_not_below a.rows va.tree group p s e apart))
+      (λ s s_in e. most_same s s_in (child_not_below a.rows va.tree group p s e apart)))
 
 pub inside_stays : InsideStaysInside
 inside_stays a b group ma mb xs ys va vb changed is_plan is_other h below out =

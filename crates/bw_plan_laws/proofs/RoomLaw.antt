@@ -2,12 +2,11 @@
 use Rattle.std.proofs.Common.{◌≡◌, ◌≢◌, ℕ, ◌<◌, ◌≤◌, List, true, false, Some, length, get_or}
 use Rattle.std.proofs.Common.{refl, ap, sym, ◌∙◌, arith, inl, inr}
 use Rattle.std.specs.Prelude.{map, slice_index}
-use Rattle.std.proofs.lemmas.Bool.{cases_eq}
 use Rattle.bw_model.specs.Groups.{Groups, IsInstance, parent_of, children_of, is_leaf, weight_of}
 use Rattle.bw_model.specs.Groups.{limit_of, is_under}
 use Rattle.bw_model.specs.Demand.{want_of}
 use Rattle.bw_model.specs.Plan.{IsPlan, child_weights}
-use Rattle.bw_model.proofs.CallerLemmas.{strong, from_the_last, capped, mosts, mosts-capped}
+use Rattle.bw_model.proofs.CallerLemmas.{from_the_last, capped, mosts, mosts-capped}
 use Rattle.bw_model.proofs.CallerLemmas.{parent_lt, parent_not_leaf, listed_child, is_under-self}
 use Rattle.bw_split_laws.specs.Change.{IsRaised}
 use Rattle.bw_split_laws.proofs.CallerLemmas.{child_keeps, others_lose}
@@ -16,7 +15,7 @@ use Rattle.bw_plan_laws.proofs.Above.{parent_above, one_above}
 use Rattle.bw_plan_laws.proofs.HostLaws.{mosts_less}
 use Rattle.bw_plan_laws.proofs.Siblings.{raised_child}
 use Rattle.bw_plan_laws.proofs.Trees.{want_same, split_beside, weighted_beside, weighted, at_place}
-use Rattle.bw_plan_laws.proofs.Trees.{planned, under_le}
+use Rattle.bw_plan_laws.proofs.Trees.{from_the_root, planned, under_le}
 
 module _ (a b : Groups) (group : ℕ) (xs ys : List ℕ) (va : IsInstance a) (vb : IsInstance b)
     (more : IsRoomierAt a b group) (is_plan : IsPlan a xs) (is_other : IsPlan b ys) where
@@ -86,23 +85,16 @@ module _ (a b : Groups) (group : ℕ) (xs ys : List ℕ) (va : IsInstance a) (vb
 
   above : (h : ℕ) → h < length a.rows → is_under a.rows h group ≡ true
       → get_or xs h 0 ≤ get_or ys h 0
-  above = strong
-      (λ h. h < length a.rows → is_under a.rows h group ≡ true → get_or xs h 0 ≤ get_or ys h 0)
-      (λ h before below under. elim (cases_eq h 0) [
-        | inl root ↦ rw root
-            (omega (
-              arith,
-              (planned a va xs is_plan).top,
-              (planned b vb ys is_other).top,
-              most_less 0 va.tree.has_root,
-            ))
-        | inr deeper ↦
-            let known : (p : ℕ) × (parent_of a.rows h ≡ Some p) × (p < h) =
-            va.tree.parent_before h (omega (arith, deeper)) below in
-            step h known.0 below known.1 under
-            (before known.0 known.2 (omega (arith, known.2, below))
-            (parent_above a.rows va.tree h known.0 known.1 group under))
-      ])
+  above = from_the_root a.rows va.tree
+      (λ h. is_under a.rows h group ≡ true → get_or xs h 0 ≤ get_or ys h 0)
+      (λ under. omega (
+        arith,
+        (planned a va xs is_plan).top,
+        (planned b vb ys is_other).top,
+        most_less 0 va.tree.has_root,
+      ))
+      (λ h p below up less under.
+      step h p below up under (less (parent_above a.rows va.tree h p up group under)))
 
   sibling : group < length a.rows → (p s : ℕ) → parent_of a.rows group ≡ Some p
       → s < length a.rows → parent_of a.rows s ≡ Some p → s ≢ group

@@ -1,12 +1,12 @@
 -- Two instances of one tree: their children, their mosts and their plans, group by group.
 use Rattle.std.proofs.Common.{◌≡◌, ℕ, zero, suc, ◌+◌, ◌<◌, ◌≤◌, List, [], ◌∷◌, Bool, cond, ◌||◌}
 use Rattle.std.proofs.Common.{true, false, None, Some, length, get_or, refl, ap, sym, ◌∙◌}
-use Rattle.std.proofs.Common.{arith, inl, inr, eqb}
+use Rattle.std.proofs.Common.{arith, inl, inr, eqb, subst}
 use Rattle.std.specs.Prelude.{not}
 use Rattle.std.specs.Prelude.{filter, map, sum, sum_by, slice_index}
 use Rattle.std.specs.List.{range_with_len}
 use Rattle.std.specs.Option.{option_map_or}
-use Rattle.std.proofs.lemmas.Bool.{eqb-true, or_cases, or_right}
+use Rattle.std.proofs.lemmas.Bool.{cases_eq, eqb-true, or_cases, or_right}
 use Rattle.std.proofs.lemmas.List.{length-map}
 use Rattle.std.proofs.lemmas.List.Sums.{sum-map}
 use Rattle.bw_model.specs.declared.row.Row.{Row}
@@ -84,6 +84,19 @@ pub at_place : (rows : List Row) (values : List ℕ) (g k c : ℕ) → k < lengt
 at_place rows values g k c below here =
     get_or-map (slice_index values) (children_of rows g) k below
     ∙ ap (slice_index values) here
+
+-- What holds of the root, and of a group where it holds of its parent, holds of each group.
+pub from_the_root : (rows : List Row) → AreTreeRows rows → (P : ℕ → Type 0) → P 0
+    → ((h p : ℕ) → h < length rows → parent_of rows h ≡ Some p → P p → P h)
+    → (h : ℕ) → h < length rows → P h
+from_the_root rows tree P root step = strong (λ h. h < length rows → P h)
+    (λ h before below. elim (cases_eq h 0) [
+      | inl top ↦ subst P (sym top) root
+      | inr deeper ↦
+          let known : (p : ℕ) × (parent_of rows h ≡ Some p) × (p < h) =
+          tree.parent_before h (omega (arith, deeper)) below in
+          step h known.0 below known.1 (before known.0 known.2 (omega (arith, known.2, below)))
+    ])
 
 -- The groups that are not below one group: a parent of one, and a child of one.
 module _ (rows : List Row) (tree : AreTreeRows rows) (group : ℕ) where

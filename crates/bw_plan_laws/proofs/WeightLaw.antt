@@ -2,13 +2,13 @@
 use Rattle.std.proofs.Common.{◌≡◌, ◌≢◌, ℕ, ◌<◌, ◌≤◌, List, true, false, Some, length, get_or}
 use Rattle.std.proofs.Common.{refl, ap, sym, ◌∙◌, arith, inl, inr, eqb}
 use Rattle.std.specs.Prelude.{map, slice_index}
-use Rattle.std.proofs.lemmas.Bool.{cases_eq, or_right}
+use Rattle.std.proofs.lemmas.Bool.{or_right}
 use Rattle.bw_model.specs.Groups.{Groups, IsInstance, parent_of, children_of, is_leaf, weight_of}
 use Rattle.bw_model.specs.Groups.{limit_of, is_under}
 use Rattle.bw_model.specs.Demand.{want_of}
 use Rattle.bw_model.specs.Plan.{IsPlan, child_weights}
 use Rattle.bw_model.specs.Split.{IsBestSplit}
-use Rattle.bw_model.proofs.CallerLemmas.{strong, from_the_last, capped, mosts, mosts-capped}
+use Rattle.bw_model.proofs.CallerLemmas.{from_the_last, capped, mosts, mosts-capped}
 use Rattle.bw_model.proofs.CallerLemmas.{parent_lt, parent_not_leaf, listed_child}
 use Rattle.bw_model.proofs.CallerLemmas.{is_under-step, is_under-self}
 use Rattle.bw_split_laws.specs.Change.{AreWeighted, IsRaised}
@@ -17,7 +17,7 @@ use Rattle.bw_plan_laws.specs.Tree.{IsNotBelow}
 use Rattle.bw_plan_laws.specs.Weight.{IsHeavier, RaisedWeightAloneGains}
 use Rattle.bw_plan_laws.proofs.Siblings.{raised_child}
 use Rattle.bw_plan_laws.proofs.Trees.{want_same, step_same, split_over, weighted, at_place}
-use Rattle.bw_plan_laws.proofs.Trees.{planned, children_same, parent_not_below, child_not_below}
+use Rattle.bw_plan_laws.proofs.Trees.{from_the_root, planned, children_same, parent_not_below, child_not_below}
 
 module _ (a b : Groups) (group parent : ℕ) (xs ys : List ℕ) (va : IsInstance a) (vb : IsInstance b)
     (heavier : IsHeavier a b group) (group_in : group < length a.rows)
@@ -49,26 +49,21 @@ module _ (a b : Groups) (group parent : ℕ) (xs ys : List ℕ) (va : IsInstance
 
   elsewhere : (h : ℕ) → h < length a.rows → IsNotBelow a.rows parent h
       → get_or ys h 0 ≡ get_or xs h 0
-  elsewhere = strong
-      (λ h. h < length a.rows → IsNotBelow a.rows parent h → get_or ys h 0 ≡ get_or xs h 0)
-      (λ h before below out. elim (cases_eq h 0) [
-        | inl root ↦ rw root
-            ((planned b vb ys is_other).top
-            ∙ most_same 0 va.tree.has_root
-            ∙ sym (planned a va xs is_plan).top)
-        | inr deeper ↦
-            let known : (p : ℕ) × (parent_of a.rows h ≡ Some p) × (p < h) =
-            va.tree.parent_before h (omega (arith, deeper)) below in
-            let apart : is_under a.rows parent known.0 ≡ true → ⊥ =
-            parent_not_below a.rows va.tree parent h known.0 known.1 out in
-            let p_in : known.0 < length a.rows = omega (arith, known.2, below) in
-            step_same a b va vb heavier.tree (mosts a va.tree) (mosts b vb.tree) xs ys
-            (planned a va xs is_plan) (planned b vb ys is_other) h known.0 below p_in known.1
-            (before known.0 known.2 p_in (λ under. absurd (apart under)))
-            (λ s s_in e. heavier.weights s
-            (not_the_group s (child_not_below a.rows va.tree parent known.0 s e apart)))
-            (λ s s_in e. most_same s s_in)
-      ])
+  elsewhere = from_the_root a.rows va.tree
+      (λ h. IsNotBelow a.rows parent h → get_or ys h 0 ≡ get_or xs h 0)
+      (λ out. (planned b vb ys is_other).top
+      ∙ most_same 0 va.tree.has_root
+      ∙ sym (planned a va xs is_plan).top)
+      (λ h p below up_one same out.
+      let apart : is_under a.rows parent p ≡ true → ⊥ =
+      parent_not_below a.rows va.tree parent h p up_one out in
+      let p_in : p < length a.rows = omega (arith, parent_lt a.rows va.tree h p up_one, below) in
+      step_same a b va vb heavier.tree (mosts a va.tree) (mosts b vb.tree) xs ys
+      (planned a va xs is_plan) (planned b vb ys is_other) h p below p_in up_one
+      (same (λ under. absurd (apart under)))
+      (λ s s_in e. heavier.weights s
+      (not_the_group s (child_not_below a.rows va.tree parent p s e apart)))
+      (λ s s_in e. most_same s s_in))
 
   parent_in : parent < length a.rows
   parent_in = omega (arith, parent_lt a.rows va.tree group parent up, group_in)

@@ -1,7 +1,6 @@
 //! Reads a whole script: the hierarchy after its last line, and the lines that are refused.
 #![tactic(auto)]
 
-mod keys;
 mod lines;
 mod reader;
 mod reading;

@@ -8,10 +8,9 @@ ghost use Rattle.bw_commands.specs.Script.{rmdir_outcome, demand_outcome, read_o
 ghost use Rattle.bw_commands.specs.Script.{write_outcome, Period};
 ghost use Rattle.bw_script.specs.Reading.{Takes};
 
-use crate::keys::fixed_keys;
 use bw_commands::{Command, ScriptFault};
 use bw_demand::gather_rows;
-use bw_hierarchy::Hierarchy;
+use bw_hierarchy::{Hierarchy, fixed_keys};
 use bw_model::HostShape;
 use bw_plan::plan_rows;
 use bw_text::{NumberFault, read_number};

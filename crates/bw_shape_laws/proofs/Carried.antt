@@ -14,12 +14,13 @@ use Rattle.bw_model.specs.Host.{Shape}
 use Rattle.bw_model.specs.Demand.{want_of}
 use Rattle.bw_model.specs.Plan.{child_weights}
 use Rattle.bw_model.specs.Split.{IsBestSplit}
-use Rattle.bw_model.proofs.CallerLemmas.{strong, capped, parent_lt, get_or-map}
+use Rattle.bw_model.proofs.CallerLemmas.{capped, parent_lt, get_or-map}
 use Rattle.bw_model.proofs.CallerLemmas.{parent_not_leaf, listed_child, is_child_from_parent}
 use Rattle.bw_model.proofs.CallerLemmas.{inner_has_child, leaf_no_child, no_children}
 use Rattle.bw_model.proofs.CallerLemmas.{IsBestSplit-unique}
 use Rattle.bw_plan.specs.Shared.{IsPlanning}
 use Rattle.bw_plan_laws.proofs.CallerLemmas.{limit_below, at_children, at_place, weighted}
+use Rattle.bw_plan_laws.proofs.CallerLemmas.{from_the_root}
 use Rattle.bw_shape_laws.proofs.Places.{map-map, sum_between}
 use Rattle.bw_shape_laws.proofs.Places.{split_between}
 
@@ -220,13 +221,5 @@ module _ (shape : Shape) (rows longer : List Row) (place : ℕ)
         ∙ at_place rows xs q spot.0 x spot.1 spot.2
 
     pub amounts_same : (x : ℕ) → x < length rows → get_or ys (number x) 0 ≡ get_or xs x 0
-    amounts_same = strong (λ x. x < length rows → get_or ys (number x) 0 ≡ get_or xs x 0)
-        (λ x before below. elim (cases_eq x 0) [
-          | inl root ↦ rw root top
-          | inr deeper ↦
-              let known : (p : ℕ) × (parent_of rows x ≡ Some p) × (p < x) =
-              va.tree.parent_before x (omega (arith, deeper)) below in
-              one_amount x below
-              ∙ part_same x known.0 below known.1
-              (before known.0 known.2 (omega (arith, known.2, below)))
-        ])
+    amounts_same = from_the_root rows va.tree (λ x. get_or ys (number x) 0 ≡ get_or xs x 0) top
+        (λ x p below up same. one_amount x below ∙ part_same x p below up same)

@@ -7,8 +7,6 @@ mod files_cases;
 #[cfg(test)]
 mod hierarchy_cases;
 #[cfg(test)]
-mod known_keys;
-#[cfg(test)]
 mod stat_cases;
 #[cfg(test)]
 mod tree_cases;

@@ -1,6 +1,6 @@
 //! Trees of groups by ids, which no script line names, against worked values. Assertions stand in
 //! functions that borrow a tree. A test owns it, and would have to drop it at each assertion.
-use crate::known_keys::known_keys;
+use bw_hierarchy::fixed_keys;
 use bw_model::{HostShape, Quota};
 use bw_tree::{GroupId, Snapshot, Tree, TreeFault, is_drawn_within};
 use std::alloc::Global;
@@ -43,7 +43,7 @@ fn put_groups(tree: &mut Tree) -> Result<(), TreeFault> {
 
 // A tree of `a` and `a/b`.
 fn small_tree(alloc: Global) -> Result<Tree, Fail> {
-    let keys = known_keys()?;
+    let keys = fixed_keys()?;
     let mut tree = match Tree::new(alloc, keys) {
         Err(_) => Tree::new(alloc, keys)?,
         Ok(tree) => tree,
@@ -54,7 +54,7 @@ fn small_tree(alloc: Global) -> Result<Tree, Fail> {
 
 #[test]
 fn ids_that_are_spent(rt: HostRuntime) -> Result<(), Fail> {
-    let keys = known_keys()?;
+    let keys = fixed_keys()?;
     let mut last = match Tree::with_next_id(rt.alloc(), keys, u64::MAX) {
         Err(_) => Tree::with_next_id(rt.alloc(), keys, u64::MAX)?,
         Ok(tree) => tree,
@@ -232,7 +232,7 @@ fn names_in_place_and_longer(rt: HostRuntime) -> Result<(), Fail> {
 // `a`. So `b` shares its key with `p/a` if the id of `p` is the point.
 #[test]
 fn names_that_share_a_key(rt: HostRuntime) -> Result<(), Fail> {
-    let keys = known_keys()?;
+    let keys = fixed_keys()?;
     let id = keys.hash_one("") % 4_294_967_291;
     assert!(rt; 0 < id && id < 4_294_967_190);
     let mut tree = match Tree::with_next_id(rt.alloc(), keys, id) {

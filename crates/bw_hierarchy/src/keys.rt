@@ -1,4 +1,4 @@
-//! Keys of the hash by which groups are found.
+//! Keys of the hash by which groups are found, for callers that need no secret ones.
 use std::hash::RandomState;
 use std::io::Result;
 use std::random::RandomSource;
@@ -13,7 +13,7 @@ impl RandomSource for Zeros {
     }
 }
 
-/// Keys that are the same for each script, since a call from C has no source of random bytes.
+/// Keys that are the same each time, for a caller that has no source of random bytes.
 ///
 /// # Cost
 ///
@@ -22,6 +22,6 @@ impl RandomSource for Zeros {
 /// # Errors
 ///
 /// None. The type is that of `RandomState::new`, which hands on an error of its source.
-pub(crate) fn fixed_keys() -> Result<RandomState> {
+pub fn fixed_keys() -> Result<RandomState> {
     RandomState::new(&Zeros)
 }
