@@ -1,6 +1,0 @@
--- What stands at each turn of the loop in `Claim::levels`.
-use Rattle.bw_exports.specs.Checked.{claimed_of, AreLevels}
-use Rattle.bw_exports.proofs.claim.Claim.levels.Given as goal
-
-abbrev pub invariant-loop-k : goal.invariant-loop-k
-invariant-loop-k l = AreLevels (claimed_of l.self) l.k l.levels.items
