@@ -1,19 +1,12 @@
 -- The answer of the check of a certified text.
-use Rattle.std.specs.Prelude.{◌≡◌, ◌⊎◌, ℕ, Result, Ok, Err}
+use Rattle.std.specs.Prelude.{◌≡◌, ◌⊎◌, ℕ, Result}
 use Rattle.bw_cert.specs.Faults.{cert_fault_number}
 use Rattle.bw_cert.specs.Reading.{Fails}
-use Rattle.bw_cert.specs.Spelling.{Value, groups_of}
+use Rattle.bw_cert.specs.Spelling.{Value}
 use Rattle.bw_cert.specs.declared.fault.CertFault.{CertFault}
-use Rattle.bw_check.specs.Verdict.{IsVerdictOn}
 use Rattle.bw_check.specs.declared.verdict.Verdict.{Verdict}
+use Rattle.bw_answers.specs.Checked.{IsVerdictIn}
 use Rattle.bw_exports.specs.Checked.{verdict_number, verdict_row}
-
--- the verdict on the instance, the amounts, the flags and the levels that are read in a text
-abbrev pub IsVerdictIn : Result Value CertFault → Verdict → Type 0
-IsVerdictIn (Ok value) verdict =
-    IsVerdictOn (groups_of value) value.groups.amounts value.groups.flags value.groups.levels
-    verdict
-IsVerdictIn (Err fault) verdict = ⊥
 
 -- the number and the row of the verdict
 pub record IsVerdictTold (read : Result Value CertFault) (before after number : ℕ) : Type 0 where

@@ -1,0 +1,14 @@
+-- The goals of `plan_of` that are answered by hand.
+use Rattle.std.proofs.Common.{subst}
+use Rattle.bw_model.specs.Groups.{Groups}
+use Rattle.bw_model.specs.Plan.{IsPlan}
+use Rattle.bw_columns.specs.Asked.{shape_of, table_of}
+use Rattle.bw_columns.proofs.CallerLemmas.{planned_length}
+use Rattle.bw_answers.proofs.planned.plan_of.Goals as goal
+
+pub returns-clause-long : goal.returns-clause-long
+returns-clause-long c =
+    planned_length (shape_of c.args.host) (table_of c.args.columns.now)
+    c.in_ok-plan.field-0.amounts.items
+    (subst (λ (g : Groups). IsPlan g c.in_ok-plan.field-0.amounts.items)
+    c.in_ok-instance.ensures.groups c.in_ok-plan.ensures)

@@ -1,0 +1,48 @@
+//! The figures of a host and its rows.
+ghost use Rattle.std.specs.Prelude.{◌≡◌, true, length, IfOk, IfErr, OnOk};
+ghost use Rattle.bw_answers.specs.Figured.{AreFigured, AreFiguresLong};
+ghost use Rattle.bw_columns.specs.Asked.{groups_asked, refusal_where, Answers};
+ghost use Rattle.bw_columns.specs.Numbers.{number_of_refusal};
+
+use bw_columns::{Columns, Host, Refusal, flag_numbers, instance_where};
+use bw_demand::{Figures, Gathered, figures, gather_rows};
+use std::alloc::Global;
+
+/// Gathered demands with their figures, one entry in each column for each row.
+#[derive(Drop)]
+pub struct FigureColumns {
+    /// Wants, mosts and tight groups.
+    pub gathered: Gathered,
+    /// 1 for each tight group, else 0.
+    pub tights: Vec<u8>,
+    /// The figures of the gathered demands.
+    pub figures: Figures,
+}
+
+/// The figures of a host and its rows.
+///
+/// `fit` is whether the caller's columns for the answer have the rows' length.
+///
+/// # Errors
+/// The refusals of [`instance_where`].
+pub fn figures_of(
+    alloc: Global,
+    fit: bool,
+    host: Host,
+    columns: &Columns<'_>,
+) -> Result<FigureColumns, Refusal>
+    ensures held { IfOk result (AreFigured (groups_asked host columns.now)) }
+    ensures long { IfOk result (λ f. AreFiguresLong f (length columns.now.parents.now)) }
+    ensures fit { OnOk result (fit ≡ true) }
+    ensures none { OnOk result (refusal_where fit host columns.now ≡ 0) }
+    ensures err { IfErr result
+        (λ e. Answers (refusal_where fit host columns.now) (number_of_refusal e)) }
+{
+    let instance = instance_where(alloc, fit, host, columns)?;
+    let gathered = gather_rows(alloc, &instance)?;
+    Ok(FigureColumns {
+        tights: flag_numbers(alloc, gathered.tight.as_slice())?,
+        figures: figures(alloc, &instance, &gathered)?,
+        gathered,
+    })
+}

@@ -1,0 +1,72 @@
+//! The limits of a round of a host and its rows.
+ghost use Rattle.std.specs.Prelude.{◌≡◌, true, length, map, IfOk, IfErr, OnOk};
+ghost use Rattle.bw_answers.specs.Held.{IsHeldRound, AreHeldLong};
+ghost use Rattle.bw_columns.specs.Asked.{groups_asked, refusal_where, Answers};
+ghost use Rattle.bw_columns.specs.Asked.{limit_number};
+ghost use Rattle.bw_columns.specs.Certificates.{columns_in, flags_in};
+ghost use Rattle.bw_columns.specs.Numbers.{number_of_refusal};
+
+use bw_columns::{
+    CertificateColumns, Columns, Host, Refusal, certificate_columns, flags_of, instance_where,
+    limit_number,
+};
+use bw_hold::hold;
+use std::alloc::{AllocError, Global};
+
+/// The limits of a round, with its demands and its certified plan, one entry in each column for
+/// each row.
+#[derive(Drop)]
+pub struct HeldColumns {
+    /// Limits in slices of one period, the greatest number for none.
+    pub limits: Vec<u64>,
+    /// Demands in slices of one period: 0 to 1,000,000.
+    pub demands: Vec<u64>,
+    /// The plan of the demands, in slices of one period.
+    pub amounts: Vec<u64>,
+    /// The certificate of the amounts.
+    pub certificate: CertificateColumns,
+}
+
+// Each limit as a number, the greatest for none.
+fn limit_numbers(alloc: Global, limits: &[Option<u64>]) -> Result<Vec<u64>, AllocError>
+    ensures { IfOk result (λ numbers. numbers.items ≡ map limit_number limits.now) }
+{
+    limits
+        .iter()
+        .map(|limit| limit_number(*limit))
+        .collect(alloc)
+}
+
+/// The round of a host, its rows and their flags: 0 for a leaf that would not have used more.
+///
+/// `fit` is whether the caller's columns for the answer have the rows' length.
+///
+/// # Errors
+/// The refusals of [`instance_where`].
+pub fn held_of(
+    alloc: Global,
+    fit: bool,
+    host: Host,
+    columns: &Columns<'_>,
+    hungry: &[u8],
+) -> Result<HeldColumns, Refusal>
+    requires { fit ≡ true → length hungry.now ≡ length columns.now.parents.now }
+    ensures held { IfOk result (λ h. IsHeldRound (groups_asked host columns.now)
+        (flags_in hungry.now) h.limits.items h.demands.items h.amounts.items
+        (columns_in h.certificate)) }
+    ensures long { IfOk result (λ h. AreHeldLong h (length columns.now.parents.now)) }
+    ensures fit { OnOk result (fit ≡ true) }
+    ensures none { OnOk result (refusal_where fit host columns.now ≡ 0) }
+    ensures err { IfErr result
+        (λ e. Answers (refusal_where fit host columns.now) (number_of_refusal e)) }
+{
+    let instance = instance_where(alloc, fit, host, columns)?;
+    let tested = flags_of(alloc, hungry)?;
+    let held = hold(alloc, &instance, tested.as_slice())?;
+    Ok(HeldColumns {
+        limits: limit_numbers(alloc, held.limits.as_slice())?,
+        certificate: certificate_columns(alloc, &held.certificate)?,
+        demands: held.demands,
+        amounts: held.amounts,
+    })
+}

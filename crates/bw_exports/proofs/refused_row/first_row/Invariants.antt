@@ -1,9 +1,0 @@
--- What stands at each turn of the loop in `first_row`.
-use Rattle.std.proofs.Common.{◌≡◌, ℕ, ◌<◌, false}
-use Rattle.bw_exports.specs.Asked.{table_of, rows_in}
-use Rattle.bw_exports.specs.RefusedRow.{has_fault}
-use Rattle.bw_exports.proofs.refused_row.first_row.Given as goal
-
-abbrev pub invariant-loop-g : goal.invariant-loop-g
-invariant-loop-g l = (k : ℕ) → k < l.g
-    → has_fault (rows_in (table_of l.columns)) l.fault k ≡ false
