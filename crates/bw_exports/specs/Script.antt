@@ -1,107 +1,15 @@
 -- The groups after a script and its refused lines, in the columns of an answer.
-use Rattle.std.specs.Prelude.{◌≡◌, ◌≢◌, ◌⊎◌, ◌==◌, ◌&&◌, nat_le, ℕ, Bool, List, [], ◌∷◌, ◌++◌, drop, length}
-use Rattle.std.specs.Prelude.{map, Option, Some, None, if◌then◌else◌}
-use Rattle.std.specs.Map.{keys_of}
+use Rattle.std.specs.Prelude.{◌≡◌, ◌≢◌, ◌⊎◌, ◌==◌, ◌&&◌, nat_le, ℕ, Bool, List, [], ◌∷◌, length}
+use Rattle.std.specs.Prelude.{map, if◌then◌else◌}
 use Rattle.std.specs.Option.{option_map_or}
 use Rattle.bw_model.specs.Host.{Shape, host_refusal}
 use Rattle.bw_model.specs.Faults.{host_fault_number}
-use Rattle.bw_model.specs.declared.quota.Quota.{Quota}
-use Rattle.bw_model.specs.declared.quota.Quota.TheVariants.{Max, Micros}
-use Rattle.bw_tree.specs.Groups.{GroupFields, group_at}
-use Rattle.bw_tree.specs.Snapshot.{instance_of}
 use Rattle.bw_hierarchy.specs.State.{HierarchyState}
 use Rattle.bw_commands.specs.Faults.{script_fault_number}
 use Rattle.bw_script.specs.Reading.{IsRead}
 use Rattle.bw_script.specs.declared.reading.RefusedLine.{RefusedLine}
-use Rattle.bw_exports.specs.Asked.{are_of_length}
-use Rattle.bw_exports.specs.declared.columns.TheConstants.{NO_PARENT, NO_LIMIT}
-use Rattle.bw_exports.specs.declared.script_columns.GroupColumns.{GroupColumns}
-
--- the number of a parent's row: the greatest number of 32 bits for none
-abbrev pub parent_number : Option ℕ → ℕ
-parent_number None = NO_PARENT
-parent_number (Some row) = row
-
--- the number of a limit in slices: the greatest number of 64 bits for none
-abbrev pub limit_number : Option ℕ → ℕ
-limit_number None = NO_LIMIT
-limit_number (Some slices) = slices
-
--- the number of a quota in microseconds: the greatest number of 64 bits for none
-abbrev pub quota_number : Quota → ℕ
-quota_number Max = NO_LIMIT
-quota_number (Micros us) = us
-
--- a number of a group, 0 where there is none
-abbrev pub number_at : (GroupFields → ℕ) → Option GroupFields → ℕ
-number_at number None = 0
-number_at number (Some g) = number g
-
--- the name of a group, and a newline
-abbrev pub name_line : Option GroupFields → List ℕ
-name_line None = 10 ∷ []
-name_line (Some g) = g.name ++ 10 ∷ []
-
--- the names of the groups with these ids, each with a newline behind it
-abbrev pub name_lines : List (ℕ × GroupFields) → List ℕ → List ℕ
-name_lines groups [] = []
-name_lines groups (id ∷ ids) = name_line (group_at groups id) ++ name_lines groups ids
-
--- the groups by column
-pub record Told : Type 0 where
-  pub parents : List ℕ
-  pub weights : List ℕ
-  pub limits : List ℕ
-  pub demands : List ℕ
-  pub quotas : List ℕ
-  pub periods : List ℕ
-  pub bursts : List ℕ
-  pub carries : List ℕ
-  pub names : List ℕ
-
--- a number of each group, in order of creation
-abbrev pub numbers_of : (GroupFields → ℕ) → HierarchyState → List ℕ
-numbers_of number h =
-    map (λ id. number_at number (group_at h.tree.groups id)) (keys_of h.tree.groups)
-
--- the columns of a hierarchy: parents, weights, limits and demands are those of its rows in the
--- next period; quotas, own periods and bursts are as they were written
-abbrev pub told_of : HierarchyState → Told
-told_of h = record {
-  parents = map (λ row. parent_number row.parent) (instance_of h.tree h.shape).rows;
-  weights = map (λ row. row.weight) (instance_of h.tree h.shape).rows;
-  limits = map (λ row. limit_number row.limit) (instance_of h.tree h.shape).rows;
-  demands = map (λ row. row.demand) (instance_of h.tree h.shape).rows;
-  quotas = numbers_of (λ g. quota_number g.quota) h;
-  periods = numbers_of (λ g. g.period) h;
-  bursts = numbers_of (λ g. g.burst) h;
-  carries = numbers_of (λ g. g.carry) h;
-  names = name_lines h.tree.groups (keys_of h.tree.groups);
-}
-
--- the program's columns, as lists
-abbrev pub columns_of : GroupColumns → Told
-columns_of c = record {
-  parents = c.parents.items;
-  weights = c.weights.items;
-  limits = c.limits.items;
-  demands = c.demands.items;
-  quotas = c.quotas.items;
-  periods = c.periods.items;
-  bursts = c.bursts.items;
-  carries = c.carries.items;
-  names = c.names.items;
-}
-
--- one entry for each group in each column of numbers
-pub record AreLong (told : Told) : Type 0 where
-  pub weights : length told.weights ≡ length told.parents
-  pub limits : length told.limits ≡ length told.parents
-  pub demands : length told.demands ≡ length told.parents
-  pub quotas : length told.quotas ≡ length told.parents
-  pub periods : length told.periods ≡ length told.parents
-  pub bursts : length told.bursts ≡ length told.parents
-  pub carries : length told.carries ≡ length told.parents
+use Rattle.bw_columns.specs.Asked.{are_of_length}
+use Rattle.bw_group_columns.specs.Groups.{Told, told_of, on_front, on_columns}
 
 -- all that the call may write
 pub record Room : Type 0 where
@@ -111,22 +19,6 @@ pub record Room : Type 0 where
   pub count : ℕ
   pub names_count : ℕ
   pub refused_count : ℕ
-
--- nine columns
-abbrev pub columns_with : List ℕ → List ℕ → List ℕ → List ℕ → List ℕ → List ℕ → List ℕ → List ℕ
-    → List ℕ → Told
-columns_with parents weights limits demands quotas periods bursts carries names =
-    record {
-      parents = parents;
-      weights = weights;
-      limits = limits;
-      demands = demands;
-      quotas = quotas;
-      periods = periods;
-      bursts = bursts;
-      carries = carries;
-      names = names;
-    }
 
 -- nine columns, two of refused lines, and three numbers
 abbrev pub room_of : Told → List ℕ → List ℕ → ℕ → ℕ → ℕ → Room
@@ -147,24 +39,6 @@ is_even room =
     ∷ room.columns.demands ∷ room.columns.quotas ∷ room.columns.periods ∷ room.columns.bursts
     ∷ room.columns.carries ∷ [])
     && length room.lines == length room.faults
-
--- a list at the front of a column, and behind it what stood there
-abbrev pub on_front : List ℕ → List ℕ → List ℕ
-on_front list before = list ++ drop (length list) before
-
--- the columns of the groups at the front of these
-abbrev pub on_columns : Told → Told → Told
-on_columns told before = record {
-  parents = on_front told.parents before.parents;
-  weights = on_front told.weights before.weights;
-  limits = on_front told.limits before.limits;
-  demands = on_front told.demands before.demands;
-  quotas = on_front told.quotas before.quotas;
-  periods = on_front told.periods before.periods;
-  bursts = on_front told.bursts before.bursts;
-  carries = on_front told.carries before.carries;
-  names = on_front told.names before.names;
-}
 
 -- these columns written at the front of what the call may write
 abbrev pub with_told : Told → List ℕ → List ℕ → Room → Room

@@ -1,30 +1,38 @@
-//! The groups of a hierarchy, and refused lines, as columns of numbers.
+//! The groups of a hierarchy as columns of numbers.
 ghost use Rattle.std.specs.Prelude.{◌≡◌, ◌≤◌, ◌++◌, length, map, IfOk, OnOk};
 ghost use Rattle.bw_model.specs.declared.limits.TheConstants.{MAX_GROUPS};
 ghost use Rattle.bw_tree.specs.Groups.{group_at};
-ghost use Rattle.bw_exports.specs.Script.{parent_number, limit_number, quota_number};
-ghost use Rattle.bw_exports.specs.Script.{number_at, name_line, name_lines, told_of};
-ghost use Rattle.bw_exports.specs.Script.{columns_of, AreLong, line_numbers, fault_numbers};
+ghost use Rattle.bw_columns.specs.Asked.{limit_number};
+ghost use Rattle.bw_group_columns.specs.Groups.{parent_number, quota_number, number_at, name_line};
+ghost use Rattle.bw_group_columns.specs.Groups.{name_lines, told_of, columns_of, AreLong};
 
-use crate::columns::{NO_LIMIT, NO_PARENT};
+use bw_columns::{NO_LIMIT, NO_PARENT, limit_number};
 use bw_hierarchy::{Fault, Hierarchy};
 use bw_model::{Quota, Row};
-use bw_script::RefusedLine;
 use bw_tree::{GroupId, Tree};
 use std::alloc::{AllocError, Global};
 
 /// The groups of a hierarchy by column, in order of creation.
 #[derive(Drop)]
-pub(crate) struct GroupColumns {
-    pub(crate) parents: Vec<u32>,
-    pub(crate) weights: Vec<u64>,
-    pub(crate) limits: Vec<u64>,
-    pub(crate) demands: Vec<u64>,
-    pub(crate) quotas: Vec<u64>,
-    pub(crate) periods: Vec<u64>,
-    pub(crate) bursts: Vec<u64>,
-    pub(crate) carries: Vec<u64>,
-    pub(crate) names: Vec<u8>,
+pub struct GroupColumns {
+    /// The row of each parent, the greatest number for none.
+    pub parents: Vec<u32>,
+    /// Weights of 1 to 10,000.
+    pub weights: Vec<u64>,
+    /// Limits of the next period in slices, the greatest number for none.
+    pub limits: Vec<u64>,
+    /// Demands in slices of one period.
+    pub demands: Vec<u64>,
+    /// Quotas in microseconds of each own period, the greatest number for none.
+    pub quotas: Vec<u64>,
+    /// Own periods in microseconds.
+    pub periods: Vec<u64>,
+    /// Bursts in microseconds of each own period.
+    pub bursts: Vec<u64>,
+    /// What was left of the limit of the last period, in slices.
+    pub carries: Vec<u64>,
+    /// The last name of each group, each with a newline behind it.
+    pub names: Vec<u8>,
 }
 
 fn parent_number(parent: Option<u32>) -> u32
@@ -33,15 +41,6 @@ fn parent_number(parent: Option<u32>) -> u32
     match parent {
         None => NO_PARENT,
         Some(row) => row,
-    }
-}
-
-fn limit_number(limit: Option<u64>) -> u64
-    ensures { result ≡ limit_number limit }
-{
-    match limit {
-        None => NO_LIMIT,
-        Some(slices) => slices,
     }
 }
 
@@ -171,9 +170,8 @@ fn names(alloc: Global, tree: &Tree, ids: &[GroupId]) -> Result<Vec<u8>, AllocEr
 /// The columns of the groups of a hierarchy. The limits are those of the next period.
 ///
 /// # Errors
-///
 /// `OutOfMemory` if an allocation failed.
-pub(crate) fn group_columns(alloc: Global, hierarchy: &Hierarchy) -> Result<GroupColumns, Fault>
+pub fn group_columns(alloc: Global, hierarchy: &Hierarchy) -> Result<GroupColumns, Fault>
     ensures told { IfOk result (λ c. columns_of c ≡ told_of hierarchy.now) }
     ensures long { IfOk result (λ c. AreLong (columns_of c)) }
     ensures few { IfOk result (λ c. length c.parents.items ≤ MAX_GROUPS) }
@@ -193,29 +191,4 @@ pub(crate) fn group_columns(alloc: Global, hierarchy: &Hierarchy) -> Result<Grou
         carries: carries(alloc, tree, ids)?,
         names: names(alloc, tree, ids)?,
     })
-}
-
-/// The numbers of refused lines.
-///
-/// # Errors
-///
-/// `AllocError` if an allocation failed.
-pub(crate) fn refused_lines(alloc: Global, refused: &[RefusedLine]) -> Result<Vec<u64>, AllocError>
-    ensures { IfOk result (λ v. v.items ≡ line_numbers refused.now) }
-{
-    refused.iter().map(|refused| refused.line).collect(alloc)
-}
-
-/// The numbers of their faults.
-///
-/// # Errors
-///
-/// `AllocError` if an allocation failed.
-pub(crate) fn refused_faults(alloc: Global, refused: &[RefusedLine]) -> Result<Vec<u32>, AllocError>
-    ensures { IfOk result (λ v. v.items ≡ fault_numbers refused.now) }
-{
-    refused
-        .iter()
-        .map(|refused| u32::from(refused.fault.number()))
-        .collect(alloc)
 }
