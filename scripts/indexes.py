@@ -138,10 +138,10 @@ DEFINITION = re.compile(
 IMPORT = re.compile(r"^(?:ghost )?use Rattle\.(\w+)\.specs\.([\w.]+)\.\{([^}]*)\}", re.M)
 # Crates whose functions are there beside their predicates and records.
 WHOLE = ("bw_model", "bw_machine")
-# Programs and the C library, whose definitions put those of the crates below into other forms, and
-# crates of laws, which docs/LAWS.md has in words.
-LEFT_OUT_CRATES = ("arbiter", "bw_exports", "wake_states", "plan_bench", "bw_split_laws",
-                   "bw_plan_laws", "bw_shape_laws")
+# Programs and the C library with its columns, whose definitions put those of the crates below into
+# other forms, and crates of laws, which docs/LAWS.md has in words.
+LEFT_OUT_CRATES = ("arbiter", "bw_columns", "bw_answers", "bw_group_columns", "bw_exports",
+                   "wake_states", "plan_bench", "bw_split_laws", "bw_plan_laws", "bw_shape_laws")
 # Functions of a refusal that say no more than their names.
 PLAIN = re.compile(r"_fault_(?:number|name)$")
 DEFINITIONS_HEAD = """# Definitions

@@ -36,8 +36,8 @@
  * Memory is asked for after steps 1 and 2: 71 can stand in place of any later answer, and of no earlier one. So of arbiter_check
  * a bad host with amounts of another length than the rows answers 1 to 3, and one with uneven nums, dens and places 50. Of
  * arbiter_check_text 71 can stand in place of any answer.
- * arbiter_name gives the name of each, and docs/NUMBERS.md says what to do about it. Where a call does not answer 0, all that
- * it may write is as it was, but for `row` in step 4 and in arbiter_refused_row.
+ * arbiter_name gives the name of each, and of those that arbiter_script writes for lines. docs/NUMBERS.md says what to do about
+ * each. Where a call does not answer 0, all that it may write is as it was, but for `row` in step 4 and in arbiter_refused_row.
  *
  * arbiter_slices, arbiter_demand, arbiter_weight_of_shares, arbiter_refused_row, arbiter_name and arbiter_version ask for no
  * memory: their answers are exact.

@@ -1,5 +1,5 @@
 -- The files of lemmas.
 pub mod CallerLemmas
 mod Questions
-mod Reasoned
+mod Blamed
 mod RefusedRow

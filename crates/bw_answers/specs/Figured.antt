@@ -18,14 +18,14 @@ pub record AreFigureColumns (groups : Groups) (wants mosts tights active active_
 
 -- the program's figures are those of the groups
 abbrev pub AreFigured : Groups → FigureColumns → Type 0
-AreFigured groups found = AreFigureColumns groups found.gathered.want.items
-    found.gathered.most.items found.tights.items found.figures.active.items
+AreFigured groups found = AreFigureColumns groups found.wants.items
+    found.mosts.items found.tights.items found.figures.active.items
     found.figures.active_weight.items found.figures.withheld.items
 
 -- one entry for each row in each column
 pub record AreFiguresLong (found : FigureColumns) (count : ℕ) : Type 0 where
-  pub wants : length found.gathered.want.items ≡ count
-  pub mosts : length found.gathered.most.items ≡ count
+  pub wants : length found.wants.items ≡ count
+  pub mosts : length found.mosts.items ≡ count
   pub tights : length found.tights.items ≡ count
   pub active : length found.figures.active.items ≡ count
   pub weights : length found.figures.active_weight.items ≡ count

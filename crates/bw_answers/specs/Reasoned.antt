@@ -6,8 +6,9 @@ use Rattle.bw_model.specs.Plan.{IsPlan}
 use Rattle.bw_demand.specs.Demands.{Demands, IsGathered}
 use Rattle.bw_questions.specs.Reasons.{AreReasons}
 use Rattle.bw_questions.specs.declared.why.reason.Reason.{Reason}
-use Rattle.bw_questions.specs.declared.why.reason.Reason.TheVariants.{NothingAsked, AllWanted, OwnLimit}
-use Rattle.bw_questions.specs.declared.why.reason.Reason.TheVariants.{LimitAbove, HostFull}
+use Rattle.bw_questions.specs.declared.why.reason.Reason.TheVariants.{NothingAsked, AllWanted}
+use Rattle.bw_questions.specs.declared.why.reason.Reason.TheVariants.{OwnLimit, LimitAbove}
+use Rattle.bw_questions.specs.declared.why.reason.Reason.TheVariants.{HostFull}
 
 -- the number of a reason
 abbrev pub reason_number : Reason → ℕ

@@ -6,9 +6,7 @@ ghost use Rattle.bw_columns.specs.Certificates.{columns_in, AreClaimedLong};
 ghost use Rattle.bw_columns.specs.Numbers.{number_of_refusal};
 
 use bw_cert::certify_gathered;
-use bw_columns::{
-    CertificateColumns, Columns, Host, Refusal, certificate_columns, instance_where,
-};
+use bw_columns::{CertificateColumns, Columns, Host, Refusal, certificate_columns, instance_where};
 use bw_demand::gather_rows;
 use bw_plan::plan_rows;
 use std::alloc::Global;

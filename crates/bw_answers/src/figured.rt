@@ -5,17 +5,19 @@ ghost use Rattle.bw_columns.specs.Asked.{groups_asked, refusal_where, Answers};
 ghost use Rattle.bw_columns.specs.Numbers.{number_of_refusal};
 
 use bw_columns::{Columns, Host, Refusal, flag_numbers, instance_where};
-use bw_demand::{Figures, Gathered, figures, gather_rows};
+use bw_demand::{Figures, figures, gather_rows};
 use std::alloc::Global;
 
 /// Gathered demands with their figures, one entry in each column for each row.
 #[derive(Drop)]
 pub struct FigureColumns {
-    /// Wants, mosts and tight groups.
-    pub gathered: Gathered,
-    /// 1 for each tight group, else 0.
+    /// The amount that each group would take without its own limit, in slices of one period.
+    pub wants: Vec<u64>,
+    /// The most that each group can be given, in slices of one period.
+    pub mosts: Vec<u64>,
+    /// 1 if a group's own limit is below its want, else 0.
     pub tights: Vec<u8>,
-    /// The figures of the gathered demands.
+    /// The figures of these demands.
     pub figures: Figures,
 }
 
@@ -43,6 +45,7 @@ pub fn figures_of(
     Ok(FigureColumns {
         tights: flag_numbers(alloc, gathered.tight.as_slice())?,
         figures: figures(alloc, &instance, &gathered)?,
-        gathered,
+        wants: gathered.want,
+        mosts: gathered.most,
     })
 }

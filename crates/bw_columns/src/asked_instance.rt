@@ -43,11 +43,7 @@ impl Host {
 /// # Errors
 /// `WrongLength` if the columns differ in length, then the first fault of the host, then the first
 /// fault of the rows.
-pub fn instance_of(
-    alloc: Global,
-    host: Host,
-    columns: &Columns<'_>,
-) -> Result<Instance, Refusal>
+pub fn instance_of(alloc: Global, host: Host, columns: &Columns<'_>) -> Result<Instance, Refusal>
     ensures groups { IfOk result (λ i. i ≡ groups_asked host columns.now) }
     ensures valid { IfOk result IsInstance }
     ensures none { OnOk result (refusal_of host columns.now ≡ 0) }

@@ -4,8 +4,9 @@ use Rattle.bw_model.specs.Host.{Shape}
 use Rattle.bw_hierarchy.specs.State.{HierarchyState}
 use Rattle.bw_script.specs.Reading.{IsRead}
 use Rattle.bw_script.specs.declared.reading.RefusedLine.{RefusedLine}
-use Rattle.bw_exports.specs.Script.{told_of, columns_of, line_numbers, fault_numbers}
-use Rattle.bw_exports.specs.declared.script_call.Told.{Told}
+use Rattle.bw_group_columns.specs.Groups.{told_of, columns_of}
+use Rattle.bw_exports.specs.Script.{line_numbers, fault_numbers}
+use Rattle.bw_exports.specs.declared.told.Told.{Told}
 
 -- the groups after the script, and its refused lines
 pub record IsTold (shape : Shape) (text : List ℕ) (told : Told) : Type 0 where

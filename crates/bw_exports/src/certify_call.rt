@@ -1,72 +1,14 @@
 //! `arbiter_certify`: the planner with a certificate, called from C.
-ghost use Rattle.std.specs.Prelude.{◌≡◌, ◌<◌, ◌∷◌, [], true, length, IfOk, IfErr, OnOk};
-ghost use Rattle.bw_exports.specs.Asked.{groups_asked, refusal_where, are_of_length, Answers};
-ghost use Rattle.bw_exports.specs.Asked.{asked_host, asked_table, groups_in, asked_number_where};
-ghost use Rattle.bw_exports.specs.Certified.{IsCertifiedPlan, claimed_in, AreLong};
-ghost use Rattle.bw_exports.specs.Checked.{claimed_columns};
-ghost use Rattle.bw_exports.specs.Numbers.{number_of_refusal};
+ghost use Rattle.std.specs.Prelude.{◌≡◌, ◌<◌, ◌∷◌, [], length};
+ghost use Rattle.bw_columns.specs.Asked.{Answers, are_of_length, asked_host, asked_table};
+ghost use Rattle.bw_columns.specs.Asked.{groups_in, asked_number_where};
+ghost use Rattle.bw_columns.specs.Certificates.{claimed_columns};
+ghost use Rattle.bw_answers.specs.Certified.{IsCertifiedPlan};
 
-use crate::asked_instance::{Host, instance_where};
-use crate::certificate_columns::{dens, flag_numbers, nums, places};
-use crate::columns::Columns;
-use crate::refusal::Refusal;
-use bw_cert::certify_gathered;
-use bw_demand::gather_rows;
-use bw_plan::plan_rows;
+use crate::fit::is_certificate_fit;
+use bw_answers::certified_plan_of;
+use bw_columns::{Columns, Host, write_certificate};
 use std::alloc::Global;
-
-// A plan with its certificate, by column.
-#[derive(Drop)]
-struct Found {
-    amounts: Vec<u64>,
-    flags: Vec<u8>,
-    nums: Vec<u64>,
-    dens: Vec<u64>,
-    places: Vec<u32>,
-}
-
-// The plan of a host and its rows, with its certificate.
-fn found_in(alloc: Global, fit: bool, host: Host, columns: &Columns<'_>) -> Result<Found, Refusal>
-    ensures held { IfOk result
-        (λ f. IsCertifiedPlan (groups_asked host columns.now) f.amounts.items (claimed_in f)) }
-    ensures long { IfOk result (λ f. AreLong f (length columns.now.parents.now)) }
-    ensures fit { OnOk result (fit ≡ true) }
-    ensures none { OnOk result (refusal_where fit host columns.now ≡ 0) }
-    ensures err { IfErr result
-        (λ e. Answers (refusal_where fit host columns.now) (number_of_refusal e)) }
-{
-    let instance = instance_where(alloc, fit, host, columns)?;
-    let gathered = gather_rows(alloc, &instance)?;
-    let plan = plan_rows(alloc, &instance, &gathered)?;
-    let certificate = certify_gathered(alloc, &instance, gathered, &plan)?;
-    let levels = certificate.levels.as_slice();
-    Ok(Found {
-        flags: flag_numbers(alloc, certificate.tight.as_slice())?,
-        nums: nums(alloc, levels)?,
-        dens: dens(alloc, levels)?,
-        places: places(alloc, levels)?,
-        amounts: plan.amounts,
-    })
-}
-
-// Whether each column for the answer has so many entries.
-fn are_fit(
-    count: usize,
-    amounts: &[u64],
-    flags: &[u8],
-    nums: &[u64],
-    dens: &[u64],
-    places: &[u32],
-) -> bool
-    ensures { result ≡ are_of_length count
-        (amounts.now ∷ flags.now ∷ nums.now ∷ dens.now ∷ places.now ∷ []) }
-{
-    amounts.len() == count
-        && flags.len() == count
-        && nums.len() == count
-        && dens.len() == count
-        && places.len() == count
-}
 
 /// The plan of the rows, as [`crate::plan_call::arbiter_plan`] has them, with a certificate that
 /// [`crate::check_call::arbiter_check`] accepts.
@@ -109,16 +51,14 @@ pub extern "C" fn arbiter_certify(
     ensures dens_kept { 0 < result → dens.new ≡ dens.old }
     ensures places_kept { 0 < result → places.new ≡ places.old }
 {
-    let fit = are_fit(parents.len(), amounts, flags, nums, dens, places);
+    let count = parents.len();
+    let fit = amounts.len() == count && is_certificate_fit(count, flags, nums, dens, places);
     let host = Host::new(processors, period_us, slice_us);
     let columns = Columns::new(parents, weights, limits, demands);
-    match found_in(alloc, fit, host, &columns) {
+    match certified_plan_of(alloc, fit, host, &columns) {
         Ok(found) => {
             amounts.copy_from_slice(found.amounts.as_slice());
-            flags.copy_from_slice(found.flags.as_slice());
-            nums.copy_from_slice(found.nums.as_slice());
-            dens.copy_from_slice(found.dens.as_slice());
-            places.copy_from_slice(found.places.as_slice());
+            write_certificate(&found.certificate, flags, nums, dens, places);
             0
         }
         Err(refusal) => refusal.number(),

@@ -1,42 +1,14 @@
 //! `arbiter_check`: the checker, called from C.
-ghost use Rattle.std.specs.Prelude.{◌≡◌, IfOk, IfErr, OnOk};
+ghost use Rattle.std.specs.Prelude.{◌≡◌};
 ghost use Rattle.bw_model.specs.Plan.{IsPlan};
-ghost use Rattle.bw_check.specs.declared.verdict.Verdict.TheVariants.{Accepted};
-ghost use Rattle.bw_exports.specs.Asked.{groups_asked, asked_host, asked_table, groups_in, Answers};
-ghost use Rattle.bw_exports.specs.Checked.{claimed_of, claimed_number, claimed_columns};
-ghost use Rattle.bw_exports.specs.Checked.{claim_refusal_of, IsVerdictOnClaim, IsOutcome};
-ghost use Rattle.bw_exports.specs.Numbers.{number_of_refusal};
+ghost use Rattle.bw_columns.specs.Asked.{asked_host, asked_table, groups_in};
+ghost use Rattle.bw_columns.specs.Certificates.{claimed_number, claimed_columns};
+ghost use Rattle.bw_exports.specs.Checked.{IsOutcome};
 
-use crate::asked_instance::{Host, instance_of};
-use crate::claim::Claim;
-use crate::columns::Columns;
-use crate::refusal::Refusal;
-use bw_check::{Verdict, check};
+use bw_answers::verdict_of;
+use bw_check::Verdict;
+use bw_columns::{Claim, Columns, Host};
 use std::alloc::Global;
-
-// The verdict on amounts by a claimed certificate.
-fn verdict_of(
-    alloc: Global,
-    host: Host,
-    columns: &Columns<'_>,
-    amounts: &[u64],
-    claim: &Claim<'_>,
-) -> Result<Verdict, Refusal>
-    ensures verdict { IfOk result (IsVerdictOnClaim (groups_asked host columns.now)
-        amounts.now (claimed_of claim.now)) }
-    ensures plan { IfOk result
-        (λ v. v ≡ Accepted → IsPlan (groups_asked host columns.now) amounts.now) }
-    ensures none { OnOk result (claim_refusal_of host columns.now claim.now ≡ 0) }
-    ensures err { IfErr result
-        (λ e. Answers (claim_refusal_of host columns.now claim.now) (number_of_refusal e)) }
-{
-    if !claim.is_even() {
-        return Err(Refusal::WrongLength);
-    }
-    let instance = instance_of(alloc, host, columns)?;
-    let certificate = claim.certificate(alloc)?;
-    Ok(check(alloc, &instance, amounts, &certificate)?)
-}
 
 /// Whether the flags and levels show that the amounts are the plan of the rows, as
 /// [`crate::plan_call::arbiter_plan`] has them.

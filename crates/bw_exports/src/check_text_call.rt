@@ -1,29 +1,12 @@
 //! `arbiter_check_text`: the checker of certified texts, called from C.
-ghost use Rattle.std.specs.Prelude.{◌≡◌, IfOk, IfErr};
-ghost use Rattle.bw_check.specs.declared.verdict.Verdict.TheVariants.{Accepted};
-ghost use Rattle.bw_cert.specs.Faults.{cert_fault_number};
-ghost use Rattle.bw_cert.specs.Reading.{Fails, certified_of};
+ghost use Rattle.std.specs.Prelude.{◌≡◌};
+ghost use Rattle.bw_cert.specs.Reading.{certified_of};
 ghost use Rattle.bw_cert.specs.Spelling.{text_lines, HoldsPlan};
-ghost use Rattle.bw_exports.specs.Texts.{IsVerdictIn, IsTextOutcome};
+ghost use Rattle.bw_exports.specs.Texts.{IsTextOutcome};
 
-use bw_cert::{CertFault, read_certified};
-use bw_check::{Verdict, check};
+use bw_answers::verdict_in;
+use bw_check::Verdict;
 use std::alloc::Global;
-
-// The verdict on a certified text.
-fn verdict_in(alloc: Global, text: &[u8]) -> Result<Verdict, CertFault>
-    ensures verdict { IfOk result (IsVerdictIn (certified_of (text_lines text.now))) }
-    ensures plan { IfOk result (λ v. v ≡ Accepted → HoldsPlan text.now) }
-    ensures err { IfErr result (λ e. Fails e (certified_of (text_lines text.now))) }
-{
-    let certified = read_certified(alloc, text)?;
-    Ok(check(
-        alloc,
-        &certified.instance,
-        certified.amounts.as_slice(),
-        &certified.certificate,
-    )?)
-}
 
 /// Whether a certified text shows that its amounts are the plan: the text that `arbiter check`
 /// reads.

@@ -1,47 +1,12 @@
 //! `arbiter_figures`: what each group wants, can be given and shares out, called from C.
-ghost use Rattle.std.specs.Prelude.{◌≡◌, ◌<◌, ◌∷◌, [], true, length, IfOk, IfErr, OnOk};
-ghost use Rattle.bw_exports.specs.Asked.{groups_asked, refusal_where, are_of_length, Answers};
-ghost use Rattle.bw_exports.specs.Asked.{asked_host, asked_table, groups_in, asked_number_where};
-ghost use Rattle.bw_exports.specs.Figured.{AreFigureColumns, AreFigured, AreLong};
-ghost use Rattle.bw_exports.specs.Numbers.{number_of_refusal};
+ghost use Rattle.std.specs.Prelude.{◌≡◌, ◌<◌, ◌∷◌, [], length};
+ghost use Rattle.bw_columns.specs.Asked.{Answers, are_of_length, asked_host, asked_table};
+ghost use Rattle.bw_columns.specs.Asked.{groups_in, asked_number_where};
+ghost use Rattle.bw_answers.specs.Figured.{AreFigureColumns};
 
-use crate::asked_instance::{Host, instance_where};
-use crate::certificate_columns::flag_numbers;
-use crate::columns::Columns;
-use crate::refusal::Refusal;
-use bw_demand::{Figures, Gathered, figures, gather_rows};
+use bw_answers::figures_of;
+use bw_columns::{Columns, Host};
 use std::alloc::Global;
-
-// Gathered demands with their figures, the tight groups as numbers.
-#[derive(Drop)]
-struct Figured {
-    gathered: Gathered,
-    tights: Vec<u8>,
-    figures: Figures,
-}
-
-// The figures of a host and its rows.
-fn figures_of(
-    alloc: Global,
-    fit: bool,
-    host: Host,
-    columns: &Columns<'_>,
-) -> Result<Figured, Refusal>
-    ensures held { IfOk result (AreFigured (groups_asked host columns.now)) }
-    ensures long { IfOk result (λ f. AreLong f (length columns.now.parents.now)) }
-    ensures fit { OnOk result (fit ≡ true) }
-    ensures none { OnOk result (refusal_where fit host columns.now ≡ 0) }
-    ensures err { IfErr result
-        (λ e. Answers (refusal_where fit host columns.now) (number_of_refusal e)) }
-{
-    let instance = instance_where(alloc, fit, host, columns)?;
-    let gathered = gather_rows(alloc, &instance)?;
-    Ok(Figured {
-        tights: flag_numbers(alloc, gathered.tight.as_slice())?,
-        figures: figures(alloc, &instance, &gathered)?,
-        gathered,
-    })
-}
 
 // Whether each column for the answer has so many entries.
 fn are_fit(
@@ -129,8 +94,8 @@ pub extern "C" fn arbiter_figures(
     let columns = Columns::new(parents, weights, limits, demands);
     match figures_of(alloc, fit, host, &columns) {
         Ok(found) => {
-            wants.copy_from_slice(found.gathered.want.as_slice());
-            mosts.copy_from_slice(found.gathered.most.as_slice());
+            wants.copy_from_slice(found.wants.as_slice());
+            mosts.copy_from_slice(found.mosts.as_slice());
             tights.copy_from_slice(found.tights.as_slice());
             actives.copy_from_slice(found.figures.active.as_slice());
             active_weights.copy_from_slice(found.figures.active_weight.as_slice());

@@ -1,103 +1,14 @@
 //! `arbiter_hold`: the limits of a round, called from C.
-ghost use Rattle.std.specs.Prelude.{◌≡◌, ◌<◌, ◌∷◌, [], true, length, map, IfOk, IfErr, OnOk};
-ghost use Rattle.bw_exports.specs.Asked.{groups_asked, refusal_where, are_of_length, Answers};
-ghost use Rattle.bw_exports.specs.Asked.{asked_host, asked_table, groups_in, asked_number_where};
-ghost use Rattle.bw_exports.specs.Checked.{claimed_columns};
-ghost use Rattle.bw_exports.specs.Held.{flags_in, IsHeldRound, claim_of, AreHeldLong};
-ghost use Rattle.bw_exports.specs.Numbers.{number_of_refusal};
-ghost use Rattle.bw_exports.specs.Questions.{limit_number};
+ghost use Rattle.std.specs.Prelude.{◌≡◌, ◌<◌, ◌∷◌, [], length};
+ghost use Rattle.bw_columns.specs.Asked.{Answers, are_of_length, asked_host, asked_table};
+ghost use Rattle.bw_columns.specs.Asked.{groups_in, asked_number_where};
+ghost use Rattle.bw_columns.specs.Certificates.{claimed_columns, flags_in};
+ghost use Rattle.bw_answers.specs.Held.{IsHeldRound};
 
-use crate::asked_instance::{Host, instance_where};
-use crate::certificate_columns::{dens, flag_numbers, nums, places};
-use crate::claim::flags_of;
-use crate::columns::{Columns, limit_number};
-use crate::refusal::Refusal;
-use bw_hold::{Held, hold};
-use std::alloc::{AllocError, Global};
-
-// The limits of a round, with its demands and its certified plan, by column.
-#[derive(Drop)]
-struct HeldColumns {
-    limits: Vec<u64>,
-    demands: Vec<u64>,
-    amounts: Vec<u64>,
-    flags: Vec<u8>,
-    nums: Vec<u64>,
-    dens: Vec<u64>,
-    places: Vec<u32>,
-}
-
-// Each limit as a number, the greatest for none.
-fn limit_numbers(alloc: Global, limits: &[Option<u64>]) -> Result<Vec<u64>, AllocError>
-    ensures { IfOk result (λ numbers. numbers.items ≡ map limit_number limits.now) }
-{
-    limits
-        .iter()
-        .map(|limit| limit_number(*limit))
-        .collect(alloc)
-}
-
-// The round of a host, its rows and their flags.
-fn held_in(
-    alloc: Global,
-    fit: bool,
-    host: Host,
-    columns: &Columns<'_>,
-    hungry: &[u8],
-) -> Result<HeldColumns, Refusal>
-    requires { fit ≡ true → length hungry.now ≡ length columns.now.parents.now }
-    ensures held { IfOk result (λ h. IsHeldRound (groups_asked host columns.now)
-        (flags_in hungry.now) h.limits.items h.demands.items h.amounts.items (claim_of h)) }
-    ensures long { IfOk result (λ h. AreHeldLong h (length columns.now.parents.now)) }
-    ensures fit { OnOk result (fit ≡ true) }
-    ensures none { OnOk result (refusal_where fit host columns.now ≡ 0) }
-    ensures err { IfErr result
-        (λ e. Answers (refusal_where fit host columns.now) (number_of_refusal e)) }
-{
-    let instance = instance_where(alloc, fit, host, columns)?;
-    let tested = flags_of(alloc, hungry)?;
-    let Held {
-        limits,
-        demands,
-        amounts,
-        certificate,
-    } = hold(alloc, &instance, tested.as_slice())?;
-    let levels = certificate.levels.as_slice();
-    Ok(HeldColumns {
-        limits: limit_numbers(alloc, limits.as_slice())?,
-        flags: flag_numbers(alloc, certificate.tight.as_slice())?,
-        nums: nums(alloc, levels)?,
-        dens: dens(alloc, levels)?,
-        places: places(alloc, levels)?,
-        demands,
-        amounts,
-    })
-}
-
-// Whether each column beside the rows has so many entries.
-fn are_fit(
-    count: usize,
-    hungry: &[u8],
-    held: &[u64],
-    demands: &[u64],
-    amounts: &[u64],
-    flags: &[u8],
-    nums: &[u64],
-    dens: &[u64],
-    places: &[u32],
-) -> bool
-    ensures { result ≡ are_of_length count (hungry.now ∷ held.now ∷ demands.now ∷ amounts.now
-        ∷ flags.now ∷ nums.now ∷ dens.now ∷ places.now ∷ []) }
-{
-    hungry.len() == count
-        && held.len() == count
-        && demands.len() == count
-        && amounts.len() == count
-        && flags.len() == count
-        && nums.len() == count
-        && dens.len() == count
-        && places.len() == count
-}
+use crate::fit::is_certificate_fit;
+use bw_answers::held_of;
+use bw_columns::{Columns, Host, write_certificate};
+use std::alloc::Global;
 
 /// The limits of the next round, from what each leaf used in the last one.
 ///
@@ -149,37 +60,20 @@ pub extern "C" fn arbiter_hold(
     ensures dens_kept { 0 < result → dens.new ≡ dens.old }
     ensures places_kept { 0 < result → places.new ≡ places.old }
 {
-    let fit = are_fit(
-        parents.len(),
-        hungry,
-        held,
-        demands,
-        amounts,
-        flags,
-        nums,
-        dens,
-        places,
-    );
-    let host = Host {
-        processors,
-        period_us,
-        slice_us,
-    };
-    let columns = Columns {
-        parents,
-        weights,
-        limits,
-        demands: used,
-    };
-    match held_in(alloc, fit, host, &columns, hungry) {
+    let count = parents.len();
+    let fit = hungry.len() == count
+        && held.len() == count
+        && demands.len() == count
+        && amounts.len() == count
+        && is_certificate_fit(count, flags, nums, dens, places);
+    let host = Host::new(processors, period_us, slice_us);
+    let columns = Columns::new(parents, weights, limits, used);
+    match held_of(alloc, fit, host, &columns, hungry) {
         Ok(round) => {
             held.copy_from_slice(round.limits.as_slice());
             demands.copy_from_slice(round.demands.as_slice());
             amounts.copy_from_slice(round.amounts.as_slice());
-            flags.copy_from_slice(round.flags.as_slice());
-            nums.copy_from_slice(round.nums.as_slice());
-            dens.copy_from_slice(round.dens.as_slice());
-            places.copy_from_slice(round.places.as_slice());
+            write_certificate(&round.certificate, flags, nums, dens, places);
             0
         }
         Err(refusal) => refusal.number(),

@@ -1,13 +1,13 @@
 //! `arbiter_least_limit`: the least limit that reaches an amount, called from C.
 ghost use Rattle.std.specs.Prelude.{◌≡◌, ◌<◌};
-ghost use Rattle.bw_exports.specs.Asked.{Answers};
-ghost use Rattle.bw_exports.specs.Asked.{asked_host, asked_table, groups_in};
-ghost use Rattle.bw_exports.specs.Questions.{limit_question_number};
-ghost use Rattle.bw_exports.specs.Questions.{IsLeastLimitNumber};
+ghost use Rattle.bw_columns.specs.Asked.{Answers};
+ghost use Rattle.bw_columns.specs.Asked.{asked_host, asked_table, groups_in};
+ghost use Rattle.bw_answers.specs.Questions.{limit_question_number};
+ghost use Rattle.bw_answers.specs.Questions.{IsLeastLimitNumber};
 
-use crate::asked_instance::Host;
-use crate::columns::Columns;
-use crate::question::{Question, ask};
+use crate::asking::ask;
+use bw_answers::Question;
+use bw_columns::{Columns, Host};
 use std::alloc::Global;
 
 /// The least limit, in slices of one period, with which the plan gives a group at least so many

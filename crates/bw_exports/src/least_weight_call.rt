@@ -1,13 +1,13 @@
 //! `arbiter_least_weight`: the least weight that reaches an amount, called from C.
 ghost use Rattle.std.specs.Prelude.{◌≡◌, ◌<◌};
-ghost use Rattle.bw_exports.specs.Asked.{Answers};
-ghost use Rattle.bw_exports.specs.Asked.{asked_host, asked_table, groups_in};
-ghost use Rattle.bw_exports.specs.Questions.{question_number};
-ghost use Rattle.bw_exports.specs.Questions.{IsLeastWeightNumber};
+ghost use Rattle.bw_columns.specs.Asked.{Answers};
+ghost use Rattle.bw_columns.specs.Asked.{asked_host, asked_table, groups_in};
+ghost use Rattle.bw_answers.specs.Questions.{question_number};
+ghost use Rattle.bw_answers.specs.Questions.{IsLeastWeightNumber};
 
-use crate::asked_instance::Host;
-use crate::columns::Columns;
-use crate::question::{Question, ask};
+use crate::asking::ask;
+use bw_answers::Question;
+use bw_columns::{Columns, Host};
 use std::alloc::Global;
 
 /// The least weight, 1 to 10000, with which the plan gives a group at least so many slices.

@@ -1,38 +1,12 @@
 //! `arbiter_limiting`: the limiting groups of a tree, called from C.
-ghost use Rattle.std.specs.Prelude.{◌≡◌, ◌<◌, ◌≤◌, true, length, IfOk, IfErr, OnOk};
-ghost use Rattle.bw_exports.specs.Asked.{groups_asked, refusal_where, Answers};
-ghost use Rattle.bw_exports.specs.Asked.{asked_host, asked_table, groups_in, asked_number_with};
-ghost use Rattle.bw_exports.specs.Limited.{IsLimiting, IsListed};
-ghost use Rattle.bw_exports.specs.Numbers.{number_of_refusal};
+ghost use Rattle.std.specs.Prelude.{◌≡◌, ◌<◌, length};
+ghost use Rattle.bw_columns.specs.Asked.{Answers, asked_host, asked_table, groups_in};
+ghost use Rattle.bw_columns.specs.Asked.{asked_number_with};
+ghost use Rattle.bw_exports.specs.Limited.{IsListed};
 
-use crate::asked_instance::{Host, instance_where};
-use crate::columns::Columns;
-use crate::front::write_front;
-use crate::refusal::Refusal;
-use bw_demand::{Limiting, gather_rows, limiting};
-use bw_model::limits::MAX_GROUPS;
+use bw_answers::limiting_of;
+use bw_columns::{Columns, Host, write_front};
 use std::alloc::Global;
-
-// The limiting groups of a host and its rows.
-fn limiting_of(
-    alloc: Global,
-    fit: bool,
-    host: Host,
-    columns: &Columns<'_>,
-) -> Result<Limiting, Refusal>
-    ensures limiting { IfOk result
-        (λ l. IsLimiting (groups_asked host columns.now) l.groups.items l.rest) }
-    ensures short { IfOk result (λ l. length l.groups.items ≤ length columns.now.parents.now) }
-    ensures few { IfOk result (λ l. length l.groups.items ≤ MAX_GROUPS) }
-    ensures fit { OnOk result (fit ≡ true) }
-    ensures none { OnOk result (refusal_where fit host columns.now ≡ 0) }
-    ensures err { IfErr result
-        (λ e. Answers (refusal_where fit host columns.now) (number_of_refusal e)) }
-{
-    let instance = instance_where(alloc, fit, host, columns)?;
-    let gathered = gather_rows(alloc, &instance)?;
-    Ok(limiting(alloc, &instance, &gathered)?)
-}
 
 /// The limiting groups of the rows, as [`crate::plan_call::arbiter_plan`] has them.
 ///

@@ -3,7 +3,7 @@ ghost use Rattle.std.specs.Prelude.{◌≡◌, ◌≤◌};
 ghost use Rattle.bw_exports.specs.Names.{IsNameTold};
 
 use crate::fault::fault_of;
-use crate::front::write_name;
+use crate::room::write_name;
 
 /// The name of a number that another call answered, as `arbiter check` prints it.
 ///

@@ -1,28 +1,12 @@
 //! `arbiter_plan`: the planner, called from C.
-ghost use Rattle.std.specs.Prelude.{◌≡◌, ◌<◌, true, length, IfOk, IfErr, OnOk};
+ghost use Rattle.std.specs.Prelude.{◌≡◌, ◌<◌, length};
 ghost use Rattle.bw_model.specs.Plan.{IsPlan};
-ghost use Rattle.bw_exports.specs.Asked.{groups_asked, refusal_where, Answers};
-ghost use Rattle.bw_exports.specs.Asked.{asked_host, asked_table, groups_in, asked_number_with};
-ghost use Rattle.bw_exports.specs.Numbers.{number_of_refusal};
+ghost use Rattle.bw_columns.specs.Asked.{Answers, asked_host, asked_table, groups_in};
+ghost use Rattle.bw_columns.specs.Asked.{asked_number_with};
 
-use crate::asked_instance::{Host, instance_where};
-use crate::columns::Columns;
-use crate::refusal::Refusal;
-use bw_plan::{Plan, plan};
+use bw_answers::plan_of;
+use bw_columns::{Columns, Host};
 use std::alloc::Global;
-
-// The plan of a host and its rows.
-fn plan_of(alloc: Global, fit: bool, host: Host, columns: &Columns<'_>) -> Result<Plan, Refusal>
-    ensures plan { IfOk result (λ p. IsPlan (groups_asked host columns.now) p.amounts.items) }
-    ensures long { IfOk result (λ p. length p.amounts.items ≡ length columns.now.parents.now) }
-    ensures fit { OnOk result (fit ≡ true) }
-    ensures none { OnOk result (refusal_where fit host columns.now ≡ 0) }
-    ensures err { IfErr result
-        (λ e. Answers (refusal_where fit host columns.now) (number_of_refusal e)) }
-{
-    let instance = instance_where(alloc, fit, host, columns)?;
-    Ok(plan(alloc, &instance)?)
-}
 
 /// The plan of the rows of a tree, in slices of one period.
 ///

@@ -1,60 +1,12 @@
 //! `arbiter_reasons`: why each group gets what it gets, called from C.
-ghost use Rattle.std.specs.Prelude.{◌≡◌, ◌<◌, ◌∷◌, [], true, length, IfOk, IfErr, OnOk};
-ghost use Rattle.bw_exports.specs.Asked.{groups_asked, refusal_where, are_of_length, Answers};
-ghost use Rattle.bw_exports.specs.Asked.{asked_host, asked_table, groups_in, asked_number_where};
-ghost use Rattle.bw_exports.specs.Numbers.{number_of_refusal};
-ghost use Rattle.bw_exports.specs.Reasoned.{AreReasonColumns};
+ghost use Rattle.std.specs.Prelude.{◌≡◌, ◌<◌, ◌∷◌, [], length};
+ghost use Rattle.bw_columns.specs.Asked.{Answers, are_of_length, asked_host, asked_table};
+ghost use Rattle.bw_columns.specs.Asked.{groups_in, asked_number_where};
+ghost use Rattle.bw_answers.specs.Reasoned.{AreReasonColumns};
 
-use crate::asked_instance::{Host, instance_where};
-use crate::columns::Columns;
-use crate::reason_columns::{blamed_rows, reason_numbers};
-use crate::refusal::Refusal;
-use bw_demand::gather_rows;
-use bw_plan::plan_rows;
-use bw_questions::reasons;
+use bw_answers::reasons_of;
+use bw_columns::{Columns, Host};
 use std::alloc::Global;
-
-// Reasons, by column.
-#[derive(Drop)]
-struct Reasoned {
-    numbers: Vec<u8>,
-    blamed: Vec<u32>,
-}
-
-// The reasons of the plan of a host and its rows.
-fn reasons_of(
-    alloc: Global,
-    fit: bool,
-    host: Host,
-    columns: &Columns<'_>,
-) -> Result<Reasoned, Refusal>
-    ensures held { IfOk result
-        (λ r. AreReasonColumns (groups_asked host columns.now) r.numbers.items r.blamed.items) }
-    ensures numbers { IfOk result
-        (λ r. length r.numbers.items ≡ length columns.now.parents.now) }
-    ensures blamed { IfOk result (λ r. length r.blamed.items ≡ length columns.now.parents.now) }
-    ensures fit { OnOk result (fit ≡ true) }
-    ensures none { OnOk result (refusal_where fit host columns.now ≡ 0) }
-    ensures err { IfErr result
-        (λ e. Answers (refusal_where fit host columns.now) (number_of_refusal e)) }
-{
-    let instance = instance_where(alloc, fit, host, columns)?;
-    let gathered = gather_rows(alloc, &instance)?;
-    let planned = plan_rows(alloc, &instance, &gathered)?;
-    let found = reasons(alloc, &instance, &gathered, &planned)?;
-    let each = found.as_slice();
-    Ok(Reasoned {
-        numbers: reason_numbers(alloc, each)?,
-        blamed: blamed_rows(alloc, each)?,
-    })
-}
-
-// Whether both columns for the answer have so many entries.
-fn are_fit(count: usize, reasons: &[u8], blamed: &[u32]) -> bool
-    ensures { result ≡ are_of_length count (reasons.now ∷ blamed.now ∷ []) }
-{
-    reasons.len() == count && blamed.len() == count
-}
 
 /// Why each group gets what it gets, of the rows that [`crate::plan_call::arbiter_plan`] has.
 ///
@@ -93,7 +45,8 @@ pub extern "C" fn arbiter_reasons(
     ensures reasons_kept { 0 < result → reasons.new ≡ reasons.old }
     ensures blamed_kept { 0 < result → blamed.new ≡ blamed.old }
 {
-    let fit = are_fit(parents.len(), reasons, blamed);
+    let count = parents.len();
+    let fit = reasons.len() == count && blamed.len() == count;
     let host = Host::new(processors, period_us, slice_us);
     let columns = Columns::new(parents, weights, limits, demands);
     match reasons_of(alloc, fit, host, &columns) {

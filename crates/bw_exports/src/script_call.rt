@@ -1,26 +1,14 @@
 //! `arbiter_script`: a script is read, called from C.
-ghost use Rattle.std.specs.Prelude.{◌≡◌, ◌==◌, ◌≤◌, ◌∷◌, ◌&&◌, [], length, nat_le, IfOk};
-ghost use Rattle.bw_model.specs.declared.limits.TheConstants.{MAX_GROUPS};
-ghost use Rattle.bw_exports.specs.Asked.{are_of_length, asked_host};
-ghost use Rattle.bw_exports.specs.Script.{IsScriptAnswer, columns_with, room_of, AreLong};
-ghost use Rattle.bw_exports.specs.Script.{columns_of};
-ghost use Rattle.bw_exports.specs.ScriptTold.{IsTold};
+ghost use Rattle.std.specs.Prelude.{◌≡◌, ◌==◌, ◌∷◌, ◌&&◌, [], length};
+ghost use Rattle.bw_columns.specs.Asked.{are_of_length, asked_host};
+ghost use Rattle.bw_group_columns.specs.Groups.{columns_with};
+ghost use Rattle.bw_exports.specs.Script.{IsScriptAnswer, room_of};
 
-use crate::front::write_front;
-use crate::refusal::Refusal;
-use crate::script_columns::{GroupColumns, group_columns, refused_faults, refused_lines};
-use bw_hierarchy::Fault;
+use crate::told::told_by;
+use bw_columns::{Refusal, write_front};
+use bw_group_columns::{are_groups_even, write_groups};
 use bw_model::HostShape;
-use bw_script::read_script;
 use std::alloc::{AllocError, Global};
-
-// The groups after a script, and its refused lines, by column.
-#[derive(Drop)]
-struct Told {
-    groups: GroupColumns,
-    lines: Vec<u64>,
-    faults: Vec<u32>,
-}
 
 // Whether the columns of the groups are of one length, and those of the refused lines.
 fn are_even(
@@ -39,44 +27,9 @@ fn are_even(
         ∷ quotas.now ∷ periods.now ∷ bursts.now ∷ carries.now ∷ [])
         && length lines.now == length faults.now) }
 {
-    let count = parents.len();
-    weights.len() == count
-        && limits.len() == count
-        && demands.len() == count
-        && quotas.len() == count
-        && periods.len() == count
-        && bursts.len() == count
-        && carries.len() == count
-        && lines.len() == faults.len()
-}
-
-// Reads a script.
-fn told_by(alloc: Global, shape: HostShape, text: &[u8]) -> Result<Told, Fault>
-    ensures told { IfOk result (λ t. IsTold shape text.now t) }
-    ensures long { IfOk result (λ t. AreLong (columns_of t.groups)) }
-    ensures few { IfOk result (λ t. length t.groups.parents.items ≤ MAX_GROUPS) }
-    ensures each { IfOk result (λ t. length t.faults.items ≡ length t.lines.items) }
-{
-    let read = read_script(alloc, shape, text)?;
-    let refused = read.refused.as_slice();
-    Ok(Told {
-        groups: group_columns(alloc, read.reader.hierarchy())?,
-        lines: refused_lines(alloc, refused)?,
-        faults: refused_faults(alloc, refused)?,
-    })
-}
-
-impl Told {
-    // Whether there is room for so many groups, bytes of names and refused lines.
-    fn fits(&self, groups: usize, names: usize, refused: usize) -> bool
-        ensures { result ≡ (nat_le (length self.now.groups.parents.items) groups
-            && nat_le (length self.now.groups.names.items) names
-            && nat_le (length self.now.lines.items) refused) }
-    {
-        self.groups.parents.len() <= groups
-            && self.groups.names.len() <= names
-            && self.lines.len() <= refused
-    }
+    are_groups_even(
+        parents, weights, limits, demands, quotas, periods, bursts, carries,
+    ) && lines.len() == faults.len()
 }
 
 /// Reads a script, as `arbiter run` does on a host: the groups after its last line by column, and
@@ -154,15 +107,18 @@ pub extern "C" fn arbiter_script(
     if !told.fits(parents.len(), names.len(), refused_lines.len()) {
         return Refusal::WrongLength.number();
     }
-    write_front(parents, told.groups.parents.as_slice());
-    write_front(weights, told.groups.weights.as_slice());
-    write_front(limits, told.groups.limits.as_slice());
-    write_front(demands, told.groups.demands.as_slice());
-    write_front(quotas, told.groups.quotas.as_slice());
-    write_front(periods, told.groups.periods.as_slice());
-    write_front(bursts, told.groups.bursts.as_slice());
-    write_front(carries, told.groups.carries.as_slice());
-    write_front(names, told.groups.names.as_slice());
+    write_groups(
+        &told.groups,
+        parents,
+        weights,
+        limits,
+        demands,
+        quotas,
+        periods,
+        bursts,
+        carries,
+        names,
+    );
     write_front(refused_lines, told.lines.as_slice());
     write_front(refused_faults, told.faults.as_slice());
     *count = told.groups.parents.len() as u32;

@@ -1,7 +1,7 @@
 //! `arbiter_slices`: a quota or burst in slices, called from C.
 ghost use Rattle.std.specs.Prelude.{◌≡◌, ◌<◌};
 ghost use Rattle.bw_model.specs.Quota.{in_slices};
-ghost use Rattle.bw_exports.specs.Asked.{asked_host};
+ghost use Rattle.bw_columns.specs.Asked.{asked_host};
 ghost use Rattle.bw_exports.specs.Units.{slices_refusal};
 
 use bw_files::{check_burst, check_period};

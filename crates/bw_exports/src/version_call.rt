@@ -2,7 +2,7 @@
 ghost use Rattle.std.specs.Prelude.{◌≡◌, codes};
 ghost use Rattle.bw_exports.specs.Names.{with_name};
 
-use crate::front::write_name;
+use crate::room::write_name;
 
 /// The version of the library. A test compares it with the program's.
 const VERSION: &str = "1.0.0";

@@ -25,16 +25,11 @@ TASKS = re.compile(r"# tasks ([0-9]{1,9})(?:, asks ([0-9]{1,30}[a-z]{0,3}))?")
 OPTION = re.compile(r"--([a-z]+)[ =]([0-9]+)")
 # Most lines that are refused, one by one.
 MAX_REFUSED = 100000
-# Names of faults with their ranges, by their numbers.
-FAULTS = {
-    7: "TooDeep", 8: "InnerDemand", 9: "DemandTooLarge (0 to 1000000 slices)", 11: "BadNumber",
-    12: "WeightOutOfRange (1 to 10000)", 13: "QuotaTooSmall (1000 to 10^15 microseconds)",
-    14: "QuotaTooLarge (at most 10^15 microseconds)",
-    15: "PeriodOutOfRange (1000 to 1000000 microseconds)", 16: "TooManyWords", 17: "Empty",
-    20: "NotFound", 21: "Exists", 22: "BadName", 23: "HasChildren", 24: "HasDemand",
-    25: "ParentHasDemand", 26: "RootFixed", 27: "TreeFull (16384 groups)", 30: "NoSuchFile",
-    31: "ReadOnly", 33: "BurstAboveQuota", 80: "BadCommand", 81: "BadText",
-    82: "LineTooLong (65536 bytes)",
+# Ranges that are said behind the names of faults, by their numbers.
+RANGES = {
+    9: "0 to 1000000 slices", 12: "1 to 10000", 13: "1000 to 10^15 microseconds",
+    14: "at most 10^15 microseconds", 15: "1000 to 1000000 microseconds", 27: "16384 groups",
+    82: "65536 bytes",
 }
 
 
@@ -176,8 +171,9 @@ def read(data: bytes, name: str, engine: Engine, host: Host | None = None) -> Mo
         take_comments(model, lines, {number for number, _ in found.refused}, model.slices)
     for number, fault in found.refused:
         text = names.shown(names.cut(lines[number - 1][:400].decode(errors="replace"), 120))
-        words = FAULTS.get(fault) or engine.library.name(fault)
-        model.refused.append(f"{name}:{number}: error {fault} {words}: {text}")
+        within = f" ({RANGES[fault]})" if fault in RANGES else ""
+        words = f"error {fault} {engine.library.name(fault)}{within}"
+        model.refused.append(f"{name}:{number}: {words}: {text}")
     return model
 
 

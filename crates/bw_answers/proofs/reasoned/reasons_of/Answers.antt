@@ -5,7 +5,7 @@ use Rattle.bw_questions.specs.declared.why.reason.Reason.{Reason}
 use Rattle.bw_columns.specs.Asked.{table_of}
 use Rattle.bw_answers.specs.Reasoned.{reason_number, blamed_rows}
 use Rattle.bw_columns.proofs.CallerLemmas.{rows_length}
-use Rattle.bw_answers.proofs.Reasoned.{blamed_long}
+use Rattle.bw_answers.proofs.Blamed.{blamed_long}
 use Rattle.bw_columns.proofs.CallerLemmas.{long_by}
 use Rattle.bw_answers.proofs.reasoned.reasons_of.Goals as goal
 

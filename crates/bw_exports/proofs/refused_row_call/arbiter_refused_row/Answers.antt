@@ -1,11 +1,12 @@
 -- The goals of `arbiter_refused_row` that are answered by hand.
 use Rattle.std.proofs.Common.{rules, ◌≡◌, true, false, Some, None, length, sym, ap, ◌∙◌}
 use Rattle.bw_model.specs.declared.instance_fault.InstanceFault.TheVariants.{BadParent}
-use Rattle.bw_exports.specs.declared.columns.Columns.{Columns}
-use Rattle.bw_exports.specs.Asked.{table_of, rows_in, are_even}
+use Rattle.bw_columns.specs.declared.columns.Columns.{Columns}
+use Rattle.bw_columns.specs.Asked.{table_of, rows_in, are_even}
 use Rattle.bw_exports.specs.RefusedRow.{rows_number}
-use Rattle.bw_exports.proofs.Asked.{rows_length}
-use Rattle.bw_exports.proofs.RefusedRow.{number_uneven, number_even, refused_empty}
+use Rattle.bw_columns.proofs.CallerLemmas.{rows_length}
+use Rattle.bw_answers.proofs.CallerLemmas.{refused_empty}
+use Rattle.bw_exports.proofs.RefusedRow.{number_uneven, number_even}
 use Rattle.bw_exports.proofs.refused_row_call.arbiter_refused_row.Goals as goal
 
 pub returns-then-not-are_even-clause-number : goal.returns-then-not-are_even-clause-number

@@ -3,10 +3,12 @@ use Rattle.std.proofs.Common.{rules, ◌≡◌, ◌∙◌, true, false, length, 
 use Rattle.bw_model.specs.Host.{Shape, IsHost}
 use Rattle.bw_model.specs.Faults.{host_fault_number}
 use Rattle.bw_script.specs.Reading.{IsRead}
-use Rattle.bw_exports.specs.Asked.{asked_host}
-use Rattle.bw_exports.specs.Script.{Room, room_of, columns_with, columns_of, is_even, fits}
+use Rattle.bw_columns.specs.Asked.{asked_host}
+use Rattle.bw_group_columns.specs.Groups.{columns_with, columns_of}
+use Rattle.bw_group_columns.proofs.CallerLemmas.{front_by}
+use Rattle.bw_exports.specs.Script.{Room, room_of, is_even}
 use Rattle.bw_exports.proofs.ScriptLemmas.{uneven, no_host, no_memory, no_room, all_told, AreThose}
-use Rattle.bw_exports.proofs.ScriptLemmas.{front_by, room_by}
+use Rattle.bw_exports.proofs.ScriptLemmas.{room_by}
 use Rattle.bw_exports.proofs.script_call.arbiter_script.Goals as goal
 
 pub returns-then-not-are_even : goal.returns-then-not-are_even
@@ -103,32 +105,15 @@ returns c =
     let bytes : c.len-2.result ≡ length told.groups.names.items = search rules in
     let lines : c.len-3.result ≡ length told.lines.items = search rules in
     let room = room_by (columns_of told.groups) told.lines.items told.faults.items before
-    c.write_front.new.into c.write_front-2.new.into c.write_front-3.new.into
-    c.write_front-4.new.into c.write_front-5.new.into c.write_front-6.new.into
-    c.write_front-7.new.into c.write_front-8.new.into c.write_front-9.new.into
-    c.write_front-10.new.into c.write_front-11.new.into c.len.result c.len-2.result c.len-3.result
-    (front_by c.as_slice.result.now told.groups.parents.items c.args.parents.now
+    (columns_with c.write_groups.new.parents c.write_groups.new.weights c.write_groups.new.limits
+    c.write_groups.new.demands c.write_groups.new.quotas c.write_groups.new.periods
+    c.write_groups.new.bursts c.write_groups.new.carries c.write_groups.new.names)
+    c.write_front.new.into c.write_front-2.new.into c.len.result c.len-2.result c.len-3.result
+    c.write_groups.ensures
+    (front_by c.as_slice.result.now told.lines.items c.args.refused_lines.now
     c.write_front.new.into c.write_front.ensures c.as_slice.ensures.value)
-    (front_by c.as_slice-2.result.now told.groups.weights.items c.args.weights.now
+    (front_by c.as_slice-2.result.now told.faults.items c.args.refused_faults.now
     c.write_front-2.new.into c.write_front-2.ensures c.as_slice-2.ensures.value)
-    (front_by c.as_slice-3.result.now told.groups.limits.items c.args.limits.now
-    c.write_front-3.new.into c.write_front-3.ensures c.as_slice-3.ensures.value)
-    (front_by c.as_slice-4.result.now told.groups.demands.items c.args.demands.now
-    c.write_front-4.new.into c.write_front-4.ensures c.as_slice-4.ensures.value)
-    (front_by c.as_slice-5.result.now told.groups.quotas.items c.args.quotas.now
-    c.write_front-5.new.into c.write_front-5.ensures c.as_slice-5.ensures.value)
-    (front_by c.as_slice-6.result.now told.groups.periods.items c.args.periods.now
-    c.write_front-6.new.into c.write_front-6.ensures c.as_slice-6.ensures.value)
-    (front_by c.as_slice-7.result.now told.groups.bursts.items c.args.bursts.now
-    c.write_front-7.new.into c.write_front-7.ensures c.as_slice-7.ensures.value)
-    (front_by c.as_slice-8.result.now told.groups.carries.items c.args.carries.now
-    c.write_front-8.new.into c.write_front-8.ensures c.as_slice-8.ensures.value)
-    (front_by c.as_slice-9.result.now told.groups.names.items c.args.names.now
-    c.write_front-9.new.into c.write_front-9.ensures c.as_slice-9.ensures.value)
-    (front_by c.as_slice-10.result.now told.lines.items c.args.refused_lines.now
-    c.write_front-10.new.into c.write_front-10.ensures c.as_slice-10.ensures.value)
-    (front_by c.as_slice-11.result.now told.faults.items c.args.refused_faults.now
-    c.write_front-11.new.into c.write_front-11.ensures c.as_slice-11.ensures.value)
     groups bytes lines in
     all_told shape text before _ 0 t.last t.refused (columns_of told.groups) told.lines.items
     told.faults.items e host read those (sym c.fits.ensures ∙ enough) refl room
