@@ -53,6 +53,19 @@ impl Books {
         or_zeros(self.of(id))
     }
 
+    /// Counters of a group, as [`Books::counters`] gives them.
+    ///
+    /// They are found at once if they are at `likely`. They are there if every booked instance had
+    /// all groups in order of creation, and `likely` is the number of the group's row.
+    pub fn counters_near(&self, likely: usize, id: u64) -> Stat
+        ensures { result ≡ or_zeros (stat_at self.now id) }
+    {
+        if is_at(&self.stats, likely, id) {
+            return self.stats[likely];
+        }
+        self.counters(id)
+    }
+
     /// Counts one period for each group of an instance.
     ///
     /// `ids`, `base`, `gathered.want` and `drawn` have an entry for each row of the instance:

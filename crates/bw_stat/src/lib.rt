@@ -7,4 +7,4 @@ mod report;
 
 pub use books::Books;
 pub use laws::{counters_are_sums, has_one_each};
-pub use report::{put_report_line, report_head};
+pub use report::{put_counters, put_report_line, report_head};

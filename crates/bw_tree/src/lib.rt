@@ -7,6 +7,7 @@ mod carry;
 mod child_index;
 mod fault;
 mod group;
+mod hints;
 mod laws;
 pub mod limits;
 mod name;

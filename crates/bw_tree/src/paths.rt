@@ -1,5 +1,5 @@
 //! Paths: the group that a path names, and the path of a group.
-ghost use Rattle.std.specs.Prelude.{◌≡◌, ◌==◌, true, ◌++◌, IfOk, IfErr, OnOk, None, Some};
+ghost use Rattle.std.specs.Prelude.{◌≡◌, ◌==◌, true, ◌++◌, IfOk, IfErr, IfSome, OnOk, None, Some};
 ghost use Rattle.std.specs.String.{string_bytes};
 ghost use Rattle.bw_tree.specs.Paths.{path_at, names_to};
 ghost use Rattle.std.specs.List.{slice_split, join_with_byte};
@@ -28,7 +28,43 @@ impl Tree {
         if path == "." {
             return Ok(0);
         }
+        if let Some(id) = self.hinted(path) {
+            return Ok(id);
+        }
         self.walk(path).ok_or(TreeFault::NotFound)
+    }
+
+    // Group that a hint finds at a path, if it has this path.
+    fn hinted(&self, path: &str) -> Option<GroupId>
+        ensures { IfSome result (λ id. find_path self.now.groups path.now ≡ Some id) }
+    {
+        let id = self.hints.likely(path)?;
+        if !self.is_spelled(id, path.as_bytes()) {
+            return None;
+        }
+        Some(id)
+    }
+
+    // Whether the names from the root down to a group, joined by `/`, are this text.
+    fn is_spelled(&self, id: GroupId, text: &[u8]) -> bool
+        ensures { result ≡ true → path_at self.now.groups id ≡ Some text.now }
+    {
+        let Some(group) = self.group(id) else {
+            return false;
+        };
+        let Some(parent) = group.parent else {
+            return false;
+        };
+        let Some(front) = text.strip_suffix(group.name.as_str().as_bytes()) else {
+            return false;
+        };
+        if parent == 0 {
+            return front.is_empty();
+        }
+        let Some((slash, above)) = front.split_last() else {
+            return false;
+        };
+        *slash == b'/' && self.is_spelled(parent, above)
     }
 
     /// Path of a group: the one text with which [`Tree::find`] finds it.

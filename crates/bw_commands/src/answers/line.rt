@@ -12,7 +12,7 @@ ghost use Rattle.bw_commands.specs.LineText.{line_of, HasRow, IsHead};
 use super::paths::{name_of, put_path};
 use crate::span::Span;
 use bw_model::Stat;
-use bw_stat::{Books, put_report_line};
+use bw_stat::{Books, put_counters};
 use bw_tree::{GroupId, Snapshot, Tree};
 use itoa::Buffer;
 use std::alloc::{AllocError, Global};
@@ -73,7 +73,7 @@ fn put_head(line: Line<'_>, g: usize, answer: &mut Vec<u8>) -> Result<(), AllocE
 {
     match line {
         Line::Amount(amounts) => put_amount(amounts[g], answer),
-        Line::Counters(books, ids) => put_columns(&books.counters(ids[g]), answer),
+        Line::Counters(books, ids) => put_columns(&books.counters_near(g, ids[g]), answer),
     }
 }
 
@@ -95,8 +95,6 @@ fn put_columns(stat: &Stat, answer: &mut Vec<u8>) -> Result<(), AllocError>
         × IsHead (report_line stat.now) head) }
     ensures room { vec_capacity answer.old ≤ vec_capacity answer.new }
 {
-    put_report_line(stat, b"", answer)?;
-    // the path comes before the newline
-    let _ = answer.pop();
+    put_counters(stat, answer)?;
     Ok(())
 }
