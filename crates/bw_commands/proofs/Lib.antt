@@ -1,5 +1,6 @@
 -- The files of lemmas.
 mod Faults
+mod FirstByte
 mod Refusals
 mod Words
 mod Totals

@@ -9,5 +9,5 @@ returns-then-is_at c =
     let es = c.self.inside.stats.entries in
     let found = Found-position (eqb c.args.id) es c.args.likely
     (c.is_at.ensures c.if-is_at.true) in
-    let there = found.value ∙ c.index.ensures.value in
+    let there = found.value ∙ c.index.ensures in
     ap or_zeros (sym there) ∙ ap (λ b. or_zeros (stat_at b c.args.id)) c.self.view_is

@@ -1,10 +1,9 @@
 -- The goals of `Tree::is_spelled` that are answered by hand.
-use Rattle.std.proofs.Common.{◌≡◌, ◌≢◌, ◌++◌, ◌∷◌, [], ℕ, List, Some, length, true, sym, ap, ◌∙◌}
-use Rattle.std.proofs.Common.{arith, rules, subst}
+use Rattle.std.proofs.Common.{◌≡◌, ◌++◌, ◌∷◌, [], Some, sym, ap, ◌∙◌}
+use Rattle.std.proofs.Common.{arith, rules}
 use Rattle.std.proofs.lemmas.Bool.Decides.{Decides-eqb}
 use Rattle.std.proofs.lemmas.Slice.Eq.{strip_suffix_is}
 use Rattle.bw_tree.specs.Groups.{IsTree, group_at}
-use Rattle.bw_tree.specs.Paths.{path_at}
 use Rattle.bw_tree.proofs.HintLemmas.{named_first, named_below}
 use Rattle.bw_tree.proofs.tree.Tree.+is_spelled.Goals as goal
 
