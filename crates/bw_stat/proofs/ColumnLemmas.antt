@@ -1,13 +1,11 @@
 -- A number that is written at the end of blanks is a column.
-use Rattle.std.proofs.Common.{◌≡◌, ◌∙◌, ◌≤◌, ◌+◌, ◌-◌, ◌++◌, ◌∷◌, [], ℕ, suc, zero, List, length}
-use Rattle.std.proofs.Common.{take, drop, arith, sym, ap, refl, codes, append_assoc, append-nil}
+use Rattle.std.proofs.Common.{◌≡◌, ◌∙◌, ◌≤◌, ◌-◌, ◌++◌, [], ℕ, List, length}
+use Rattle.std.proofs.Common.{take, drop, arith, sym, ap, codes, append_assoc, append-nil}
 use Rattle.std.proofs.Common.{replicate}
 use Rattle.std.specs.Fmt.{decimal}
 use Rattle.std.proofs.lemmas.List.{take-append-drop, take-append-le, drop-append-le, drop-replicate}
 use Rattle.std.proofs.lemmas.List.{take-replicate, length-replicate}
-use Rattle.std.proofs.Math.Seq.{drop-append-add}
-use Rattle.bw_model.specs.declared.stat.Stat.{Stat}
-use Rattle.bw_stat.specs.Report.{right_aligned, column, counter_columns}
+use Rattle.bw_stat.specs.Report.{column}
 
 -- a text whose first bytes are so many blanks
 fronted : (xs : List ℕ) (n : ℕ) → take n xs ≡ replicate n 32 → xs ≡ replicate n 32 ++ drop n xs
