@@ -13,8 +13,14 @@ write_digits-digits-requires c =
 pub returns-clause-at_most : goal.returns-clause-at_most
 returns-clause-at_most c =
     let short : length (decimal c.args.number) ≤ 20 = search (rules, length-decimal-le 20) in
-    omega (arith, short, c.min.ensures, c.write_digits-digits.ensures.start, c.requires.room,
-    c.requires.width)
+    omega (
+      arith,
+      short,
+      c.min.ensures,
+      c.write_digits-digits.ensures.start,
+      c.requires.room,
+      c.requires.width,
+    )
 
 pub returns-clause-written : goal.returns-clause-written
 returns-clause-written c =
@@ -22,8 +28,13 @@ returns-clause-written c =
     column_is c.args.buffer.now c.write_digits-digits.new.buf c.args.number c.args.width c.args.end
     c.write_digits-digits.result c.min.result (omega (arith, c.requires.room)) c.requires.blank
     digits.before digits.written (omega (arith, digits.start))
-    (omega (arith, c.min.ensures)) (omega (arith, c.min.ensures, digits.start, c.requires.room,
-    c.requires.width))
+    (omega (arith, c.min.ensures)) (omega (
+      arith,
+      c.min.ensures,
+      digits.start,
+      c.requires.room,
+      c.requires.width,
+    ))
 
 pub returns-clause-blank : goal.returns-clause-blank
 returns-clause-blank c =
