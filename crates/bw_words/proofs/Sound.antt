@@ -142,6 +142,18 @@ one_char b (c ∷ cs) X low e =
     (cond x b (cond (nat_lt b 224) (b - 192) (cond (nat_lt b 240) (b - 224) (b - 240)))) (c ∷ cs))
     0) small)
 
+-- a dash before digits would be a dash before flags
+digit_flags : (a b : ℕ) (bs : List ℕ) → (a == 45) ≡ true → is_number (a ∷ b ∷ bs) ≡ true
+    → (b ≤ 57) × (short_of (a ∷ b ∷ bs) ≡ Some (b ∷ bs))
+digit_flags a b bs is number =
+    let range = first_digit b bs (tail_digits a (b ∷ bs) is number) in
+    let low : 48 ≤ b = range.0 in
+    let other : (b == 45) ≡ false = ne_eqb b 45 (λ e. omega arith) in (
+      range.1,
+      ap (λ x. option_and_then short_of_rest (cond x (Some (b ∷ bs)) None)) is
+          ∙ ap (λ x. cond x None (Some (b ∷ bs))) other,
+    )
+
 not_flag : (word : List ℕ) → short_of word ≡ None → is_number word ≡ true
     → begins_with_dash word ≡ false
 not_flag [] e number = refl
@@ -152,13 +164,7 @@ not_flag (a ∷ bs) e number = go (a == 45) refl bs e number
     go false is bs e number = refl
     go true is [] e number = absurd (true≢false (sym (tail_digits a [] is number)))
     go true is (b ∷ bs) e number =
-        let range = first_digit b bs (tail_digits a (b ∷ bs) is number) in
-        let low : 48 ≤ b = range.0 in
-        let other : (b == 45) ≡ false = ne_eqb b 45 (λ e. omega arith) in
-        let flags : short_of (a ∷ b ∷ bs) ≡ Some (b ∷ bs) =
-        ap (λ x. option_and_then short_of_rest (cond x (Some (b ∷ bs)) None)) is
-        ∙ ap (λ x. cond x None (Some (b ∷ bs))) other in
-        none≢some (b ∷ bs) (sym e ∙ flags)
+        none≢some (b ∷ bs) (sym e ∙ (digit_flags a b bs is number).1)
 
 no_flag : (word flags : List ℕ) → short_of word ≡ Some flags → slice_get (chars flags) 0 ≡ None
     → is_number word ≡ true → begins_with_dash word ≡ false
@@ -170,13 +176,9 @@ no_flag (a ∷ bs) flags e none number = go (a == 45) refl bs e number
     go false is bs e number = refl
     go true is [] e number = absurd (true≢false (sym (tail_digits a [] is number)))
     go true is (b ∷ bs) e number =
-        let range = first_digit b bs (tail_digits a (b ∷ bs) is number) in
-        let low : 48 ≤ b = range.0 in
-        let other : (b == 45) ≡ false = ne_eqb b 45 (λ e. omega arith) in
-        let same : Some flags ≡ Some (b ∷ bs) =
-        sym e ∙ ap (λ x. option_and_then short_of_rest (cond x (Some (b ∷ bs)) None)) is
-        ∙ ap (λ x. cond x None (Some (b ∷ bs))) other in
-        one_char b bs _ range.1
+        let as_flags = digit_flags a b bs is number in
+        let same : Some flags ≡ Some (b ∷ bs) = sym e ∙ as_flags.1 in
+        one_char b bs _ as_flags.0
         (ap (λ x. slice_get (chars (unwrap_or x flags)) 0) (sym same) ∙ none)
 
 -- ---- the walk
