@@ -1,7 +1,7 @@
 -- Lists by place.
 use Rattle.std.proofs.Common.{◌≡◌, ◌≢◌, ℕ, zero, suc, ◌+◌, ◌<◌, List, [], ◌∷◌, ◌++◌, length, take}
 use Rattle.std.proofs.Common.{map, replicate, Bool, true, false, cond, Some, set}
-use Rattle.std.proofs.Common.{slice_get, refl, ap, arith}
+use Rattle.std.proofs.Common.{slice_get, refl, ap, sym, ◌∙◌, arith}
 use Rattle.std.proofs.lemmas.List.Sums.{sum_by-cons}
 use Rattle.std.specs.List.{count_by}
 
@@ -18,6 +18,20 @@ get_other (z ∷ xs) zero zero y ne = absurd (ne refl)
 get_other (z ∷ xs) zero (suc j) y ne = refl
 get_other (z ∷ xs) (suc i) zero y ne = refl
 get_other (z ∷ xs) (suc i) (suc j) y ne = get_other xs i j y (λ e. ne (ap suc e))
+
+pub set_map : {X Y : Type 0} (f : X → Y) (xs : List X) (i : ℕ) (y : X)
+    → set (map f xs) i (f y) ≡ map f (set xs i y)
+set_map f [] i y = refl
+set_map f (x ∷ xs) zero y = refl
+set_map f (x ∷ xs) (suc i) y = ap (λ zs. f x ∷ zs) (set_map f xs i y)
+
+-- An entry with the same image in place of another one changes no image.
+pub set_mapped : {X Y : Type 0} (f : X → Y) (xs : List X) (i : ℕ) (p q : X)
+    → slice_get xs i ≡ Some p → f q ≡ f p → map f (set xs i q) ≡ map f xs
+set_mapped f [] i p q e h = absurd (cc e)
+set_mapped f (x ∷ xs) zero p q e h =
+    let d : x ≡ p = cc e in ap (λ z. z ∷ map f xs) (h ∙ ap f (sym d))
+set_mapped f (x ∷ xs) (suc i) p q e h = ap (λ zs. f x ∷ zs) (set_mapped f xs i p q e h)
 
 pub get_kept : {X : Type 0} (xs : List X) (y : X) (i : ℕ) (x : X) → slice_get xs i ≡ Some x
     → slice_get (xs ++ y ∷ []) i ≡ Some x

@@ -6,6 +6,7 @@ use Rattle.std.proofs.Common.{slice_get, slice_set, slice_index, Option, Some, N
 use Rattle.std.proofs.Common.{if◌then◌else◌, ne_eqb, eq-eqb}
 use Rattle.std.specs.List.{list_any}
 use prog.Atomic.{either}
+use Rattle.bw_machine.proofs.CallerLemmas.{get_same, get_other}
 use Rattle.bw_wake.specs.declared.seats.Phase.{Phase as WaitPhase}
 use Rattle.bw_wake.specs.declared.seats.Phase.TheVariants.{Idle as PIdle, Waiting as PWaiting}
 use Rattle.bw_wake.specs.declared.seats.Phase.TheVariants.{Looked as PLooked, Asleep as PAsleep}
@@ -36,20 +37,6 @@ set_same : {A : Type 0} (xs : List A) (i : ℕ) (a : A) → slice_get xs i ≡ S
 set_same [] i a e = refl
 set_same (x ∷ xs) zero a e = let s : x ≡ a = cc e in ap (λ y. y ∷ xs) (sym s)
 set_same (x ∷ xs) (suc i) a e = ap (λ l. x ∷ l) (set_same xs i a e)
-
-get_here : {A : Type 0} (xs : List A) (i : ℕ) (a b : A) → slice_get xs i ≡ Some a
-    → slice_get (slice_set xs i b) i ≡ Some b
-get_here [] i a b e = absurd (cc e)
-get_here (x ∷ xs) zero a b e = refl
-get_here (x ∷ xs) (suc i) a b e = get_here xs i a b e
-
-pub get_else : {A : Type 0} (xs : List A) (i j : ℕ) (b : A) → j ≢ i
-    → slice_get (slice_set xs i b) j ≡ slice_get xs j
-get_else [] i j b ne = refl
-get_else (x ∷ xs) zero zero b ne = absurd (ne refl)
-get_else (x ∷ xs) zero (suc j) b ne = refl
-get_else (x ∷ xs) (suc i) zero b ne = refl
-get_else (x ∷ xs) (suc i) (suc j) b ne = get_else xs i j b (λ e. ne (ap suc e))
 
 -- the wake words stand after two others
 two_on : (x : ℕ) → 2 + x ≡ suc (suc x)
@@ -244,7 +231,7 @@ module _ (M C R : Type 0) where
       → slice_get (or_same s (if b then None else Some (moved s i (one_less_in k c)))).phases i
       ≡ Some (one_less_in k c)
   no_one s i k c true at e = absurd (cc e)
-  no_one s i k c false at e = get_here s.phases i (PWakes k c) (one_less_in k c) at
+  no_one s i k c false at e = get_same s.phases i (PWakes k c) (one_less_in k c) at
 
   -- or the seat j sleeps there
   some_one : (s : WaitState) (i k c j t : ℕ) (b : Bool) → j ≢ i
@@ -261,8 +248,8 @@ module _ (M C R : Type 0) where
       }) else None)).phases i
       ≡ Some (one_less_in k c)
   some_one s i k c j t true ne at e =
-      get_else (slice_set s.phases i (one_less_in k c)) j i (PLooked t) (λ h. ne (sym h))
-      ∙ get_here s.phases i (PWakes k c) (one_less_in k c) at
+      get_other (slice_set s.phases i (one_less_in k c)) j i (PLooked t) (λ h. ne (sym h))
+      ∙ get_same s.phases i (PWakes k c) (one_less_in k c) at
   some_one s i k c j t false ne at e = absurd (cc e)
 
   apart : (s : WaitState) (i j k c t : ℕ) → slice_get s.phases i ≡ Some (PWakes k c)

@@ -8,6 +8,7 @@ use Rattle.std.proofs.lemmas.List.{length-set}
 use mathlib.Core.Logic.{dite}
 use native.Mathlib.Decide.{ℕ_discrete}
 use prog.Atomic.{either}
+use Rattle.bw_machine.proofs.CallerLemmas.{get_other, set_map, set_mapped}
 use Rattle.bw_wake.specs.declared.seats.Phase.TheVariants.{Looked as PLooked}
 use Rattle.bw_wake.specs.declared.seats.Phase.TheVariants.{Asleep as PAsleep, Wakes as PWakes}
 use Rattle.bw_wake.specs.declared.seats.Event.{Event}
@@ -36,19 +37,7 @@ use Rattle.bw_ticket.specs.Turns.Turn.{TakesMark, Fronts, Sleeps, Returns, Rings
 use Rattle.bw_ticket.specs.Turns.Turn.{NotesWake}
 use Rattle.bw_ticket.specs.Turns.Doing.{IsUp, Sleeping, HasRung}
 use Rattle.bw_ticket.proofs.OwedCounts.{same_words}
-use Rattle.bw_ticket.proofs.Followed.{steps_are_events, index_past, get_else, small}
-
-set_map : {X Y : Type 0} (f : X → Y) (xs : List X) (i : ℕ) (y : X)
-    → slice_set (map f xs) i (f y) ≡ map f (slice_set xs i y)
-set_map f [] i y = refl
-set_map f (x ∷ xs) zero y = refl
-set_map f (x ∷ xs) (suc i) y = ap (λ zs. f x ∷ zs) (set_map f xs i y)
-
-set_same : {X Y : Type 0} (f : X → Y) (xs : List X) (i : ℕ) (p q : X) → slice_get xs i ≡ Some p
-    → f q ≡ f p → map f (slice_set xs i q) ≡ map f xs
-set_same f [] i p q e h = absurd (cc e)
-set_same f (x ∷ xs) zero p q e h = let d : x ≡ p = cc e in ap (λ z. z ∷ map f xs) (h ∙ ap f (sym d))
-set_same f (x ∷ xs) (suc i) p q e h = ap (λ zs. f x ∷ zs) (set_same f xs i p q e h)
+use Rattle.bw_ticket.proofs.Followed.{steps_are_events, index_past, small}
 
 abbrev head_or : {X : Type 0} → X → List X → X
 head_or a [] = a
@@ -183,7 +172,7 @@ module _ {M C R : Type 0} (total : ℕ) (h : Hall M C R) (s : WaitState) (m : Me
         [],
         record {
           words = m.words ∙ sym (same_words h.words w);
-          phases = m.phases ∙ sym (set_same where_is h.seats i x y at same);
+          phases = m.phases ∙ sym (set_mapped where_is h.seats i x y at same);
           sound = m.sound;
           long = m.long;
           left = omega arith;
@@ -620,7 +609,7 @@ module _ {M C R : Type 0} (total : ℕ) (h k : Hall M C R) (s : WaitState) (m : 
       let ne : j ≢ i = λ e. absurd (cc (ap doing_of
       (sym at ∙ (ap (slice_get h.seats) (sym e) ∙ at_j)))) in
       let at_mid : slice_get mid j ≡ Some (seated Sleeping q) =
-      get_else h.seats i j (seated HasRung p) ne ∙ at_j in
+      get_other h.seats i j (seated HasRung p) ne ∙ at_j in
       let first = resting i p IsUp HasRung at in
       let second = left_set mid j (seated Sleeping q) (seated IsUp q) at_mid in
       subst (λ (x : Hall M C R). Goes total x s) (sym turn.10)

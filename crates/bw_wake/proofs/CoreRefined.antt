@@ -4,6 +4,7 @@ use Rattle.std.proofs.Common.{◌∷◌, map, length, replicate, set, refl, sym,
 use Rattle.std.proofs.Common.{subst, slice_get, slice_set, Some, None, Option, is_some}
 use Rattle.std.proofs.Common.{if◌then◌else◌}
 use Rattle.std.specs.List.{list_any}
+use Rattle.bw_machine.proofs.CallerLemmas.{set_map, set_mapped}
 use Rattle.bw_machine.specs.Seats.{CoreState, is_idle, is_done}
 use Rattle.bw_machine.specs.Seats.{happens as core_happens, entered as core_entered}
 use Rattle.bw_machine.specs.Seats.{applied as core_applied}
@@ -35,18 +36,6 @@ get_map f [] i x e = absurd (cc e)
 get_map f (y ∷ ys) zero x e = let d : y ≡ x = cc e in ap (λ z. Some (f z)) d
 get_map f (y ∷ ys) (suc i) x e = get_map f ys i x e
 
-set_map : {X Y : Type 0} (f : X → Y) (xs : List X) (i : ℕ) (y : X)
-    → set (map f xs) i (f y) ≡ map f (set xs i y)
-set_map f [] i y = refl
-set_map f (x ∷ xs) zero y = refl
-set_map f (x ∷ xs) (suc i) y = ap (λ zs. f x ∷ zs) (set_map f xs i y)
-
-set_same : {X Y : Type 0} (f : X → Y) (xs : List X) (i : ℕ) (p q : X) → slice_get xs i ≡ Some p
-    → f q ≡ f p → map f (set xs i q) ≡ map f xs
-set_same f [] i p q e h = absurd (cc e)
-set_same f (x ∷ xs) zero p q e h = let d : x ≡ p = cc e in ap (λ z. z ∷ map f xs) (h ∙ ap f (sym d))
-set_same f (x ∷ xs) (suc i) p q e h = ap (λ zs. f x ∷ zs) (set_same f xs i p q e h)
-
 start_map : {C : Type 0} (call : C) (n : ℕ) → ◌≡◌ {A = List (CorePhase C)} (replicate n CoreIdle)
     (map (phase_in_core call) (replicate n Idle))
 start_map call zero = refl
@@ -70,7 +59,7 @@ module _ {M C R : Type 0} (after : M → ℕ → C → M) (answer : M → ℕ �
       record {
         next = m.next;
         serving = m.serving;
-        phases = m.phases ∙ sym (set_same (phase_in_core call) s.phases i p q at h);
+        phases = m.phases ∙ sym (set_mapped (phase_in_core call) s.phases i p q at h);
       }
 
   silent_if : (b : Bool) (p q r : Phase) → slice_get s.phases i ≡ Some p
@@ -273,7 +262,7 @@ module _ {M C R : Type 0} (after : M → ℕ → C → M) (answer : M → ℕ �
         next = m.next;
         serving = m.serving;
         phases = first.phases
-            ∙ sym (set_same (phase_in_core call) (slice_set s.phases i (one_less a n)) j z.0
+            ∙ sym (set_mapped (phase_in_core call) (slice_set s.phases i (one_less a n)) j z.0
             (Looked t) z.1 (sym z.2));
       }
 

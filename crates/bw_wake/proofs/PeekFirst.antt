@@ -23,7 +23,7 @@ use Rattle.bw_wake.specs.Protocol.{happens, moved, marked, take_by, look_by, mar
 use Rattle.bw_wake.specs.Protocol.{spurious_wake_by, apply_by, leave_by, peek_next_by, peek_word_by}
 use Rattle.bw_wake.specs.Protocol.{take_mark_by, wake_by, word_of, mark_at}
 use Rattle.bw_wake.specs.Progress.{one_if, count}
-use Rattle.bw_machine.proofs.CallerLemmas.{equal_or_not}
+use Rattle.bw_machine.proofs.CallerLemmas.{equal_or_not, get_other}
 use Rattle.bw_wake.proofs.Counts.{count_set, count-le, count_at, count_le_at}
 use Rattle.bw_wake.proofs.Invariant.{waits, may_sleep, Stands, Sound}
 use Rattle.bw_wake.proofs.WakeWords.{index_here, index_else}
@@ -263,14 +263,6 @@ paid_first : (s : WaitState) (i k n : ℕ) → slice_get s.phases i ≡ Some (Wa
 paid_first s i k n at f = let z = less_sleeps s.serving k n in
     plain s i (Wakes k n) (one_less k n) at (omega arith) (omega arith) f
 
-pub get_else : (xs : List Phase) (i j : ℕ) (y : Phase) → j ≢ i
-    → slice_get (slice_set xs i y) j ≡ slice_get xs j
-get_else [] i j y ne = refl
-get_else (x ∷ xs) zero zero y ne = absurd (ne refl)
-get_else (x ∷ xs) zero (suc j) y ne = refl
-get_else (x ∷ xs) (suc i) zero y ne = refl
-get_else (x ∷ xs) (suc i) (suc j) y ne = get_else xs i j y (λ e. ne (ap suc e))
-
 apart : (s : WaitState) (i j k n t : ℕ) → slice_get s.phases i ≡ Some (Wakes k n)
     → slice_get s.phases j ≡ Some (Asleep t) → j ≢ i
 apart s i j k n t a b h = absurd (cc (sym a ∙ (ap (slice_get s.phases) (sym h) ∙ b)))
@@ -282,7 +274,7 @@ woken_first : (s : WaitState) (i j k n t : ℕ) → slice_get s.phases i ≡ Som
     }
 woken_first s i j k n t at at_j f =
     plain (moved s i (one_less k n)) j (Asleep t) (Looked t)
-    (get_else s.phases i j (one_less k n) (apart s i j k n t at at_j) ∙ at_j) (omega arith)
+    (get_other s.phases i j (one_less k n) (apart s i j k n t at at_j) ∙ at_j) (omega arith)
     (omega arith) (paid_first s i k n at f)
 
 wake_first : (s : WaitState) (i : ℕ) (o : Option Phase) (j : ℕ) (q : Option Phase)

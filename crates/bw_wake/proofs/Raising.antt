@@ -16,13 +16,13 @@ use Rattle.bw_wake.specs.Protocol.{start, run, happens, after, moved, look_by, a
 use Rattle.bw_wake.specs.Protocol.{peek_next_by, peek_word_by, take_mark_by, wake_by}
 use Rattle.bw_wake.specs.Progress.{one_if, count, sleeps, wakes, busy, seat_of, is_still}
 use Rattle.bw_wake.specs.Raises.{AreByAwake, CanRaise, SevenEventsRaiseServing}
-use Rattle.bw_machine.proofs.CallerLemmas.{equal_or_not}
+use Rattle.bw_machine.proofs.CallerLemmas.{equal_or_not, get_same, get_other}
 use Rattle.bw_wake.proofs.Counts.{count_at, count-le}
 use Rattle.bw_wake.proofs.Invariant.{waits, may_sleep, Stands, Sound}
 use Rattle.bw_wake.proofs.NotStuck.{sleeps-may_sleep}
 use Rattle.bw_wake.proofs.WakeSound.{start_sound}
 use Rattle.bw_wake.proofs.RunSound.{happens_sound}
-use Rattle.bw_wake.proofs.PeekFirst.{peeks_first, PeekIsFirst, happens_first, get_else}
+use Rattle.bw_wake.proofs.PeekFirst.{peeks_first, PeekIsFirst, happens_first}
 
 -- one event that leaves the served ticket, and then the others
 step : (n : ℕ) (s t : WaitState) (e : Event) (p : Phase) → slice_get s.phases (seat_of e) ≡ Some p
@@ -42,12 +42,6 @@ step n s t e p at awake is same c = let h = ap (or_same s) is in
 
 more : (m n : ℕ) (s : WaitState) → m ≤ n → CanRaise m s → CanRaise n s
 more m n s le c = (c.0, (let few = c.1 in omega arith), c.2, c.3)
-
-get_here : (xs : List Phase) (i : ℕ) (a b : Phase) → slice_get xs i ≡ Some a
-    → slice_get (slice_set xs i b) i ≡ Some b
-get_here [] i a b e = absurd (cc e)
-get_here (x ∷ xs) zero a b e = refl
-get_here (x ∷ xs) (suc i) a b e = get_here xs i a b e
 
 -- some seat is as g says
 some_seat : (g : Phase → ℕ) (ps : List Phase) → 1 ≤ count g ps
@@ -72,14 +66,14 @@ from_done s i at = let is = ap (leave_by s i) at in let h = ap (or_same s) is in
 from_inside : (s : WaitState) (i : ℕ) → slice_get s.phases i ≡ Some Inside → CanRaise 2 s
 from_inside s i at =
     step 1 s (moved s i Done) (Apply i) Inside at refl (ap (apply_by s i) at) refl
-    (from_done (moved s i Done) i (get_here s.phases i Inside Done at))
+    (from_done (moved s i Done) i (get_same s.phases i Inside Done at))
 
 -- a seat that waits with the served ticket looks
 goes_in : (s : WaitState) (i : ℕ) (p : Phase) → slice_get s.phases i ≡ Some p
     → is_still p ≡ false → after s (Look i) ≡ Some (moved s i Inside) → CanRaise 3 s
 goes_in s i p at awake is =
     step 2 s (moved s i Inside) (Look i) p at awake is refl
-    (from_inside (moved s i Inside) i (get_here s.phases i p Inside at))
+    (from_inside (moved s i Inside) i (get_same s.phases i p Inside at))
 
 from_waiting : (s : WaitState) (i t : ℕ) → slice_get s.phases i ≡ Some (Waiting t)
     → t ≡ s.serving → CanRaise 3 s
@@ -112,7 +106,7 @@ from_wakes : (s : WaitState) (i j k n t : ℕ) → slice_get s.phases i ≡ Some
 from_wakes s i j k n t at asleep k_is t_is =
     let mid : List Phase = slice_set s.phases i (one_less k n) in
     let ne = apart s i j t (Wakes k n) at refl asleep in
-    let at_mid : slice_get mid j ≡ Some (Asleep t) = get_else s.phases i j (one_less k n) ne
+    let at_mid : slice_get mid j ≡ Some (Asleep t) = get_other s.phases i j (one_less k n) ne
     ∙ asleep in
     let next : WaitState = record s { phases = slice_set mid j (Looked t) } in
     let same : word_of s t ≡ word_of s k = ap (word_of s) (t_is ∙ sym k_is) in
@@ -121,7 +115,7 @@ from_wakes s i j k n t at asleep k_is t_is =
     ∙ (ap (wake_by s i (Some (Wakes k n)) j) asleep
     ∙ ap (λ b. if b then Some next else None) (eq-eqb (word_of s t) (word_of s k) same)) in
     step 3 s next (Wake i j) (Wakes k n) at refl is refl
-    (from_looked next j t (get_here mid j (Asleep t) (Looked t) at_mid) t_is)
+    (from_looked next j t (get_same mid j (Asleep t) (Looked t) at_mid) t_is)
 
 -- a seat that has seen the mark takes it
 from_found : (s : WaitState) (i j k n t : ℕ) → slice_get s.phases i ≡ Some (Found k n)
@@ -133,8 +127,8 @@ from_found s i j k n t at asleep k_is t_is =
       phases = slice_set s.phases i (Wakes k n);
     } in
     step 4 s next (TakeMark i) (Found k n) at refl (ap (take_mark_by s i) at) refl
-    (from_wakes next i j k n t (get_here s.phases i (Found k n) (Wakes k n) at)
-    (get_else s.phases i j (Wakes k n) ne ∙ asleep) k_is t_is)
+    (from_wakes next i j k n t (get_same s.phases i (Found k n) (Wakes k n) at)
+    (get_other s.phases i j (Wakes k n) ne ∙ asleep) k_is t_is)
 
 -- a seat that owes the wake sees the mark
 from_owes : (s : WaitState) (i j k n t : ℕ) → slice_get s.phases i ≡ Some (Owes k n)
@@ -148,8 +142,8 @@ from_owes s i j k n t at asleep k_is t_is stands =
     ∙ ap (λ b. Some (moved s i (if b then Found k n else one_less k n)))
     (eq-eqb (mark_at s k) (k + 1) mark)) refl
     (from_found (moved s i (Found k n)) i j k n t
-    (get_here s.phases i (Owes k n) (Found k n) at)
-    (get_else s.phases i j (Found k n) ne ∙ asleep) k_is t_is)
+    (get_same s.phases i (Owes k n) (Found k n) at)
+    (get_other s.phases i j (Found k n) ne ∙ asleep) k_is t_is)
 
 -- a seat that has left with the ticket before sees that the served one is drawn
 from_served : (s : WaitState) (i j k t : ℕ) → slice_get s.phases i ≡ Some (Served k)
@@ -163,8 +157,8 @@ from_served s i j k t at asleep k_is t_is lt stands =
     ∙ ap (λ b. Some (moved s i (if b then owes else Idle)))
     (le-leb (suc (k + 1)) s.next (omega arith))) refl
     (from_owes (moved s i owes) i j (k + 1) tickets_woken t
-    (get_here s.phases i (Served k) owes at)
-    (get_else s.phases i j owes ne ∙ asleep) k_is t_is stands)
+    (get_same s.phases i (Served k) owes at)
+    (get_other s.phases i j owes ne ∙ asleep) k_is t_is stands)
 
 -- some seat has the mark of the served ticket to look for first of all
 from_first : (s : WaitState) (i j t : ℕ) (p : Phase) → slice_get s.phases i ≡ Some p

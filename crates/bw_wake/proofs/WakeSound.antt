@@ -15,17 +15,9 @@ use Rattle.bw_wake.specs.Protocol.{WaitState, one_less, sleeps_on, start, word_o
 use Rattle.bw_wake.specs.Progress.{one_if, busy, sleeps, will_peek, wakes, count}
 use Rattle.bw_wake.proofs.Invariant.{waits, holds, may_sleep, Stands, Sound}
 use Rattle.bw_wake.proofs.Counts.{count_set, count-le, count_at}
-use Rattle.bw_machine.proofs.CallerLemmas.{equal_or_not}
+use Rattle.bw_machine.proofs.CallerLemmas.{equal_or_not, get_other}
 use Rattle.bw_wake.proofs.WordsApart.{sleeps-waits, from_serving, to_next, words_apart}
 use Rattle.bw_wake.proofs.OneSeatSound.{one_less_none, one_less-will_peek}
-
-get_other : (xs : List Phase) (i j : ℕ) (y : Phase) → j ≢ i
-    → slice_get (set xs i y) j ≡ slice_get xs j
-get_other [] i j y ne = refl
-get_other (x ∷ xs) zero zero y ne = absurd (ne refl)
-get_other (x ∷ xs) zero (suc j) y ne = refl
-get_other (x ∷ xs) (suc i) zero y ne = refl
-get_other (x ∷ xs) (suc i) (suc j) y ne = get_other xs i j y (λ e. ne (ap suc e))
 
 lower : {a b : ℕ} → a ≢ b → a ≤ b → a < b
 lower ne le = omega arith
