@@ -1,7 +1,7 @@
 -- Where a seat may sleep with the ticket that is served, and its mark stands, some seat looks for
 -- that mark first of all, or has seen it. Every event keeps this.
 use Rattle.std.proofs.Common.{◌≡◌, ◌≢◌, ℕ, zero, suc, ◌+◌, ◌%◌, ◌<◌, ◌≤◌, ◌==◌, nat_lt, Bool}
-use Rattle.std.proofs.Common.{true, false, List, [], ◌∷◌, length, refl, sym, ap, ◌∙◌, subst, ⊎_elim}
+use Rattle.std.proofs.Common.{true, false, List, length, refl, sym, ap, ◌∙◌, subst, ⊎_elim}
 use Rattle.std.proofs.Common.{arith, eq-eqb, ne_eqb, slice_get, slice_set, slice_index}
 use Rattle.std.proofs.Common.{Some, None, Option, if◌then◌else◌}
 use Rattle.std.specs.List.{list_any}

@@ -2,7 +2,7 @@
 -- served, and Wake.
 use Rattle.std.proofs.Common.{◌≡◌, ◌≢◌, ℕ, zero, suc, ◌+◌, ◌<◌, ◌≤◌, ◌==◌, Bool, true, false, ◌||◌}
 use Rattle.std.proofs.Common.{List, [], ◌∷◌, length, replicate}
-use Rattle.std.proofs.Common.{set, refl, sym, ap, ◌∙◌, inl, inr, ⊎_elim, arith, eq-eqb, slice_get}
+use Rattle.std.proofs.Common.{refl, sym, ap, ◌∙◌, inl, inr, ⊎_elim, arith, eq-eqb, slice_get}
 use Rattle.std.proofs.Common.{slice_set, Some}
 use Rattle.std.specs.List.{list_any}
 use mathlib.Core.Logic.{dite}

@@ -1,20 +1,19 @@
 -- Words that clap takes name the job that is found for them.
 use Rattle.std.proofs.Common.{◌≡◌, ◌∙◌, ap, ap₂, sym, subst, refl, ℕ, ◌==◌, ◌&&◌, ◌||◌, List, []}
 use Rattle.std.proofs.Common.{◌∷◌, Bool, true, false, Option, Some, None, codes, cond}
-use Rattle.std.proofs.Common.{is_some}
 use Rattle.std.specs.Prelude.{fold, option_map}
 use Rattle.std.specs.Str.{bytes_eq}
 use Rattle.std.proofs.lemmas.Slice.Eq.{bytes_eq-Decides}
 use Rattle.clap.specs.Words.{Row, Text, Shape, subcommand_of}
 use Rattle.clap.specs.Lexer.{long_of}
-use Rattle.clap.specs.Walk.{Held, Names, Walk, arg_by_long, idle, trailing, finished, nothing_held}
-use Rattle.clap.specs.Walk.{settled, walk, walk_from, walked, subcommand_met}
+use Rattle.clap.specs.Walk.{Held, Names, Walk, arg_by_long, idle, trailing, nothing_held}
+use Rattle.clap.specs.Walk.{walk, walk_from, walked, subcommand_met}
 use Rattle.clap.specs.Walk.{subcommand_or_other, long_or_other, after_step}
-use Rattle.clap.specs.Faults.{check_fault, defaults_fault, entered_fault, fault_of, level_fault}
+use Rattle.clap.specs.Faults.{fault_of, level_fault}
 use Rattle.clap.specs.Faults.{settle_fault, react_fault, walk_fault, turn_fault, other_fault}
 use Rattle.clap.specs.Faults.{step_fault, long_fault, short_fault}
 use Rattle.clap.specs.Kinds.{Kinds, or_else}
-use Rattle.clap.specs.Simple.{entered, filled, help_rule, version_rule}
+use Rattle.clap.specs.Simple.{filled, help_rule, version_rule}
 use Rattle.clap.proofs.WalkLemmas.{walk_stopped}
 use Rattle.clap.proofs.FaultLemmas.{stopped_fault}
 use Rattle.clap.proofs.OnLiterals.{clap_on_literals}

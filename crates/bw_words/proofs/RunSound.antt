@@ -1,13 +1,12 @@
 -- Words after `run` that clap takes name a job.
 use Rattle.std.proofs.Common.{◌≡◌, ◌∙◌, ap, ap₂, sym, refl, List, [], ◌∷◌, Option, Some, None}
-use Rattle.std.proofs.Common.{codes, is_some, false}
+use Rattle.std.proofs.Common.{codes, false}
 use Rattle.std.specs.Prelude.{option_map}
 use Rattle.clap.specs.Words.{Row, Text, subcommand_of}
-use Rattle.clap.specs.Walk.{Walk, finished, nothing_held, settled, walk, walk_from}
-use Rattle.clap.specs.Faults.{check_fault, defaults_fault, entered_fault, fault_of, level_fault}
+use Rattle.clap.specs.Walk.{nothing_held, walk, walk_from}
+use Rattle.clap.specs.Faults.{fault_of, level_fault}
 use Rattle.clap.specs.Faults.{settle_fault, walk_fault}
-use Rattle.clap.specs.Kinds.{Kinds, or_else}
-use Rattle.clap.specs.Simple.{entered}
+use Rattle.clap.specs.Kinds.{or_else}
 use Rattle.clap.proofs.OnLiterals.{clap_on_literals}
 use Rattle.bw_words.specs.CommandLine.{arbiter_app}
 use Rattle.bw_words.specs.Found.{HasNumbers}

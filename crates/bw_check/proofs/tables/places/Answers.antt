@@ -1,5 +1,5 @@
 -- The goals of `places` that are answered by hand.
-use Rattle.std.proofs.Common.{◌≡◌, ℕ, ◌+◌, ◌<◌, Vec, Some, length, get_or, ap, sym, ◌∙◌, arith}
+use Rattle.std.proofs.Common.{◌≡◌, ℕ, ◌+◌, ◌<◌, Vec, Some, length, ap, sym, ◌∙◌, arith}
 use Rattle.std.specs.declared.alloc.Global.{Global}
 use Rattle.bw_model.specs.Groups.{parent_of}
 use Rattle.bw_check.proofs.Gathered.{first-le, gathered_top, gathered_child, placed_top}

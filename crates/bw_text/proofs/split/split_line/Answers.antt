@@ -1,5 +1,5 @@
 -- The goals of `split_line` that are answered by hand.
-use Rattle.std.proofs.Common.{◌≡◌, ◌+◌, eqb, get_or, refl, arith}
+use Rattle.std.proofs.Common.{◌+◌, eqb, get_or, arith}
 use Rattle.std.proofs.lemmas.Bool.{false_from_ne_true}
 use Rattle.std.proofs.lemmas.List.{take_rest}
 use Rattle.bw_text.proofs.Parts.{part_ends, part_last}
