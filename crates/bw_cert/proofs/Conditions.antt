@@ -83,7 +83,7 @@ module _ (groups : Groups) (valid : IsInstance groups) (most : List ℕ)
       (λ k lt. let w = weights_in_range groups valid g k lt in omega (arith, w.0))
       greatest
 
-  -- what a level says of one child, whose numbers stand at its place among its siblings
+  -- The marks of one child against a level, by its place among its siblings.
   at_child : (g c : ℕ) (level : MarkValue) → c < length groups.rows
       → parent_of groups.rows c ≡ Some g
       → IsAtLevel level (child_weights groups.rows g)

@@ -78,7 +78,7 @@ pub record IsKept (P : TreeState → Type 0) : Type 0 where
   pub carried : (t : TreeState) (rows : List Row) (drawn : List ℕ) → P t
       → P (carried_over t rows drawn)
 
--- the same of what any setting keeps
+-- A fact that any setting keeps is kept by each of them.
 pub kept_by_any_setting : (P : TreeState → Type 0)
     → ((t : TreeState) (parent : ℕ) (name : List ℕ) → P t → P (with_group t parent name))
     → ((f : GroupFields → GroupFields) (t : TreeState) (id : ℕ) → P t → P (with_setting f t id))

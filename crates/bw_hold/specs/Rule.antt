@@ -54,7 +54,7 @@ everyone groups = asking groups (λ g. demand_where groups.rows true g)
 abbrev pub with_eighth : ℕ → ℕ
 with_eighth used = used + max 1 (div_ceil used 8)
 
--- what a leaf used with its eighth, or its own limit if that is less
+-- the slices that a leaf used with their eighth, or its own limit if that is less
 abbrev pub headroom : Row → ℕ
 headroom row = option_map_or (min (with_eighth row.demand)) row.limit (with_eighth row.demand)
 
