@@ -20,6 +20,7 @@ EVERYTHING = 1000000
 TWO = [Row(None), Row(0, demand=0), Row(0, weight=200, demand=0)]
 # `web` (1) has a limit of its own, `pod` (2) has one for its two leaves.
 POD = [Row(None), Row(0, limit=9), Row(0, limit=12), Row(2), Row(2)]
+LIGHT = [Row(None), Row(0, weight=1), Row(0, weight=10000)]
 Limits = List[Optional[int]]
 
 
@@ -44,6 +45,9 @@ def using(rows: Sequence[Row], used: Sequence[int]) -> List[Row]:
     (TWO, [0, 8, 5], [0, 0, 0], [None, 9, 13], [0, 8, 5], [13, 8, 5]),
     # The first used more than it is planned: its limit is the planned amount.
     (TWO, [0, 16, 13], [0, 0, 0], [None, 7, 14], [0, 16, 13], [20, 7, 13]),
+    # The first is so light that its floor is 0. It used 3 slices or none: one more is its limit.
+    (LIGHT, [0, 3, 10], [0, 0, 0], [None, 4, 20], [0, 3, 10], [13, 3, 10]),
+    (LIGHT, [0, 0, 10], [0, 0, 0], [None, 1, 20], [0, 0, 10], [10, 0, 10]),
     # `web` used 8 of its 9: an eighth more is 9. `pod` has 11 or 12 of 20, and keeps its limit.
     # If all ask for all, web has 9 and the leaves of pod 6 and 5.
     (POD, [0, 8, 0, 5, 2], [0, 0, 0, 1, 0], [None, 9, 12, 10, 5],
