@@ -1,6 +1,7 @@
 -- What other crates may cite of this one's proofs, each passed on from the module that proves it.
 pub use Rattle.bw_plan_laws.proofs.AskedLaw.{only_cuts, serve_no_more, unmet_changes}
 pub use Rattle.bw_plan_laws.proofs.AskedLaw.{unused_changes}
+pub use Rattle.bw_plan_laws.proofs.BesideLaw.{others_weights_give}
 pub use Rattle.bw_plan_laws.proofs.BusyLaw.{others_demands_give}
 pub use Rattle.bw_plan_laws.proofs.HostLaws.{capacity_takes_nothing, serve_no_less}
 pub use Rattle.bw_plan_laws.proofs.InsideLaw.{inside_stays}

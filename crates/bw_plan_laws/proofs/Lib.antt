@@ -1,6 +1,7 @@
 -- The files of lemmas.
 mod Above
 mod AskedLaw
+mod BesideLaw
 mod BusyLaw
 pub mod CallerLemmas
 mod CutLaw

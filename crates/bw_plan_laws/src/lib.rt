@@ -20,4 +20,4 @@ pub use cut::{limit_gives_or_lets_go, limit_only_cuts, no_more_below};
 pub use host::{capacity_takes_nothing, raised_limits_serve_no_less};
 pub use inside::inside_stays_inside;
 pub use room::{more_room_takes_nothing, others_demands_give_nothing};
-pub use weight::raised_weight_alone_gains;
+pub use weight::{others_weights_give_nothing, raised_weight_alone_gains};
