@@ -15,7 +15,7 @@ use Rattle.bw_questions.proofs.BusyRows.{AreBusy, demand_leaf, busy-IsInstance, 
 
 module _ (groups : Groups) (valid : IsInstance groups) (group : ℕ) (busy : List Row)
     (are : AreBusy groups.rows group busy) where
-  busy_asked : IsAskedOtherwise groups (record { shape = groups.shape; rows = busy }) group
+  pub busy_asked : IsAskedOtherwise groups (record { shape = groups.shape; rows = busy }) group
   busy_asked = record {
     valid = busy-IsInstance groups valid group busy are;
     tree = same_tree groups.rows busy are.alike;

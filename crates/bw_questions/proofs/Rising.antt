@@ -18,7 +18,7 @@ use Rattle.bw_questions.proofs.StillInstance.{field_same, weight_here, weight_ot
 use Rattle.bw_questions.proofs.StillInstance.{as_many, row-IsInstance, processors-IsInstance}
 
 -- the row of a group with another weight
-abbrev weighed : Groups → ℕ → ℕ → Row
+abbrev pub weighed : Groups → ℕ → ℕ → Row
 weighed groups group weight = record (row_of groups.rows group) { weight = weight }
 
 -- An instance with another weight of one group is an instance.

@@ -5,4 +5,6 @@ pub mod Fault
 pub mod Guarantee
 pub mod Laws
 pub mod Least
+pub mod Raising
 pub mod Reasons
+pub mod Tune

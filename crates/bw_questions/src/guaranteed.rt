@@ -6,7 +6,7 @@ ghost use Rattle.bw_questions.specs.Fault.{IsRefused};
 mod busy;
 mod fault;
 
-use busy::busy_rows;
+pub(crate) use busy::busy_instance;
 use bw_model::Instance;
 use bw_plan::plan;
 pub use fault::GuaranteeFault;
@@ -29,8 +29,7 @@ pub fn guarantee(alloc: Global, instance: &Instance, group: u32) -> Result<u64, 
     if group as usize >= instance.rows().len() {
         return Err(GuaranteeFault::NotFound);
     }
-    let rows = busy_rows(alloc, instance, group)?;
-    let busy = Instance::of_valid(alloc, rows, instance.shape())?;
+    let busy = busy_instance(alloc, instance, group)?;
     let planned = plan(alloc, &busy)?;
     let amounts = planned.amounts.as_slice();
     Ok(amounts[group as usize])

@@ -14,11 +14,20 @@ use bw_plan_laws::{
     capacity_takes_nothing, limit_only_cuts, raised_limits_serve_no_less, raised_weight_alone_gains,
 };
 use changed::{changed, relimited};
+pub(crate) use changed::{reweighted, still};
 use setting::{Setting, greatest};
 use std::alloc::{AllocError, Global};
 
-// Whether the plan gives a group at least so many slices.
-fn reaches(alloc: Global, instance: &Instance, group: u32, amount: u64) -> Result<bool, AllocError>
+/// Whether the plan gives a group at least so many slices.
+///
+/// # Errors
+/// `AllocError` if memory was refused.
+pub(crate) fn reaches(
+    alloc: Global,
+    instance: &Instance,
+    group: u32,
+    amount: u64,
+) -> Result<bool, AllocError>
     requires { group < length instance.now.rows }
     ensures { IfOk result (λ enough. IsTrue enough ↔ Reaches instance.now group amount) }
 {

@@ -1,14 +1,16 @@
 //! Questions about the plan of an instance: the least that a group gets whatever the others ask
-//! for, the least value of a setting that gives a group so much, and why each group gets what it
-//! gets.
+//! for, the least value of a setting that gives a group so much, weights that meet several goals at
+//! once, and why each group gets what it gets.
 #![tactic(auto)]
 
 mod guaranteed;
 mod least;
+mod tuned;
 mod why;
 
 pub use guaranteed::{GuaranteeFault, guarantee};
 pub use least::{least_limit, least_processors, least_weight};
+pub use tuned::{Conflict, Goal, Measure, TuneFault, Tuning, tune};
 pub use why::{
     Reason, blamed_gains_or_is_clear, blamed_has_its_limit, only_the_blamed_limit_helps, reasons,
     there_is_one_reason,

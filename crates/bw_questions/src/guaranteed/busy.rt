@@ -50,15 +50,8 @@ fn busy_row(instance: &Instance, g: u32, kept: bool) -> Row
     }
 }
 
-/// The rows of an instance, in which each leaf that is not under the group asks for the most.
-///
-/// # Errors
-/// `AllocError` if memory was refused.
-pub(crate) fn busy_rows(
-    alloc: Global,
-    instance: &Instance,
-    group: u32,
-) -> Result<Vec<Row>, AllocError>
+// The rows of an instance, in which each leaf that is not under the group asks for the most.
+fn busy_rows(alloc: Global, instance: &Instance, group: u32) -> Result<Vec<Row>, AllocError>
     ensures { IfOk result (λ busy. busy.items ≡ busy_rows instance.now.rows group) }
 {
     let rows = instance.rows();
@@ -69,4 +62,21 @@ pub(crate) fn busy_rows(
         busy.push(busy_row(instance, g as u32, kept[g]))?;
     }
     Ok(busy)
+}
+
+/// The instance in which each leaf that is not under the group asks for the most.
+///
+/// # Errors
+/// `AllocError` if memory was refused.
+pub(crate) fn busy_instance(
+    alloc: Global,
+    instance: &Instance,
+    group: u32,
+) -> Result<Instance, AllocError>
+    ensures { IfOk result (λ busy. busy
+        ≡ record { shape = instance.now.shape; rows = busy_rows instance.now.rows group }) }
+{
+    let _rows = instance.rows();
+    let rows = busy_rows(alloc, instance, group)?;
+    Instance::of_valid(alloc, rows, instance.shape())
 }

@@ -2,21 +2,14 @@
 use Rattle.std.proofs.Common.{◌≡◌, ◌<◌, length, ap, arith}
 use Rattle.bw_model.specs.declared.row.Row.{Row}
 use Rattle.bw_questions.specs.Busy.{busy_rows}
-use Rattle.bw_questions.proofs.BusyRows.{are_busy, busy-IsInstance}
+use Rattle.bw_questions.proofs.BusyRows.{are_busy}
 use Rattle.bw_questions.proofs.LeastAmount.{as_many, least}
 use Rattle.bw_questions.proofs.guaranteed.guarantee.Goals as goal
-
-pub of_valid-requires : goal.of_valid-requires
-of_valid-requires c =
-    let groups = c.args.instance.now in
-    rw (c.shape.ensures, c.in_ok-rows.ensures)
-    (busy-IsInstance groups c.rows.ensures.valid c.args.group (busy_rows groups.rows c.args.group)
-    (are_busy groups.rows c.args.group))
 
 pub bounds-amounts-group : goal.bounds-amounts-group
 bounds-amounts-group c =
     let groups = c.args.instance.now in
-    let planned = rw (c.in_ok-busy.ensures, c.shape.ensures, c.in_ok-rows.ensures) at
+    let planned = rw c.in_ok-busy.ensures at
     c.in_ok-planned.ensures in
     let below : c.args.group < length groups.rows =
     omega (arith, c.if-group-rows.false, ap (length {A = Row}) c.rows.ensures.rows) in
@@ -28,7 +21,7 @@ bounds-amounts-group c =
 pub returns-clause-ok : goal.returns-clause-ok
 returns-clause-ok c =
     let groups = c.args.instance.now in
-    let planned = rw (c.in_ok-busy.ensures, c.shape.ensures, c.in_ok-rows.ensures) at
+    let planned = rw c.in_ok-busy.ensures at
     c.in_ok-planned.ensures in
     let below : c.args.group < length groups.rows =
     omega (arith, c.if-group-rows.false, ap (length {A = Row}) c.rows.ensures.rows) in

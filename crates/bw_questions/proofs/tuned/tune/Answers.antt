@@ -1,0 +1,25 @@
+-- The goals of `tune` that are answered by hand.
+use Rattle.bw_questions.specs.Raising.{IsTooMuch}
+use Rattle.bw_questions.specs.Tune.{AreGoals}
+use Rattle.bw_questions.proofs.Raises.{no_value}
+use Rattle.bw_questions.proofs.TwoStarts.{good_light, light-IsTuning}
+use Rattle.bw_questions.proofs.tuned.tune.Goals as goal
+
+pub raised-requires-in-Unmet : goal.raised-requires-in-Unmet
+raised-requires-in-Unmet c =
+    let good : AreGoals c.args.instance.now.rows c.args.goals.now =
+    rw (no_value _ c.in_default.not-Some) at c.refusal.ensures.none in
+    good_light c.args.instance.now c.in_ok-light-in-Unmet.light c.args.goals.now
+    c.rows-rows.ensures.valid good c.in_ok-light-in-Unmet.ensures.weights
+    c.in_ok-light-in-Unmet.ensures.least
+
+pub returns-clause-ok : goal.returns-clause-ok
+returns-clause-ok c =
+    let good : AreGoals c.args.instance.now.rows c.args.goals.now =
+    rw (no_value _ c.in_default.not-Some) at c.refusal.ensures.none in
+    let too_much : IsTooMuch c.args.measure c.args.instance.now c.args.goals.now
+    c.in-Unmet.field-0 = rw c.in-Unmet.is at c.in_ok-tuned.ensures in
+    light-IsTuning c.args.instance.now c.in_ok-light-in-Unmet.light c.args.goals.now
+    c.rows-rows.ensures.valid good c.in_ok-light-in-Unmet.ensures.weights
+    c.in_ok-light-in-Unmet.ensures.least c.args.measure c.in-Unmet.field-0 too_much
+    c.in_ok-tuning-in-Unmet.tuning c.in_ok-tuning-in-Unmet.ensures

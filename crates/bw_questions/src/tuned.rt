@@ -1,0 +1,68 @@
+//! Weights under which several goals are met at once.
+ghost use Rattle.std.specs.Prelude.{IfOk, IfErr, OnOk};
+ghost use Rattle.bw_questions.specs.Tune.{AreGoals, IsTuning};
+ghost use Rattle.bw_questions.specs.Fault.{IsTuneRefused};
+
+mod fault;
+mod goal;
+mod goals;
+mod judged;
+mod lightest;
+mod measure;
+mod raising;
+mod tuning;
+
+use bw_model::Instance;
+pub use fault::TuneFault;
+pub use goal::Goal;
+use goals::refusal;
+use lightest::lightest;
+pub use measure::Measure;
+use raising::raised;
+use std::alloc::Global;
+pub use tuning::{Conflict, Tuning};
+
+/// Weights of the goals' groups under which each goal is met, all else as it is.
+///
+/// The groups that may change are those of the goals, and of those the weights alone, from 1 to
+/// 10000. The weights are the least of all that are no less than those that stand. Where such
+/// weights do not meet all goals, they are the least of all from 1 on.
+///
+/// If no weights meet all goals, the answer is [`Tuning::Unmet`], with goals that cannot be met
+/// together.
+///
+/// # Cost
+///
+/// Each raise of a weight makes at most 14 plans, and one plan for each goal before the one that
+/// falls short. A weight is raised at most 9999 times from each of the two starts; it rises by a
+/// slice's worth or more each time.
+///
+/// # Errors
+///
+/// - [`TuneFault::NotFound`]
+/// - [`TuneFault::RootFixed`]
+/// - [`TuneFault::GoalAbove`]
+/// - [`TuneFault::OutOfMemory`]
+pub fn tune(
+    alloc: Global,
+    instance: &Instance,
+    goals: &[Goal],
+    measure: Measure,
+) -> Result<Tuning, TuneFault>
+    ensures goals { OnOk result (AreGoals instance.now.rows goals.now) }
+    ensures ok { IfOk result (IsTuning measure instance.now goals.now) }
+    ensures err { IfErr result (IsTuneRefused instance.now.rows goals.now) }
+{
+    let _rows = instance.rows();
+    if let Some(fault) = refusal(instance, goals) {
+        return Err(fault);
+    }
+    match raised(alloc, measure, instance, goals)? {
+        Tuning::Met(tuned) => Ok(Tuning::Met(tuned)),
+        Tuning::Unmet(_) => {
+            let light = lightest(alloc, instance, goals)?;
+            let tuning = raised(alloc, measure, &light, goals)?;
+            Ok(tuning)
+        }
+    }
+}
