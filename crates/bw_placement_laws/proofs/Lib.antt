@@ -1,0 +1,5 @@
+-- The files of lemmas.
+mod Bounds
+mod Factor
+mod Scaled
+mod Sums

@@ -1,0 +1,4 @@
+-- The files of definitions.
+pub mod Fractions
+pub mod Placement
+pub mod Queues
