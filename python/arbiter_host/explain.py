@@ -1,12 +1,14 @@
 """Says why each group gets what it gets: a tree as wide as the terminal, a flat list, or JSON."""
 from __future__ import annotations
 
+import math
 from collections.abc import Callable, Iterator, Sequence
 from typing import Any, NamedTuple
 
 from arbiter_host import text
 from arbiter_host.model import MAX_DEPTH
 from arbiter_host.names import cut, last_name, padded, short, shown, tail, width
+from arbiter_host.placement import Outlook, Range
 from arbiter_host.plan import Plan, Planned, marks
 
 ONLY: dict[str, Callable[[Planned], bool]] = {
@@ -28,6 +30,7 @@ STYLES = {"STARVED": "bold red", "own limit": "yellow", "limit above": "yellow",
 # From this width on the reasons are whole sentences and a bar is shown.
 WIDE = 110
 LEAST_NAME = 16
+MOST_RANGES = 20
 THROTTLED_NOTE = "* throttled, not by its limit: it gets less than its limit"
 
 
@@ -183,23 +186,50 @@ def limiting(plan: Plan, unit: str) -> str:
     return ", ".join(found[:8]) + more if found else "the demands alone"
 
 
-def task_counts(plan: Plan) -> list[int | None]:
-    """The tasks of each group with those below it, by row; None where a number is not known."""
-    found = [group.group.tasks if group.group else None for group in plan.groups]
-    for group in reversed(plan.groups):
-        if group.children:
-            below = [found[child.row] for child in group.children if child.want > 0]
-            known = [each for each in below if each is not None]
-            found[group.row] = sum(known) if len(known) == len(below) else None
-    return found
+def in_slices(plan: Plan, group: Planned, found: Range) -> tuple[int, int]:
+    """A range in slices of one period. The plan is within it."""
+    host = plan.model.host
+    low, high = (each * host.period_us / host.slice_us for each in (found.low, found.high))
+    return min(math.floor(low), group.gets), max(math.ceil(high), group.gets)
 
 
-def few_tasks(plan: Plan) -> int:
-    """The number of groups with fewer tasks than there are CPUs, where weights decide."""
-    shared = {group.parent for group in plan.groups[1:] if plan.reason(group).active_weight}
-    counts = task_counts(plan)
-    return sum(1 for group in plan.groups[1:] if group.want > 0 and group.parent in shared
-               and (count := counts[group.row]) is not None and count < plan.model.host.processors)
+def placed(plan: Plan, view: View, found: Outlook) -> Iterator[str]:
+    """The lines on how far groups may be from the plan by where their tasks run.
+
+    There are none on one CPU, nor where no weights decide.
+    """
+    if plan.model.host.processors == 1 or not any(plan.reason(group).active_weight
+                                                  for group in plan.groups[1:]):
+        return
+    yield ""
+    if found.why_not:
+        yield f"not known: how far Linux is from this by where tasks run ({found.why_not})"
+        return
+    ranged = [group for group in plan.groups[1:] if group.path in found.ranges
+              and not found.ranges[group.path].is_firm]
+    firm = len(found.ranges) - len(ranged) - 1
+    if firm:
+        yield f"firm, wherever tasks run: {firm} of {len(found.ranges) - 1} groups that ask"
+    if ranged:
+        yield "by where its tasks run, Linux may give a group (a model of Linux)"
+        yield from range_lines(plan, view, found, ranged)
+
+
+def range_lines(plan: Plan, view: View, found: Outlook, ranged: Sequence[Planned]) -> Iterator[str]:
+    """A line for each group that is not firm, at most MOST_RANGES, the widest ranges."""
+    spans = {group.row: in_slices(plan, group, found.ranges[group.path]) for group in ranged}
+    widest = sorted(ranged, key=lambda group: spans[group.row][0] - spans[group.row][1])
+    shown_ = {group.row for group in widest[:MOST_RANGES]}
+    rows = [["from", "to", "gets", "group"]]
+    rows += [[*(text.amount(plan, each, view.unit) for each in (*spans[group.row], group.gets)),
+              shown(group.path) if view.full_names else short(shown(group.path))]
+             for group in ranged if group.row in shown_]
+    widths = [max(len(row[at]) for row in rows) for at in range(3)]
+    for row in rows:
+        numbers = "  ".join(each.rjust(most) for each, most in zip(row, widths))
+        yield f"  {numbers}  {row[3]}"
+    if len(ranged) > MOST_RANGES:
+        yield f"  and {len(ranged) - MOST_RANGES} with narrower ranges; --json has all"
 
 
 def foot(plan: Plan, view: View, lines: Sequence[str]) -> Iterator[str]:
@@ -209,10 +239,6 @@ def foot(plan: Plan, view: View, lines: Sequence[str]) -> Iterator[str]:
     idle = sum(1 for group in plan.groups[1:] if group.want == 0)
     if idle and not view.everything and not view.is_flat:
         yield f"groups that ask for nothing and are left out (--all shows them): {idle}"
-    count = few_tasks(plan)
-    if count:
-        yield f"groups that share by weight and have fewer tasks than the host has CPUs: {count}"
-        yield "  their shares depend on which CPUs the tasks run on; limits do not"
 
 
 def rendered(lines: Sequence[Line], view: View) -> list[tuple[str, Line | None]]:
@@ -258,6 +284,26 @@ def amounts(plan: Plan, slices: int | None) -> dict[str, Any] | None:
         return None
     return {"slices": slices, "millicpu": plan.millicpu(slices),
             "usec": slices * plan.model.host.slice_us}
+
+
+def range_data(plan: Plan, group: Planned, found: Outlook) -> dict[str, Any] | None:
+    """Whether a group is firm, or its range; None where that is not known."""
+    range_ = found.ranges.get(group.path)
+    if range_ is None:
+        return None
+    if range_.is_firm:
+        return {"firm": True}
+    low, high = in_slices(plan, group, range_)
+    return {"firm": False, "from": amounts(plan, low), "to": amounts(plan, high)}
+
+
+def with_placement(plan: Plan, data: dict[str, Any], found: Outlook) -> dict[str, Any]:
+    """A plan as data, with how far each group may be from it by where its tasks run."""
+    groups = plan.by_path()
+    for each in data["groups"]:
+        each["placement"] = range_data(plan, groups[each["group"]], found)
+    why = found.why_not or None
+    return {**data, "placement": {"not_known": why, "grain": round(found.grain, 4)}}
 
 
 def group_data(plan: Plan, group: Planned) -> dict[str, Any]:
