@@ -4,7 +4,6 @@ from fractions import Fraction
 import arbiter
 import pytest
 from arbiter import Host, Row
-from arbiter_host import explain
 from arbiter_host.engine import Engine
 from arbiter_host.faults import HostFault
 from arbiter_host.model import Group, Model, checked, planned
@@ -63,40 +62,6 @@ def test_tasks_cut_the_demand(engine):
     assert found.reason(found.groups[1]).name == "tasks"
     assert found.reason(found.groups[1]).words == "all that its 2 tasks can use at once"
     assert found.reason(found.groups[2]).name == "all"
-
-
-FEW = "groups that share by weight and have fewer tasks than the host has CPUs: "
-
-
-@pytest.mark.parametrize("tasks, limit, wanted", [
-    ((1, 3), None, 1),      # one task against three: the first is where placement decides
-    ((1, 1), None, 0),      # each task has a CPU: nothing is shared
-    ((2, 3), None, 0), ((2, None), None, 0), ((1, None), None, 1), ((None, None), None, 0),
-    ((1, 3), 50000, 0),     # the limits let less through than there is
-])
-def test_few_tasks_are_told(engine, tasks, limit, wanted):
-    """Shares depend on placement where groups with few tasks share by weight; limits do not."""
-    model = Model(Host(2, 100000, 1000))
-    for name, count in zip("ab", tasks):
-        model.add(Group(name, quota=limit, demand=Fraction(2000), tasks=count))
-    found = plan(engine, model)
-    told = [each for each, _ in explain.table(found, explain.View())
-            if each.startswith(("groups that share", "  their shares"))]
-    assert told == ([f"{FEW}{wanted}",
-                     "  their shares depend on which CPUs the tasks run on; limits do not"]
-                    if wanted else [])
-
-
-def test_tasks_of_a_group_are_those_below_it(engine):
-    """A pod with one task in each of two containers has two tasks, of four CPUs."""
-    model = Model(Host(4, 100000, 1000))
-    model.add(Group("pod"))
-    for path in ("pod/x", "pod/y"):
-        model.add(Group(path, demand=Fraction(4000), tasks=1))
-    model.add(Group("job", demand=Fraction(4000), tasks=8))
-    found = plan(engine, model)
-    assert explain.task_counts(found) == [10, 2, 1, 1, 8]
-    assert explain.few_tasks(found) == 1
 
 
 @st.composite

@@ -1,0 +1,188 @@
+"""The model of placement: against runs of guests that are kept, the proved law, and its words."""
+import time
+from fractions import Fraction
+
+import pytest
+
+from arbiter import Host
+from arbiter_host import explain, placement
+from arbiter_host.balancer import Run
+from arbiter_host.model import Group, Model
+from arbiter_host.plan import plan
+from kernel import kept
+
+# How far a firm group may be from its exact share, in CPUs, and a ranged one out of its range.
+FIRM_WITHIN = 0.01
+BESIDE = 0.003
+
+
+def host(processors, *groups):
+    """A host of groups: path, weight, demand in thousandths, tasks, and a quota."""
+    model = Model(Host(processors, 100000, 1000))
+    for path, weight, demand, tasks, *quota in groups:
+        model.add(Group(path, weight, quota[0] if quota else None, demand=Fraction(demand),
+                        tasks=tasks))
+    return model
+
+
+def kept_host(found):
+    """The model of a kept host."""
+    model = Model(Host(found["processors"], found["period"], found["slice"]))
+    for each in found["groups"]:
+        model.add(Group(each["path"], each["weight"], each["quota"], each["period"],
+                        each["burst"], Fraction(each["demand"]), each["tasks"]))
+    return model
+
+
+def judged(set_):
+    """Of a set: firm groups and those of them off, ranged groups and those of them out."""
+    found = kept.kept()
+    outlooks = {run["host"]: placement.outlook(kept_host(found["hosts"][run["host"]]))
+                for run in found["runs"] if run["set"] == set_}
+    assert all(each.ranges for each in outlooks.values())
+    firm, off, ranged, out = 0, [], 0, []
+    for run in found["runs"]:
+        for path, (share, had) in run["groups"].items() if run["set"] == set_ else ():
+            range_ = outlooks[run["host"]].ranges[path]
+            where = (run["host"], run["kernel"], path, share, had, range_)
+            if range_.is_firm:
+                firm += 1
+                off += [where] * (abs(had - share) > FIRM_WITHIN)
+            else:
+                ranged += 1
+                low, high = min(range_.low, share) - BESIDE, max(range_.high, share) + BESIDE
+                out += [where] * (not low <= had <= high)
+    return firm, off, ranged, out
+
+
+@pytest.mark.parametrize("set_, least_firm, least_ranged, most_out", [
+    ("made", 16, 150, 4), ("review", 30, 90, 2), ("trial", 60, 55, 1)])
+def test_kept_runs(set_, least_firm, least_ranged, most_out):
+    """Firm groups have their shares, and nearly all others are in their ranges."""
+    firm, off, ranged, out = judged(set_)
+    print(f"{set_}: {firm} firm, {len(off)} of them off; {ranged} ranged, {len(out)} of them out")
+    assert firm >= least_firm and not off, off
+    assert ranged >= least_ranged and len(out) <= most_out, out
+
+
+def test_rates_follow_the_proved_law():
+    """A task's part of its CPU is its planned share over the sum of those of the CPU's tasks."""
+    shape = placement.shape_of(host(
+        3, ("p", 300, 0, None), ("p/x", 70, 3000, 3), ("p/y", 500, 2000, 2), ("q", 20, 0, None),
+        ("q/z", 1, 1000, 1), ("q/w", 9, 4000, 4), ("r", 100, 3000, 3)))
+    whole = Fraction(420)
+    shares = {"p/x": Fraction(300 * 70, 570 * 3) / whole,
+              "p/y": Fraction(300 * 500, 570 * 2) / whole, "q/z": Fraction(20, 10) / whole,
+              "q/w": Fraction(20 * 9, 10 * 4) / whole, "r": Fraction(100, 3) / whole}
+    for seed in range(5):
+        run = Run(shape, seed)
+        run.look()
+        loads = [sum(shares[task.group.path] for task in shape.tasks if task.cpu == cpu)
+                 for cpu in range(3)]
+        for task in shape.tasks:
+            assert task.rate == pytest.approx(float(shares[task.group.path] / loads[task.cpu]))
+    assert placement.grain(shape) == pytest.approx(float(3 * max(shares.values())))
+
+
+def test_firm_and_ranged():
+    """Two tasks each on two CPUs are firm. Three tasks on two CPUs are not."""
+    firm = placement.outlook(host(2, ("a", 100, 2000, 2), ("b", 300, 2000, 2)))
+    assert firm.are_firm and firm.ranges["a"].low <= 0.5 <= firm.ranges["a"].high
+    ranged = placement.outlook(host(2, *((each, 100, 1000, 1) for each in "abc")))
+    assert not ranged.are_firm and ranged.ranges["a"].low < 0.6 and ranged.ranges["a"].high > 0.7
+
+
+def test_a_limit_that_binds_is_not_firm():
+    """A limit that binds may be reached in part; one that is far off changes nothing."""
+    model = host(2, ("a", 100, 2000, 2, 50000), ("b", 100, 2000, 2))
+    found = placement.outlook(model).ranges
+    assert found["a"].low < 0.48 and found["a"].high == 0.5 and not found["a"].is_firm
+    far = placement.outlook(host(2, ("a", 100, 2000, 2, 190000), ("b", 300, 2000, 2)))
+    assert far.are_firm
+
+
+@pytest.mark.parametrize("model, why", [
+    (host(1, ("a", 100, 1000, 1)), "one CPU"),
+    (host(2), "nothing is asked for"), (host(2, ("a", 100, 0, None)), "nothing is asked for"),
+    (host(2, ("a", 100, 500, None), ("b", 100, 500, 1), ("c", 1, 0, None)),
+     "1 groups that ask for something have no number of tasks"),
+    (host(2, ("a", 100, 2000, 10**9)), "more than 512 tasks or 64 CPUs"),
+    (host(65, ("a", 100, 2000, 2)), "more than 512 tasks or 64 CPUs"),
+])
+def test_what_is_not_known(model, why):
+    """Without tasks, or with too much of anything, nothing is tried."""
+    assert placement.outlook(model) == placement.Outlook({}, why)
+
+
+@pytest.mark.parametrize("demand, quota, is_tried", [(2000, None, True), (700, 50000, False)])
+def test_a_hundred_groups_take_a_second(demand, quota, is_tried):
+    """A hundred groups are tried in a second, or soon told to be too many."""
+    rows = [(f"p{at}", 10 + at, 0, None) for at in range(10)]
+    rows += [(f"p{at}/c{to}", 20 + 7 * to, demand, 2, quota) for at in range(10)
+             for to in range(9)]
+    begun = time.process_time()
+    found = placement.outlook(host(8, *rows))
+    assert time.process_time() - begun < 2
+    assert bool(found.ranges) == is_tried
+    assert found.why_not == ("" if is_tried else "too many groups, tasks and CPUs")
+
+
+def lines(engine, model, **view):
+    """The lines of explain on placement."""
+    found = plan(engine, model)
+    return list(explain.placed(found, explain.View(**view), placement.outlook(model)))
+
+
+def test_lines_of_explain(engine):
+    """Firm groups are counted, and each other one has its range beside the plan."""
+    assert lines(engine, host(2, ("a", 100, 2000, 2), ("b", 300, 2000, 2))) == [
+        "", "firm, wherever tasks run: 2 of 2 groups that ask"]
+    ranged = lines(engine, host(2, *((each, 100, 1000, 1) for each in "abc")))
+    assert ranged[:3] == ["", "by where its tasks run, Linux may give a group (a model of Linux)",
+                          "  from    to  gets  group"]
+    assert [line.split()[3] for line in ranged[3:]] == ["a", "b", "c"]
+    for line in ranged[3:]:
+        low, high, gets = map(float, line.split()[:3])
+        assert low < gets < high and low < 0.62 and high > 0.7
+    assert lines(engine, host(2, ("a", 100, 2000, None), ("b", 1, 2000, 2))) == [
+        "", "not known: how far Linux is from this by where tasks run"
+            " (1 groups that ask for something have no number of tasks)"]
+
+
+@pytest.mark.parametrize("model", [
+    host(1, ("a", 100, 1000, 1), ("b", 100, 1000, 1)),    # one CPU
+    host(2, ("a", 100, 1000, 1), ("b", 100, 500, 1)),     # each has what it wants
+    host(2, ("a", 100, 1000, 1, 50000), ("b", 100, 1000, 1, 50000)),    # limits alone
+])
+def test_no_lines_where_weights_decide_nothing(engine, model):
+    """Where no weight decides, or there is one CPU, nothing is said."""
+    assert not lines(engine, model)
+
+
+def test_many_ranges_are_cut(engine):
+    """The widest ranges are told, and the number of the others."""
+    model = host(2, *((f"g{at}", 50 + at, 1000, 1) for at in range(25)))
+    found = lines(engine, model)
+    assert len(found) == 3 + 20 + 1
+    assert found[-1] == "  and 5 with narrower ranges; --json has all"
+
+
+def test_data_of_explain(engine):
+    """A group as data is firm or has a range in all units, and the host has the grain."""
+    model = host(2, *((each, 100, 1000, 1) for each in "abc"))
+    found = plan(engine, model)
+    data = explain.with_placement(found, explain.as_data(found), placement.outlook(model))
+    assert data["placement"] == {"not_known": None, "grain": 0.6667}
+    group = data["groups"][1]["placement"]
+    assert group["firm"] is False
+    assert group["from"]["slices"] <= data["groups"][1]["gets"]["slices"] < group["to"]["slices"]
+    unknown = with_unknown(engine)
+    assert unknown["groups"][1]["placement"] is None
+    assert unknown["placement"]["not_known"].endswith("no number of tasks")
+
+
+def with_unknown(engine):
+    """The data of a host with a group whose tasks are not known."""
+    model = host(2, ("a", 100, 2000, None), ("b", 1, 2000, 2))
+    found = plan(engine, model)
+    return explain.with_placement(found, explain.as_data(found), placement.outlook(model))

@@ -1,0 +1,83 @@
+"""Kept runs: what groups had in guests, with their hosts, to try a model against them.
+
+    PYTHONPATH=tests python3 -m kernel.kept SET SAVED..
+
+SAVED are files that `./test --kernel --save` wrote, beside scripts that are no scenarios here.
+Their runs of several processors are added to kept_runs.json.xz under the name SET, each with its
+host. Series, naps and pinned tasks are left out.
+"""
+from __future__ import annotations
+
+import json
+import lzma
+import sys
+from collections.abc import Iterator
+from pathlib import Path
+from typing import Any
+
+from kernel import scenario
+from kernel.__main__ import SCENARIOS
+from kernel.exact import usable
+from kernel.scenario import Scenario
+
+KEPT = Path(__file__).with_name("kept_runs.json.xz")
+
+
+def kept() -> dict[str, Any]:
+    """The kept hosts by name, and the runs."""
+    found: dict[str, Any] = json.loads(lzma.decompress(KEPT.read_bytes()))
+    return found
+
+
+def is_kept(found: Scenario) -> bool:
+    """Whether a model of placement can be tried on a scenario."""
+    every = (1 << found.processors) - 1
+    return found.processors > 1 and not found.is_series and not any(
+        leaf.is_spread or leaf.nap or leaf.cpus != every for leaf in found.leaves.values())
+
+
+def host_of(found: Scenario) -> dict[str, Any]:
+    """A host as data. Demands are thousandths of a processor, quotas microseconds."""
+    groups, maxima = [], found.files("cpu.max")
+    weights, bursts = found.files("cpu.weight"), found.files("cpu.max.burst")
+    for path in found.paths:
+        quota, period = (maxima.get(path, "max").split() + ["100000"])[:2]
+        leaf = found.leaves.get(path)
+        demand = float(usable(found, path, found.steps[0].get(path, 0)) * 10) if leaf else 0.0
+        groups.append({"path": path, "weight": int(weights.get(path, 100)),
+                       "quota": None if quota == "max" else int(quota), "period": int(period),
+                       "burst": int(bursts.get(path, 0)), "demand": demand,
+                       "tasks": leaf.tasks if leaf else None})
+    return {"about": found.about, "processors": found.processors, "period": found.period,
+            "slice": found.slice, "groups": groups}
+
+
+def runs_of(set_: str, path: Path, hosts: dict[str, Any],
+            folders: list[Path]) -> Iterator[dict[str, Any]]:
+    """The runs of a saved file. Each host is added to those that are there."""
+    for line in path.read_text(encoding="utf-8").splitlines():
+        said = json.loads(line)
+        script = next(each for each in (folder / f"{said['scenario']}.script"
+                                        for folder in folders) if each.exists())
+        found = scenario.read(script)
+        if said["refusal"] or not is_kept(found):
+            continue
+        hosts[found.name] = host_of(found)
+        yield {"set": set_, "host": found.name, "kernel": said["release"],
+               "groups": {each["path"]: [round(each["share"] / 100, 5),
+                                         round(each["had"] / 100, 5)]
+                          for each in said["lines"] if each["path"] in found.leaves}}
+
+
+def main(words: list[str]) -> None:
+    """Adds the runs of saved files."""
+    set_, *files = words
+    found = kept() if KEPT.exists() else {"sets": {}, "hosts": {}, "runs": []}
+    for path in map(Path, files):
+        found["runs"] += runs_of(set_, path, found["hosts"], [SCENARIOS, path.parent])
+    KEPT.write_bytes(lzma.compress(json.dumps(found, separators=(",", ":")).encode()))
+    print(f"{len(found['runs'])} runs of {len(found['hosts'])} hosts")
+
+
+if __name__ == "__main__":
+    main(sys.argv[1:])
