@@ -29,6 +29,7 @@ FILES = {
     "share/bash-completion/completions/arbiterctl": ("share/completions/arbiterctl.bash", 0o644),
     "share/zsh/site-functions/_arbiterctl": ("share/completions/_arbiterctl", 0o644),
     "share/fish/vendor_completions.d/arbiterctl.fish": ("share/completions/arbiterctl.fish", 0o644),
+    "lib/systemd/system/arbiter-hold.service": ("share/systemd/arbiter-hold.service", 0o644),
     **{f"share/man/man1/{path.name}": (f"share/man/{path.name}", 0o644)
        for path in (ROOT / "share/man").iterdir()},
 }

@@ -1,7 +1,8 @@
 """Holds the plan on a host: each round reads what was used, and writes limits by the proved rule.
 
-The rule is the library's call `arbiter_hold`. Each leaf is open from its first reading to the last
-writing. What stood is in a synced file before the first writing to it, and is put back at the end.
+The rule is the library's call `arbiter_hold`. Each group is open from its first reading to the
+last writing. What stood is in a synced file before the first writing to it, and is put back at the
+end.
 """
 from __future__ import annotations
 
@@ -17,7 +18,7 @@ from fractions import Fraction
 from typing import Any, NamedTuple
 
 from arbiter import Columns, Host, Row
-from arbiter_host import apply, demands, units
+from arbiter_host import apply, demands, units, weights
 from arbiter_host.apply import Back, By, Change, Settings
 from arbiter_host.beneath import Gone, Identity, Root
 from arbiter_host.demands import Reading
@@ -29,6 +30,9 @@ from arbiter_host.record import Record
 from arbiter_host.sources import cgroup1, cgroup2, cgroups
 from arbiter_host.sources.cgroups import Node, Wish, keyed
 
+# What is told of a round.
+Line = dict[str, Any]
+
 KUBELET = re.compile(r"kubepods([-.].*)?")
 # A leaf without a limit is hungry if its tasks waited for this part of the round. Tasks that are
 # served wait too, so a shorter wait tells nothing. A limit that is too low is seen one round later.
@@ -37,14 +41,30 @@ PRESSED = Fraction(1, 2)
 MOST_FAILED = 2
 # Remarks that are remembered, so that each is told once.
 MOST_TOLD = 10000
+# Quota over burst, where a limit has a burst.
+BURST_PART = 10
+
+
+class Ways(NamedTuple):
+    """What is held besides limits, and whether groups of kubelet are held too."""
+
+    is_forced: bool = False
+    has_weights: bool = False
+    # Each limit has a burst of a tenth of its quota.
+    has_burst: bool = False
 
 
 @dataclass
-class Leaf:
-    """A leaf that is open: what stood in it, what was written last, and its last reading."""
+class Kept:
+    """A group that is open: what stood in it, what was written last, and its last reading.
+
+    Groups with children are open only where weights are written.
+    """
 
     folder: str
     identity: Identity
+    is_leaf: bool
+    # The operator's own settings.
     old: Settings
     stands: Settings
     # What is being written; what stands where nothing is.
@@ -52,13 +72,20 @@ class Leaf:
     reading: Reading
     # Nanoseconds of the clock at the last reading.
     at: int
-    # Whether it is left alone, since somebody else sets it.
+    # Whether its limit is left alone, since somebody else sets it.
     is_left: bool = False
+    # Slices that the plan of the last round gave it; None before its first round.
+    planned: int | None = None
 
     @property
     def written(self) -> list[Settings]:
         """What it may hold by this loop."""
         return [self.stands, self.target]
+
+    @property
+    def is_changed(self) -> bool:
+        """Whether it may hold anything but the operator's own settings."""
+        return {self.stands, self.target} != {self.old}
 
 
 class Used(NamedTuple):
@@ -68,18 +95,19 @@ class Used(NamedTuple):
     hungry: bool
 
 
-class Held(NamedTuple):
-    """The limits of a round by path, in slices, and the line that tells the round."""
+class Round(NamedTuple):
+    """What a round writes: limits in slices and weights, by path; and the groups of its line."""
 
     limits: dict[str, int]
-    told: dict[str, Any]
+    weights: dict[str, int]
+    told: dict[str, dict[str, Any]]
 
 
 class WriteFault(HostFault):
     """A fault of a writing, which ends the loop. One of a reading may pass."""
 
 
-def used_between(leaf: Leaf, now: Reading, at: int) -> Used:
+def used_between(leaf: Kept, now: Reading, at: int) -> Used:
     """What a leaf used since its last reading."""
     rise, passed = demands.rise(leaf.reading.usage, now.usage), at - leaf.at
     if rise is None or passed <= 0:
@@ -121,13 +149,15 @@ class Loop:
     """The rounds over one tree. `record` is None where nothing is written."""
 
     def __init__(self, engine: Engine, root: Root, top: str, host: Host,
-                 record: Record | None = None, is_forced: bool = False,
+                 record: Record | None = None, ways: Ways = Ways(),
                  clock: Callable[[], int] = time.monotonic_ns) -> None:
         self.engine, self.root, self.host = engine, root, host
         self.top, self.record = os.path.realpath(top), record
-        self.is_forced, self.clock = is_forced, clock
-        # The leaves that are open, by their paths.
-        self.leaves: dict[str, Leaf] = {}
+        self.ways, self.clock = ways, clock
+        # The groups that are open, by their paths.
+        self.groups: dict[str, Kept] = {}
+        # The number of tasks of each leaf at the last reading.
+        self.tasks: dict[str, int] = {}
         self.told: set[str] = set()
         self.rounds = 0
 
@@ -141,7 +171,7 @@ class Loop:
                 print(f"arbiterctl: warning: {shown(note)}", file=sys.stderr, flush=True)
 
     def counters(self, folder: str) -> tuple[Reading, int]:
-        """The counters of a leaf that is open, and when they were read."""
+        """The counters of a group that is open, and when they were read."""
         stat = keyed(self.root.read(folder, "cpu.stat"))
         try:
             pressure = cgroup2.pressure_of(self.root.read(folder, "cpu.pressure"))
@@ -151,7 +181,7 @@ class Loop:
                        pressure), self.clock()
 
     def take_up(self, node: Node) -> None:
-        """Opens a leaf that is new, and reads what stands in it."""
+        """Opens a group that is new, and reads what stands in it."""
         path, folder = node.group.path, apply.folder_of(node.group, self.root)
         try:
             self.root.keep(folder, node.group.identity)
@@ -162,74 +192,90 @@ class Loop:
                 self.root.let_go(folder)
             self.tell([f"{path}: left alone: {fault.message}"])
             return
-        self.leaves[path] = Leaf(folder, node.group.identity or (0, 0), stands, stands, stands,
-                                 reading, at)
+        self.groups[path] = Kept(folder, node.group.identity or (0, 0), not node.children, stands,
+                                 stands, stands, reading, at)
 
-    def drop(self, path: str) -> None:
-        """Closes a leaf that went, or has groups below it now. What stood is put back."""
-        self.put_back([self.leaves[path]])
-        self.root.let_go(self.leaves.pop(path).folder)
+    def drop(self, path: str, model: Model) -> None:
+        """Closes a group that went, or that has children now or none any more. What stood is put
+        back, in the group and in the model."""
+        kept = self.groups[path]
+        self.put_back([kept])
+        self.root.let_go(self.groups.pop(path).folder)
+        group = model.groups.get(path)
+        if group is not None and group.identity == kept.identity:
+            group.weight, group.quota, group.period = (
+                kept.old.weight, kept.old.quota, kept.old.period)
 
-    def look(self, leaf: Leaf, path: str) -> None:
-        """Reads what stands in a leaf. One that somebody else set is left alone from then on."""
-        now = apply.current(self.root, leaf.folder)
-        leaf.old = replace(leaf.old, weight=now.weight)
-        leaf.stands = replace(leaf.stands, weight=now.weight)
-        if now != leaf.stands:
-            if not leaf.is_left:
-                self.tell([f"{path}: somebody set {apply.told(now)}: it is left alone"])
-            leaf.old = leaf.stands = now
-            leaf.is_left = True
-        leaf.target = leaf.stands
+    def look(self, kept: Kept, path: str) -> None:
+        """Reads what stands in a group. A weight that somebody set is the operator's. A limit that
+        somebody set is left alone from then on."""
+        now = apply.current(self.root, kept.folder)
+        if now.weight != kept.stands.weight:
+            kept.old = replace(kept.old, weight=now.weight)
+            kept.stands = replace(kept.stands, weight=now.weight)
+        if now != kept.stands:
+            if kept.is_leaf and not kept.is_left:
+                self.tell([f"{path}: somebody set {apply.told(now)}: its limit is left alone"])
+            kept.old, kept.stands = replace(now, weight=kept.old.weight), now
+            kept.is_left = kept.is_leaf
+        kept.target = kept.stands
 
     def read(self) -> tuple[Model, dict[str, Used]]:
         """The groups as they stand, and what each leaf used since the last reading of it."""
         model, nodes = tree(self.top, self.host)
-        check_owner(self.top, nodes, self.is_forced)
+        check_owner(self.top, nodes, self.ways.is_forced)
         self.tell(model.notes)
-        there = {node.group.path: node for node in nodes if not node.children}
-        for path, leaf in list(self.leaves.items()):
-            if path not in there or there[path].group.identity != leaf.identity:
-                self.drop(path)
-                group = model.groups.get(path)
-                if group is not None and group.identity == leaf.identity:
-                    group.quota, group.period = leaf.old.quota, leaf.old.period
+        there = {node.group.path: node for node in nodes
+                 if self.ways.has_weights or not node.children}
+        self.tasks = {path: node.measured.tasks or 1 for path, node in there.items()}
+        for path, kept in list(self.groups.items()):
+            node = there.get(path)
+            if (node is None or node.group.identity != kept.identity
+                    or kept.is_leaf == bool(node.children)):
+                self.drop(path, model)
+        return model, self.read_all(there, model)
+
+    def read_all(self, there: dict[str, Node], model: Model) -> dict[str, Used]:
+        """What each leaf used. New groups are opened, those that went are closed."""
         used, faults = {}, []
         for path, node in there.items():
-            if path not in self.leaves:
+            if path not in self.groups:
                 self.take_up(node)
                 continue
             try:
-                used[path] = self.read_leaf(path)
+                found = self.read_group(path)
+                if self.groups[path].is_leaf:
+                    used[path] = found
             except Gone:
-                self.drop(path)
+                self.drop(path, model)
             except HostFault as fault:
                 faults.append(fault)
         if faults:
             raise faults[0]
-        return model, used
+        return used
 
-    def read_leaf(self, path: str) -> Used:
-        """What a leaf used since its last reading."""
-        leaf = self.leaves[path]
-        self.look(leaf, path)
-        reading, at = self.counters(leaf.folder)
+    def read_group(self, path: str) -> Used:
+        """What a group used since its last reading."""
+        kept = self.groups[path]
+        self.look(kept, path)
+        reading, at = self.counters(kept.folder)
         try:
-            return used_between(leaf, reading, at)
+            return used_between(kept, reading, at)
         finally:
-            leaf.reading, leaf.at = reading, at
+            kept.reading, kept.at = reading, at
 
     def rows(self, model: Model, used: dict[str, Used]) -> list[Row]:
-        """The rows of the operator's own limits and of what was used."""
-        for path, leaf in self.leaves.items():
+        """The rows of the operator's own settings and of what was used."""
+        for path, kept in self.groups.items():
             group = model.groups[path]
-            group.quota, group.period = leaf.old.quota, leaf.old.period
+            group.weight, group.quota, group.period = (
+                kept.old.weight, kept.old.quota, kept.old.period)
             group.burst, group.saved = 0, 0
             group.demand = used[path].thousandths if path in used else Fraction(0)
         return model.rows(self.engine.library)
 
-    def held(self, model: Model, used: dict[str, Used]) -> Held:
-        """The limits of the next round, whose plan the proved check accepted."""
+    def planned(self, model: Model, used: dict[str, Used]) -> Round:
+        """The limits and weights of the next round, whose plan the proved check accepted."""
         rows, host = self.rows(model, used), planned(self.host)
         hungry = [False, *(path in used and used[path].hungry for path in model.groups)]
         with asking("no limits"):
@@ -241,84 +287,115 @@ class Loop:
         for row, path in enumerate(model.groups, 1):
             limit = found.limits[row]
             if path in used and limit is not None:
-                limits[path] = limit
+                limits[path], kept = limit, self.groups[path]
+                lacks = (kept.planned or 0) - rows[row].demand if hungry[row] else 0
+                kept.planned = found.amounts[row]
                 told[path] = {"want": found.demands[row], "plan": found.amounts[row],
-                              "used": rows[row].demand, "limit": limit, "hungry": hungry[row]}
-        return Held(limits, told)
+                              "used": rows[row].demand, "limit": limit, "hungry": hungry[row],
+                              "unserved": max(lacks, 0)}
+        return Round(limits, self.weights(model, limits, told), told)
 
-    def target_of(self, path: str, leaf: Leaf, limit: int) -> Settings:
+    def weights(self, model: Model, limits: dict[str, int],
+                told: dict[str, dict[str, Any]]) -> dict[str, int]:
+        """The weights of a round, which the line of each leaf gets too; none without --weights."""
+        if not self.ways.has_weights:
+            return {}
+        most = self.host.period_us // self.host.slice_us
+        parts = {path: weights.of_leaf(limit, self.tasks[path] * most)
+                 for path, limit in limits.items()}
+        found = weights.of_tree(model, parts)
+        for path, line in told.items():
+            line["weight"] = found[path]
+        return found
+
+    def limited(self, path: str, old: Settings, limit: int) -> Settings:
         """What is written for a limit: what stood where that allows no more."""
-        quota, old = limit * self.host.slice_us, leaf.old
+        quota = limit * self.host.slice_us
         if old.quota is not None:
             own = Fraction(old.quota * self.host.period_us, old.period)
             if max(quota, units.MIN_QUOTA) >= own // self.host.slice_us * self.host.slice_us:
                 return old
         if quota < units.MIN_QUOTA:
             self.tell([f"{path}: a limit below 1 ms is rounded up to it"])
-        return replace(old, quota=max(quota, units.MIN_QUOTA), period=self.host.period_us, burst=0)
+        quota = max(quota, units.MIN_QUOTA)
+        burst = quota // BURST_PART if self.ways.has_burst else 0
+        return replace(old, quota=quota, period=self.host.period_us, burst=burst)
 
-    def write(self, limits: dict[str, int]) -> int:
-        """Writes limits, after what stood is on the disk. Returns how many groups changed."""
+    def target_of(self, path: str, kept: Kept, found: Round) -> Settings:
+        """What a group is to hold. A leaf without a limit of the rule holds what it holds."""
+        if kept.is_left:
+            return kept.old
+        if path in found.limits:
+            target = self.limited(path, kept.old, found.limits[path])
+        elif kept.is_leaf:
+            return kept.stands
+        else:
+            target = kept.old
+        return replace(target, weight=found.weights.get(path, target.weight))
+
+    def write(self, found: Round) -> int:
+        """Writes a round, after what stood is on the disk. Returns how many groups changed."""
         changed = []
-        for path, limit in limits.items():
-            leaf = self.leaves[path]
-            if not leaf.is_left:
-                leaf.target = self.target_of(path, leaf, limit)
-                changed += [leaf] if leaf.target != leaf.stands else []
-        if self.record is None or not changed:
+        for path, kept in self.groups.items():
+            kept.target = self.target_of(path, kept, found)
+            changed += [kept] if kept.target != kept.stands else []
+        if self.record is None:
             return 0
         try:
-            self.record.put(self.undo_text())
-            for leaf in changed:
-                self.set(leaf)
+            text = self.undo_text()
+            if changed or self.record.is_there and self.record.text != text:
+                self.record.put(text)
+            for kept in changed:
+                self.set(kept)
         except HostFault as fault:
             raise WriteFault(fault.message) from fault
         return len(changed)
 
-    def set(self, leaf: Leaf) -> None:
-        """Writes the target of a leaf. One that is gone is dropped by the next reading."""
-        change = Change(leaf.folder, leaf.stands, leaf.target)
+    def set(self, kept: Kept) -> None:
+        """Writes the target of a group. One that is gone is dropped by the next reading."""
+        change = Change(kept.folder, kept.stands, kept.target)
         with suppress(Gone):
-            for step in apply.steps_of(change, leaf.stands, By.FILES):
+            for step in apply.steps_of(change, kept.stands, By.FILES):
                 apply.do(step, self.root)
-            leaf.stands = leaf.target
+            kept.stands = kept.target
 
     def undo_text(self) -> str:
-        """What stood in each leaf, and what it may hold by this loop."""
-        groups = [{"folder": leaf.folder, **asdict(leaf.old), "after": asdict(leaf.target),
-                   "earlier": [asdict(leaf.stands)]}
-                  for leaf in self.leaves.values()
-                  if not leaf.is_left and {leaf.stands, leaf.target} != {leaf.old}]
+        """What stood in each group, and what it may hold by this loop."""
+        groups = [{"folder": kept.folder, **asdict(kept.old), "after": asdict(kept.target),
+                   "earlier": [asdict(kept.stands)]}
+                  for kept in self.groups.values() if kept.is_changed]
         return json.dumps({"arbiter_undo": apply.VERSION, "root": self.root.path, "systemd": False,
                            "groups": groups}, indent=1) + "\n"
 
-    def put_back(self, leaves: Iterable[Leaf]) -> None:
+    def put_back(self, groups: Iterable[Kept]) -> None:
         """Puts back what stood; what somebody else set stays, and is told."""
         back = Back(self.root, By.FILES)
-        for leaf in leaves:
-            now = None if leaf.is_left else apply.standing(self.root, leaf.folder)
+        for kept in groups:
+            now = apply.standing(self.root, kept.folder)
             if now is None:
                 continue
-            wanted = apply.wanted_back(now, leaf.old, leaf.written)
-            if wanted != leaf.old:
-                self.tell([f"{leaf.folder}: somebody set {apply.told(now)}: it is left alone"])
+            wanted = apply.wanted_back(now, kept.old, kept.written)
+            if wanted != kept.old:
+                self.tell([f"{kept.folder}: somebody set {apply.told(now)}: it is left alone"])
             if wanted != now:
-                back.changes.append(Change(leaf.folder, now, wanted))
+                back.changes.append(Change(kept.folder, now, wanted))
         if self.record is not None:
             apply.undo(back, [])
 
-    def round(self) -> dict[str, Any]:
+    def round(self) -> Line:
         """One round: reads, asks, writes. Returns the line that tells it."""
         model, used = self.read()
-        found = self.held(model, used)
+        found = self.planned(model, used)
         self.rounds += 1
-        changed = self.write(found.limits)
-        return {"round": self.rounds, "written": changed, "groups": found.told}
+        changed = self.write(found)
+        return {"round": self.rounds, "written": changed,
+                "unserved": sum(line["unserved"] for line in found.told.values()),
+                "groups": found.told}
 
     def end(self) -> None:
         """Puts back what stood, and removes the undo file if all of it stands again."""
         try:
-            self.put_back(self.leaves.values())
+            self.put_back(self.groups.values())
             if self.record is not None:
                 self.record.remove()
         except HostFault as fault:
@@ -334,7 +411,7 @@ class Times(NamedTuple):
     is_once: bool = False
 
 
-def tried(loop: Loop, failed: int, missed: int, emit: Callable[[str], None]) -> int:
+def tried(loop: Loop, failed: int, missed: int, emit: Callable[[Line], None]) -> int:
     """One round, whose line is written. Returns the failed readings in a row."""
     try:
         line = loop.round()
@@ -343,15 +420,19 @@ def tried(loop: Loop, failed: int, missed: int, emit: Callable[[str], None]) -> 
             raise
         print(f"arbiterctl: warning: {shown(fault.message)}", file=sys.stderr, flush=True)
         return failed + 1
-    emit(json.dumps({**line, "missed": missed}) + "\n")
+    emit({**line, "missed": missed})
     return 0
 
 
 def run(loop: Loop, times: Times, wait: Callable[[float], bool],
-        emit: Callable[[str], None]) -> None:
-    """Rounds until the end, or until `wait` tells a signal. What stood is put back at each end."""
+        emit: Callable[[Line], None], begin: Callable[[], object] = lambda: None) -> None:
+    """Rounds until the end, or until `wait` tells a signal. What stood is put back at each end.
+
+    `begin` is called after the first reading.
+    """
     try:
         loop.read()
+        begin()
         begun, turn, failed = loop.clock(), 1, 0
         while not wait((begun + turn * times.interval - loop.clock()) / 10**9):
             passed = loop.clock() - begun

@@ -28,12 +28,14 @@ def faults(path: str) -> Iterator[None]:
         raise HostFault(f"{shown(path)}: {strerror(error)}; nothing is changed") from error
 
 
-def opened_folder(path: str) -> int:
-    """Opens a folder that is this user's alone to change; makes it where there is none."""
+def opened_folder(path: str, is_made: bool = True) -> int:
+    """Opens a folder that is this user's alone to change. With `is_made` it is made where there is
+    none."""
     check_path(path)
     with faults(path):
-        with suppress(FileExistsError):
-            os.mkdir(path, 0o700)
+        if is_made:
+            with suppress(FileExistsError):
+                os.mkdir(path, 0o700)
         descriptor = os.open(path, os.O_RDONLY | os.O_DIRECTORY | FLAGS)
     found = os.fstat(descriptor)
     if found.st_uid != os.geteuid() or stat.S_IMODE(found.st_mode) & 0o022:
@@ -61,6 +63,18 @@ def lock(path: str) -> list[int]:
     return [folder, file]
 
 
+def write_part(folder: int, name: str, text: str, mode: int = 0o600, is_synced: bool = False
+               ) -> None:
+    """Writes a file of a folder of `opened_folder`. Its name is one that nobody reads."""
+    descriptor = os.open(name, os.O_WRONLY | os.O_CREAT | os.O_TRUNC | FLAGS, mode, dir_fd=folder)
+    with os.fdopen(descriptor, "w", encoding="utf-8") as file:
+        os.fchmod(descriptor, mode)
+        file.write(text)
+        file.flush()
+        if is_synced:
+            os.fsync(file.fileno())
+
+
 class Record:
     """An undo file. Each text is on the disk when `put` returns; a kill leaves a whole text."""
 
@@ -71,30 +85,23 @@ class Record:
         self.part = f"{self.name}.part"
         self.folder = opened_folder(os.path.dirname(self.path))
         self.is_there = False
+        # The text that was put last.
+        self.text = ""
         if os.path.lexists(self.path):
             os.close(self.folder)
             raise HostFault(f"the undo file {shown(self.path)}: File exists; nothing is changed."
                             " If a loop was killed: arbiterctl undo it with --yes, remove it")
 
-    def write(self, text: str) -> None:
-        """Writes the part file, and returns when it is on the disk."""
-        descriptor = os.open(self.part, os.O_WRONLY | os.O_CREAT | os.O_TRUNC | FLAGS, 0o600,
-                             dir_fd=self.folder)
-        with os.fdopen(descriptor, "w", encoding="utf-8") as file:
-            file.write(text)
-            file.flush()
-            os.fsync(file.fileno())
-
     def put(self, text: str) -> None:
         """Puts a text in place of the last."""
         with faults(self.path):
-            self.write(text)
+            write_part(self.folder, self.part, text, is_synced=True)
             if self.is_there:
                 os.rename(self.part, self.name, src_dir_fd=self.folder, dst_dir_fd=self.folder)
             else:
                 os.link(self.part, self.name, src_dir_fd=self.folder, dst_dir_fd=self.folder)
                 os.unlink(self.part, dir_fd=self.folder)
-            self.is_there = True
+            self.is_there, self.text = True, text
             os.fsync(self.folder)
 
     def remove(self) -> None:

@@ -16,7 +16,7 @@ from arbiter_host import demands, svg, text, units
 from arbiter_host.engine import Engine
 from arbiter_host.faults import HostFault
 from arbiter_host.model import Model
-from arbiter_host.names import cut, padded, short, shown, width
+from arbiter_host.names import cut, label, padded, short, shown, width
 from arbiter_host.plan import Plan, plan
 from arbiter_host.samples import Sample, columns
 from arbiter_host.units import Slices
@@ -260,11 +260,6 @@ def as_json(series: Series, unit: str) -> str:
     return json.dumps({"unit": unit, "records": list(records(series, unit))}, indent=1) + "\n"
 
 
-def label_text(name: str) -> str:
-    """A label of OpenMetrics."""
-    return shown(name).replace("\\", "\\\\").replace('"', '\\"')
-
-
 def as_metrics(series: Series) -> str:
     """The last sample as OpenMetrics, for a textfile collector."""
     host, lines = series.plan.model.host, []
@@ -275,7 +270,7 @@ def as_metrics(series: Series) -> str:
                   f"# HELP arbiter_plan_{key}_cpus {words}"]
         for path, cell in zip(series.groups, series.cells[-1]):
             value = units.decimal(getattr(cell, key) * one, 6)
-            lines.append(f'arbiter_plan_{key}_cpus{{group="{label_text(path)}"}} {value}')
+            lines.append(f'arbiter_plan_{key}_cpus{{group="{label(path)}"}} {value}')
     return "\n".join([*lines, "# EOF", ""])
 
 

@@ -7,8 +7,10 @@ import shutil
 import signal
 import subprocess
 import sys
+import tempfile
 import time
 
+import killed_loop
 import pytest
 import trees
 from arbiter import Host
@@ -66,8 +68,8 @@ class World:
         """Rounds, a step before each. Returns the lines and what stood at each line."""
         self.after, lines = list(steps), []
 
-        def emit(text):
-            lines.append((json.loads(text), {path: self.maximum(path) for path in self.counters
+        def emit(line):
+            lines.append((json.loads(json.dumps(line)), {path: self.maximum(path) for path in self.counters
                                              if (self.tree / path).exists()}))
         hold.run(loop, times, self.wait, emit)
         return lines
@@ -99,9 +101,10 @@ def test_limits_of_worked_readings(world, engine, folder):
     (one, stood), (two, then) = world.run(loop, first, second)
     # a: used 20 + 2 of headroom, but its guarantee is 50. b, c: 180 shared out by 100 to 200.
     assert one["groups"] == {
-        "a": {"want": 20, "plan": 20, "used": 20, "limit": 50, "hungry": False},
-        "b": {"want": 1000000, "plan": 60, "used": 90, "limit": 60, "hungry": True},
-        "c": {"want": 1000000, "plan": 120, "used": 90, "limit": 120, "hungry": True}}
+        "a": {"want": 20, "plan": 20, "used": 20, "limit": 50, "hungry": False, "unserved": 0},
+        "b": {"want": 1000000, "plan": 60, "used": 90, "limit": 60, "hungry": True, "unserved": 0},
+        "c": {"want": 1000000, "plan": 120, "used": 90, "limit": 120, "hungry": True,
+              "unserved": 0}}
     assert stood == {"a": "50000 100000", "b": "60000 100000", "c": "120000 100000"}
     # a uses more than its plan of 50, so it is held at that.
     assert [(each["plan"], each["limit"]) for each in two["groups"].values()] == [
@@ -191,7 +194,7 @@ def test_groups_come_and_go(world, engine, folder):
     assert {each["folder"]: each["quota"] for each in seen[1]["groups"]} == {
         "a": None, "b": None, "d": 170000}
     assert [world.maximum(path) for path in "abd"] == [FREE, FREE, "170000 100000"]
-    assert not undo.exists() and loop.leaves.keys() == {"a", "b", "d"}
+    assert not undo.exists() and loop.groups.keys() == {"a", "b", "d"}
 
 
 def test_units_are_written_by_their_files(world, engine, folder, monkeypatch):
@@ -371,87 +374,20 @@ def test_dry_run_writes_nothing(ctl, world, folder):
     assert (line["written"], content(folder)) == (0, before)
 
 
-# A loop of 8 rounds in which a, b and c use more and less, and that is killed at one of its calls.
-KILLED = """
-import os, pathlib, signal, sys
-sys.path[:0] = {path!r}
-import test_hold
-from arbiter import Library
-from arbiter_host.engine import Engine
-folder, at, made = pathlib.Path({folder!r}), {at}, 0
-world = test_hold.World(folder, [("a", 100, "90000 100000"), ("b", 100, test_hold.FREE),
-                                 ("c", 200, test_hold.FREE)])
-(world.tree / "a/cpu.max.burst").write_text("90000\\n")
-(folder / "before").write_text(repr(test_hold.content(world.tree)))
-loop = world.loop(Engine(Library({library!r})), folder / "u")
-def step(turn):
-    world.uses("a", 5 + 60 * (turn % 2))
-    world.uses("b", 30 * turn, throttled=turn % 3)
-    world.uses("c", 90, throttled=turn % 2, waited=10**6)
-def counted(name):
-    real = getattr(os, name)
-    def call(*words, **more):
-        global made
-        if loop.is_counted:
-            made += 1
-            if made == at:
-                os.kill(os.getpid(), signal.SIGKILL)
-        return real(*words, **more)
-    setattr(os, name, call)
-real_write, loop.is_counted = loop.write, False
-def write(limits):
-    loop.is_counted = True
-    try:
-        return real_write(limits)
-    finally:
-        loop.is_counted = False
-loop.write = write
-real_end = loop.end
-def end():
-    loop.is_counted = True
-    real_end()
-loop.end = end
-for name in ("open", "write", "fsync", "rename", "link", "unlink", "ftruncate"):
-    counted(name)
-world.run(loop, *[lambda turn=turn: step(turn) for turn in range(8)])
-print(made)
-"""
-
-
-def killed(library, folder, at):
-    """The loop of KILLED: its status, and what it printed."""
-    folder.mkdir()
-    text = KILLED.format(path=sys.path, folder=str(folder), at=at, library=str(library))
-    ended = subprocess.run([sys.executable, "-c", text], capture_output=True, check=False,
-                           timeout=60)
-    assert b"Traceback" not in ended.stderr, ended.stderr.decode()
-    return ended.returncode, ended.stdout.decode()
-
-
-def limits(tree):
-    """The lines of the files that a loop writes. A kill may leave empty ones in a plain file."""
-    return {path: text.strip() for path, text in content(tree).items() if ".max" in path}
-
-
 def test_killed_at_random_points_and_undone(library, folder):
-    """At 40 of its calls that open, write or sync: `undo` brings back what stood, all of it."""
-    status, out = killed(library, folder / "whole", 0)
-    assert status == 0 and int(out) > 100
-    whole = limits(folder / "whole/t")
-    differed = 0
-    for at in sorted(random.Random(67).sample(range(1, int(out) + 1), 40)):
-        here = folder / str(at)
-        assert killed(library, here, at)[0] == -signal.SIGKILL
-        stood = {path.replace(str(folder / "whole"), str(here)): text
-                 for path, text in whole.items()}
-        differed += limits(here / "t") != stood
-        if (here / "u").exists():
-            back = apply.read_undo((here / "u").read_bytes(), "u")
-            apply.undo(back, [])
-            assert back.left == []
-        assert limits(here / "t") == stood, at
-        assert {path.name for path in here.iterdir()} <= {"t", "before", "u", "u.part"}
-    assert differed > 20
+    """At 200 calls by chance and at each that changes a file: `undo` brings back what stood."""
+    # (each undo file is synced, which takes long on a busy disk)
+    memory = "/dev/shm" if os.access("/dev/shm", os.W_OK) else folder
+    environment = {**os.environ, "PYTHONPATH": os.pathsep.join(sys.path)}
+    with tempfile.TemporaryDirectory(dir=memory) as name:
+        words = [sys.executable, killed_loop.__file__, name, str(library), "67", "200"]
+        ended = subprocess.run(words, capture_output=True, check=False, timeout=120,
+                               env=environment)
+    assert ended.returncode == 0, ended.stderr.decode()
+    found = json.loads(ended.stdout)
+    assert found["whole"] and found["wrong"] == []
+    assert found["chosen"] == 200 and found["changes"] > 60 and found["points"] > 200
+    assert found["changed"] > 150
 
 
 def test_killed_at_random_times(ctl, world, folder):

@@ -329,12 +329,13 @@ _arbiterctl() {
                 --interval) ;;
                 --for) ;;
                 --undo) ;;
+                --openmetrics) ;;
                 --cpus|--processors) ;;
                 --period) ;;
                 --slice) ;;
                 --library) ;;
                 *)
-                    [[ $word == -* ]] && mapfile -t COMPREPLY < <(compgen -W "--root --interval --for --once --dry-run --undo --force --cpus --processors --period --slice --library -h --help" -- "$word")
+                    [[ $word == -* ]] && mapfile -t COMPREPLY < <(compgen -W "--root --interval --for --once --dry-run --undo --weights --burst --openmetrics --force --cpus --processors --period --slice --library -h --help" -- "$word")
                     ;;
             esac
             ;;

@@ -88,16 +88,16 @@ def main() -> None:
     sys.path.insert(0, str(Path(__file__).parent))
     # what each command imports is there before the first fork
     from arbiter_host.sources import cgroup2, script
-    from arbiter_host.subcommands import apply, imports
-    assert apply and imports and cgroup2 and script
+    from arbiter_host.subcommands import apply, hold, imports
+    assert apply and hold and imports and cgroup2 and script
     found = json.loads(Path(sys.argv[1]).read_text(encoding="utf-8"))
     top, others = Path(found["top"]), 0
     print(json.dumps({"phase": "made", "groups": settings(top)}), flush=True)
     for step in found["steps"]:
-        if step.get("churn") == "begin":
+        if step.get("churn") in ("begin", "both"):
             others = come_and_go(top)
         shown = done(step, top)
-        if step.get("churn") == "end":
+        if step.get("churn") in ("end", "both"):
             STILL.touch()
             os.waitpid(others, 0)
             shown["rounds"] = int(ROUNDS.read_text(encoding="ascii"))

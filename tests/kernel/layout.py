@@ -26,11 +26,13 @@ cd /sys/bus/pnp/drivers/rtc_cmos && for clock in *:*; do echo $clock > unbind; d
 @dataclass(frozen=True)
 class Span:
     """How long counters are watched, and before that tasks run; seconds. `late` is microseconds
-    by which the tasks begin later, so that repeats differ."""
+    by which the tasks begin later, so that repeats differ. With `has_grid` the beginnings of quota
+    periods are watched while tasks settle."""
 
     seconds: float = 10
     settle: float = 1
     late: int = 0
+    has_grid: bool = True
 
 
 def place(path: str, file: str = "") -> str:
@@ -102,10 +104,11 @@ def task(scenario: Scenario, path: str, leaf: Leaf, number: int) -> str:
             f" exec /guest load {' '.join(words)}) &")
 
 
-def script(scenario: Scenario, span: Span) -> str:
-    """The whole script of one run."""
+def script(scenario: Scenario, span: Span, beside: str = "") -> str:
+    """The whole script of one run. `beside` is a line that begins before the tasks do."""
     settle, rounds = scenario.rounds(span.settle), scenario.rounds(span.seconds)
-    limited = [place(path, "cpu.stat") for path in scenario.files("cpu.max")]
+    limited = ([place(path, "cpu.stat") for path in scenario.files("cpu.max")] if span.has_grid
+               else [])
     files = " ".join([place(".", "cpu.stat"), *(place(path, "cpu.stat") for path in
                                                  scenario.paths), "/proc/stat"])
     tasks = [task(scenario, path, leaf, number) for path, leaf in scenario.leaves.items()
@@ -123,6 +126,7 @@ def script(scenario: Scenario, span: Span) -> str:
         *(set_offsets(scenario) if scenario.offset is not None else ()),
         f"/guest watch $begin $last -- {files} &",
         *([f"/guest grid $first $((begin - {QUIET})) {' '.join(limited)} &"] if limited else ()),
+        *([beside] if beside else ()),
         *tasks,
         "echo ready $(/guest now)",
         "wait",

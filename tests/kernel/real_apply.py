@@ -90,8 +90,8 @@ def work() -> str:
     return "\n".join(lines) + "\n"
 
 
-def read(lines: list[str]) -> dict[str, Phase]:
-    """What each phase showed, by its name."""
+def read(lines: list[str], count: int) -> dict[str, Phase]:
+    """What each phase of so many steps showed, by its name."""
     found = {}
     for line in lines:
         if line.startswith("{"):
@@ -99,7 +99,7 @@ def read(lines: list[str]) -> dict[str, Phase]:
             groups = {path: tuple(texts) for path, texts in shown.pop("groups").items()}
             name = shown.pop("phase")
             found[name] = Phase(groups=groups, **shown)
-    if len(found) != 1 + len(list(steps())):
+    if len(found) != 1 + count:
         raise KernelFault(f"the guest did not make all steps: {lines[-5:]}")
     return found
 
@@ -109,4 +109,4 @@ def shown_by(kernel: packages.Kernel, setting: machine.Setting) -> dict[str, Pha
     told = json.dumps({"top": layout.HOME, "steps": list(steps())}).encode()
     more = {**interpreter.files(), "steps.json": (0o100644, told),
             f"{interpreter.HOME}/{DRIVER.name}": (0o100644, DRIVER.read_bytes())}
-    return read(machine.run(kernel, 1, setting, work(), more, MEMORY))
+    return read(machine.run(kernel, 1, setting, work(), more, MEMORY), len(list(steps())))

@@ -301,11 +301,11 @@ def test_steps_of_apply_are_read():
     names = ["made", *(step["name"] for step in real_apply.steps())]
     shown = {"status": 1, "said": ["x"], "groups": {"a": ["1", "2", "3"]}}
     lines = [json.dumps({"phase": name, **shown}) for name in names]
-    found = real_apply.read(["kernel 6.12", *lines])
+    found = real_apply.read(["kernel 6.12", *lines], len(names) - 1)
     assert list(found) == names
     assert found["undo"] == real_apply.Phase(1, ["x"], {"a": ("1", "2", "3")})
     with pytest.raises(KernelFault, match="did not make all steps"):
-        real_apply.read(lines[:-1])
+        real_apply.read(lines[:-1], len(names) - 1)
 
 
 @pytest.mark.parametrize("second", [[], ["at 3", "file /sys/fs/cgroup/host/b/cpu.stat"]])

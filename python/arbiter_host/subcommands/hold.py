@@ -2,12 +2,18 @@
 from __future__ import annotations
 
 import argparse
+import json
 import os
 import signal
+import sys
+import time
 from contextlib import ExitStack
 
-from arbiter_host import beneath, hold, load, output, record
-from arbiter_host.faults import UsageFault
+from arbiter import Host
+from arbiter_host import beneath, gauges, hold, load, output, record
+from arbiter_host.faults import HostFault, UsageFault
+from arbiter_host.names import shown
+from arbiter_host.notify import Notifier
 from arbiter_host.subcommands.base import Subcommand, found_engine
 
 SIGNALS = (signal.SIGTERM, signal.SIGINT, signal.SIGHUP)
@@ -15,9 +21,47 @@ PERIODS = (100000, 1000000)
 HOST_TREE = "/sys/fs/cgroup"
 
 
-def signalled(seconds: float) -> bool:
-    """Waits. Returns whether a signal came, which is blocked while limits are written."""
-    return signal.sigtimedwait(SIGNALS, max(seconds, 0)) is not None
+class Waits:
+    """Waits between rounds. Signals are blocked while limits are written."""
+
+    def __init__(self, notifier: Notifier) -> None:
+        self.notifier = notifier
+
+    def __call__(self, seconds: float) -> bool:
+        """Waits, and tells the watchdog meanwhile. Returns whether a signal came."""
+        until = time.monotonic() + seconds
+        every = self.notifier.every
+        while True:
+            self.notifier.alive()
+            left = max(until - time.monotonic(), 0)
+            part = left if every is None else min(left, float(every))
+            if signal.sigtimedwait(SIGNALS, part) is not None:
+                self.notifier.send("STOPPING=1")
+                return True
+            if part == left:
+                return False
+
+
+class Tells:
+    """Tells rounds: as lines of JSON, in the file of --openmetrics, and to systemd."""
+
+    def __init__(self, host: Host, notifier: Notifier, file: gauges.File | None) -> None:
+        self.host, self.notifier, self.file = host, notifier, file
+        self.has_failed = False
+
+    def __call__(self, line: hold.Line) -> None:
+        """Tells a round. A file that cannot be written ends no loop."""
+        output.emit(json.dumps(line) + "\n")
+        self.notifier.send("WATCHDOG=1", f"STATUS=round {line['round']}: {len(line['groups'])}"
+                           f" groups, {line['unserved']} slices unserved")
+        if self.file is None:
+            return
+        try:
+            self.file.put(gauges.text(line, self.host))
+        except HostFault as fault:
+            if not self.has_failed:
+                print(f"arbiterctl: warning: {shown(fault.message)}", file=sys.stderr, flush=True)
+            self.has_failed = True
 
 
 def times_of(options: argparse.Namespace, period: int) -> hold.Times:
@@ -33,8 +77,7 @@ def times_of(options: argparse.Namespace, period: int) -> hold.Times:
 
 def locked(root: beneath.Root, undo: str, stack: ExitStack) -> record.Record:
     """The undo file, after no second loop was found."""
-    is_host = f"{root.path}/".startswith(f"{HOST_TREE}/")
-    where = record.FOLDER if is_host else os.path.dirname(os.path.abspath(undo))
+    where = record.FOLDER if is_real(root) else os.path.dirname(os.path.abspath(undo))
     for descriptor in record.lock(where):
         stack.callback(os.close, descriptor)
     found = record.Record(undo)
@@ -42,18 +85,45 @@ def locked(root: beneath.Root, undo: str, stack: ExitStack) -> record.Record:
     return found
 
 
+def machine(options: argparse.Namespace, root: beneath.Root) -> Host:
+    """The host. That of a real tree has no more CPUs than this machine."""
+    host, there = load.machine(options), os.cpu_count()
+    if is_real(root) and there is not None and host.processors > there:
+        raise UsageFault(f"--cpus {host.processors}: this machine has {there}")
+    return host
+
+
+def is_real(root: beneath.Root) -> bool:
+    """Whether a tree is that of this machine."""
+    return f"{root.path}/".startswith(f"{HOST_TREE}/")
+
+
+def metrics(options: argparse.Namespace, stack: ExitStack) -> gauges.File | None:
+    """The file of --openmetrics, which is removed at the end."""
+    if options.openmetrics is None:
+        return None
+    found = gauges.File(options.openmetrics)
+    stack.callback(found.close)
+    stack.callback(found.remove)
+    return found
+
+
 def run(options: argparse.Namespace) -> None:
     """Holds the plan on a tree until an end, a signal, or two failed readings."""
-    host = load.machine(options)
-    times, engine = times_of(options, host.period_us), found_engine(options)
     root = beneath.Root(options.root)
+    host = machine(options, root)
+    times, engine = times_of(options, host.period_us), found_engine(options)
+    ways = hold.Ways(options.force, options.weights, options.burst)
+    notifier = Notifier()
     with ExitStack() as stack:
         kept = None if options.dry_run else locked(root, options.undo, stack)
         stack.callback(root.close)
+        file = metrics(options, stack)
         before = signal.pthread_sigmask(signal.SIG_BLOCK, SIGNALS)
         stack.callback(signal.pthread_sigmask, signal.SIG_SETMASK, before)
-        loop = hold.Loop(engine, root, options.source, host, kept, options.force)
-        hold.run(loop, times, signalled, output.emit)
+        loop = hold.Loop(engine, root, options.source, host, kept, ways)
+        hold.run(loop, times, Waits(notifier), Tells(host, notifier, file),
+                 lambda: notifier.send("READY=1"))
 
 
 def add_words(parser: argparse.ArgumentParser) -> None:
@@ -72,6 +142,12 @@ def add_words(parser: argparse.ArgumentParser) -> None:
     parser.add_argument("--undo", metavar="FILE", default=f"{record.FOLDER}/hold-undo.json",
                         help="the undo file, which must be new, in a folder that only this user"
                         f" may change (default {record.FOLDER}/hold-undo.json)")
+    parser.add_argument("--weights", action="store_true", help="also write weights from the limits,"
+                        " which tell Linux how near each task is to a whole CPU")
+    parser.add_argument("--burst", action="store_true",
+                        help="give each limit a burst of a tenth of it")
+    parser.add_argument("--openmetrics", metavar="FILE", help="keep the last round in a file for a"
+                        " textfile collector, in a folder that only this user may change")
     parser.add_argument("--force", action="store_true", help="also groups of kubelet (kubepods)")
     load.add_host_options(parser)
 
@@ -81,22 +157,31 @@ DETAILS = (
     " hungry if it was throttled in the round. Without a limit it is hungry if its tasks waited for"
     " half of the round (cpu.pressure). The library's rule gives the limits, and its check accepts"
     " the plan. Then cpu.max is written. The period is 100ms or 1s.",
+    "With --weights it writes cpu.weight too: 100 d / (1.01 - d) where the limit lets each task of a"
+    " group use the part d of a CPU. A group with children has the sum of theirs. The plan is that"
+    " of the operator's own weights. A weight that somebody sets meanwhile is such a one.",
     "What stood is in the undo file, synced, before a group is first written. It is put back at the"
     " end, at SIGTERM, SIGINT and SIGHUP, after two failed readings in a row and after a failed"
     " writing. Then the undo file is removed. A loop that was killed is undone by `arbiterctl undo"
     " FILE --yes`.",
     "Each round is a line of JSON: want, plan, used and limit of each group in slices, whether it"
-    " is hungry, and the rounds missed before it. Groups that come are held from their second"
-    " reading on. A burst is 0 while a limit below the group's own stands. A limit below 1 ms is"
-    " rounded up. A group whose limit somebody else sets meanwhile is left alone from then on.",
+    " is hungry, and what a hungry group lacked of the plan that stood (unserved). `missed` is the"
+    " number of rounds missed before it. --openmetrics has the same in CPUs. Groups that come are"
+    " held from their second reading on. Without --burst a burst is 0 while a limit below the"
+    " group's own stands. A limit below 1 ms is rounded up. A group whose limit somebody else sets"
+    " meanwhile is left alone from then on.",
     "One loop runs on a host: it locks hold.lock in /run/arbiter, or beside the undo file if --root"
     " is elsewhere than /sys/fs/cgroup. Groups below kubepods are refused without --force, since"
-    " kubelet writes their limits itself.",
+    " kubelet writes their limits itself. As a service it tells systemd by NOTIFY_SOCKET that it is"
+    " ready and alive. The Debian package has arbiter-hold.service, which is not enabled.",
 )
 EXAMPLES = (
     ("one round of a part of the tree, nothing written",
      "arbiterctl hold /sys/fs/cgroup/system.slice --once --dry-run"),
+    ("ten minutes with weights, and gauges for a textfile collector",
+     "arbiterctl hold /sys/fs/cgroup/system.slice --weights --for 10m --openmetrics"
+     " /var/lib/prometheus/node-exporter/hold.prom"),
 )
 HOLD = Subcommand("hold",
                   "Holds the plan on a host with cgroup v2: each round it reads what each group"
-                  " used, and writes limits for the next one.", add_words, run, DETAILS, EXAMPLES)
+                  " used, and writes limits for the next one. docs/HOLD.md says when it helps.", add_words, run, DETAILS, EXAMPLES)

@@ -1,0 +1,46 @@
+"""Tells systemd that a service is ready, alive or ending, by datagrams to NOTIFY_SOCKET.
+
+Without that variable nothing is sent. The protocol is that of sd_notify(3) and
+sd_watchdog_enabled(3).
+"""
+from __future__ import annotations
+
+import os
+import socket
+from collections.abc import MutableMapping
+from fractions import Fraction
+
+# Parts of the time of the watchdog after which it is told again.
+PARTS = 3
+
+
+class Notifier:
+    """The socket of systemd, if there is one."""
+
+    def __init__(self, environment: MutableMapping[str, str] = os.environ) -> None:
+        # (no child has them)
+        path = environment.pop("NOTIFY_SOCKET", "")
+        usec = environment.pop("WATCHDOG_USEC", "")
+        process = environment.pop("WATCHDOG_PID", "")
+        self.address = f"\0{path[1:]}" if path.startswith("@") else path
+        is_ours = process in ("", str(os.getpid()))
+        # Seconds from one sign of life to the next; None without a watchdog.
+        self.every: Fraction | None = None
+        if is_ours and usec.isascii() and usec.isdigit() and int(usec):
+            self.every = Fraction(int(usec), PARTS * 10**6)
+
+    def send(self, *words: str) -> None:
+        """Sends lines such as READY=1. A socket that does not take them changes nothing."""
+        if not self.address:
+            return
+        with socket.socket(socket.AF_UNIX, socket.SOCK_DGRAM | socket.SOCK_CLOEXEC) as to:
+            try:
+                to.settimeout(1)
+                to.sendto("\n".join(words).encode(), self.address)
+            except OSError:
+                pass
+
+    def alive(self) -> None:
+        """Tells the watchdog."""
+        if self.every is not None:
+            self.send("WATCHDOG=1")

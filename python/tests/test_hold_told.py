@@ -1,0 +1,350 @@
+"""Hold: weights, bursts, what Linux did not serve, gauges, systemd's messages, and the unit."""
+import json
+import os
+import re
+import shutil
+import signal
+import socket
+import subprocess
+import sys
+import time
+from fractions import Fraction
+from pathlib import Path
+
+import killed_loop
+import pytest
+from arbiter import Host
+from arbiter_host import apply, gauges, hold, notify, weights
+from arbiter_host.apply import Settings
+from arbiter_host.faults import HostFault
+from arbiter_host.model import Group, Model
+from arbiter_host.subcommands.hold import Waits
+from places import PACKAGE
+from test_hold import FREE, SECOND, World, content, said, started
+
+UNIT = PACKAGE.parent / "share/systemd/arbiter-hold.service"
+WEIGHTS = hold.Ways(has_weights=True)
+BURST = hold.Ways(has_burst=True)
+
+
+@pytest.fixture(name="world")
+def world_of_three(folder):
+    """Weights 100, 100 and 200 on two CPUs: 200 slices, guarantees 50, 50 and 100."""
+    return World(folder, [("a", 100, FREE), ("b", 100, FREE), ("c", 200, FREE)])
+
+
+@pytest.mark.parametrize("limit, most, weight", [
+    (100, 100, 10000),  # a whole CPU: 100 / 0.01
+    (200, 100, 10000),  # more than one task can use
+    (50, 100, 98),      # 50 / 0.51 = 98.04
+    (75, 100, 288),     # 75 / 0.26 = 288.46
+    (10, 100, 11),      # 10 / 0.91 = 10.99
+    (1, 100, 1), (0, 100, 1),
+    (99, 100, 4950),
+    (50, 200, 33),      # two tasks with a quarter each: 25 / 0.76 = 32.89
+    (667, 1000, 194),   # 66.7 / 0.343 = 194.46
+])
+def test_weights_by_hand(limit, most, weight):
+    """100 d / (1.01 - d), to the nearest whole number, 1 to 10000."""
+    assert weights.of_leaf(limit, most) == weight
+
+
+def test_weights_of_a_tree():
+    """A group with children has their sum, at most 10000. Groups without such a leaf keep theirs."""
+    model = Model(Host(2, 100000, 1000))
+    for path, weight in (("p", 7), ("p/x", 5), ("p/y", 6), ("q", 8), ("q/z", 9), ("r", 3)):
+        model.add(Group(path, weight))
+    assert weights.of_tree(model, {"p/x": 90, "r": 40}) == {
+        "p": 96, "p/x": 90, "p/y": 6, "q": 8, "q/z": 9, "r": 40}
+    assert weights.of_tree(model, {"p/x": 9000, "p/y": 9000})["p"] == 10000
+
+
+def busy(world, *paths):
+    """A second in which groups want all and have a CPU each."""
+    for path in paths:
+        world.uses(path, 66, waited=10**6)
+
+
+def weight(world, path):
+    return (world.tree / path / "cpu.weight").read_text().strip()
+
+
+def test_weights_are_written_and_put_back(folder, engine):
+    """Limits 33 and 66 in `in` and 100 of `c`: weights 49 and 193, their sum 242, and 10000."""
+    world = World(folder, [("in", 100, FREE), ("in/a", 100, FREE), ("in/b", 200, FREE),
+                           ("c", 100, FREE)])
+    before = killed_loop.settings(world.tree)
+    loop, seen = world.loop(engine, folder / "undo", ways=WEIGHTS), []
+
+    def look():
+        seen.append([weight(world, path) for path in ("in", "in/a", "in/b", "c")])
+        busy(world, "in/a", "in/b", "c")
+
+    (line, _), _ = world.run(loop, lambda: busy(world, "in/a", "in/b", "c"), look)
+    assert {path: each["limit"] for path, each in line["groups"].items()} in (
+        {"in/a": 33, "in/b": 67, "c": 100}, {"in/a": 34, "in/b": 66, "c": 100})
+    a, b = ("49", "197") if line["groups"]["in/a"]["limit"] == 33 else ("51", "189")
+    assert seen == [[str(int(a) + int(b)), a, b, "10000"]]
+    assert line["groups"]["c"]["weight"] == 10000 and line["written"] == 4
+    assert killed_loop.settings(world.tree) == before and not (folder / "undo").exists()
+
+
+def test_plan_is_of_the_operators_weights(world, engine, folder):
+    """Written weights are no part of the next plan. One that the operator sets is, and stays."""
+    loop, undo = world.loop(engine, folder / "undo", ways=WEIGHTS), []
+
+    def all_busy():
+        for path, throttled in (("a", 5), ("b", 5), ("c", 5)):
+            world.uses(path, 66, throttled=throttled, waited=10**6)
+
+    def set_weight():
+        (world.tree / "a/cpu.weight").write_text("500\n")
+        all_busy()
+
+    def look():
+        undo.append(json.loads((folder / "undo").read_text()))
+        all_busy()
+
+    lines = world.run(loop, all_busy, all_busy, set_weight, look)
+    limits = [[each["limit"] for each in line["groups"].values()] for line, _ in lines]
+    # 200 by 100, 100, 200; then by 500, 100, 200
+    assert limits == [[50, 50, 100]] * 2 + [[125, 25, 50]] * 2
+    assert {each["folder"]: each["weight"] for each in undo[0]["groups"]} == {
+        "a": 500, "b": 100, "c": 200}
+    assert [weight(world, path) for path in "abc"] == ["500", "100", "200"]
+
+
+def test_a_left_limit_gets_its_weight_back(world, engine, folder, capsys):
+    """Somebody sets a limit: it stays, and the weight that was written goes."""
+    loop, seen = world.loop(engine, folder / "undo", ways=WEIGHTS), []
+
+    def other():
+        (world.tree / "a/cpu.max").write_text("70000 100000\n")
+        busy(world, *"abc")
+
+    def look():
+        seen.append((weight(world, "a"), world.maximum("a")))
+        busy(world, *"abc")
+    world.run(loop, lambda: busy(world, *"abc"), other, look)
+    assert seen == [("100", "70000 100000")]
+    assert [world.maximum(path) for path in "abc"] == ["70000 100000", FREE, FREE]
+    assert [weight(world, path) for path in "abc"] == ["100", "100", "200"]
+    assert capsys.readouterr().err.count("its limit is left alone") == 1
+
+
+def test_a_leaf_that_gets_children_and_weights(world, engine, folder):
+    """It is a group with children from then on, and all weights are put back."""
+    loop = world.loop(engine, folder / "undo", ways=WEIGHTS)
+    lines = world.run(loop, lambda: busy(world, *"abc"),
+                      lambda: (world.add("a/in"), busy(world, "b", "c")),
+                      lambda: (world.uses("a/in", 66, waited=10**6), busy(world, "b", "c")),
+                      lambda: shutil.rmtree(world.tree / "a/in"))
+    assert [sorted(line["groups"]) for line, _ in lines] == [
+        ["a", "b", "c"], ["b", "c"], ["a/in", "b", "c"], ["b", "c"]]
+    assert [weight(world, path) for path in "abc"] == ["100", "100", "200"]
+    assert [world.maximum(path) for path in "abc"] == [FREE] * 3
+
+
+def test_bursts(world, engine, folder):
+    """A tenth of each limit; what stood comes back, its burst too."""
+    (world.tree / "a/cpu.max").write_text("190000 100000\n")
+    (world.tree / "a/cpu.max.burst").write_text("30000\n")
+    loop, seen = world.loop(engine, folder / "undo", ways=BURST), []
+    world.run(loop, lambda: None, lambda: seen.append([apply.current(loop.root, path)
+                                                       for path in "abc"]))
+    assert seen == [[Settings(100, 50000, 100000, 5000), Settings(100, 50000, 100000, 5000),
+                     Settings(200, 100000, 100000, 10000)]]
+    assert apply.current(loop.root, "a") == Settings(100, 190000, 100000, 30000)
+
+
+def test_unserved(world, engine, folder):
+    """What a hungry group was not given of the plan that stood in the round."""
+    loop = world.loop(engine, folder / "undo")
+
+    def first():
+        world.uses("a", 20)
+        busy(world, "b", "c")
+
+    def second():
+        # planned 20, 60 and 120: b has 57, c 110, both were stopped
+        world.uses("a", 18)
+        world.uses("b", 57, throttled=4)
+        world.uses("c", 110, throttled=1)
+
+    (one, _), (two, _) = world.run(loop, first, second)
+    assert [each["unserved"] for each in one["groups"].values()] == [0, 0, 0]
+    assert [each["unserved"] for each in two["groups"].values()] == [0, 3, 10]
+    assert (one["unserved"], two["unserved"]) == (0, 13)
+
+
+LINE = {"round": 7, "missed": 1, "written": 2, "unserved": 3, "groups": {
+    'a"b\\c\n': {"want": 20, "plan": 20, "used": 19, "limit": 50, "hungry": False, "unserved": 0},
+    "b": {"want": 1000000, "plan": 60, "used": 57, "limit": 60, "hungry": True, "unserved": 3}}}
+
+
+def test_gauges_by_hand():
+    """CPUs of slices of 1 ms in 100 ms; a hungry group wants everything."""
+    lines = gauges.text(LINE, Host(2, 100000, 1000)).split("\n")
+    assert lines[-2:] == ["# EOF", ""]
+    assert "# TYPE arbiter_hold_plan_cpus gauge" in lines
+    found = dict(line.rsplit(" ", 1) for line in lines if line and not line.startswith("#"))
+    odd = 'group="a\\"b\\\\c\\\\x0a"'
+    assert found == {
+        f"arbiter_hold_want_cpus{{{odd}}}": "0.2", 'arbiter_hold_want_cpus{group="b"}': "+Inf",
+        f"arbiter_hold_plan_cpus{{{odd}}}": "0.2", 'arbiter_hold_plan_cpus{group="b"}': "0.6",
+        f"arbiter_hold_used_cpus{{{odd}}}": "0.19", 'arbiter_hold_used_cpus{group="b"}': "0.57",
+        f"arbiter_hold_limit_cpus{{{odd}}}": "0.5", 'arbiter_hold_limit_cpus{group="b"}': "0.6",
+        f"arbiter_hold_unserved_cpus{{{odd}}}": "0",
+        'arbiter_hold_unserved_cpus{group="b"}': "0.03",
+        f"arbiter_hold_hungry{{{odd}}}": "0", 'arbiter_hold_hungry{group="b"}': "1",
+        "arbiter_hold_rounds": "7", "arbiter_hold_missed_rounds": "1"}
+
+
+@pytest.mark.skipif(shutil.which("promtool") is None, reason="no promtool")
+def test_gauges_are_what_prometheus_reads():
+    text = gauges.text(LINE, Host(2, 100000, 1000))
+    ended = subprocess.run(["promtool", "check", "metrics"], input=text.encode(), timeout=30,
+                           capture_output=True, check=False)
+    assert b"error" not in ended.stderr.lower(), ended.stderr
+
+
+def test_gauges_are_written_whole(folder):
+    """A name that is there is replaced; a part stays unseen; other users change nothing."""
+    (folder / "hold.prom").write_text("old")
+    (folder / "hold.prom").chmod(0o600)
+    file = gauges.File(str(folder / "hold.prom"))
+    file.put("new\n")
+    assert (folder / "hold.prom").read_text() == "new\n"
+    assert (folder / "hold.prom").stat().st_mode & 0o777 == 0o644
+    (folder / ".hold.prom.part").symlink_to(folder / "elsewhere")
+    with pytest.raises(HostFault):
+        file.put("newer\n")
+    assert (folder / "hold.prom").read_text() == "new\n" and not (folder / "elsewhere").exists()
+    file.remove()
+    file.remove()
+    file.close()
+    assert not (folder / "hold.prom").exists()
+    (folder / "open").mkdir()
+    (folder / "open").chmod(0o777)
+    with pytest.raises(HostFault, match="other users may change"):
+        gauges.File(str(folder / "open/hold.prom"))
+    with pytest.raises(HostFault):
+        gauges.File(str(folder / "none/hold.prom"))
+    assert not (folder / "none").exists()
+
+
+def test_gauges_of_a_loop(ctl, world, folder):
+    """They are there while it runs, and gone at its end."""
+    path = folder / "hold.prom"
+    loop = started(ctl, world, folder / "u", "--openmetrics", str(path))
+    loop.stdout.readline()
+    text = path.read_text()
+    assert text.endswith("# EOF\n") and 'arbiter_hold_limit_cpus{group="a"} 0.5' in text
+    loop.send_signal(signal.SIGTERM)
+    assert (said(loop), loop.returncode, path.exists()) == ([], 0, False)
+
+
+def received(at):
+    """The messages that are there."""
+    found = []
+    at.settimeout(0.5)
+    try:
+        while True:
+            found.append(at.recv(4096).decode())
+    except TimeoutError:
+        return found
+
+
+@pytest.mark.parametrize("is_abstract", [False, True])
+def test_systemd_is_told(ctl, world, folder, is_abstract):
+    """READY after the first reading, a sign of life at each round, and STOPPING at a signal."""
+    name = f"\0arbiter-{os.getpid()}" if is_abstract else str(folder / "notify")
+    with socket.socket(socket.AF_UNIX, socket.SOCK_DGRAM) as at:
+        at.bind(name)
+        ctl.environment.update(NOTIFY_SOCKET=name.replace("\0", "@"), WATCHDOG_USEC="300000")
+        loop = started(ctl, world, folder / "u")
+        loop.stdout.readline()
+        loop.send_signal(signal.SIGTERM)
+        assert (said(loop), loop.returncode) == ([], 0)
+        found = received(at)
+    assert found[0] == "READY=1" and found[-1] == "STOPPING=1"
+    told = [each for each in found if each.startswith("WATCHDOG=1\nSTATUS=round ")]
+    assert told[0] == "WATCHDOG=1\nSTATUS=round 1: 3 groups, 0 slices unserved"
+    assert found.count("WATCHDOG=1") >= 2
+
+
+def test_watchdog_in_a_long_wait(folder):
+    """A wait of seven times its part tells it seven times or more. Another process's is not ours."""
+    with socket.socket(socket.AF_UNIX, socket.SOCK_DGRAM) as at:
+        at.bind(str(folder / "n"))
+        given = {"NOTIFY_SOCKET": str(folder / "n"), "WATCHDOG_USEC": "90000",
+                 "WATCHDOG_PID": str(os.getpid())}
+        told = notify.Notifier(given)
+        assert given == {} and told.every == Fraction(3, 100)
+        begun = time.monotonic()
+        assert Waits(told)(0.21) is False
+        assert time.monotonic() - begun >= 0.2
+        assert len(received(at)) >= 7
+    other = notify.Notifier({"NOTIFY_SOCKET": "/nowhere", "WATCHDOG_USEC": "90000",
+                             "WATCHDOG_PID": "1"})
+    assert other.every is None
+    other.send("READY=1")
+
+
+def test_more_cpus_than_there_are(ctl, folder):
+    """The real tree is not held for more CPUs than the machine has."""
+    _, err = ctl.run("hold", "/sys/fs/cgroup", "--cpus", "60000", "--slice", "100ms", "--undo",
+                     folder / "u", "--once", status=2)
+    assert f"this machine has {os.cpu_count()}" in err and not (folder / "u").exists()
+
+
+def test_a_tree_elsewhere_than_the_root(ctl, world, folder):
+    """A tree that is not below --root is refused, and nothing of it is written."""
+    (folder / "other").mkdir()
+    before = content(world.tree)
+    _, err = ctl.run("hold", world.tree, "--root", folder / "other", "--undo", folder / "u",
+                     "--once", status=1)
+    assert "not below --root" in err and content(world.tree) == before
+    assert not (folder / "u").exists()
+
+
+def option(name):
+    """The values of an option of the unit."""
+    return re.findall(rf"^{name}=(.*)$", UNIT.read_text(), re.M)
+
+
+def test_unit_says_how_it_runs():
+    """It is ready when told, watched, undone after each end, and nothing enables it."""
+    assert option("Type") == ["notify"] and int(option("WatchdogSec")[0]) >= 10
+    assert option("ExecStart") == ["/usr/bin/arbiterctl hold --undo /run/arbiter/hold-undo.json"
+                                   " $OPTIONS ${TREE}"]
+    rules = (UNIT.parents[1] / "debian/rules").read_text()
+    assert "dh_installsystemd --no-enable --no-start" in rules
+
+
+@pytest.mark.skipif(shutil.which("systemd-analyze") is None, reason="no systemd-analyze")
+def test_unit_is_hardened():
+    """systemd's own measure of its exposure: at most 1.5 of 10."""
+    words = ["systemd-analyze", "security", "--offline=true", "--threshold=15", str(UNIT)]
+    ended = subprocess.run(words, capture_output=True, text=True, check=False, timeout=60)
+    assert ended.returncode == 0, ended.stdout[-200:]
+
+
+def test_unit_undoes_after_a_kill(ctl, world, folder):
+    """Its ExecStopPost puts back what stood and removes the undo file; without one it ends well."""
+    (words,) = option("ExecStopPost")
+    found = re.fullmatch(r"/bin/sh -c '(.*)'", words)
+    line = found[1].replace("/run/arbiter", str(folder / "run")).replace(
+        "/usr/bin/arbiterctl", f"{sys.executable} {PACKAGE / 'arbiterctl'}")
+    (folder / "run").mkdir(mode=0o700)
+    before, undo = content(world.tree), folder / "run/hold-undo.json"
+    loop = started(ctl, world, undo, "--weights", "--burst")
+    loop.kill()
+    loop.communicate(timeout=30)
+    assert content(world.tree) != before and undo.exists()
+    for _ in range(2):
+        ended = subprocess.run(["/bin/sh", "-c", line], env=ctl.environment, check=False,
+                               capture_output=True, timeout=60)
+        assert ended.returncode == 0, ended.stderr
+        assert content(world.tree) == before
+        assert [path.name for path in Path(folder / "run").iterdir()] == ["hold.lock"]

@@ -1,0 +1,129 @@
+"""Tables of docs/HOLD.md from the files of `kernel.held --save`.
+
+    PYTHONPATH=tests /usr/bin/python3 -m kernel.held_page FILE..
+
+A cell has the group that was furthest off, in hundredths of a processor and in parts of its own
+share, and the part of the plan that was served. Of several runs it is the worst, and the mean.
+"""
+from __future__ import annotations
+
+import gzip
+import json
+import sys
+from collections.abc import Iterable, Iterator
+from pathlib import Path
+from typing import Any
+
+from kernel.held import WAYS
+from kernel.page import kernel_of, off
+
+Saved = dict[str, Any]
+
+
+def read(paths: Iterable[str]) -> list[Saved]:
+    """The runs of some files that say something."""
+    found = []
+    for path in paths:
+        data = Path(path).read_bytes()
+        text = gzip.decompress(data) if path.endswith(".gz") else data
+        found += [json.loads(line) for line in text.decode().splitlines()]
+    return [each for each in found if not each["refusal"]]
+
+
+def leaves(saved: Saved) -> list[Saved]:
+    """The lines of the groups with tasks."""
+    return [line for line in saved["lines"] if line["path"] in saved["leaves"]]
+
+
+def worst(runs: list[Saved]) -> float:
+    """The greatest difference of a group from its share."""
+    return max(abs(off(line)) for saved in runs for line in leaves(saved))
+
+
+def worst_part(runs: list[Saved]) -> float:
+    """The greatest difference of a group in parts of its own share."""
+    return max(abs(off(line)) / line["share"] for saved in runs for line in leaves(saved))
+
+
+def served(runs: list[Saved]) -> float:
+    """The part of the plan that was served, on the mean."""
+    parts = []
+    for saved in runs:
+        root = next(line for line in saved["lines"] if line["path"] == ".")
+        parts.append(root["had"] / root["share"])
+    return sum(parts) / len(parts)
+
+
+def cell(runs: list[Saved]) -> str:
+    """The cell of a scenario and a way."""
+    if not runs:
+        return ""
+    many = f" ({len(runs)})" if len(runs) > 1 else ""
+    return f"{worst(runs):.1f}, {worst_part(runs):.0%}, {served(runs):.1%}{many}".replace("%", " %")
+
+
+def of(found: list[Saved], **wanted: str) -> list[Saved]:
+    """The runs of a scenario, a way or a kernel."""
+    return [each for each in found
+            if all((kernel_of(each) if key == "kernel" else each[key]) == value
+                   for key, value in wanted.items())]
+
+
+def rows(found: list[Saved], kernel: str, ways: list[str]) -> Iterator[str]:
+    """The rows of a kernel's table."""
+    yield f"| {kernel} | " + " | ".join(ways) + " |"
+    yield "|---" * (len(ways) + 1) + "|"
+    for name in sorted({each["scenario"] for each in found}):
+        cells = [cell(of(found, scenario=name, way=way, kernel=kernel)) for way in ways]
+        if any(cells):
+            yield f"| `{name}` | " + " | ".join(cells) + " |"
+
+
+def sums(found: list[Saved], kernel: str, ways: list[str]) -> Iterator[str]:
+    """For each way: beside weights alone, in the scenarios that have both, how often its worst group
+    is nearer and further by more than 0.5, the worst of all, and what is served."""
+    yield "| Way | scenarios | nearer | further | worst | worst part | served | by weights |"
+    yield "|---|---|---|---|---|---|---|---|"
+    for way in ways:
+        both = [(of(found, scenario=name, way="weights", kernel=kernel),
+                 of(found, scenario=name, way=way, kernel=kernel))
+                for name in sorted({each["scenario"] for each in found})]
+        both = [(one, two) for one, two in both if one and two]
+        if not both or way == "weights":
+            continue
+        nearer = sum(worst(two) < worst(one) - 0.5 for one, two in both)
+        further = sum(worst(two) > worst(one) + 0.5 for one, two in both)
+        ones, twos = [one for one, _ in both], [two for _, two in both]
+        yield (f"| {way} | {len(both)} | {nearer} | {further} | {max(map(worst, twos)):.1f} |"
+               f" {max(map(worst_part, twos)):.0%} |"
+               f" {sum(map(served, twos)) / len(both):.1%} |"
+               f" {sum(map(served, ones)) / len(both):.1%} |".replace("%", " %"))
+
+
+def rounds(saved: Saved) -> Iterator[str]:
+    """What each leaf used and was limited to, by round."""
+    names = saved["leaves"]
+    yield f"| {saved['key']}: round | " + " | ".join(names) + " |"
+    yield "|---" * (len(names) + 1) + "|"
+    for number in sorted({each["round"] for each in saved["rounds"]}):
+        here = {each["path"]: each for each in saved["rounds"] if each["round"] == number}
+        cells = [f"{here[name]['used']} of {here[name]['limit']}{'h' * here[name]['hungry']}"
+                 for name in names]
+        yield f"| {number} | " + " | ".join(cells) + " |"
+
+
+def main() -> None:
+    """Prints the tables."""
+    found = read(sys.argv[1:])
+    steady = [each for each in found if each["scenario"] != "two-step"]
+    print(f"{len(found)} runs; others at most {max(each['others'] for each in found):.1%}")
+    for kernel in sorted({kernel_of(each) for each in found}, key=lambda each: int(each[2:])):
+        ways = [way for way in WAYS if of(steady, way=way, kernel=kernel)]
+        print("\n".join(["", *rows(steady, kernel, ways), "", *sums(steady, kernel, ways)]))
+    for saved in found:
+        if saved["scenario"] == "two-step":
+            print("\n".join(["", *rounds(saved)]))
+
+
+if __name__ == "__main__":
+    main()

@@ -1,0 +1,262 @@
+/* The inner part of `arbiterctl hold` in a guest, over the C library: Python would take a tenth of
+   its time there. Nothing is put back.
+
+   hold FIRST LAST INTERVAL PERIOD PROCESSORS WAYS TOP PATH..
+
+   At FIRST and each INTERVAL nanoseconds later it reads cpu.stat of each leaf, asks `arbiter_hold`,
+   has the plan checked and writes cpu.max with a PERIOD of microseconds. WAYS has `w` for weights
+   of the limits, `b` for a burst of a tenth of the quota, `-` for neither and `n` for nothing
+   written. Each PATH is a group below TOP, after its parent. At LAST it prints, for each round and
+   leaf, `held ROUND CLOCK PATH USED HUNGRY PLAN LIMIT`: slices, and nanoseconds since FIRST. */
+
+#define _GNU_SOURCE
+#include <arbiter.h>
+#include <errno.h>
+#include <fcntl.h>
+#include <sched.h>
+#include <stdint.h>
+#include <stdio.h>
+#include <stdlib.h>
+#include <string.h>
+#include <time.h>
+#include <unistd.h>
+
+#define MOST 64
+#define SLICE 1000
+#define LEAST_QUOTA 1000
+#define MOST_WEIGHT 10000
+
+struct group {
+    const char *path;
+    char own[64];        /* the text of its cpu.max at the beginning */
+    char stands[64];     /* what was written last */
+    long weight;         /* the weight that was written last */
+    int is_leaf, is_limited;
+    long long usage, throttled, waited;
+};
+
+static struct group groups[MOST];
+static uint32_t parents[MOST], places[MOST];
+static uint64_t weights[MOST], limits[MOST], used[MOST], held[MOST], demands[MOST], amounts[MOST];
+static uint64_t nums[MOST], dens[MOST];
+static uint8_t hungry[MOST], flags[MOST];
+static size_t count = 1;
+static const char *top;
+static uint64_t processors, period;
+static char text[1 << 16], told[1 << 20];
+static size_t length;
+
+static int64_t now(void) {
+    struct timespec at;
+    clock_gettime(CLOCK_MONOTONIC, &at);
+    return at.tv_sec * 1000000000LL + at.tv_nsec;
+}
+
+static void sleep_until(int64_t at) {
+    struct timespec then = { at / 1000000000LL, at % 1000000000LL };
+    while (clock_nanosleep(CLOCK_MONOTONIC, TIMER_ABSTIME, &then, NULL) == EINTR)
+        ;
+}
+
+static void fail(const char *what, const char *of) {
+    printf("refused hold %s %s\n", what, of);
+    exit(1);
+}
+
+static int opened(const char *path, const char *file, int way) {
+    char name[512];
+    snprintf(name, sizeof name, "%s/%s/%s", top, path, file);
+    int found = open(name, way);
+    if (found < 0)
+        fail("open", name);
+    return found;
+}
+
+static const char *get(const char *path, const char *file) {
+    int from = opened(path, file, O_RDONLY);
+    ssize_t read_in = read(from, text, sizeof text - 1);
+    close(from);
+    text[read_in < 0 ? 0 : read_in] = 0;
+    return text;
+}
+
+static void put(const char *path, const char *file, const char *line) {
+    int to = opened(path, file, O_WRONLY);
+    if (write(to, line, strlen(line)) < 0)
+        fail(file, line);
+    close(to);
+}
+
+static long long number_behind(const char *from, const char *key) {
+    const char *at = strstr(from, key);
+    return at ? atoll(at + strlen(key)) : 0;
+}
+
+static uint32_t row_of(const char *path, size_t size) {
+    for (size_t row = 1; row < count; row++)
+        if (strlen(groups[row].path) == size && strncmp(groups[row].path, path, size) == 0)
+            return row;
+    return 0;
+}
+
+static void add(const char *path) {
+    struct group *group = &groups[count];
+    const char *last = strrchr(path, '/');
+    uint64_t quota = 0, own_period = 100000;
+    if (count == MOST)
+        fail("groups", path);
+    group->path = path;
+    group->is_leaf = 1;
+    parents[count] = last ? row_of(path, last - path) : 0;
+    groups[parents[count]].is_leaf = 0;
+    group->weight = weights[count] = atol(get(path, "cpu.weight"));
+    snprintf(group->own, sizeof group->own, "%.63s", get(path, "cpu.max"));
+    group->own[strcspn(group->own, "\n")] = 0;
+    memcpy(group->stands, group->own, sizeof group->stands);
+    limits[count] = ARBITER_NO_LIMIT;
+    group->is_limited = sscanf(group->own, "%lu %lu", &quota, &own_period) == 2;
+    if (group->is_limited
+        && arbiter_slices(processors, period, SLICE, quota, own_period, &limits[count]) != 0)
+        fail("quota", path);
+    count++;
+}
+
+/* Slices of a period, rounded up. */
+static uint64_t slices(long long usec, int64_t passed) {
+    uint64_t whole = (uint64_t)(passed / 1000) * SLICE;
+    return ((uint64_t)usec * period + whole - 1) / whole;
+}
+
+static void read_groups(int64_t passed) {
+    for (size_t row = 1; row < count; row++) {
+        struct group *group = &groups[row];
+        if (!group->is_leaf)
+            continue;
+        const char *stat = get(group->path, "cpu.stat");
+        long long usage = number_behind(stat, "usage_usec ");
+        long long throttled = number_behind(stat, "nr_throttled ");
+        long long waited = number_behind(get(group->path, "cpu.pressure"), "total=");
+        if (passed) {
+            used[row] = slices(usage - group->usage, passed);
+            hungry[row] = group->is_limited ? throttled > group->throttled
+                                            : (waited - group->waited) * 2000 >= passed;
+        }
+        group->usage = usage;
+        group->throttled = throttled;
+        group->waited = waited;
+    }
+}
+
+static void ask(void) {
+    uint32_t row = 0;
+    uint32_t answer = arbiter_hold(processors, period, SLICE, parents, count, weights, count,
+                                   limits, count, used, count, hungry, count, held, count,
+                                   demands, count, amounts, count, flags, count, nums, count,
+                                   dens, count, places, count);
+    if (answer == 0)
+        answer = arbiter_check(processors, period, SLICE, parents, count, weights, count, limits,
+                               count, demands, count, amounts, count, flags, count, nums, count,
+                               dens, count, places, count, &row);
+    if (answer != 0) {
+        char number[20];
+        snprintf(number, sizeof number, "%u", answer);
+        fail("answer", number);
+    }
+}
+
+static void write_limit(struct group *group, size_t row, int has_burst) {
+    uint64_t quota = held[row] * SLICE;
+    char line[64] = "", burst[32];
+    if (quota < LEAST_QUOTA)
+        quota = LEAST_QUOTA;
+    if (limits[row] != ARBITER_NO_LIMIT && quota >= limits[row] * SLICE)
+        memcpy(line, group->own, sizeof line);
+    else
+        snprintf(line, sizeof line, "%lu %lu", quota, period);
+    if (strcmp(line, group->stands) == 0)
+        return;
+    if (has_burst)
+        put(group->path, "cpu.max.burst", "0");
+    put(group->path, "cpu.max", line);
+    snprintf(burst, sizeof burst, "%lu", quota / 10);
+    if (has_burst && strcmp(line, group->own) != 0)
+        put(group->path, "cpu.max.burst", burst);
+    memcpy(group->stands, line, sizeof group->stands);
+    group->is_limited = 1;
+}
+
+static uint64_t tasks(const char *path) {
+    uint64_t lines = 0;
+    for (const char *at = get(path, "cgroup.procs"); *at; at++)
+        lines += *at == '\n';
+    return lines ? lines : 1;
+}
+
+/* 100 d / (1.01 - d), where d is the part of a processor that each task may use. */
+static uint64_t weight_of(size_t row) {
+    uint64_t most = period / SLICE * tasks(groups[row].path);
+    uint64_t amount = held[row] < most ? held[row] : most;
+    uint64_t below = 101 * most - 100 * amount;
+    uint64_t found = (2 * 10000 * amount + below) / (2 * below);
+    return found < 1 ? 1 : found > MOST_WEIGHT ? MOST_WEIGHT : found;
+}
+
+static void write_weights(void) {
+    uint64_t sums[MOST] = { 0 };
+    for (size_t row = count - 1; row >= 1; row--) {
+        if (groups[row].is_leaf)
+            sums[row] = weight_of(row);
+        if (sums[row] > MOST_WEIGHT)
+            sums[row] = MOST_WEIGHT;
+        sums[parents[row]] += sums[row];
+    }
+    for (size_t row = 1; row < count; row++) {
+        char line[32];
+        if ((long)sums[row] == groups[row].weight)
+            continue;
+        snprintf(line, sizeof line, "%lu", sums[row]);
+        put(groups[row].path, "cpu.weight", line);
+        groups[row].weight = sums[row];
+    }
+}
+
+static void round_at(int number, int64_t since, const char *ways) {
+    ask();
+    for (size_t row = 1; row < count; row++) {
+        if (!groups[row].is_leaf)
+            continue;
+        if (!strchr(ways, 'n'))
+            write_limit(&groups[row], row, strchr(ways, 'b') != NULL);
+        if (length < sizeof told - 400)
+            length += snprintf(told + length, sizeof told - length,
+                               "held %d %lld %.200s %lu %d %lu %lu\n", number, (long long)since,
+                               groups[row].path, used[row], hungry[row], amounts[row], held[row]);
+    }
+    if (strchr(ways, 'w'))
+        write_weights();
+}
+
+int main(int words, char **word) {
+    if (words < 9)
+        return 2;
+    int64_t first = atoll(word[1]), last = atoll(word[2]), interval = atoll(word[3]), before = 0;
+    period = atoll(word[4]);
+    processors = atoll(word[5]);
+    top = word[7];
+    weights[0] = 100;
+    limits[0] = ARBITER_NO_LIMIT;
+    for (int at = 8; at < words; at++)
+        add(word[at]);
+    struct sched_param priority = { .sched_priority = 50 };
+    sched_setscheduler(0, SCHED_FIFO, &priority);
+    for (int number = 0; first + number * interval < last; number++) {
+        sleep_until(first + number * interval);
+        int64_t at = now();
+        read_groups(before ? at - before : 0);
+        if (before)
+            round_at(number, at - first, word[6]);
+        before = at;
+    }
+    sleep_until(last + 100000000);
+    return write(1, told, length) != (ssize_t)length;
+}
