@@ -2,7 +2,7 @@
 
 Each loop is a fork of this process, with a tree of its own below FOLDER. It is killed at one of its
 calls that open, write, sync or name a file: at POINTS of them by chance, and at each that changes a
-file. Prints one line of JSON: the calls, the points, how many trees were changed by the loop when it
+file. Prints one line of JSON: the calls, the points, how many trees the loop had changed when it
 was killed, and the points at which anything was left behind.
 """
 import json

@@ -69,8 +69,9 @@ class World:
         self.after, lines = list(steps), []
 
         def emit(line):
-            lines.append((json.loads(json.dumps(line)), {path: self.maximum(path) for path in self.counters
-                                             if (self.tree / path).exists()}))
+            stood = {path: self.maximum(path) for path in self.counters
+                     if (self.tree / path).exists()}
+            lines.append((json.loads(json.dumps(line)), stood))
         hold.run(loop, times, self.wait, emit)
         return lines
 

@@ -20,7 +20,7 @@ from arbiter_host.faults import HostFault
 from arbiter_host.model import Group, Model
 from arbiter_host.subcommands.hold import Waits
 from places import PACKAGE
-from test_hold import FREE, SECOND, World, content, said, started
+from test_hold import FREE, World, content, said, started
 
 UNIT = PACKAGE.parent / "share/systemd/arbiter-hold.service"
 WEIGHTS = hold.Ways(has_weights=True)
@@ -50,7 +50,7 @@ def test_weights_by_hand(limit, most, weight):
 
 
 def test_weights_of_a_tree():
-    """A group with children has their sum, at most 10000. Groups without such a leaf keep theirs."""
+    """A group with children has their sum, at most 10000. Without such a leaf it keeps its own."""
     model = Model(Host(2, 100000, 1000))
     for path, weight in (("p", 7), ("p/x", 5), ("p/y", 6), ("q", 8), ("q/z", 9), ("r", 3)):
         model.add(Group(path, weight))
@@ -274,7 +274,7 @@ def test_systemd_is_told(ctl, world, folder, is_abstract):
 
 
 def test_watchdog_in_a_long_wait(folder):
-    """A wait of seven times its part tells it seven times or more. Another process's is not ours."""
+    """A wait of seven times its part tells it seven times. Another process's is not ours."""
     with socket.socket(socket.AF_UNIX, socket.SOCK_DGRAM) as at:
         at.bind(str(folder / "n"))
         given = {"NOTIFY_SOCKET": str(folder / "n"), "WATCHDOG_USEC": "90000",

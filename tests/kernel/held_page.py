@@ -80,8 +80,8 @@ def rows(found: list[Saved], kernel: str, ways: list[str]) -> Iterator[str]:
 
 
 def sums(found: list[Saved], kernel: str, ways: list[str]) -> Iterator[str]:
-    """For each way: beside weights alone, in the scenarios that have both, how often its worst group
-    is nearer and further by more than 0.5, the worst of all, and what is served."""
+    """For each way, in the scenarios that have weights alone too: how often its worst group is
+    nearer and further by more than 0.5, the worst of all, and what is served."""
     yield "| Way | scenarios | nearer | further | worst | worst part | served | by weights |"
     yield "|---|---|---|---|---|---|---|---|"
     for way in ways:

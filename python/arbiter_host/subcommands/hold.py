@@ -157,9 +157,9 @@ DETAILS = (
     " hungry if it was throttled in the round. Without a limit it is hungry if its tasks waited for"
     " half of the round (cpu.pressure). The library's rule gives the limits, and its check accepts"
     " the plan. Then cpu.max is written. The period is 100ms or 1s.",
-    "With --weights it writes cpu.weight too: 100 d / (1.01 - d) where the limit lets each task of a"
-    " group use the part d of a CPU. A group with children has the sum of theirs. The plan is that"
-    " of the operator's own weights. A weight that somebody sets meanwhile is such a one.",
+    "With --weights it writes cpu.weight too: 100 d / (1.01 - d) where the limit lets each task of"
+    " a group use the part d of a CPU. A group with children has the sum of theirs. The plan is"
+    " that of the operator's own weights. A weight that somebody sets meanwhile is such a one.",
     "What stood is in the undo file, synced, before a group is first written. It is put back at the"
     " end, at SIGTERM, SIGINT and SIGHUP, after two failed readings in a row and after a failed"
     " writing. Then the undo file is removed. A loop that was killed is undone by `arbiterctl undo"
@@ -184,4 +184,5 @@ EXAMPLES = (
 )
 HOLD = Subcommand("hold",
                   "Holds the plan on a host with cgroup v2: each round it reads what each group"
-                  " used, and writes limits for the next one. docs/HOLD.md says when it helps.", add_words, run, DETAILS, EXAMPLES)
+                  " used, and writes limits for the next one. docs/HOLD.md says when it helps.",
+                  add_words, run, DETAILS, EXAMPLES)

@@ -1,0 +1,137 @@
+"""Ways of holding a plan: what a guest is given, what the loop told, and the table; a short loop.
+
+The guests are skipped where the packages or a kernel are not there. `kernel.held` runs all ways.
+"""
+import pytest
+
+from kernel import __main__, held, held_page, machine, packages, planned, scenario
+from kernel.real_files import effective
+
+PODS = scenario.read(__main__.SCENARIOS / "four-pods.script")
+# Weights 200 and 100 and 100 of 400 slices; x and y of p have a task each, those of q share 1 to 3.
+PODS_PLAN = {".": 400, "p": 200, "p/x": 100, "p/y": 100, "q": 100, "q/x": 75, "q/y": 25, "r": 100}
+SETTING = machine.Setting(shift=4, seconds=900)
+
+
+def test_plan_of_a_scenario(program):
+    """Demands are cut at the tasks: p has two tasks, and so two processors."""
+    planned.use(program.path)
+    assert held.plan(PODS) == PODS_PLAN
+
+
+def test_what_a_guest_is_given(program):
+    """Limits of 100 ms and 1 s, their bursts, and weights: 25 / 0.76 for r, q the sum 59 + 33."""
+    planned.use(program.path)
+    assert held.held_by(PODS, held.WAYS["weights"]) is PODS
+    limits = held.held_by(PODS, held.WAYS["limits-1s"]).files("cpu.max")
+    assert limits == {"p/x": "1000000 1000000", "p/y": "1000000 1000000",
+                      "q/x": "750000 1000000", "q/y": "250000 1000000", "r": "1000000 1000000"}
+    bursts = held.held_by(PODS, held.WAYS["limits-burst"]).files("cpu.max.burst")
+    assert bursts["q/x"] == "7500" and set(bursts) == set(limits)
+    weights = held.held_by(PODS, held.WAYS["limits-weights"]).files("cpu.weight")
+    assert weights == {"p": "10000", "p/x": "10000", "p/y": "10000", "q": "92", "q/x": "59",
+                       "q/y": "33", "r": "33"}
+
+
+def test_own_limits_stay(program):
+    """A limit of the scenario that is no greater than the plan is not written over."""
+    planned.use(program.path)
+    found = scenario.read(__main__.SCENARIOS / "four-limits.script")
+    given = effective(held.held_by(found, held.WAYS["limits-1s"]))
+    assert given["a"][1] == "150000 100000" and given["b"][1] == "60000 100000"
+    assert given["c"][1] in ("630000 1000000", "640000 1000000")
+
+
+def test_loop_is_begun_before_the_tasks():
+    """With the groups in order, and the words of the way."""
+    options = held.arguments(["four-pods"])
+    way = held.WAYS["loop-weights-1s"]
+    lines = held.Job(PODS, way, 0, held.span_of(way, options, 0)).script().split("\n")
+    at = next(number for number, line in enumerate(lines) if line.startswith("/hold "))
+    assert lines[at] == ("/hold $first $last 1000000000 1000000 4 w /sys/fs/cgroup/host"
+                         " p p/x p/y q q/x q/y r &")
+    assert all("/guest load" not in line for line in lines[:at])
+    assert not any("/guest grid" in line for line in lines)
+
+
+def test_rounds_are_read_by_run():
+    lines = ["run one", "held 1 1000000123 a 20 0 20 50", "x", "run two",
+             "held 1 1000000456 a 90 1 60 60"]
+    assert held.rounds_in(lines) == {
+        "one": [{"round": 1, "at": 1000000, "path": "a", "used": 20, "hungry": False, "plan": 20,
+                 "limit": 50}],
+        "two": [{"round": 1, "at": 1000000, "path": "a", "used": 90, "hungry": True, "plan": 60,
+                 "limit": 60}]}
+
+
+def saved(way, had, repeat=0):
+    """A run of two groups whose shares are 150 and 50."""
+    lines = [{"path": ".", "plan": 200, "share": 200.0, "had": float(sum(had))},
+             {"path": "a", "plan": 150, "share": 150.0, "had": float(had[0])},
+             {"path": "b", "plan": 50, "share": 50.0, "had": float(had[1])}]
+    return {"release": "6.1.0-1", "way": way, "repeat": repeat, "scenario": "s", "key": way,
+            "refusal": "", "others": 0.001, "leaves": ["a", "b"], "lines": lines, "rounds": []}
+
+
+def test_table_by_hand(tmp_path):
+    """b is 10 of 50 off by weights; by limits 3 of 50, and 98.5 % are served. Refused runs are
+    left out."""
+    runs = [saved("weights", (140, 60)), saved("limits", (150, 47)), saved("limits", (149, 50), 1),
+            {**saved("limits", (0, 0)), "refusal": "late"}]
+    path = tmp_path / "runs.jsonl.gz"
+    for each in runs:
+        held.add(str(path), each)
+    found = held_page.read([str(path)])
+    assert len(found) == 3
+    rows = list(held_page.rows(found, "6.1", ["weights", "limits"]))
+    assert rows[2] == "| `s` | 10.0, 20 %, 100.0 % | 3.0, 6 %, 99.0 % (2) |"
+    assert list(held_page.sums(found, "6.1", ["weights", "limits"]))[2:] == [
+        "| limits | 1 | 1 | 0 | 3.0 | 6 % | 99.0 % | 100.0 % |"]
+
+
+def kernel_of_guests():
+    """An unpacked kernel; a skip where something is missing."""
+    lacks = packages.missing() or ("" if packages.unpacked() else "no kernel is unpacked:"
+                                   " ./test --kernel one-weights gets one")
+    lacks = lacks or ("" if held.LIBRARY.joinpath("libarbiter.a").exists() else
+                      f"no {held.LIBRARY}/libarbiter.a: ./build --install makes it")
+    if lacks:
+        pytest.skip(lacks)
+    return packages.kernel(packages.unpacked()[0])
+
+
+@pytest.fixture(scope="module", name="loops")
+def loops_in_a_guest(program):
+    """Three seconds of two scenarios in the loop, and in one that writes nothing."""
+    kernel = kernel_of_guests()
+    planned.use(program.path)
+    options = held.arguments(["one-tasks", "--seconds", "3"])
+    found = [scenario.read(__main__.SCENARIOS / f"{name}.script")
+             for name in ("one-tasks", "one-demands")]
+    jobs = [held.Job(each, held.WAYS[way], 0, held.span_of(held.WAYS[way], options, 0))
+            for each in found for way in ("loop", "watched")]
+    return {run["key"].split()[0] + " " + run["way"]: run
+            for run in held.ran(kernel, jobs, SETTING)}
+
+
+@pytest.mark.parametrize("name", ["one-tasks", "one-demands"])
+def test_loop_in_a_guest(loops, name):
+    """On one processor Linux serves what fits: all of the plan but 1 %, each group within 1.5."""
+    run = loops[f"{name} loop"]
+    assert run["refusal"] == "" and len({each["round"] for each in run["rounds"]}) >= 5
+    assert held_page.worst([run]) < 1.5
+    assert held_page.served([run]) > 0.985
+
+
+@pytest.mark.parametrize("name", ["one-tasks", "one-demands"])
+def test_rounds_in_a_guest(loops, name):
+    """Limits are never below a guarantee, and from the third round on they stop who wants more."""
+    run = loops[f"{name} loop"]
+    late = [each for each in run["rounds"] if each["round"] >= 3]
+    assert any(each["hungry"] for each in late)
+    assert all(each["limit"] >= each["plan"] for each in late)
+    for each in late:
+        assert each["used"] <= each["limit"] + 1, each
+    idle = loops[f"{name} watched"]
+    assert idle["rounds"] and not any(each["hungry"] and each["round"] > 90
+                                      for each in idle["rounds"])

@@ -1,0 +1,78 @@
+"""`arbiterctl hold` in a guest: what it writes, a kill, `undo`, and groups that come and go.
+
+Skipped where the packages, a kernel or the library are not there; also without KVM.
+"""
+import json
+import os
+
+import pytest
+
+from kernel import interpreter, machine, packages, real_hold
+from kernel.real_files import effective
+from kernel.scenario import parse
+
+SETTING = machine.Setting(shift=5, seconds=1800)
+OLD = effective(parse("tree", real_hold.TREE))
+KILLED = -9
+
+
+@pytest.fixture(scope="module", name="phases")
+def phases_in_a_guest():
+    """What `hold` and `undo` did to the real files of a guest."""
+    lacks = packages.missing() or ("" if packages.unpacked() else "no kernel is unpacked:"
+                                   " ./test --kernel one-weights gets one")
+    if not lacks and not interpreter.LIBRARY.exists():
+        lacks = f"no {interpreter.LIBRARY}: ./build --install makes it"
+    if not lacks and not machine.is_quick() and machine.ALL not in os.environ:
+        lacks = "no KVM that boots a guest, so it takes minutes: ./test --kernel --files"
+    if lacks:
+        pytest.skip(lacks)
+    setting = machine.Setting(is_kvm=True, seconds=900) if machine.is_quick() else SETTING
+    return real_hold.shown_by(packages.kernel(packages.unpacked()[0]), setting)
+
+
+def settings_of(phase):
+    """The settings of a phase, without groups that come and go."""
+    return {path: found for path, found in phase.groups.items() if not path.startswith("come")}
+
+
+def rounds_of(phase):
+    """The rounds that a phase told."""
+    return [json.loads(line) for line in phase.said if line.startswith("{")]
+
+
+@pytest.mark.parametrize("name", ["made", "dry run", "hold", "undone first", "undone last",
+                                  "churn"])
+def test_what_stood_is_there(phases, name):
+    """Before, after each end of a loop, and after `undo` of a loop that was killed."""
+    assert (phases[name].status, settings_of(phases[name])) == (0, OLD)
+
+
+def test_rounds_on_real_files(phases):
+    """The guarantees first. The task of a has a whole processor then, and its limit follows."""
+    (dry,) = rounds_of(phases["dry run"])
+    assert {path: each["limit"] for path, each in dry["groups"].items()
+            if path != "a"} == {path: limit for path, limit in real_hold.GUARANTEES.items()
+                                if path != "a"}
+    rounds = rounds_of(phases["hold"])
+    assert len(rounds) >= 2 and rounds[0]["written"] >= 3
+    assert any(each["groups"]["a"]["used"] >= 90 for each in rounds)
+
+
+@pytest.mark.parametrize("name", ["first", "last"])
+def test_killed_loop_has_written(phases, name):
+    """Some limits are those of the loop, and of the rest none is another than stood."""
+    found = settings_of(phases[f"killed {name}"])
+    assert phases[f"killed {name}"].status == KILLED and found != OLD
+    for path, (weight, limit, burst) in found.items():
+        own = OLD[path]
+        assert limit == own[1] or limit.endswith(" 100000")
+        assert weight == own[0] or name == "last"
+        assert burst in (own[2], "0") or name == "last"
+    changed = {path for path in found if found[path] != OLD[path]}
+    assert changed <= {*real_hold.GUARANTEES, *(["pod"] if name == "last" else [])}
+
+
+def test_groups_came_and_went(phases):
+    """Others were made and removed all the time, and the loop ended well."""
+    assert phases["churn"].rounds > 10 and rounds_of(phases["churn"])
