@@ -33,12 +33,15 @@ from arbiter_host.sources.cgroups import Node, Wish, keyed
 # What is told of a round.
 Line = dict[str, Any]
 
+HOST_TREE = "/sys/fs/cgroup"
 KUBELET = re.compile(r"kubepods([-.].*)?")
 # A leaf without a limit is hungry if its tasks waited for this part of the round. Tasks that are
 # served wait too, so a shorter wait tells nothing. A limit that is too low is seen one round later.
 PRESSED = Fraction(1, 2)
 # Failed readings in a row that end the loop.
 MOST_FAILED = 2
+# Rounds that may be missed before one. After more the clock has jumped, or nothing ran for long.
+MOST_MISSED = 5
 # Remarks that are remembered, so that each is told once.
 MOST_TOLD = 10000
 # Quota over burst, where a limit has a burst.
@@ -135,6 +138,12 @@ def tree(top: str, host: Host) -> tuple[Model, list[Node]]:
     return model, walk.nodes
 
 
+def own_folder() -> str:
+    """The folder of the group in which this process runs."""
+    path = re.search(r"^0::(/.*)$", cgroups.file_text("/proc/self", "cgroup") or "", re.M)
+    return f"{HOST_TREE}{path.group(1)}" if path else ""
+
+
 def check_owner(top: str, nodes: Sequence[Node], is_forced: bool) -> None:
     """A fault where kubelet owns a group: it writes limits itself, and would undo these."""
     if is_forced:
@@ -153,7 +162,7 @@ class Loop:
                  clock: Callable[[], int] = time.monotonic_ns) -> None:
         self.engine, self.root, self.host = engine, root, host
         self.top, self.record = os.path.realpath(top), record
-        self.ways, self.clock = ways, clock
+        self.ways, self.clock, self.own = ways, clock, own_folder()
         # The groups that are open, by their paths.
         self.groups: dict[str, Kept] = {}
         # The number of tasks of each leaf at the last reading.
@@ -220,13 +229,19 @@ class Loop:
             kept.is_left = kept.is_leaf
         kept.target = kept.stands
 
+    def is_held(self, node: Node) -> bool:
+        """Whether a group may be written. The loop's own is not: it would stop itself."""
+        if not node.children and node.folder == self.own:
+            self.tell([f"{node.group.path}: this loop runs there: it is left alone"])
+            return False
+        return self.ways.has_weights or not node.children
+
     def read(self) -> tuple[Model, dict[str, Used]]:
         """The groups as they stand, and what each leaf used since the last reading of it."""
         model, nodes = tree(self.top, self.host)
         check_owner(self.top, nodes, self.ways.is_forced)
         self.tell(model.notes)
-        there = {node.group.path: node for node in nodes
-                 if self.ways.has_weights or not node.children}
+        there = {node.group.path: node for node in nodes if self.is_held(node)}
         self.tasks = {path: node.measured.tasks or 1 for path, node in there.items()}
         for path, kept in list(self.groups.items()):
             node = there.get(path)
@@ -382,13 +397,15 @@ class Loop:
         if self.record is not None:
             apply.undo(back, [])
 
-    def round(self) -> Line:
+    def round(self, missed: int = 0) -> Line:
         """One round: reads, asks, writes. Returns the line that tells it."""
         model, used = self.read()
+        if missed > MOST_MISSED:
+            raise HostFault(f"the clock went {missed} rounds on: nothing is written")
         found = self.planned(model, used)
         self.rounds += 1
         changed = self.write(found)
-        return {"round": self.rounds, "written": changed,
+        return {"round": self.rounds, "missed": missed, "written": changed,
                 "unserved": sum(line["unserved"] for line in found.told.values()),
                 "groups": found.told}
 
@@ -414,13 +431,13 @@ class Times(NamedTuple):
 def tried(loop: Loop, failed: int, missed: int, emit: Callable[[Line], None]) -> int:
     """One round, whose line is written. Returns the failed readings in a row."""
     try:
-        line = loop.round()
+        line = loop.round(missed)
     except HostFault as fault:
         if failed + 1 >= MOST_FAILED or isinstance(fault, WriteFault):
             raise
         print(f"arbiterctl: warning: {shown(fault.message)}", file=sys.stderr, flush=True)
         return failed + 1
-    emit({**line, "missed": missed})
+    emit(line)
     return 0
 
 

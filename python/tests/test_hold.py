@@ -256,6 +256,33 @@ def test_a_clock_that_stands_and_missed_rounds(world, engine, folder, capsys):
     assert "2 rounds missed" in capsys.readouterr().err
 
 
+def test_a_clock_that_jumps(world, engine, folder, capsys):
+    """A round after a jump writes nothing; after two jumps in a row what stood is there."""
+    def jump():
+        world.now += 20 * SECOND
+        world.uses("b", 90, waited=10**6)
+
+    loop, stood = world.loop(engine, folder / "undo"), []
+    lines = world.run(loop, lambda: None, jump, lambda: stood.append(world.maximum("b")))
+    assert [(line["round"], line["missed"]) for line, _ in lines] == [(1, 0), (2, 0)]
+    assert stood == ["50000 100000"]
+    assert "the clock went 20 rounds on: nothing is written" in capsys.readouterr().err
+    with pytest.raises(HostFault, match="the clock went 20 rounds on"):
+        world.run(world.loop(engine, folder / "undo"), lambda: None, jump, jump)
+    assert [world.maximum(path) for path in "abc"] == [FREE] * 3
+
+
+def test_own_group_is_left_alone(world, engine, folder, capsys, monkeypatch):
+    """The group that the loop runs in is not limited. It is that of /proc/self/cgroup."""
+    loop = world.loop(engine, folder / "undo")
+    loop.own = str(world.tree / "a")
+    (line, stood), _ = world.run(loop, lambda: None, lambda: None)
+    assert sorted(line["groups"]) == ["b", "c"] and stood["a"] == FREE
+    assert capsys.readouterr().err.count("a: this loop runs there") == 1
+    monkeypatch.setattr(hold.cgroups, "file_text", lambda *_: "1:cpu:/x\n0::/a.slice/b c.scope\n")
+    assert hold.own_folder() == "/sys/fs/cgroup/a.slice/b c.scope"
+
+
 def test_a_writing_that_fails_puts_back(world, engine, folder):
     """A tree that takes one limit and refuses the next holds what stood."""
     class Refusing(beneath.Root):

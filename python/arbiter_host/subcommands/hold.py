@@ -18,7 +18,6 @@ from arbiter_host.subcommands.base import Subcommand, found_engine
 
 SIGNALS = (signal.SIGTERM, signal.SIGINT, signal.SIGHUP)
 PERIODS = (100000, 1000000)
-HOST_TREE = "/sys/fs/cgroup"
 
 
 class Waits:
@@ -95,7 +94,7 @@ def machine(options: argparse.Namespace, root: beneath.Root) -> Host:
 
 def is_real(root: beneath.Root) -> bool:
     """Whether a tree is that of this machine."""
-    return f"{root.path}/".startswith(f"{HOST_TREE}/")
+    return f"{root.path}/".startswith(f"{hold.HOST_TREE}/")
 
 
 def metrics(options: argparse.Namespace, stack: ExitStack) -> gauges.File | None:
@@ -130,8 +129,8 @@ def add_words(parser: argparse.ArgumentParser) -> None:
     """The words of `hold`."""
     parser.add_argument("source", metavar="DIR", help="the tree, or a part of it, whose groups"
                         " share the CPUs")
-    parser.add_argument("--root", default=HOST_TREE, metavar="DIR",
-                        help=f"the top of the tree (default {HOST_TREE}); nothing outside it is"
+    parser.add_argument("--root", default=hold.HOST_TREE, metavar="DIR",
+                        help=f"the top of the tree (default {hold.HOST_TREE}); nothing outside it is"
                         " opened for writing")
     parser.add_argument("--interval", metavar="TIME", default="1s",
                         help="time of a round, at least the period (default 1s)")
@@ -162,14 +161,14 @@ DETAILS = (
     " that of the operator's own weights. A weight that somebody sets meanwhile is such a one.",
     "What stood is in the undo file, synced, before a group is first written. It is put back at the"
     " end, at SIGTERM, SIGINT and SIGHUP, after two failed readings in a row and after a failed"
-    " writing. Then the undo file is removed. A loop that was killed is undone by `arbiterctl undo"
+    " writing. A jump of the clock over more than five rounds is a failed reading. Then the undo file is removed. A loop that was killed is undone by `arbiterctl undo"
     " FILE --yes`.",
     "Each round is a line of JSON: want, plan, used and limit of each group in slices, whether it"
     " is hungry, and what a hungry group lacked of the plan that stood (unserved). `missed` is the"
     " number of rounds missed before it. --openmetrics has the same in CPUs. Groups that come are"
     " held from their second reading on. Without --burst a burst is 0 while a limit below the"
     " group's own stands. A limit below 1 ms is rounded up. A group whose limit somebody else sets"
-    " meanwhile is left alone from then on.",
+    " meanwhile is left alone from then on, and so is the group in which the loop runs.",
     "One loop runs on a host: it locks hold.lock in /run/arbiter, or beside the undo file if --root"
     " is elsewhere than /sys/fs/cgroup. Groups below kubepods are refused without --force, since"
     " kubelet writes their limits itself. As a service it tells systemd by NOTIFY_SOCKET that it is"
