@@ -200,6 +200,12 @@ def test_completions_and_pages(installed):
     same(sorted(pages), sorted(wanted), "man pages")
 
 
+def test_unit_is_not_enabled(installed):
+    """The service that holds a plan is there, and nothing begins it."""
+    assert (installed / "lib/systemd/system/arbiter-hold.service").is_file()
+    assert not list((installed / "etc/systemd").rglob("arbiter-hold.service"))
+
+
 def test_purge_leaves_nothing(installed, before):
     """After a purge no file is left, and none is missing."""
     apt(installed, "purge", *NAMES)
