@@ -24,7 +24,7 @@ from arbiter_host.beneath import Gone, Identity, Root
 from arbiter_host.demands import Reading
 from arbiter_host.engine import Engine, asking
 from arbiter_host.faults import HostFault
-from arbiter_host.model import Group, Model, checked, planned
+from arbiter_host.model import MAX_DEPTH, Group, Model, checked, planned
 from arbiter_host.names import shown
 from arbiter_host.record import Record
 from arbiter_host.sources import cgroup1, cgroup2, cgroups
@@ -49,12 +49,15 @@ BURST_PART = 10
 
 
 class Ways(NamedTuple):
-    """What is held besides limits, and whether groups of kubelet are held too."""
+    """Which groups are held, and what is written besides limits."""
 
+    # Whether groups of kubelet are held too.
     is_forced: bool = False
     has_weights: bool = False
     # Each limit has a burst of a tenth of its quota.
     has_burst: bool = False
+    # A group so many levels below the top is held as one.
+    depth: int = MAX_DEPTH
 
 
 @dataclass
@@ -124,14 +127,14 @@ def used_between(leaf: Kept, now: Reading, at: int) -> Used:
     return Used(units.thousandths_of_usage(rise, Fraction(passed, 10**9)), hungry)
 
 
-def tree(top: str, host: Host) -> tuple[Model, list[Node]]:
-    """The groups of a tree of cgroup v2 as they stand."""
+def tree(top: str, host: Host, depth: int = MAX_DEPTH) -> tuple[Model, list[Node]]:
+    """The groups of a tree of cgroup v2 as they stand, down to a depth."""
     cgroup2.check_folder(top)
     if cgroup1.is_tree(top) or not cgroup2.is_tree(top):
         raise HostFault(f"{shown(top)}: no tree of cgroup v2")
     files, model = cgroup2.Files(), Model(checked(host))
     model.notes += files.told(top)
-    walk = cgroups.Walk(files, model, Wish())
+    walk = cgroups.Walk(files, model, Wish(depth=depth))
     walk.below(Node(top, Group(".")))
     if not walk.nodes:
         model.notes.append("no groups with the cpu controller are below this folder")
@@ -238,7 +241,7 @@ class Loop:
 
     def read(self) -> tuple[Model, dict[str, Used]]:
         """The groups as they stand, and what each leaf used since the last reading of it."""
-        model, nodes = tree(self.top, self.host)
+        model, nodes = tree(self.top, self.host, self.ways.depth)
         check_owner(self.top, nodes, self.ways.is_forced)
         self.tell(model.notes)
         there = {node.group.path: node for node in nodes if self.is_held(node)}

@@ -145,6 +145,16 @@ def test_a_leaf_that_gets_children_and_weights(world, engine, folder):
     assert [world.maximum(path) for path in "abc"] == [FREE] * 3
 
 
+def test_depth(folder, engine):
+    """A group at the depth is held as one, and what is below it stays as it stands."""
+    world = World(folder, [("in", 100, FREE), ("in/a", 100, "30000 100000"), ("b", 100, FREE)])
+    loop = world.loop(engine, folder / "undo", ways=hold.Ways(has_weights=True, depth=1))
+    (line, stood), = world.run(loop, lambda: (world.uses("in", 90, waited=10**6),
+                                              busy(world, "b")))
+    assert sorted(line["groups"]) == ["b", "in"]
+    assert stood == {"in": "100000 100000", "in/a": "30000 100000", "b": "100000 100000"}
+
+
 def test_bursts(world, engine, folder):
     """A tenth of each limit; what stood comes back, its burst too."""
     (world.tree / "a/cpu.max").write_text("190000 100000\n")
@@ -296,6 +306,12 @@ def test_more_cpus_than_there_are(ctl, folder):
     _, err = ctl.run("hold", "/sys/fs/cgroup", "--cpus", "60000", "--slice", "100ms", "--undo",
                      folder / "u", "--once", status=2)
     assert f"this machine has {os.cpu_count()}" in err and not (folder / "u").exists()
+
+
+@pytest.mark.parametrize("depth", ["0", "65"])
+def test_depths_that_are_none(ctl, world, folder, depth):
+    ctl.run("hold", world.tree, "--root", world.tree, "--undo", folder / "u", "--depth-read",
+            depth, status=2)
 
 
 def test_a_tree_elsewhere_than_the_root(ctl, world, folder):

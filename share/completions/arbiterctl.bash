@@ -330,12 +330,13 @@ _arbiterctl() {
                 --for) ;;
                 --undo) ;;
                 --openmetrics) ;;
+                --depth-read) ;;
                 --cpus|--processors) ;;
                 --period) ;;
                 --slice) ;;
                 --library) ;;
                 *)
-                    [[ $word == -* ]] && mapfile -t COMPREPLY < <(compgen -W "--root --interval --for --once --dry-run --undo --weights --burst --openmetrics --force --cpus --processors --period --slice --library -h --help" -- "$word")
+                    [[ $word == -* ]] && mapfile -t COMPREPLY < <(compgen -W "--root --interval --for --once --dry-run --undo --weights --burst --openmetrics --depth-read --force --cpus --processors --period --slice --library -h --help" -- "$word")
                     ;;
             esac
             ;;

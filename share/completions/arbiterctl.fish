@@ -313,6 +313,7 @@ complete -c arbiterctl -n '__fish_seen_subcommand_from hold' -l undo -r -F -d 't
 complete -c arbiterctl -n '__fish_seen_subcommand_from hold' -l weights -d 'also write weights from the limits, which tell Linux how near each task is to a whole CPU'
 complete -c arbiterctl -n '__fish_seen_subcommand_from hold' -l burst -d 'give each limit a burst of a tenth of it'
 complete -c arbiterctl -n '__fish_seen_subcommand_from hold' -l openmetrics -r -F -d 'keep the last round in a file for a textfile collector, in a folder that only this user may change'
+complete -c arbiterctl -n '__fish_seen_subcommand_from hold' -l depth-read -x -d 'hold groups N below DIR as one, 1 to 64 (default 64): who owns the groups below can set their limits'
 complete -c arbiterctl -n '__fish_seen_subcommand_from hold' -l force -d 'also groups of kubelet (kubepods)'
 complete -c arbiterctl -n '__fish_seen_subcommand_from hold' -l cpus -l processors -x -d 'CPUs of the host (default: what the source says, else this machine\'s for cgroups, systemd and containers, else 1)'
 complete -c arbiterctl -n '__fish_seen_subcommand_from hold' -l period -x -d 'period, such as 100ms (default 100ms)'

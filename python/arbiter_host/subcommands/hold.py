@@ -12,6 +12,7 @@ from contextlib import ExitStack
 from arbiter import Host
 from arbiter_host import beneath, gauges, hold, load, output, record
 from arbiter_host.faults import HostFault, UsageFault
+from arbiter_host.model import MAX_DEPTH
 from arbiter_host.names import shown
 from arbiter_host.notify import Notifier
 from arbiter_host.subcommands.base import Subcommand, found_engine
@@ -84,6 +85,14 @@ def locked(root: beneath.Root, undo: str, stack: ExitStack) -> record.Record:
     return found
 
 
+def depth_of(options: argparse.Namespace) -> int:
+    """The depth that the options ask for."""
+    depth: int = options.depth_read
+    if not 1 <= depth <= MAX_DEPTH:
+        raise UsageFault(f"--depth-read: 1 to {MAX_DEPTH}")
+    return depth
+
+
 def machine(options: argparse.Namespace, root: beneath.Root) -> Host:
     """The host. That of a real tree has no more CPUs than this machine."""
     host, there = load.machine(options), os.cpu_count()
@@ -112,7 +121,7 @@ def run(options: argparse.Namespace) -> None:
     root = beneath.Root(options.root)
     host = machine(options, root)
     times, engine = times_of(options, host.period_us), found_engine(options)
-    ways = hold.Ways(options.force, options.weights, options.burst)
+    ways = hold.Ways(options.force, options.weights, options.burst, depth_of(options))
     notifier = Notifier()
     with ExitStack() as stack:
         kept = None if options.dry_run else locked(root, options.undo, stack)
@@ -147,6 +156,9 @@ def add_words(parser: argparse.ArgumentParser) -> None:
                         help="give each limit a burst of a tenth of it")
     parser.add_argument("--openmetrics", metavar="FILE", help="keep the last round in a file for a"
                         " textfile collector, in a folder that only this user may change")
+    parser.add_argument("--depth-read", type=int, default=MAX_DEPTH, metavar="N",
+                        help="hold groups N below DIR as one, 1 to 64 (default 64): who owns the"
+                        " groups below can set their limits")
     parser.add_argument("--force", action="store_true", help="also groups of kubelet (kubepods)")
     load.add_host_options(parser)
 
