@@ -18,6 +18,8 @@ from kernel.held import WAYS
 from kernel.page import kernel_of, off
 
 Saved = dict[str, Any]
+# The scenario whose demands change, which has a table of its own.
+STEP = "two-step"
 
 
 def read(paths: Iterable[str]) -> list[Saved]:
@@ -62,42 +64,38 @@ def cell(runs: list[Saved]) -> str:
     return f"{worst(runs):.1f}, {worst_part(runs):.0%}, {served(runs):.1%}{many}".replace("%", " %")
 
 
-def of(found: list[Saved], **wanted: str) -> list[Saved]:
-    """The runs of a scenario, a way or a kernel."""
-    return [each for each in found
-            if all((kernel_of(each) if key == "kernel" else each[key]) == value
-                   for key, value in wanted.items())]
+def of(found: list[Saved], scenario: str, way: str) -> list[Saved]:
+    """The runs of a scenario in a way."""
+    return [each for each in found if each["scenario"] == scenario and each["way"] == way]
 
 
-def rows(found: list[Saved], kernel: str, ways: list[str]) -> Iterator[str]:
-    """The rows of a kernel's table."""
-    yield f"| {kernel} | " + " | ".join(ways) + " |"
+def rows(found: list[Saved], title: str, ways: list[str]) -> Iterator[str]:
+    """The rows of a table of scenarios and ways."""
+    yield f"| {title} | " + " | ".join(ways) + " |"
     yield "|---" * (len(ways) + 1) + "|"
     for name in sorted({each["scenario"] for each in found}):
-        cells = [cell(of(found, scenario=name, way=way, kernel=kernel)) for way in ways]
+        cells = [cell(of(found, name, way)) for way in ways]
         if any(cells):
             yield f"| `{name}` | " + " | ".join(cells) + " |"
 
 
-def sums(found: list[Saved], kernel: str, ways: list[str]) -> Iterator[str]:
+def sums(found: list[Saved], title: str, ways: list[str]) -> Iterator[str]:
     """For each way, in the scenarios that have weights alone too: how often its worst group is
     nearer and further by more than 0.5, the worst of all, and what is served."""
-    yield "| Way | scenarios | nearer | further | worst | worst part | served | by weights |"
-    yield "|---|---|---|---|---|---|---|---|"
+    yield f"| {title} | scenarios | nearer | further | worst | worst part | served |"
+    yield "|---|---|---|---|---|---|---|"
+    names = sorted({each["scenario"] for each in found})
     for way in ways:
-        both = [(of(found, scenario=name, way="weights", kernel=kernel),
-                 of(found, scenario=name, way=way, kernel=kernel))
-                for name in sorted({each["scenario"] for each in found})]
+        both = [(of(found, name, "weights"), of(found, name, way)) for name in names]
         both = [(one, two) for one, two in both if one and two]
-        if not both or way == "weights":
+        if not both:
             continue
         nearer = sum(worst(two) < worst(one) - 0.5 for one, two in both)
         further = sum(worst(two) > worst(one) + 0.5 for one, two in both)
-        ones, twos = [one for one, _ in both], [two for _, two in both]
-        yield (f"| {way} | {len(both)} | {nearer} | {further} | {max(map(worst, twos)):.1f} |"
-               f" {max(map(worst_part, twos)):.0%} |"
-               f" {sum(map(served, twos)) / len(both):.1%} |"
-               f" {sum(map(served, ones)) / len(both):.1%} |".replace("%", " %"))
+        runs = [two for _, two in both]
+        text = (f"| {way} | {len(both)} | {nearer} | {further} | {max(map(worst, runs)):.1f} |"
+                f" {max(map(worst_part, runs)):.0%} | {sum(map(served, runs)) / len(both):.1%} |")
+        yield text.replace("%", " %")
 
 
 def rounds(saved: Saved) -> Iterator[str]:
@@ -112,17 +110,24 @@ def rounds(saved: Saved) -> Iterator[str]:
         yield f"| {number} | " + " | ".join(cells) + " |"
 
 
+def tables(found: list[Saved]) -> Iterator[str]:
+    """All tables: of both kernels, of each, and the rounds of the step."""
+    steady = [each for each in found if each["scenario"] != STEP]
+    ways = [way for way in WAYS if any(each["way"] == way for each in steady)]
+    yield f"{len(found)} runs; others at most {max(each['others'] for each in found):.1%}"
+    groups = {"both kernels": steady}
+    for kernel in sorted({kernel_of(each) for each in found}, key=lambda each: int(each[2:])):
+        groups[kernel] = [each for each in steady if kernel_of(each) == kernel]
+    for title, runs in groups.items():
+        yield from ["", *rows(runs, title, ways), "", *sums(runs, title, ways)]
+    for saved in found:
+        if saved["scenario"] == STEP:
+            yield from ["", *rounds(saved)]
+
+
 def main() -> None:
     """Prints the tables."""
-    found = read(sys.argv[1:])
-    steady = [each for each in found if each["scenario"] != "two-step"]
-    print(f"{len(found)} runs; others at most {max(each['others'] for each in found):.1%}")
-    for kernel in sorted({kernel_of(each) for each in found}, key=lambda each: int(each[2:])):
-        ways = [way for way in WAYS if of(steady, way=way, kernel=kernel)]
-        print("\n".join(["", *rows(steady, kernel, ways), "", *sums(steady, kernel, ways)]))
-    for saved in found:
-        if saved["scenario"] == "two-step":
-            print("\n".join(["", *rounds(saved)]))
+    print("\n".join(tables(read(sys.argv[1:]))))
 
 
 if __name__ == "__main__":

@@ -86,7 +86,8 @@ def test_table_by_hand(tmp_path):
     rows = list(held_page.rows(found, "6.1", ["weights", "limits"]))
     assert rows[2] == "| `s` | 10.0, 20 %, 100.0 % | 3.0, 6 %, 99.0 % (2) |"
     assert list(held_page.sums(found, "6.1", ["weights", "limits"]))[2:] == [
-        "| limits | 1 | 1 | 0 | 3.0 | 6 % | 99.0 % | 100.0 % |"]
+        "| weights | 1 | 0 | 0 | 10.0 | 20 % | 100.0 % |",
+        "| limits | 1 | 1 | 0 | 3.0 | 6 % | 99.0 % |"]
 
 
 def kernel_of_guests():
