@@ -128,10 +128,13 @@ class Root:
             finally:
                 os.close(descriptor)
 
-    def read(self, folder: str, file: str) -> str:
-        """The text of a file."""
+    def read(self, folder: str, file: str, most: int = MAX_TEXT) -> str:
+        """The text of a file, at most so many bytes. The kernel gives a page at a time."""
+        data = bytearray()
         with self.opened(folder, file, os.O_RDONLY) as descriptor:
-            return os.read(descriptor, MAX_TEXT).decode(errors="replace").strip()
+            while len(data) < most and (piece := os.read(descriptor, most - len(data))):
+                data += piece
+        return data.decode(errors="replace").strip()
 
     def write(self, folder: str, file: str, text: str) -> None:
         """Replaces the text of a file that is there, in one write.

@@ -13,13 +13,14 @@ import sys
 import time
 from collections.abc import Callable, Iterable, Sequence
 from contextlib import suppress
-from dataclasses import asdict, dataclass, replace
+from dataclasses import asdict, dataclass, field, replace
 from fractions import Fraction
 from typing import Any, NamedTuple
 
 from arbiter import Columns, Host, Row
-from arbiter_host import apply, demands, units, weights
+from arbiter_host import apply, awake, demands, units, weights
 from arbiter_host.apply import Back, By, Change, Settings
+from arbiter_host.awake import Tasks
 from arbiter_host.beneath import Gone, Identity, Root
 from arbiter_host.demands import Reading
 from arbiter_host.engine import Engine, asking
@@ -35,9 +36,6 @@ Line = dict[str, Any]
 
 HOST_TREE = "/sys/fs/cgroup"
 KUBELET = re.compile(r"kubepods([-.].*)?")
-# A leaf without a limit is hungry if its tasks waited for this part of the round. Tasks that are
-# served wait too, so a shorter wait tells nothing. A limit that is too low is seen one round later.
-PRESSED = Fraction(1, 2)
 # Failed readings in a row that end the loop.
 MOST_FAILED = 2
 # Rounds that may be missed before one. After more the clock has jumped, or nothing ran for long.
@@ -80,6 +78,8 @@ class Kept:
     at: int
     # Whether its limit is left alone, since somebody else sets it.
     is_left: bool = False
+    # What its tasks did by the last reading.
+    tasks: Tasks = field(default_factory=dict)
     # Slices that the plan of the last round gave it; None before its first round.
     planned: int | None = None
 
@@ -113,17 +113,19 @@ class WriteFault(HostFault):
     """A fault of a writing, which ends the loop. One of a reading may pass."""
 
 
-def used_between(leaf: Kept, now: Reading, at: int) -> Used:
-    """What a leaf used since its last reading."""
+def used_between(leaf: Kept, now: Reading, at: int, tasks: Tasks) -> Used:
+    """What a leaf used since its last reading, and whether it would have used more.
+
+    It would if it was throttled, or if a task of it was always awake and waited.
+    """
     rise, passed = demands.rise(leaf.reading.usage, now.usage), at - leaf.at
     if rise is None or passed <= 0:
         raise HostFault(f"{shown(leaf.folder)}: its reading is older than the last: nothing is"
                         " written")
-    if leaf.stands.quota is not None:
-        hungry = bool(demands.rise(leaf.reading.throttled, now.throttled))
-    else:
-        waited = demands.rise(leaf.reading.pressure, now.pressure) or 0
-        hungry = waited * 1000 >= PRESSED * passed
+    throttled = demands.rise(leaf.reading.throttled, now.throttled)
+    waited = demands.rise(leaf.reading.pressure, now.pressure)
+    hungry = (leaf.stands.quota is not None and bool(throttled)
+              or awake.is_hungry(leaf.tasks, tasks, awake.Round(passed, rise, waited or 0)))
     return Used(units.thousandths_of_usage(rise, Fraction(passed, 10**9)), hungry)
 
 
@@ -171,6 +173,8 @@ class Loop:
         # The number of tasks of each leaf at the last reading.
         self.tasks: dict[str, int] = {}
         self.told: set[str] = set()
+        # Whether it was told that limits are rounded up.
+        self.has_rounded = False
         self.rounds = 0
 
     def tell(self, notes: Iterable[str]) -> None:
@@ -277,10 +281,20 @@ class Loop:
         kept = self.groups[path]
         self.look(kept, path)
         reading, at = self.counters(kept.folder)
+        tasks = self.tasks_of(kept, reading)
         try:
-            return used_between(kept, reading, at)
+            return used_between(kept, reading, at, tasks)
         finally:
-            kept.reading, kept.at = reading, at
+            kept.reading, kept.at, kept.tasks = reading, at, tasks
+
+    def tasks_of(self, kept: Kept, now: Reading) -> Tasks:
+        """What the tasks of a leaf did, if they waited at all."""
+        if not kept.is_leaf or not demands.rise(kept.reading.pressure, now.pressure):
+            return {}
+        try:
+            return awake.tasks(self.root.read(kept.folder, "cgroup.threads", awake.MOST_TEXT))
+        except HostFault:
+            return {}
 
     def rows(self, model: Model, used: dict[str, Used]) -> list[Row]:
         """The rows of the operator's own settings and of what was used."""
@@ -333,8 +347,9 @@ class Loop:
             own = Fraction(old.quota * self.host.period_us, old.period)
             if max(quota, units.MIN_QUOTA) >= own // self.host.slice_us * self.host.slice_us:
                 return old
-        if quota < units.MIN_QUOTA:
-            self.tell([f"{path}: a limit below 1 ms is rounded up to it"])
+        if quota < units.MIN_QUOTA and not self.has_rounded:
+            self.has_rounded = True
+            self.tell([f"{path}: a limit below 1 ms is rounded up to it, and so is each other"])
         quota = max(quota, units.MIN_QUOTA)
         burst = quota // BURST_PART if self.ways.has_burst else 0
         return replace(old, quota=quota, period=self.host.period_us, burst=burst)
@@ -404,7 +419,8 @@ class Loop:
         """One round: reads, asks, writes. Returns the line that tells it."""
         model, used = self.read()
         if missed > MOST_MISSED:
-            raise HostFault(f"the clock went {missed} rounds on: nothing is written")
+            raise HostFault(f"{missed} rounds missed at once: nothing is written. The clock jumped,"
+                            " or --interval is too short")
         found = self.planned(model, used)
         self.rounds += 1
         changed = self.write(found)

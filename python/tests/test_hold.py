@@ -14,7 +14,7 @@ import killed_loop
 import pytest
 import trees
 from arbiter import Host
-from arbiter_host import apply, beneath, hold, record
+from arbiter_host import apply, awake, beneath, hold, record
 from arbiter_host.apply import Settings
 from arbiter_host.faults import HostFault
 from places import PACKAGE
@@ -30,6 +30,8 @@ class World:
     def __init__(self, folder, groups):
         self.tree, self.now, self.lines, self.after = folder / "t", 0, [], []
         self.counters = {}
+        # (the tasks of these groups are none of this machine)
+        awake.PROC = str(folder / "proc")
         trees.root2(self.tree)
         for path, weight, maximum in groups:
             self.add(path, weight, maximum)
@@ -124,12 +126,12 @@ def test_headroom_own_limits_and_a_burst(folder, engine):
 
     def step():
         world.uses("a", 112)
-        world.uses("b", 10, waited=900000)
+        world.uses("b", 10, waited=99999)
         world.uses("c", 8)
 
     (line, stood), = world.run(loop, step)
-    # Guarantees: c 80 by its limit, and 60 each for a and b. b is not hungry: its limit stood, so
-    # that it waited says nothing. a: 112 + 14.
+    # Guarantees: c 80 by its limit, and 60 each for a and b. b is not hungry: it waited for less
+    # than a tenth of the round. a: 112 + 14.
     assert {path: each["limit"] for path, each in line["groups"].items()} == {
         "a": 126, "b": 60, "c": 80}
     assert stood == {"a": "126000 100000", "b": "60000 100000", "c": "80000 100000"}
@@ -140,12 +142,12 @@ def test_inner_limits_and_rounding_up(folder, engine, capsys):
     """A group with children keeps its limit. A leaf planned no slice gets 1 ms, told once."""
     world = World(folder, [("in", 10000, "40000 100000"), ("in/x", 100, FREE), ("z", 1, FREE)])
 
-    def step():
-        world.uses("in/x", 40, waited=10**6)
+    def step(waited):
+        world.uses("in/x", 40, waited=waited)
         world.uses("z", 0)
 
-    lines = world.run(world.loop(engine, folder / "undo"), step, step)
-    # First it is hungry without a limit; then it uses 40 below a limit that does not stop it.
+    lines = world.run(world.loop(engine, folder / "undo"), lambda: step(10**6), lambda: step(0))
+    # First it is hungry; then it uses 40 below a limit that does not stop it.
     assert [line["groups"]["in/x"]["limit"] for line, _ in lines] == [40, 45]
     assert lines[0][1]["in"] == "40000 100000"
     # z is guaranteed the 160 slices that `in` may not use.
@@ -266,8 +268,8 @@ def test_a_clock_that_jumps(world, engine, folder, capsys):
     lines = world.run(loop, lambda: None, jump, lambda: stood.append(world.maximum("b")))
     assert [(line["round"], line["missed"]) for line, _ in lines] == [(1, 0), (2, 0)]
     assert stood == ["50000 100000"]
-    assert "the clock went 20 rounds on: nothing is written" in capsys.readouterr().err
-    with pytest.raises(HostFault, match="the clock went 20 rounds on"):
+    assert "20 rounds missed at once: nothing is written" in capsys.readouterr().err
+    with pytest.raises(HostFault, match="20 rounds missed at once"):
         world.run(world.loop(engine, folder / "undo"), lambda: None, jump, jump)
     assert [world.maximum(path) for path in "abc"] == [FREE] * 3
 

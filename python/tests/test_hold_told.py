@@ -14,7 +14,7 @@ from pathlib import Path
 import killed_loop
 import pytest
 from arbiter import Host
-from arbiter_host import apply, gauges, hold, notify, weights
+from arbiter_host import apply, awake, beneath, gauges, hold, notify, weights
 from arbiter_host.apply import Settings
 from arbiter_host.faults import HostFault
 from arbiter_host.model import Group, Model
@@ -143,6 +143,74 @@ def test_a_leaf_that_gets_children_and_weights(world, engine, folder):
         ["a", "b", "c"], ["b", "c"], ["a/in", "b", "c"], ["b", "c"]]
     assert [weight(world, path) for path in "abc"] == ["100", "100", "200"]
     assert [world.maximum(path) for path in "abc"] == [FREE] * 3
+
+
+A_SECOND = 10**9
+
+
+@pytest.mark.parametrize("before, now, used, waited, hungry", [
+    # a task with half a CPU that never slept, and one that slept for a tenth of the time
+    ({7: (0, 0)}, {7: (500, 500)}, 500, 500, True),
+    ({7: (0, 0)}, {7: (500, 400)}, 500, 400, False),
+    # a whole CPU: it cannot use more
+    ({7: (9, 9)}, {7: (969, 49)}, 960, 40, False),
+    ({7: (9, 9)}, {7: (969, 49)}, 960, 120, False),
+    # one of two is awake
+    ({7: (0, 0), 8: (0, 0)}, {7: (300, 100), 8: (600, 390)}, 900, 490, True),
+    # pressure of less than a tenth: served, whatever the tasks did
+    ({7: (0, 0)}, {7: (905, 95)}, 905, 95, False),
+    # those that were there twice used less than half: a guess
+    ({7: (0, 0)}, {7: (100, 0), 9: (900, 900)}, 900, 499, False),
+    ({7: (0, 0)}, {7: (100, 0), 9: (900, 900)}, 900, 500, True),
+    # a number that was given to another task, and no task at all
+    ({7: (800, 0)}, {7: (100, 900)}, 100, 499, False),
+    ({}, {}, 100, 500, True), ({}, {}, 0, 500, True), ({}, {}, 0, 0, False),
+])
+def test_hunger_by_hand(before, now, used, waited, hungry):
+    """Milliseconds of a second: tasks ran and waited, the group used, some task waited."""
+    one, two = ({number: awake.Task(*(each * 10**6 for each in task))
+                 for number, task in found.items()} for found in (before, now))
+    found = awake.Round(A_SECOND, used * 1000, waited * 1000)
+    assert awake.is_hungry(one, two, found) is hungry
+
+
+def test_tasks_are_read(folder, monkeypatch):
+    """Of a list those that are there; a list of a group may have no number, and many."""
+    monkeypatch.setattr(awake, "PROC", str(folder))
+    for number, text in ((12, "5 6 7\n"), (13, "nonsense\n"), (15, "8 9 1\n")):
+        (folder / str(number)).mkdir()
+        (folder / str(number) / "schedstat").write_text(text)
+    assert awake.tasks("12\n13\n14\n0\nx\n15\n") == {12: (5, 6), 15: (8, 9)}
+    monkeypatch.setattr(awake, "MOST_TASKS", 2)
+    assert awake.tasks("12\n13\n15\n") == {12: (5, 6)}
+
+
+def test_a_group_below_its_limit_is_hungry(world, engine, folder):
+    """Linux gives c less than its limit: its task was awake, so it asks for everything."""
+    (folder / "proc/100").mkdir(parents=True)
+    times = [0, 0]
+
+    def step():
+        for place, rise in enumerate((40, 59)):
+            times[place] += rise * 10**7
+        (folder / "proc/100/schedstat").write_text(f"{times[0]} {times[1]} 1\n")
+        world.uses("c", 40, waited=590000)
+        world.uses("a", 20)
+        world.uses("b", 20)
+
+    lines = world.run(world.loop(engine, folder / "undo"), step, step, step)
+    assert [line["groups"]["c"]["hungry"] for line, _ in lines] == [True] * 3
+    # planned all that the others leave, of which it was not given 120
+    assert lines[-1][0]["groups"]["c"]["unserved"] == 160 - 40
+
+
+def test_many_tasks_are_read_whole(folder):
+    """A list of tasks is longer than a page of the kernel."""
+    (folder / "g").mkdir()
+    (folder / "g/cgroup.threads").write_text("".join(f"{number}\n" for number in range(5000)))
+    root = beneath.Root(str(folder))
+    assert len(root.read("g", "cgroup.threads", awake.MOST_TEXT).split()) == 5000
+    root.close()
 
 
 def test_depth(folder, engine):

@@ -22,6 +22,7 @@
 #include <unistd.h>
 
 #define MOST 64
+#define MOST_TASKS 32768
 #define SLICE 1000
 #define LEAST_QUOTA 1000
 #define MOST_WEIGHT 10000
@@ -35,7 +36,14 @@ struct group {
     long long usage, throttled, waited;
 };
 
+/* Nanoseconds that a task ran and waited, and the round in which they were read. */
+struct task {
+    long long ran, waited;
+    int round;
+};
+
 static struct group groups[MOST];
+static struct task tasks[MOST_TASKS];
 static uint32_t parents[MOST], places[MOST];
 static uint64_t weights[MOST], limits[MOST], used[MOST], held[MOST], demands[MOST], amounts[MOST];
 static uint64_t nums[MOST], dens[MOST];
@@ -127,7 +135,52 @@ static uint64_t slices(long long usec, int64_t passed) {
     return ((uint64_t)usec * period + whole - 1) / whole;
 }
 
-static void read_groups(int64_t passed) {
+/* Adds up what the tasks of a group did that were there in the last round. Returns whether one of
+   them never slept, and waited for a twentieth of the round or more. */
+static int never_slept(const char *path, int round, int64_t passed, long long *seen) {
+    static char list[1 << 16];
+    int found = 0;
+    snprintf(list, sizeof list, "%s", get(path, "cgroup.threads"));
+    *seen = 0;
+    for (char *at = list; *at; at = strchr(at, '\n') + 1) {
+        int id = atoi(at);
+        char name[64];
+        if (id <= 0 || id >= MOST_TASKS)
+            continue;
+        snprintf(name, sizeof name, "/proc/%d/schedstat", id);
+        int from = open(name, O_RDONLY);
+        ssize_t size = from < 0 ? 0 : read(from, text, sizeof text - 1);
+        struct task *task = &tasks[id], now = { .round = round };
+        if (from >= 0)
+            close(from);
+        text[size < 0 ? 0 : size] = 0;
+        if (sscanf(text, "%lld %lld", &now.ran, &now.waited) != 2)
+            continue;
+        if (task->round == round - 1 && now.ran >= task->ran) {
+            long long ran = now.ran - task->ran, waited = now.waited - task->waited;
+            *seen += ran;
+            found |= (ran + waited) * 20 >= passed * 19 && waited * 20 >= passed;
+        }
+        *task = now;
+    }
+    return found;
+}
+
+/* Whether a leaf would have used more, by the rule of `arbiterctl hold`. */
+static int is_hungry(struct group *group, int round, int64_t passed, long long usage,
+                     long long throttled, long long waited) {
+    long long seen;
+    int is_awake = never_slept(group->path, round, passed, &seen);
+    if (group->is_limited && throttled > group->throttled)
+        return 1;
+    if ((waited - group->waited) * 10000 < passed)
+        return 0;
+    if (seen * 2 >= (usage - group->usage) * 1000)
+        return is_awake;
+    return (waited - group->waited) * 2000 >= passed;
+}
+
+static void read_groups(int round, int64_t passed) {
     for (size_t row = 1; row < count; row++) {
         struct group *group = &groups[row];
         if (!group->is_leaf)
@@ -136,11 +189,9 @@ static void read_groups(int64_t passed) {
         long long usage = number_behind(stat, "usage_usec ");
         long long throttled = number_behind(stat, "nr_throttled ");
         long long waited = number_behind(get(group->path, "cpu.pressure"), "total=");
-        if (passed) {
+        if (passed)
             used[row] = slices(usage - group->usage, passed);
-            hungry[row] = group->is_limited ? throttled > group->throttled
-                                            : (waited - group->waited) * 2000 >= passed;
-        }
+        hungry[row] = is_hungry(group, round, passed, usage, throttled, waited);
         group->usage = usage;
         group->throttled = throttled;
         group->waited = waited;
@@ -185,7 +236,7 @@ static void write_limit(struct group *group, size_t row, int has_burst) {
     group->is_limited = 1;
 }
 
-static uint64_t tasks(const char *path) {
+static uint64_t tasks_in(const char *path) {
     uint64_t lines = 0;
     for (const char *at = get(path, "cgroup.procs"); *at; at++)
         lines += *at == '\n';
@@ -194,7 +245,7 @@ static uint64_t tasks(const char *path) {
 
 /* 100 d / (1.01 - d), where d is the part of a processor that each task may use. */
 static uint64_t weight_of(size_t row) {
-    uint64_t most = period / SLICE * tasks(groups[row].path);
+    uint64_t most = period / SLICE * tasks_in(groups[row].path);
     uint64_t amount = held[row] < most ? held[row] : most;
     uint64_t below = 101 * most - 100 * amount;
     uint64_t found = (2 * 10000 * amount + below) / (2 * below);
@@ -252,7 +303,7 @@ int main(int words, char **word) {
     for (int number = 0; first + number * interval < last; number++) {
         sleep_until(first + number * interval);
         int64_t at = now();
-        read_groups(before ? at - before : 0);
+        read_groups(number + 1, before ? at - before : 0);
         if (before)
             round_at(number, at - first, word[6]);
         before = at;

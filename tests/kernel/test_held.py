@@ -2,14 +2,18 @@
 
 The guests are skipped where the packages or a kernel are not there. `kernel.held` runs all ways.
 """
+import itertools
+
 import pytest
 
-from kernel import __main__, held, held_page, machine, packages, planned, scenario
+from arbiter import Library
+from kernel import __main__, held, held_page, held_rule, machine, packages, planned, scenario
 from kernel.real_files import effective
 
 PODS = scenario.read(__main__.SCENARIOS / "four-pods.script")
 # Weights 200 and 100 and 100 of 400 slices; x and y of p have a task each, those of q share 1 to 3.
 PODS_PLAN = {".": 400, "p": 200, "p/x": 100, "p/y": 100, "q": 100, "q/x": 75, "q/y": 25, "r": 100}
+RUNS = __main__.SCENARIOS.with_name("runs") / "hold.jsonl.gz"
 SETTING = machine.Setting(shift=4, seconds=900)
 
 
@@ -88,6 +92,19 @@ def test_table_by_hand(tmp_path):
     assert list(held_page.sums(found, "6.1", ["weights", "limits"]))[2:] == [
         "| weights | 1 | 0 | 0 | 10.0 | 20 % | 100.0 % |",
         "| limits | 1 | 1 | 0 | 3.0 | 6 % | 99.0 % |"]
+
+
+def test_rounds_of_the_runs_are_by_the_rule(library):
+    """The library gives the plan and the limits of each round that the runs have."""
+    calls, count = Library(library), 0
+    for run in held_page.read([str(RUNS)]):
+        found = scenario.read(__main__.SCENARIOS / f"{run['scenario']}.script")
+        for _, each in itertools.groupby(run["rounds"], key=lambda line: line["round"]):
+            lines = list(each)
+            wanted = held_rule.by_the_rule(calls, found, held.WAYS[run["way"]], lines)
+            assert {line["path"]: (line["plan"], line["limit"]) for line in lines} == wanted
+            count += 1
+    assert count > 500
 
 
 def kernel_of_guests():

@@ -165,9 +165,10 @@ def add_words(parser: argparse.ArgumentParser) -> None:
 
 DETAILS = (
     "Each round reads cpu.stat of each group without children, in slices of one period. A group is"
-    " hungry if it was throttled in the round. Without a limit it is hungry if its tasks waited for"
-    " half of the round (cpu.pressure). The library's rule gives the limits, and its check accepts"
-    " the plan. Then cpu.max is written. The period is 100ms or 1s.",
+    " hungry if it was throttled in the round, or if a task of it never slept and waited (schedstat,"
+    " read where cpu.pressure rose). Where its tasks are new it is a guess: whether they waited for"
+    " half of the round. The library's rule gives the limits, and its check accepts the plan. Then"
+    " cpu.max is written. The period is 100ms or 1s.",
     "With --weights it writes cpu.weight too: 100 d / (1.01 - d) where the limit lets each task of"
     " a group use the part d of a CPU. A group with children has the sum of theirs. The plan is"
     " that of the operator's own weights. A weight that somebody sets meanwhile is such a one.",
