@@ -44,6 +44,9 @@ MOST_MISSED = 5
 MOST_TOLD = 10000
 # Quota over burst, where a limit has a burst.
 BURST_PART = 10
+# A limit that falls by less than this part of it is not written: the kernel gives a new quota at
+# each writing, so a group could use two in a period.
+LEAST_FALL = 64
 
 
 class Ways(NamedTuple):
@@ -157,6 +160,13 @@ def check_owner(top: str, nodes: Sequence[Node], is_forced: bool) -> None:
         if any(KUBELET.fullmatch(part) for part in folder.split("/")):
             raise HostFault(f"{shown(folder)}: kubelet owns the limits there, and would write over"
                             " these (--force)")
+
+
+def is_small_fall(one: Settings, two: Settings) -> bool:
+    """Whether a limit falls by so little that it is not written."""
+    if one.quota is None or two.quota is None or one.period != two.period:
+        return False
+    return 0 < (one.quota - two.quota) * LEAST_FALL < one.quota
 
 
 class Loop:
@@ -360,6 +370,8 @@ class Loop:
             return kept.old
         if path in found.limits:
             target = self.limited(path, kept.old, found.limits[path])
+            if is_small_fall(kept.stands, target):
+                target = kept.stands
         elif kept.is_leaf:
             return kept.stands
         else:

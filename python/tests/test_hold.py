@@ -138,6 +138,22 @@ def test_headroom_own_limits_and_a_burst(folder, engine):
     assert apply.current(loop.root, "b") == Settings(100, 150000, 100000, 60000)
 
 
+@pytest.mark.parametrize("first, second, stood", [
+    (64, 63, "63000 100000"), (128, 127, "128000 100000"), (130, 129, "130000 100000"),
+    (130, 127, "127000 100000"), (100, 101, "101000 100000")])
+def test_small_falls_are_not_written(folder, engine, first, second, stood):
+    """A limit that falls by less than a 64th stays; b has what a leaves of 200."""
+    world, seen = World(folder, [("a", 10000, FREE), ("b", 1, FREE)]), []
+
+    def step(slices):
+        world.uses("a", slices)
+        world.uses("b", 200 - slices, waited=10**6)
+
+    world.run(world.loop(engine, folder / "undo"), lambda: step(200 - first),
+              lambda: step(200 - second), lambda: seen.append(world.maximum("b")))
+    assert seen == [stood]
+
+
 def test_inner_limits_and_rounding_up(folder, engine, capsys):
     """A group with children keeps its limit. A leaf planned no slice gets 1 ms, told once."""
     world = World(folder, [("in", 10000, "40000 100000"), ("in/x", 100, FREE), ("z", 1, FREE)])

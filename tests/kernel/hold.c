@@ -26,11 +26,14 @@
 #define SLICE 1000
 #define LEAST_QUOTA 1000
 #define MOST_WEIGHT 10000
+/* A limit that falls by less than this part of it is not written. */
+#define LEAST_FALL 64
 
 struct group {
     const char *path;
     char own[64];        /* the text of its cpu.max at the beginning */
     char stands[64];     /* what was written last */
+    uint64_t quota;      /* its quota, 0 for what it was at the beginning */
     long weight;         /* the weight that was written last */
     int is_leaf, is_limited;
     long long usage, throttled, waited;
@@ -226,11 +229,15 @@ static void write_limit(struct group *group, size_t row, int has_burst) {
         snprintf(line, sizeof line, "%lu %lu", quota, period);
     if (strcmp(line, group->stands) == 0)
         return;
+    int is_own = strcmp(line, group->own) == 0;
+    if (!is_own && quota < group->quota && (group->quota - quota) * LEAST_FALL < group->quota)
+        return;
+    group->quota = is_own ? 0 : quota;
     if (has_burst)
         put(group->path, "cpu.max.burst", "0");
     put(group->path, "cpu.max", line);
     snprintf(burst, sizeof burst, "%lu", quota / 10);
-    if (has_burst && strcmp(line, group->own) != 0)
+    if (has_burst && !is_own)
         put(group->path, "cpu.max.burst", burst);
     memcpy(group->stands, line, sizeof group->stands);
     group->is_limited = 1;
