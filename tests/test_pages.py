@@ -20,7 +20,7 @@ PAGES = TOP_PAGES + [f"docs/{path.name}" for path in sorted((ROOT / "docs").glob
 SHORT = ("README.md", "docs/ARCHITECTURE.md", "docs/USING.md")
 GREATEST_WORDS = 30
 # Pages whose references to clauses and definitions are held to the sources.
-REFERRING = ("docs/PROVED.md", "docs/ARCHITECTURE.md", "docs/LAWS.md")
+REFERRING = ("docs/PROVED.md", "docs/ARCHITECTURE.md", "docs/LAWS.md", "docs/HOLD.md")
 REFERENCE = re.compile(r"`(?:(\w+)/)?((?:\w+/)*\w+\.(rt|antt)):(\w+)(?:\.(\w+))?`(?: of (\w+))?")
 LINK = re.compile(r"\]\(([^)#\s]+)(#[^)]*)?\)")
 # A heading of another page: [USING.md](USING.md), 'The files'

@@ -145,11 +145,12 @@ def number(text: str) -> int:
     return int(text)
 
 
-def current(root: Root, folder: str) -> Settings:
-    """What the files of a group hold now."""
+def current(root: Root, folder: str, takes_idle: bool = False) -> Settings:
+    """What the files of a group hold now. A fault for an idle group, or with `takes_idle` weight
+    0."""
     weight, words = root.read(folder, "cpu.weight"), root.read(folder, "cpu.max").split()
     burst = root.read(folder, "cpu.max.burst")
-    if weight == "0":
+    if weight == "0" and not takes_idle:
         raise HostFault(f"{shown(folder)}: idle (cpu.idle): its weight cannot be set")
     if len(words) != 2:
         raise HostFault(f"{shown(folder)}: cpu.max is {shown(' '.join(words)[:40])!r}")
@@ -158,9 +159,9 @@ def current(root: Root, folder: str) -> Settings:
 
 
 def standing(root: Root, folder: str) -> Settings | None:
-    """What the files of a group hold now; None if the group is gone."""
+    """What the files of a group hold now, weight 0 for an idle one; None if the group is gone."""
     try:
-        return current(root, folder)
+        return current(root, folder, takes_idle=True)
     except Gone:
         return None
 
@@ -201,7 +202,8 @@ def check_host(root: Root, found: Sequence[Change]) -> None:
 
 def told(settings: Settings) -> str:
     """Settings in words."""
-    return f"weight {settings.weight}, max {settings.maximum}, burst {settings.burst}"
+    weight = f"weight {settings.weight}" if settings.weight else "idle (cpu.idle)"
+    return f"{weight}, max {settings.maximum}, burst {settings.burst}"
 
 
 def percent(settings: Settings) -> str | None:
@@ -419,7 +421,7 @@ def take_back(back: Back, entry: dict[str, Any], is_forced: bool) -> bool:
                for each in [*([after] if after else []), *data.tables(entry, "earlier")]]
     try:
         back.root.keep(folder)
-        now = current(back.root, folder)
+        now = current(back.root, folder, takes_idle=True)
     except Gone:
         back.left.append(f"{folder}: the group is gone, nothing of it is undone")
         return False

@@ -169,6 +169,16 @@ def is_small_fall(one: Settings, two: Settings) -> bool:
     return 0 < (one.quota - two.quota) * LEAST_FALL < one.quota
 
 
+def entry(settings: Settings) -> dict[str, Any]:
+    """Settings in an undo file, which has no weight 0."""
+    return asdict(replace(settings, weight=settings.weight or 1))
+
+
+def own_settings(group: Group, old: Settings) -> None:
+    """Sets what the operator has set. An idle group counts with weight 1."""
+    group.weight, group.quota, group.period = old.weight or 1, old.quota, old.period
+
+
 class Loop:
     """The rounds over one tree. `record` is None where nothing is written."""
 
@@ -211,7 +221,7 @@ class Loop:
         path, folder = node.group.path, apply.folder_of(node.group, self.root)
         try:
             self.root.keep(folder, node.group.identity)
-            stands = apply.current(self.root, folder)
+            stands = apply.current(self.root, folder, takes_idle=True)
             reading, at = self.counters(folder)
         except HostFault as fault:
             if folder in self.root.kept:
@@ -229,13 +239,12 @@ class Loop:
         self.root.let_go(self.groups.pop(path).folder)
         group = model.groups.get(path)
         if group is not None and group.identity == kept.identity:
-            group.weight, group.quota, group.period = (
-                kept.old.weight, kept.old.quota, kept.old.period)
+            own_settings(group, kept.old)
 
     def look(self, kept: Kept, path: str) -> None:
         """Reads what stands in a group. A weight that somebody set is the operator's. A limit that
         somebody set is left alone from then on."""
-        now = apply.current(self.root, kept.folder)
+        now = apply.current(self.root, kept.folder, takes_idle=True)
         if now.weight != kept.stands.weight:
             kept.old = replace(kept.old, weight=now.weight)
             kept.stands = replace(kept.stands, weight=now.weight)
@@ -310,8 +319,7 @@ class Loop:
         """The rows of the operator's own settings and of what was used."""
         for path, kept in self.groups.items():
             group = model.groups[path]
-            group.weight, group.quota, group.period = (
-                kept.old.weight, kept.old.quota, kept.old.period)
+            own_settings(group, kept.old)
             group.burst, group.saved = 0, 0
             group.demand = used[path].thousandths if path in used else Fraction(0)
         return model.rows(self.engine.library)
@@ -376,6 +384,8 @@ class Loop:
             return kept.stands
         else:
             target = kept.old
+        if not kept.stands.weight:
+            return target
         return replace(target, weight=found.weights.get(path, target.weight))
 
     def write(self, found: Round) -> int:
@@ -406,8 +416,8 @@ class Loop:
 
     def undo_text(self) -> str:
         """What stood in each group, and what it may hold by this loop."""
-        groups = [{"folder": kept.folder, **asdict(kept.old), "after": asdict(kept.target),
-                   "earlier": [asdict(kept.stands)]}
+        groups = [{"folder": kept.folder, **entry(kept.old), "after": entry(kept.target),
+                   "earlier": [entry(kept.stands)]}
                   for kept in self.groups.values() if kept.is_changed]
         return json.dumps({"arbiter_undo": apply.VERSION, "root": self.root.path, "systemd": False,
                            "groups": groups}, indent=1) + "\n"

@@ -223,6 +223,30 @@ def test_depth(folder, engine):
     assert stood == {"in": "100000 100000", "in/a": "30000 100000", "b": "100000 100000"}
 
 
+@pytest.mark.parametrize("ways", [hold.Ways(), WEIGHTS])
+def test_a_group_that_becomes_idle(world, engine, folder, ways):
+    """Its limit is held and put back, by the loop and by `undo`; its weight is not written."""
+    loop, undo = world.loop(engine, folder / "undo", ways=ways), []
+
+    def idle():
+        (world.tree / "a/cpu.weight").write_text("0\n")
+        busy(world, *"abc")
+
+    def look():
+        undo.append((folder / "undo").read_bytes())
+        busy(world, *"abc")
+    lines = world.run(loop, lambda: busy(world, *"abc"), idle, look)
+    assert lines[-1][0]["groups"]["a"]["limit"] == 1
+    assert [weight(world, path) for path in "abc"] == ["0", "100", "200"]
+    assert [world.maximum(path) for path in "abc"] == [FREE] * 3
+    for path in "abc":
+        (world.tree / path / "cpu.max").write_text("1000 100000\n" if path == "a" else "max 100000")
+    back = apply.read_undo(undo[0], "F")
+    apply.undo(back, [])
+    assert world.maximum("a") == FREE and weight(world, "a") == "0"
+    assert len(back.left) == 1 and "idle (cpu.idle)" in back.left[0]
+
+
 def test_bursts(world, engine, folder):
     """A tenth of each limit; what stood comes back, its burst too."""
     (world.tree / "a/cpu.max").write_text("190000 100000\n")

@@ -25,6 +25,8 @@ from kernel.scenario import Scenario
 TOP = Path(__file__).resolve().parents[2]
 LIBRARY = TOP / "crates/bw_exports/out"
 SECOND = 1000000000
+# Most of the processors' time that others may use beside a loop.
+MOST_OTHERS = 0.03
 Held = dict[str, list[dict[str, Any]]]
 
 
@@ -188,7 +190,14 @@ def ran(kernel: packages.Kernel, jobs: Sequence[Job], setting: machine.Setting
         outcome = compare.outcome_of(job.scenario, run, job.span)
         yield {"release": kernel.release, "way": job.way.name, "repeat": job.repeat,
                "seconds": job.span.seconds, "rounds": told.get(run.key, []),
-               **brief(outcome)}
+               **brief(outcome), "refusal": refusal_of(outcome, job.way)}
+
+
+def refusal_of(outcome: compare.Outcome, way: Way) -> str:
+    """Why a run says nothing. The loop's own time is that of others, and is more."""
+    if way.is_loop and outcome.others <= MOST_OTHERS:
+        return replace(outcome, others=0).refusal
+    return outcome.refusal
 
 
 def brief(outcome: compare.Outcome) -> dict[str, Any]:
