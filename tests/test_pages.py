@@ -19,8 +19,9 @@ PAGES = TOP_PAGES + [f"docs/{path.name}" for path in sorted((ROOT / "docs").glob
 # Pages without a sentence of more than 30 words. Of others one in 50 may be longer.
 SHORT = ("README.md", "docs/ARCHITECTURE.md", "docs/USING.md")
 GREATEST_WORDS = 30
-# Pages whose references to clauses and definitions are held to the sources.
-REFERRING = ("docs/PROVED.md", "docs/ARCHITECTURE.md", "docs/LAWS.md", "docs/HOLD.md")
+# Pages whose references to clauses and definitions are held to the sources, and how many they have.
+REFERRING = {"docs/PROVED.md": 20, "docs/ARCHITECTURE.md": 20, "docs/LAWS.md": 20,
+             "docs/HOLD.md": 10}
 REFERENCE = re.compile(r"`(?:(\w+)/)?((?:\w+/)*\w+\.(rt|antt)):(\w+)(?:\.(\w+))?`(?: of (\w+))?")
 LINK = re.compile(r"\]\(([^)#\s]+)(#[^)]*)?\)")
 # A heading of another page: [USING.md](USING.md), 'The files'
@@ -166,7 +167,7 @@ def is_function(crate, file, kind, name, clause) -> bool:
 def test_references(page):
     """Each clause and each definition that a page names is in the file that it names."""
     found = references(page)
-    assert len(found) >= 20
+    assert len(found) >= REFERRING[page]
     wrong = [(reference[0], reference[-1]) for reference in found
              if not is_there(*reference[:-1])
              and not (page != "docs/PROVED.md" and is_function(*reference[:-1]))]

@@ -18,7 +18,7 @@ from kernel.scenario import Scenario
 
 SCENARIOS = Path(__file__).with_name("scenarios")
 ARBITERCTL = Path(__file__).resolve().parents[2] / "python/arbiterctl"
-FILES = Path(__file__).with_name("test_real_files.py")
+FILES = [Path(__file__).with_name(name) for name in ("test_real_files.py", "test_real_hold.py")]
 # By how much each repeat begins later, in microseconds: another place in a quota period and in
 # a tick.
 LATER = 21300
@@ -116,7 +116,7 @@ def arguments(words: list[str]) -> argparse.Namespace:
                         help="give the guest something else than the plan, which has to be seen")
     parser.add_argument("--files", action="store_true",
                         help="test the real files instead: what the kernel takes and shows, and"
-                        " arbiterctl import, apply and undo")
+                        " arbiterctl import, apply, undo and hold")
     parser.add_argument("--list", action="store_true", help="print the scenarios and end")
     return parser.parse_args(words)
 
@@ -151,7 +151,7 @@ def saved(options: argparse.Namespace, kernel: packages.Kernel, setting: machine
 
 def tested_files() -> int:
     """Runs the tests of the real files, those too that ./test leaves out without KVM."""
-    words = [sys.executable, "-m", "pytest", "-q", str(FILES), "--program",
+    words = [sys.executable, "-m", "pytest", "-q", *map(str, FILES), "--program",
              str(planned.program())]
     return subprocess.run(words, env={**os.environ, machine.ALL: "1"}, check=False).returncode
 

@@ -21,7 +21,8 @@ write pod/y cpu.max 50000 100000
 write pod/y cpu.max.burst 20000
 """
 PROCESSORS = 2
-# Slices of each leaf's guarantee: weights 100, 300 and 100 of 200.
+# Slices of each leaf's guarantee: weights 100, 300 and 100 of 200. All but a use nothing, so these
+# are their limits.
 GUARANTEES = {"a": 40, "b": 120, "pod/x": 20, "pod/y": 20}
 # The task of group a keeps to the second processor, so that Python has the first.
 LOAD = (f"(echo 0 > {layout.HOME}/a/cgroup.procs;"
@@ -43,7 +44,7 @@ def steps() -> Iterator[dict[str, Any]]:
     """The steps in order. A command with `kill` is killed when a file holds a text."""
     yield {"name": "dry run", "words": held("none", "--once", "--dry-run")}
     yield {"name": "hold", "words": held("one", "--for", "9s")}
-    for name, group, more in (("first", "a", []), ("last", "pod/y", ["--weights", "--burst"])):
+    for name, group, more in (("first", "b", []), ("last", "pod/y", ["--weights", "--burst"])):
         text = f"{GUARANTEES[group]}000 100000"
         yield {"name": f"killed {name}", "words": held(name, *more),
                "kill": [layout.place(group, "cpu.max"), text]}
