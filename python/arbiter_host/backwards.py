@@ -2,9 +2,13 @@
 
 The C library gives the least values and the guarantees, by calls whose contracts are exact. The
 plan of each least value is made and accepted by the proved check before it is shown.
+
+The least of a setting that people own, such as a request, is found by halving over accepted plans:
+in each part of its range a greater one takes nothing from the group.
 """
 from __future__ import annotations
 
+import functools
 from collections.abc import Callable, Sequence
 from dataclasses import dataclass, replace
 from fractions import Fraction
@@ -16,6 +20,7 @@ from arbiter_host.engine import Engine, asking
 from arbiter_host.faults import HostFault
 from arbiter_host.model import MAX_PROCESSORS, Model, planned
 from arbiter_host.names import shown
+from arbiter_host.owned import Owned, Range, Setting
 from arbiter_host.plan import Plan, Planned, plan
 from arbiter_host.units import Slices
 
@@ -35,6 +40,21 @@ class Knob:
 
 
 @dataclass(frozen=True)
+class OwnedKnob:
+    """A setting that people own, as they write it: now, and the least that reaches an amount.
+
+    `least` is None where none reaches it.
+    """
+
+    name: str
+    now: str
+    least: str | None
+    plan: Plan | None
+    # What is said of it beside the groups that pay.
+    told: str = ""
+
+
+@dataclass(frozen=True)
 class Need:
     """What a group needs for an amount of slices: its plan as it is, and each knob."""
 
@@ -42,6 +62,7 @@ class Need:
     group: Planned
     amount: int
     knobs: tuple[Knob, ...]
+    owned: tuple[OwnedKnob, ...] = ()
 
     @property
     def asked(self) -> int:
@@ -126,6 +147,52 @@ def cpus_knob(asked: Asked) -> Knob:
                       lambda cpus: replace(model, host=replace(host, processors=cpus)))
 
 
+def with_setting(model: Model, source: Owned, setting: Setting) -> Model:
+    """The model with one setting of its source, and the demands that it has. Groups may move."""
+    after = source.changed([setting]).model()
+    after = after if after.host == model.host else after.with_host(model.host)
+    for group, was in zip(after.groups.values(), model.groups.values(), strict=True):
+        group.demand, group.tasks = was.demand, was.tasks
+    return after
+
+
+def least_of(parts: Sequence[tuple[int, int]], reaches: Callable[[int], bool]) -> int | None:
+    """The least number of some parts that reaches, where in each part a greater one does too."""
+    for low, high in parts:
+        if not reaches(high):
+            continue
+        while low < high:
+            middle = (low + high) // 2
+            low, high = (low, middle) if reaches(middle) else (middle + 1, high)
+        return high
+    return None
+
+
+def owned_knob(asked: Asked, source: Owned, of: Range) -> OwnedKnob:
+    """The least of a setting that people own."""
+    model, path, row = asked.before.model, asked.group.path, asked.group.row
+
+    def planned_with(value: int) -> Plan:
+        setting = Setting(path, of.key, of.written(value))
+        return plan(asked.engine, with_setting(model, source, setting))
+
+    value = least_of(of.parts, lambda each: planned_with(each).groups[row].gets >= asked.amount)
+    if value is None:
+        return OwnedKnob(of.key, of.now, None, None, of.most)
+    found = planned_with(value)
+    told = [note for note in found.model.notes if note not in model.notes]
+    return OwnedKnob(of.key, of.now, of.written(value), found, "; ".join(told))
+
+
+def owned_knobs(asked: Asked) -> list[Callable[[], OwnedKnob]]:
+    """What finds the least of each setting of the group that people own."""
+    source = asked.before.model.owned
+    if source is None or not source.has(asked.group.path):
+        return []
+    return [functools.partial(owned_knob, asked, source, of)
+            for of in source.ranges(asked.group.path)]
+
+
 def need(engine: Engine, model: Model, word: str, thousandths: Fraction) -> Need:
     """What a group needs for thousandths of a CPU: each knob alone, all else as it is."""
     path = one_group(model, word)
@@ -135,19 +202,24 @@ def need(engine: Engine, model: Model, word: str, thousandths: Fraction) -> Need
     before = plan(engine, model)
     group = before.by_path()[path]
     asked = Asked(engine, before, group, amount)
-    kinds = (weight_knob, limit_knob, cpus_knob)
-    with progress.bar("settings", len(kinds)) as step:
-        knobs = []
+    kinds, of_source = (weight_knob, limit_knob, cpus_knob), owned_knobs(asked)
+    with progress.bar("settings", len(kinds) + len(of_source)) as step:
+        knobs, owned = [], []
         for kind in kinds:
             knobs.append(kind(asked))
             step()
-    return Need(before, group, amount, tuple(knobs))
+        for find in of_source:
+            owned.append(find())
+            step()
+    return Need(before, group, amount, tuple(knobs), tuple(owned))
 
 
 def payers(before: Plan, after: Plan, path: str) -> list[tuple[str, int]]:
-    """The groups without children that get less than before, and how many slices less."""
-    then = after.by_path()
-    found = [(each.path, each.gets - then[each.path].gets) for each in before.groups
+    """The groups without children that get less than before, and how many slices less.
+
+    Both plans have the same groups in the same rows. A pod whose class changes has another path.
+    """
+    found = [(each.path, each.gets - then.gets) for each, then in zip(before.groups, after.groups)
              if not each.children and each.path != path]
     return sorted([each for each in found if each[1] > 0], key=lambda each: -each[1])
 
@@ -173,11 +245,14 @@ def as_data(found: Need) -> dict[str, Any]:
     def value(knob: Knob, number: int | None) -> float | None:
         return amount(number) if knob.name == "limit" else number
 
+    def pays(after: Plan | None) -> list[dict[str, Any]]:
+        lost = [] if after is None else payers(before, after, found.group.path)
+        return [{"group": path, "millicpu": amount(slices)} for path, slices in lost]
+
     knobs = [{"name": knob.name, "now": value(knob, knob.now), "least": value(knob, knob.least),
-              "pays": [] if knob.plan is None else
-              [{"group": path, "millicpu": amount(slices)}
-               for path, slices in payers(before, knob.plan, found.group.path)]}
-             for knob in found.knobs]
+              "pays": pays(knob.plan)} for knob in found.knobs]
+    owned = [{"name": knob.name, "now": knob.now, "least": knob.least, "told": knob.told,
+              "pays": pays(knob.plan)} for knob in found.owned]
     return {"group": found.group.path, "gets_millicpu": amount(found.group.gets),
             "wants_millicpu": amount(found.asked), "amount_millicpu": amount(found.amount),
-            "knobs": knobs}
+            "knobs": knobs, "settings": owned}

@@ -1,11 +1,13 @@
-"""Changes of a model by words such as `web.weight=200`."""
+"""Changes of a model by words such as `web.weight=200` and `prod/web/app.request=500m`."""
 from __future__ import annotations
 
+import sys
 from collections.abc import Sequence
 
-from arbiter_host import demands, names
+from arbiter_host import demands, names, owned
 from arbiter_host.faults import HostFault, UsageFault
 from arbiter_host.model import Group, Model, check_settings
+from arbiter_host.owned import Owned, Setting
 from arbiter_host.sources import hostfile
 
 KEYS = ("weight", "max", "burst", "period", "demand", "tasks")
@@ -15,12 +17,17 @@ def split(word: str) -> tuple[str, str, str]:
     """Group, key and value of a word `GROUP.KEY=VALUE`. KEY may be a file's name."""
     left, equals, value = word.partition("=")
     group, dot, key = left.rpartition(".")
-    if not (equals and dot and group) or key not in KEYS:
+    if not (equals and dot and group) or key not in (*KEYS, *owned.KEYS):
         raise UsageFault(f"--set {names.shown(word)}: not GROUP.KEY=VALUE, KEY one of"
-                         f" {', '.join(KEYS)}")
+                         f" {', '.join((*KEYS, *owned.KEYS))}")
     for file in (".cpu.max", ".cpu"):
         group = group.removesuffix(file)
     return group, key, value
+
+
+def is_owned(word: str) -> bool:
+    """Whether a word changes a setting that people own."""
+    return split(word)[1] in owned.KEYS
 
 
 def taken(key: str, value: str) -> object:
@@ -37,15 +44,57 @@ def apply(model: Model, group: Group, key: str, value: str, has_children: bool) 
     check_settings(group)
 
 
-def changed(model: Model, words: Sequence[str]) -> Model:
-    """A copy of a model with the changes, in order."""
-    after = model.copy()
-    children = after.children()
+def settings_of(model: Model, source: Owned, word: str) -> list[Setting]:
+    """The settings of a source that a word changes."""
+    pattern, key, value = split(word)
+    if key not in source.keys:
+        raise HostFault(f"{key} is a setting of {owned.KEYS[key]}; this source has"
+                        f" {', '.join(source.keys)}")
+    found = [group for group in demands.matching(model, pattern) if source.has(group.path)]
+    if not found:
+        raise HostFault(f"{names.shown(pattern)} has no {key} in this source")
+    return [Setting(group.path, key, value) for group in found]
+
+
+def made_again(model: Model, words: Sequence[str]) -> Model:
+    """The model that its source makes with other settings of those that people own."""
+    settings: list[Setting] = []
     for word in words:
+        try:
+            if model.owned is None:
+                raise HostFault(f"{split(word)[1]} is a setting of {owned.KEYS[split(word)[1]]},"
+                                " which this source has none of")
+            settings += settings_of(model, model.owned, word)
+        except HostFault as fault:
+            raise UsageFault(f"--set {names.shown(word)}: {fault.message}") from fault
+    assert model.owned is not None
+    try:
+        after = model.owned.changed(settings).model()
+    except HostFault as fault:
+        raise UsageFault(f"--set {fault.message}") from fault
+    return after if after.host == model.host else after.with_host(model.host)
+
+
+def changed(model: Model, words: Sequence[str]) -> Model:
+    """A copy of a model with the changes: first those of settings that people own, then others."""
+    own = [word for word in words if is_owned(word)]
+    rest = [word for word in words if not is_owned(word)]
+    after = made_again(model, own) if own else model.copy()
+    children = after.children()
+    for word in rest:
         pattern, key, value = split(word)
         for group in demands.matching(after, pattern):
             try:
                 apply(after, group, key, value, bool(children[group.path]))
             except HostFault as fault:
                 raise UsageFault(f"--set {names.shown(word)}: {fault.message}") from fault
+    # What the source makes again does not have the other changes.
+    after.owned = None if rest else after.owned
+    return after
+
+
+def told(before: Model, after: Model) -> Model:
+    """The model after a change, whose new notes are printed on standard error."""
+    for note in [each for each in after.notes if each not in before.notes]:
+        print(f"arbiterctl: warning: --set: {names.shown(note)}", file=sys.stderr)
     return after

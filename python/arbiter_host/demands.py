@@ -13,6 +13,8 @@ from arbiter_host.faults import HostFault, UsageFault
 from arbiter_host.model import Group, Model
 
 WANTS = ("usage", "peak", "p95", "psi", "limit", "request", "busy")
+# Those that are taken from what was used.
+OF_USE = WANTS[:4]
 # The greatest part of the time that pressure is taken for: above it the estimate has no meaning.
 MOST_PRESSURE = Fraction(19, 20)
 
@@ -37,6 +39,8 @@ class Measured:
     request: Fraction | None = None
     # Number of its tasks where it was read.
     tasks: int | None = None
+    # Thousandths of a CPU that it used, as others have measured it.
+    told: Fraction | None = None
 
 
 def rise(before: int | None, after: int | None) -> int | None:
@@ -55,6 +59,8 @@ def rises(readings: Sequence[Reading], key: str) -> list[int]:
 
 def used(measured: Measured, seconds: Fraction) -> list[Fraction]:
     """Thousandths of a CPU that a group used from each reading to the next."""
+    if measured.told is not None:
+        return [measured.told]
     return [units.thousandths_of_usage(usec, seconds)
             for usec in rises(measured.readings, "usage")]
 
@@ -152,12 +158,15 @@ def set_demands(model: Model, measured: dict[str, Measured], want: str, seconds:
 
 
 def matching(model: Model, pattern: str) -> list[Group]:
-    """The groups of a path, a path's end, a title, or a pattern with `*`; a fault where none is."""
+    """The groups of a path, a path's end, a title, or a pattern with `*` of either; a fault where
+    none is."""
     shape = names.pattern(pattern)
     found = [group for group in model.groups.values()
              if pattern in (".", group.path, group.title) or shape.fullmatch(group.path)]
     if not found:
         found = [each for each in model.groups.values() if each.path.endswith("/" + pattern)]
+    if not found:
+        found = [each for each in model.groups.values() if shape.fullmatch(each.title)]
     if not found:
         raise HostFault(f"no group {names.shown(pattern)}")
     return found

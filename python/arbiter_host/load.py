@@ -5,20 +5,26 @@ The reader of a source is imported when one is read.
 from __future__ import annotations
 
 import argparse
+import functools
 import os
 import re
 import stat
 import sys
-from collections.abc import Sequence
-from dataclasses import replace
+from collections.abc import Mapping, Sequence
+from dataclasses import dataclass, replace
 from fractions import Fraction
-from typing import BinaryIO
+from typing import TYPE_CHECKING, BinaryIO, Protocol
 
 from arbiter import Host, Library
 from arbiter_host import demands, names, units
 from arbiter_host.engine import Engine
 from arbiter_host.faults import HostFault, RefusedLines, UsageFault, strerror
 from arbiter_host.model import MAX_DEPTH, Model, checked
+from arbiter_host.owned import Owned, Range, Setting
+
+if TYPE_CHECKING:
+    from arbiter_host.sources import cgroups
+    from arbiter_host.sources.usage import Used
 
 KINDS = ("script", "toml", "yaml", "json", "cgroup", "kubernetes", "systemd", "docker")
 MAX_FILE = 512 << 20
@@ -49,8 +55,8 @@ def add_source_options(parser: argparse.ArgumentParser) -> None:
     group.add_argument("--from", dest="kind", choices=KINDS, help="what the source is (default:"
                        " found from its name and its first bytes)")
     group.add_argument("--want", choices=demands.WANTS, help="what the demands are taken from"
-                       " (default: usage of cgroups, request of pods, limit of containers, busy of"
-                       " units)")
+                       " (default: usage of cgroups and with --usage or --cgroup, request of pods,"
+                       " limit of containers, busy of units)")
     group.add_argument("--scale", action="append", default=[], metavar="GROUP=1.5",
                        help="multiply the demands of a group and all below it; `.` is the host")
     group.add_argument("--interval", metavar="TIME", default="1s",
@@ -63,6 +69,11 @@ def add_source_options(parser: argparse.ArgumentParser) -> None:
                        help="a child (own) for what an inner group's own tasks used")
     group.add_argument("--depth-read", type=int, default=MAX_DEPTH, metavar="N",
                        help="leave out groups more than N below the top, 1 to 64 (default 64)")
+    group.add_argument("--usage", metavar="FILE", help="what pods or containers used, as `kubectl"
+                       " top pods -A --containers`, metrics-server or `docker stats --no-stream"
+                       " --format json` prints it; `-` is standard input")
+    group.add_argument("--cgroup", metavar="DIR", help="the tree of cgroups in which pods or"
+                       " containers are measured, such as /sys/fs/cgroup")
     group.add_argument("--node", default="", metavar="NAME", help="the node whose pods are read")
     group.add_argument("--conversion", choices=tuple(units.CONVERSIONS), default="linear",
                        help="shares to weights: `linear` before runc 1.3.2 and crun 1.23, `log`"
@@ -199,14 +210,74 @@ def machine(options: argparse.Namespace) -> Host:
     return chosen_host(options, Host(os.cpu_count() or 1, units.DEFAULT_PERIOD, 1000))
 
 
+def readings_of(options: argparse.Namespace, want: str) -> cgroups.Wish:
+    """How a tree of cgroups is read."""
+    from arbiter_host.sources import cgroups
+    return cgroups.Wish(interval_of(options.interval), options.samples, tuple(options.later),
+                        options.depth_read, options.own, want)
+
+
 def read_cgroup(options: argparse.Namespace, path: str) -> Model:
     """A tree of cgroups."""
-    from arbiter_host.sources import cgroup2, cgroups
-    wish = cgroups.Wish(interval_of(options.interval), options.samples, tuple(options.later),
-                        options.depth_read, options.own, options.want or "usage")
+    from arbiter_host.sources import cgroup2
+    wish = readings_of(options, options.want or "usage")
     if wish.want == "request":
         raise UsageFault("--want request: cgroups have no requests")
     return cgroup2.read(path, machine(options), wish)
+
+
+class Measurable(Owned, Protocol):
+    """A source whose groups are measured elsewhere."""
+
+    def folders(self) -> dict[tuple[int, int], tuple[str, ...]]:
+        """Where each group may be below the top of a tree."""
+
+    def with_readings(self, known: Mapping[tuple[int, int], demands.Measured],
+                      seconds: Fraction) -> Owned:
+        """The same with what was measured in a tree of cgroups."""
+
+    def with_usage(self, entries: Sequence[Used], name: str) -> Owned:
+        """The same with what others measured."""
+
+
+def is_measured(options: argparse.Namespace) -> bool:
+    """Whether an option says what groups used that the source has no counters of."""
+    return options.usage is not None or options.cgroup is not None
+
+
+def want_of(options: argparse.Namespace, default: str) -> str:
+    """What the demands are taken from. A fault where that is not what an option says."""
+    if not is_measured(options):
+        return options.want or default
+    if options.usage is not None and options.cgroup is not None:
+        raise UsageFault("--usage and --cgroup say the same: one of both")
+    want: str = options.want or "usage"
+    if want not in demands.OF_USE or options.usage is not None and want != "usage":
+        which = "--usage belongs to --want usage" if options.usage is not None else (
+            f"--cgroup belongs to --want {', '.join(demands.OF_USE)}")
+        raise UsageFault(f"{which}, and not to {want}")
+    return want
+
+
+@functools.lru_cache(maxsize=1)
+def standard_input() -> bytes:
+    """Standard input, which is read once."""
+    return file_bytes("-")
+
+
+def with_use(options: argparse.Namespace, source: Measurable) -> Owned:
+    """A source with what its groups used, where an option says it."""
+    if options.usage is not None:
+        from arbiter_host.sources import usage
+        data = standard_input() if options.usage == "-" else file_bytes(options.usage)
+        name = names.shown(options.usage)
+        return source.with_usage(usage.read(data, name), name)
+    if options.cgroup is not None:
+        from arbiter_host.sources import beside
+        known, seconds = beside.measured(options.cgroup, source.folders(),
+                                         readings_of(options, options.want or "usage"))
+        return source.with_readings(known, seconds)
+    return source
 
 
 def read_script(options: argparse.Namespace, name: str, data: bytes, engine: Engine) -> Model:
@@ -223,12 +294,9 @@ def read_pods(options: argparse.Namespace, files: Sequence[tuple[str, bytes]],
     from arbiter_host.sources import kubernetes
     wish = kubernetes.Wish(options.node, options.kubelet or options.conversion,
                            options.runtime or options.conversion, options.driver,
-                           options.want or "request")
-    if options.cpus is None:
-        model = kubernetes.read(files, None, library, wish)
-        host = chosen_host(options, model.host)
-        return model if host == model.host else model.with_host(host)
-    return kubernetes.read(files, machine(options), library, wish)
+                           want_of(options, "request"))
+    host = None if options.cpus is None else machine(options)
+    return with_use(options, kubernetes.source_of(files, host, library, wish)).model()
 
 
 def read_containers(options: argparse.Namespace, files: Sequence[tuple[str, bytes]],
@@ -236,8 +304,8 @@ def read_containers(options: argparse.Namespace, files: Sequence[tuple[str, byte
     """Containers."""
     from arbiter_host.sources import containers
     wish = containers.Wish(options.runtime or options.conversion, options.driver,
-                           options.want or "limit")
-    return containers.read(files, machine(options), library, wish)
+                           want_of(options, "limit"))
+    return with_use(options, containers.source_of(files, machine(options), library, wish)).model()
 
 
 def read_units(options: argparse.Namespace, files: Sequence[tuple[str, bytes]]) -> Model:
@@ -255,10 +323,18 @@ def read_host_file(options: argparse.Namespace, kind: str, name: str, data: byte
     return model.with_host(chosen_host(options, model.host)) if is_chosen(options) else model
 
 
+def check_measured(options: argparse.Namespace, kind: str) -> None:
+    """A fault where an option says what was used of a source that has no such groups."""
+    if is_measured(options) and kind not in ("kubernetes", "docker"):
+        which = "--cgroup" if options.usage is None else "--usage"
+        raise UsageFault(f"{which} belongs to pods and containers, and not to {kind}")
+
+
 def read_files(options: argparse.Namespace, kind: str, files: Sequence[tuple[str, bytes]],
                engine: Engine) -> Model:
     """Files of one kind."""
     name, data = files[0]
+    check_measured(options, kind)
     if kind == "kubernetes":
         return read_pods(options, files, engine.library)
     if kind == "docker":
@@ -311,6 +387,7 @@ def of_files(options: argparse.Namespace, files: Sequence[File], engine: Engine)
     if kind == "cgroup":
         if len(files) > 1:
             raise UsageFault("one folder is one tree")
+        check_measured(options, kind)
         model = read_cgroup(options, files[0][0])
     elif len(found) < len(files):
         raise HostFault(f"{names.shown(files[0][0])}: Is a directory")
@@ -319,8 +396,46 @@ def of_files(options: argparse.Namespace, files: Sequence[File], engine: Engine)
     return finished(options, model)
 
 
+@dataclass(frozen=True)
+class Loaded:
+    """What people own of a source, with the options that hold for every kind of source."""
+
+    options: argparse.Namespace
+    source: Owned
+
+    @property
+    def keys(self) -> Sequence[str]:
+        """The keys of the settings."""
+        return self.source.keys
+
+    def has(self, path: str) -> bool:
+        """Whether a group of the model has such settings."""
+        return self.source.has(path)
+
+    def changed(self, settings: Sequence[Setting]) -> Loaded:
+        """The same with other settings."""
+        return replace(self, source=self.source.changed(settings))
+
+    def ranges(self, path: str) -> list[Range]:
+        """What can be asked for of one group."""
+        return self.source.ranges(path)
+
+    def joined(self, other: Owned) -> Owned | None:
+        """This with what another source of its kind has."""
+        found = self.source.joined(other.source) if isinstance(other, Loaded) else None
+        return None if found is None else replace(self, source=found)
+
+    def model(self) -> Model:
+        """The model, as it was loaded."""
+        return finished(self.options, self.source.model())
+
+
 def finished(options: argparse.Namespace, model: Model) -> Model:
     """A model that was read, with the options that hold for every kind of source."""
+    if model.owned is not None:
+        host = chosen_host(options, model.host)
+        model = model if host == model.host else model.with_host(host)
+        model.owned = Loaded(options, model.owned) if model.owned else None
     demands.scale(model, options.scale)
     if options.strict and model.refused:
         raise RefusedLines(model.refused)

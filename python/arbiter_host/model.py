@@ -3,11 +3,15 @@ from __future__ import annotations
 
 from dataclasses import dataclass, field, replace
 from fractions import Fraction
+from typing import TYPE_CHECKING
 
 from arbiter import Host, Library, Row
 from arbiter_host import names, units
 from arbiter_host.faults import HostFault
 from arbiter_host.units import Slices
+
+if TYPE_CHECKING:
+    from arbiter_host.owned import Owned
 
 MAX_PROCESSORS = 64
 # Greatest capacity, in slices of one period, that the planner takes.
@@ -104,6 +108,8 @@ class Model:
     names_host: bool = False
     # Conversions that the source knows, which are those of its host.
     slices: Slices | None = None
+    # What the source has read, where people own settings of it.
+    owned: Owned | None = None
 
     def add(self, group: Group) -> Group:
         """Adds a group whose parent is there."""

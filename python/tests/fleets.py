@@ -13,7 +13,7 @@ from arbiter_host.fleet.store import Store
 READING = {"kind": None, "want": None, "scale": [], "interval": "1s", "samples": 2, "later": [],
            "own": False, "depth_read": 64, "node": "", "conversion": "linear",
            "kubelet": None, "runtime": None, "driver": "systemd", "strict": False,
-           "cpus": None, "period": None, "slice": None}
+           "cpus": None, "period": None, "slice": None, "usage": None, "cgroup": None}
 
 
 def script(number, groups):

@@ -554,6 +554,7 @@ def test_a_document_is_no_list_of_hosts(ctl, folder, text):
 def test_a_list_may_name_files_in_brackets(folder):
     """Names of files may begin as JSON does."""
     (folder / "list").write_text("{a.toml\n[b.toml\n")
+    (folder / "[b.toml").write_text("")
     assert [host.name for host in hosts.of_word(str(folder / "list"))] == ["[b", "{a"]
 
 

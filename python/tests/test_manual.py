@@ -94,6 +94,7 @@ def examples(ctl, folder):
     fixtures = PACKAGE / "tests/fixtures"
     for name in ("pods.json", "node.json"):
         shutil.copy(fixtures / name, folder)
+    (folder / "pods.csv").write_text("time,prod/db-0\n10:00,0.5\n10:30,0.7\n")
     host = ("[host]\ncpus = 16\nslice = \"1ms\"\n[groups.web]\nweight = 200\nmax = \"2cpu\"\n"
             "demand = \"3cpu\"\n[groups.batch]\ndemand = \"20cpu\"\n")
     (folder / "host.toml").write_text(host)
@@ -112,6 +113,8 @@ def examples(ctl, folder):
             folder / "host.script")
     (folder / "bin").mkdir()
     for name, text in (("arbiterctl", f'exec {sys.executable} {PACKAGE}/arbiterctl "$@"'),
+                       ("kubectl", f"case $1 in top) cat {fixtures}/top.txt;;"
+                        f" *) cat {fixtures}/cluster.json;; esac"),
                        ("systemctl",
                         "case \"$*\" in 'show --property=ControlGroup '*) echo /web.service;;"
                         f" show*) cat {fixtures}/units.show;;"

@@ -63,10 +63,22 @@ def matched(model: Model, words: Sequence[str]) -> tuple[list[str], set[str]]:
     return found, paths
 
 
+def rows_after(before: Plan, after: Plan) -> list[int]:
+    """The row that each group has after a change: its path's, or its own where paths change.
+
+    A pod whose class changes has another path, and its row stays.
+    """
+    if len(before.groups) == len(after.groups):
+        return list(range(len(before.groups)))
+    then = after.by_path()
+    return [then[group.path].row for group in before.groups]
+
+
 def moved(before: Plan, after: Plan) -> list[tuple[int, str]]:
     """By how much the amount of each group without children rises, and its path."""
-    then = after.by_path()
-    return [(then[group.path].gets - group.gets, group.path) for group in leaves(before)]
+    rows = rows_after(before, after)
+    return [(after.groups[rows[group.row]].gets - group.gets, group.path)
+            for group in leaves(before)]
 
 
 def changed(job: Job, model: Model, engine: Engine) -> dict[str, Any]:
@@ -90,8 +102,13 @@ def changed(job: Job, model: Model, engine: Engine) -> dict[str, Any]:
 def with_pod(model: Model, pod: Model) -> tuple[Model, list[str]]:
     """A model with the groups of a pod, and the paths of those that ask for something.
 
-    Groups that both have stay as the host has them.
+    Groups that both have stay as the host has them. Pods of Kubernetes become pods of the node:
+    so the weights of their class follow.
     """
+    whole = model.owned.joined(pod.owned) if model.owned and pod.owned else None
+    if whole is not None:
+        after = whole.model()
+        return after, [path for path in after.groups if path not in model.groups]
     after, asking = model.copy(), []
     for path, group in pod.groups.items():
         if path not in model.groups:

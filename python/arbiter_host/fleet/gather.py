@@ -213,9 +213,10 @@ class Gatherer:
 
     def task(self, host: str, part: int, parts: int, state: dict[str, Any]) -> Task:
         """A task; a fault where a file cannot be read."""
-        path = self.asked.hosts[host].path
+        file = self.asked.hosts[host]
+        data = load.file_bytes(file.path, True) if file.data is None else file.data
         rows = self.asked.demands(host).piece(part, parts) if self.asked.demands else b""
-        item = Item(host, path, load.file_bytes(path, True), part, rows, state)
+        item = Item(host, file.path, data, part, rows, state)
         return Task(item, parts, digest_of(item))
 
     def units(self) -> int:

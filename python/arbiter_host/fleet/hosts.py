@@ -1,13 +1,17 @@
-"""The hosts of a fleet: a file each, below a folder or named by a list."""
+"""The hosts of a fleet: files of a folder or of a list, or the nodes of a cluster."""
 from __future__ import annotations
 
 import json
 import os
 from collections.abc import Iterator, Sequence
-from dataclasses import dataclass
+from dataclasses import dataclass, replace
+from typing import Any
 
 from arbiter_host import load, names
 from arbiter_host.faults import HostFault, UsageFault, strerror
+from arbiter_host.sources import kubernetes, pods
+from arbiter_host.sources.data import MAX_BYTES, table, text
+from arbiter_host.sources.usage import some
 
 
 @dataclass(frozen=True)
@@ -16,6 +20,41 @@ class HostFile:
 
     name: str
     path: str
+    # What the host is read from, where it is a part of a file.
+    data: bytes | None = None
+
+
+@dataclass(frozen=True)
+class Pending:
+    """A pod that no node has yet: its name, the thousandths that it requests, and its JSON.
+
+    What a host gives to one pod it gives to each of the same shape.
+    """
+
+    title: str
+    request: int
+    data: bytes
+    shape: pods.Pod
+
+
+@dataclass(frozen=True)
+class Fleet:
+    """The hosts, and of a cluster what no node has yet and what each has left of its requests."""
+
+    hosts: list[HostFile]
+    pending: tuple[Pending, ...] = ()
+    # Thousandths by the name of the host.
+    room: dict[str, int] | None = None
+    notes: tuple[str, ...] = ()
+
+    @property
+    def is_cluster(self) -> bool:
+        """Whether the hosts are the nodes of a cluster."""
+        return self.room is not None
+
+    def shapes(self) -> dict[pods.Pod, Pending]:
+        """The first of the pods of each shape that no node has yet."""
+        return {each.shape: each for each in reversed(self.pending)}
 
 
 def below(folder: str) -> Iterator[str]:
@@ -28,29 +67,38 @@ def below(folder: str) -> Iterator[str]:
         yield from (os.path.join(top, each) for each in files if not each.startswith("."))
 
 
-def is_document(text: str) -> bool:
-    """Whether a text is one JSON document, and so no list of files."""
-    if text.lstrip("\ufeff \t\r\n")[:1] not in ("{", "["):
-        return False
+def document(data: bytes) -> Any:
+    """The data of a JSON document; None where the bytes are none, and may be a list of files."""
+    if data.lstrip(b"\xef\xbb\xbf \t\r\n")[:1] not in (b"{", b"[") or len(data) > MAX_BYTES:
+        return None
     try:
-        json.loads(text.lstrip("\ufeff"))
+        return json.loads(data.decode("utf-8-sig"))
     except (ValueError, RecursionError):
-        return False
-    return True
+        return None
 
 
-def listed(path: str) -> list[str]:
+def listed(path: str, data: bytes) -> list[str]:
     """The paths that a list names, one a line, relative to its folder."""
     try:
-        text = load.file_bytes(path).decode("utf-8")
+        words = data.decode("utf-8")
     except UnicodeDecodeError as error:
         raise HostFault(f"{names.shown(path)}: no list of files: not UTF-8") from error
-    if is_document(text):
-        raise HostFault(f"{names.shown(path)}: one JSON document, no list of hosts: name a folder"
-                        " of their files, or a list with one file a line")
     folder = "" if path == "-" else os.path.dirname(path)
-    lines = [line.strip() for line in text.split("\n")]
-    return [os.path.join(folder, line) for line in lines if line and not line.startswith("#")]
+    lines = [line.strip() for line in words.split("\n")]
+    lines = [line for line in lines if line and not line.startswith("#")]
+    found = [os.path.join(folder, line) for line in lines]
+    if found and not any(map(is_there, found)):
+        raise HostFault(f"{names.shown(path)}: no list of hosts: no line of it names a file that is"
+                        f" there, such as '{names.shown(names.cut(lines[0], 60))}'")
+    return found
+
+
+def is_there(path: str) -> bool:
+    """Whether a path names something."""
+    try:
+        return os.path.lexists(path)
+    except ValueError:
+        return False
 
 
 def stem(path: str) -> str:
@@ -71,13 +119,78 @@ def named(paths: Sequence[str], folder: str) -> list[HostFile]:
 
 
 def of_word(word: str) -> list[HostFile]:
-    """The hosts of a word of the command line: a folder, or a list of files."""
+    """The hosts of a word of the command line."""
+    return fleet_of(word).hosts
+
+
+def fleet_of(word: str) -> Fleet:
+    """The fleet of a word of the command line: a folder, a list of files, or a cluster."""
     if os.path.isdir(word):
-        found = named(list(below(word)), word)
+        fleet = Fleet(named(list(below(word)), word))
     else:
-        paths = listed(word)
-        folders = [os.path.abspath(os.path.dirname(path)) for path in paths]
-        found = named(paths, os.path.commonpath(folders)) if paths else []
-    if not found:
+        data = load.file_bytes(word)
+        whole = document(data)
+        fleet = of_list(word, data) if whole is None else of_cluster(word, whole)
+    if not fleet.hosts:
         raise HostFault(f"{names.shown(word)}: no host")
-    return found
+    return fleet
+
+
+def of_list(word: str, data: bytes) -> Fleet:
+    """The hosts of a list of files."""
+    paths = listed(word, data)
+    folders = [os.path.abspath(os.path.dirname(path)) for path in paths]
+    return Fleet(named(paths, os.path.commonpath(folders)) if paths else [])
+
+
+def of_cluster(word: str, whole: Any) -> Fleet:
+    """A host for each node of `kubectl get nodes,pods -A -o json`, with the pods that it has."""
+    items = whole.get("items") if isinstance(whole, dict) else None
+    items = [each for each in items if isinstance(each, dict)] if isinstance(items, list) else []
+    nodes = {text(table(each, "metadata"), "name"): each for each in items
+             if each.get("kind") == "Node"}
+    if not nodes:
+        raise HostFault(f"{names.shown(word)}: one JSON document, no list of hosts: name a folder"
+                        " of their files, a list with one file a line, or a cluster, which has"
+                        " nodes and pods (kubectl get nodes,pods -A -o json)")
+    if len(nodes) < sum(each.get("kind") == "Node" for each in items):
+        raise UsageFault(f"{names.shown(word)}: two nodes of one name")
+    of_node: dict[str, list[dict[str, Any]]] = {name: [] for name in nodes}
+    pending: list[dict[str, Any]] = []
+    lost: list[dict[str, Any]] = []
+    for pod in filter(kubernetes.is_pod, items):
+        place = text(table(pod, "spec"), "nodeName")
+        if place in of_node:
+            of_node[place].append(pod)
+        elif not kubernetes.has_ended(pod):
+            (lost if place else pending).append(pod)
+    found = [host_of(word, nodes[name], of_node[name]) for name in sorted(nodes)]
+    notes = [f"pods of nodes that are not in it, left out: {some([title(pod) for pod in lost])}"]
+    return Fleet([host for host, _ in found], tuple(map(pending_of, pending)),
+                 {host.name: room for host, room in found if room is not None},
+                 tuple(notes if lost else ()))
+
+
+def title(pod: dict[str, Any]) -> str:
+    """The name of a pod, for messages."""
+    return names.shown(pods.pod_of(pod, []).title)
+
+
+def host_of(word: str, node: dict[str, Any],
+            of_node: Sequence[dict[str, Any]]) -> tuple[HostFile, int | None]:
+    """A node as a host, and the thousandths that it has left for requests."""
+    name = names.shown(text(table(node, "metadata"), "name") or "unnamed")
+    data = json.dumps({"kind": "List", "items": [node, *of_node]}).encode()
+    allocatable = pods.thousandths(table(node, "status", "allocatable").get("cpu"), "", [])
+    asked = kubernetes.requested_by([pods.pod_of(pod, []) for pod in of_node
+                                     if not kubernetes.has_ended(pod)])
+    room = None if allocatable is None else allocatable - asked
+    return HostFile(name, f"{word}: {name}", data), room
+
+
+def pending_of(pod: dict[str, Any]) -> Pending:
+    """A pod that no node has yet."""
+    found = pods.pod_of(pod, [])
+    data = json.dumps({**pod, "kind": "Pod"}).encode()
+    shape = replace(found, namespace="", name="", uid="")
+    return Pending(names.shown(found.title), found.amounts.request or 0, data, shape)

@@ -11,7 +11,8 @@ from arbiter_host.faults import UsageFault
 
 # The options that say how a host's file is read.
 READING = ("kind", "want", "scale", "interval", "samples", "later", "own", "depth_read", "node",
-           "conversion", "kubelet", "runtime", "driver", "strict", "cpus", "period", "slice")
+           "conversion", "kubelet", "runtime", "driver", "strict", "cpus", "period", "slice",
+           "usage", "cgroup")
 
 
 def canonical(data: Any) -> str:
@@ -64,4 +65,6 @@ def reading(options: argparse.Namespace) -> dict[str, Any]:
     """The reading options of a command line. Later copies belong to one host."""
     if options.later:
         raise UsageFault("--later names a copy of one host: fleet has none")
+    if options.usage is not None or options.cgroup is not None:
+        raise UsageFault("--usage and --cgroup are of one host: fleet has none")
     return {key: getattr(options, key) for key in READING}

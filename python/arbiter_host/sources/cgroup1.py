@@ -68,14 +68,14 @@ class Files:
             most = units.MAX_QUOTA if node.group.quota is None else node.group.quota
             set_number(node, "burst", number_in(burst), (0, most), "cpu.cfs_burst_us", notes)
 
-    def reading(self, folder: str) -> Reading:
+    def reading(self, folder: str | int) -> Reading:
         """Reads cpuacct.usage, in nanoseconds, and cpu.stat."""
         usage = number_in(file_text(folder, "cpuacct.usage"))
         stat = keyed(file_text(folder, "cpu.stat"))
         return Reading(None if usage is None else usage // 1000, stat.get("nr_periods"),
                        stat.get("nr_throttled"))
 
-    def tasks(self, folder: str) -> int | None:
+    def tasks(self, folder: str | int) -> int | None:
         """Counts tasks, which are threads."""
         return cgroups.lines_in(file_text(folder, "tasks"))
 

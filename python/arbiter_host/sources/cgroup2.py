@@ -11,7 +11,8 @@ from arbiter_host.faults import HostFault, strerror
 from arbiter_host.model import Model
 from arbiter_host.names import shown
 from arbiter_host.sources import cgroup1, cgroups
-from arbiter_host.sources.cgroups import Node, Wish, file_text, keyed, number_in, set_number
+from arbiter_host.sources.cgroups import (Node, Version, Wish, file_text, keyed, number_in,
+                                          set_number)
 
 
 def pressure_of(text: str | None) -> int | None:
@@ -55,13 +56,13 @@ class Files:
                 limits = (units.MIN_QUOTA, units.MAX_QUOTA)
                 set_number(node, "quota", number_in(words[0]), limits, "cpu.max", notes)
 
-    def reading(self, folder: str) -> Reading:
+    def reading(self, folder: str | int) -> Reading:
         """Reads cpu.stat and cpu.pressure."""
         stat = keyed(file_text(folder, "cpu.stat"))
         return Reading(stat.get("usage_usec"), stat.get("nr_periods"), stat.get("nr_throttled"),
                        pressure_of(file_text(folder, "cpu.pressure")))
 
-    def tasks(self, folder: str) -> int | None:
+    def tasks(self, folder: str | int) -> int | None:
         """Counts cgroup.threads, and cgroup.procs where that cannot be read."""
         text = file_text(folder, "cgroup.threads")
         return cgroups.lines_in(file_text(folder, "cgroup.procs") if text is None else text)
@@ -104,12 +105,17 @@ def check_folder(folder: str) -> None:
         raise HostFault(f"{shown(folder)}: {why}") from error
 
 
-def read(folder: str, host: Host, wish: Wish = Wish()) -> Model:
-    """The model of a tree of version 2, or of version 1 where the folder is one."""
+def version_of(folder: str) -> Version:
+    """The files of a tree of version 2, or of version 1 where the folder is one."""
     check_folder(folder)
     if cgroup1.is_tree(folder):
-        return cgroups.read(cgroup1.Files(), folder, host, wish)
+        return cgroup1.Files()
     if not is_tree(folder):
         raise HostFault(f"{shown(folder)}: neither a cpu.stat with usage_usec nor"
                         f" cgroup.controllers, so no cgroup tree{hint(folder)}")
-    return cgroups.read(Files(), folder, host, wish)
+    return Files()
+
+
+def read(folder: str, host: Host, wish: Wish = Wish()) -> Model:
+    """The model of a tree of either version."""
+    return cgroups.read(version_of(folder), folder, host, wish)

@@ -8,7 +8,7 @@ from __future__ import annotations
 import os
 import stat
 import time
-from collections.abc import Iterator
+from collections.abc import Callable
 from dataclasses import dataclass, field
 from fractions import Fraction
 from typing import Protocol
@@ -44,10 +44,10 @@ class Version(Protocol):
     def settings(self, node: Node, notes: list[str]) -> None:
         """Reads weight, quota, period and burst."""
 
-    def reading(self, folder: str) -> Reading:
+    def reading(self, folder: str | int) -> Reading:
         """Reads the counters."""
 
-    def tasks(self, folder: str) -> int | None:
+    def tasks(self, folder: str | int) -> int | None:
         """The number of tasks of a group."""
 
     def told(self, folder: str) -> list[str]:
@@ -188,31 +188,39 @@ class Walk:
             child.measured.tasks = self.version.tasks(folder)
 
 
-def later_folders(top: str, node: Node, wish: Wish) -> Iterator[str]:
-    """The folder of a group in each later copy."""
-    for folder in wish.later:
-        yield os.path.join(folder, os.path.relpath(node.folder, top))
-
-
 def sample(top: str, root: Node, walk: Walk) -> Fraction:
     """Reads the counters again, after each interval or in each later copy.
 
     Returns the seconds from one reading to the next.
     """
-    wish, nodes = walk.wish, [root, *walk.nodes]
+    nodes = [root, *walk.nodes]
+
+    def take(at: int) -> None:
+        for node in nodes:
+            later = walk.wish.later[at] if walk.wish.later else top
+            folder = os.path.join(later, os.path.relpath(node.folder, top))
+            node.measured.readings.append(walk.version.reading(folder))
+
+    return repeated(walk.wish, take)
+
+
+def repeated(wish: Wish, take: Callable[[int], None]) -> Fraction:
+    """Takes readings again: of each later copy, by its place, or after each interval.
+
+    Returns the seconds from one reading to the next.
+    """
     for folder in wish.later:
         if not os.path.isdir(folder):
             raise HostFault(f"{names.shown(folder)}: no folder")
     if wish.later:
-        for node in nodes:
-            node.measured.readings += map(walk.version.reading, later_folders(top, node, wish))
+        for at in range(len(wish.later)):
+            take(at)
         return wish.seconds
     begun, turns = time.monotonic(), max(wish.samples - 1, 1)
     with progress.bar("readings", turns) as tick:
         for turn in range(1, turns + 1):
             time.sleep(max(begun + float(wish.seconds * turn) - time.monotonic(), 0))
-            for node in nodes:
-                node.measured.readings.append(walk.version.reading(node.folder))
+            take(turn - 1)
             tick()
     passed = Fraction(time.monotonic() - begun).limit_denominator(10**6) / turns
     return max(passed, wish.seconds)

@@ -1,8 +1,9 @@
 """Containers, as `docker inspect` and `podman inspect` print them."""
 from __future__ import annotations
 
-from collections.abc import Sequence
-from dataclasses import dataclass
+import functools
+from collections.abc import Mapping, Sequence
+from dataclasses import dataclass, field, replace
 from fractions import Fraction
 from typing import Any
 
@@ -11,10 +12,17 @@ from arbiter_host import demands, names, units
 from arbiter_host.demands import Measured
 from arbiter_host.faults import HostFault
 from arbiter_host.model import Group, Model, check_count, checked
+from arbiter_host.owned import NONE, Owned, Range, Setting
 from arbiter_host.sources import systemd
+from arbiter_host.sources.beside import Place
 from arbiter_host.sources.data import loads, number, table, text
+from arbiter_host.sources.usage import Used, some
 
 NANO = 10**9
+# docker takes no fewer CPUs, in thousandths.
+LEAST_CPUS = 10
+# Letters of an identifier that docker prints.
+SHORT_ID = 12
 
 
 @dataclass(frozen=True)
@@ -92,8 +100,9 @@ def parent_path(model: Model, folder: str) -> str:
 
 
 def add(model: Model, container: dict[str, Any], library: Library, wish: Wish,
-        taken: dict[str, set[str]]) -> None:
-    """Adds a container's group. `taken` has the names of containers below each folder."""
+        taken: dict[str, set[str]]) -> str:
+    """Adds a container's group, and returns its path. `taken` has the names of containers below
+    each folder."""
     folder = parent_of(container, wish)
     parent = parent_path(model, folder)
     raw = text(container, "Name").strip("/") or text(container, "Id") or "unnamed"
@@ -108,6 +117,7 @@ def add(model: Model, container: dict[str, Any], library: Library, wish: Wish,
     config = table(container, "HostConfig")
     set_weight(group, config, library, wish)
     set_limit(group, config, model.notes)
+    return group.path
 
 
 def is_running(container: dict[str, Any]) -> bool:
@@ -115,9 +125,136 @@ def is_running(container: dict[str, Any]) -> bool:
     return table(container, "State").get("Running", True) is not False
 
 
-def read(files: Sequence[tuple[str, bytes]], host: Host, library: Library,
-         wish: Wish = Wish()) -> Model:
-    """The model of the containers of some files."""
+def config_with(container: dict[str, Any], setting: Setting, host: Host) -> dict[str, Any]:
+    """The HostConfig of a container with `--cpus` or `--cpu-shares` as docker takes them."""
+    config = table(container, "HostConfig")
+    if setting.key == "cpus":
+        return {**config, "NanoCpus": nano_of(setting, host), "CpuQuota": 0, "CpuPeriod": 0}
+    if setting.value in NONE:
+        return {**config, "CpuShares": 0}
+    word = setting.value
+    shares = int(word) if word.isascii() and word.isdigit() and len(word) <= 9 else -1
+    if shares and not units.MIN_SHARES <= shares <= units.MAX_SHARES:
+        raise setting.fault(f"not {units.MIN_SHARES} to {units.MAX_SHARES}, or 0 for the default")
+    return {**config, "CpuShares": shares}
+
+
+def nano_of(setting: Setting, host: Host) -> int:
+    """The billionths of a CPU of `--cpus`; 0 for no limit."""
+    if setting.value in NONE:
+        return 0
+    try:
+        found = units.parse_cpu(setting.value)
+    except HostFault as fault:
+        raise setting.fault(fault.message) from fault
+    nano = found * (NANO // 1000)
+    if nano and not LEAST_CPUS <= found <= 1000 * host.processors or nano.denominator != 1:
+        raise setting.fault(f"docker takes 0.01 to {host.processors} CPUs in whole billionths, and"
+                            " 0 for no limit")
+    return int(nano)
+
+
+@dataclass(frozen=True)
+class Source:
+    """Containers as they were read. `--cpus` and `--cpu-shares` of them can be changed."""
+
+    library: Library
+    wish: Wish
+    host: Host
+    running: tuple[dict[str, Any], ...]
+    notes: tuple[str, ...] = ()
+    # What was measured of containers, and the seconds from one reading to the next.
+    known: Mapping[Place, Measured] = field(default_factory=dict)
+    seconds: Fraction = Fraction(1)
+
+    keys = ("cpus", "cpu-shares")
+
+    @functools.cached_property
+    def built(self) -> tuple[Model, dict[str, int]]:
+        """The model, and the place of each container by the path of its group."""
+        model = Model(checked(self.host), notes=list(self.notes))
+        check_count(len(self.running), f"{len(self.running)} containers")
+        # Folders come first, so that no container's name takes the path of one.
+        for container in self.running:
+            parent_path(model, parent_of(container, self.wish))
+        taken: dict[str, set[str]] = {}
+        places = {add(model, container, self.library, self.wish, taken): place
+                  for place, container in enumerate(self.running)}
+        if self.wish.want == "request" or self.wish.want in demands.OF_USE and not self.known:
+            raise HostFault(f"--want {self.wish.want} needs --usage or --cgroup: containers have"
+                            " limit and busy", 2)
+        measured = {path: Measured() for path in model.groups}
+        measured |= {path: self.known.get((place, 0), Measured()) for path, place in places.items()}
+        demands.set_demands(model, measured, self.wish.want, self.seconds)
+        return model, places
+
+    def model(self) -> Model:
+        """The model."""
+        return replace(self.built[0].copy(), owned=self)
+
+    def folders(self) -> dict[Place, tuple[str, ...]]:
+        """Where each container may be below the top of a tree, by the drivers of docker."""
+        wishes = sorted((replace(self.wish, driver=each) for each in ("systemd", "cgroupfs")),
+                        key=lambda each: each.driver != self.wish.driver)
+        return {(place, 0): tuple(f"{parent_of(each, wish)}/{scope_of(each, wish)}"
+                                  for wish in wishes)
+                for place, each in enumerate(self.running) if text(each, "Id")}
+
+    def with_readings(self, known: Mapping[Place, Measured], seconds: Fraction) -> Source:
+        """The same with what was measured in a tree of cgroups."""
+        return replace(self, known=known, seconds=seconds)
+
+    def with_usage(self, entries: Sequence[Used], name: str) -> Source:
+        """The same with what others measured. What it has no container of is told."""
+        by_name = {text(each, "Name").strip("/"): place for place, each in enumerate(self.running)}
+        by_id = {text(each, "Id")[:SHORT_ID]: place for place, each in enumerate(self.running)}
+        known, missing = {}, []
+        for entry in entries:
+            place = by_id.get(entry.identifier[:SHORT_ID]) if entry.identifier else None
+            place = by_name.get(entry.container) if place is None else place
+            if place is None:
+                missing.append(entry.title)
+            else:
+                known[place, 0] = Measured(told=entry.amount)
+        told = f"{name}: used by containers that are not here, {some(missing)}"
+        if not known:
+            raise HostFault(told)
+        return replace(self, known=known, notes=(*self.notes, *([told] if missing else [])))
+
+    def has(self, path: str) -> bool:
+        """Whether a group is a container."""
+        return path in self.built[1]
+
+    def changed(self, settings: Sequence[Setting]) -> Source:
+        """The same with other CPUs and shares."""
+        running = list(self.running)
+        for setting in settings:
+            place = self.built[1][setting.path]
+            running[place] = {**running[place],
+                              "HostConfig": config_with(running[place], setting, self.host)}
+        return replace(self, running=tuple(running))
+
+    def joined(self, _: Owned) -> None:
+        """None: it takes no groups of another."""
+        return None
+
+    def ranges(self, path: str) -> list[Range]:
+        """The shares and the CPUs that can be asked for of a container."""
+        config = table(self.running[self.built[1][path]], "HostConfig")
+        shares, group = number(config, "CpuShares"), self.built[0].groups[path]
+        most = 1000 * self.host.processors
+        cpus = "-" if group.quota is None else units.decimal(Fraction(group.quota, group.period))
+        return [Range("cpu-shares", str(shares) if shares > 0 else "-",
+                      [(units.MIN_SHARES, units.MAX_SHARES)], str,
+                      f"{units.MAX_SHARES} are the most"),
+                Range("cpus", cpus, [(LEAST_CPUS, most)],
+                      lambda each: units.decimal(Fraction(each, 1000)),
+                      f"{self.host.processors} are all")]
+
+
+def source_of(files: Sequence[tuple[str, bytes]], host: Host, library: Library,
+              wish: Wish = Wish()) -> Source:
+    """The containers of some files."""
     found: list[dict[str, Any]] = []
     for name, data in files:
         entries = loads(data, name)
@@ -128,19 +265,13 @@ def read(files: Sequence[tuple[str, bytes]], host: Host, library: Library,
                 for each in entries):
             raise HostFault(f"{name}: no containers as `docker inspect` prints them")
         found += entries
-    if wish.want not in ("limit", "busy"):
-        raise HostFault(f"--want {wish.want} needs readings: containers have limit and busy", 2)
-    model = Model(checked(host))
     running = [each for each in found if is_running(each)]
-    if len(running) < len(found):
-        model.notes.append(f"containers that do not run, left out: {len(found) - len(running)}")
-    check_count(len(running), f"{len(running)} containers")
-    # Folders come first, so that no container's name takes the path of one.
-    for container in running:
-        parent_path(model, parent_of(container, wish))
-    taken: dict[str, set[str]] = {}
-    for container in running:
-        add(model, container, library, wish, taken)
-    measured = {path: Measured() for path in model.groups}
-    demands.set_demands(model, measured, wish.want, Fraction(1))
-    return model
+    left = len(found) - len(running)
+    notes = (f"containers that do not run, left out: {left}",) if left else ()
+    return Source(library, wish, host, tuple(running), notes)
+
+
+def read(files: Sequence[tuple[str, bytes]], host: Host, library: Library,
+         wish: Wish = Wish()) -> Model:
+    """The model of the containers of some files."""
+    return source_of(files, host, library, wish).model()

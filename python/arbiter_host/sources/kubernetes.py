@@ -6,11 +6,11 @@ title of a container is `namespace/pod/container`, its place the folder below /s
 """
 from __future__ import annotations
 
-import json
+import bisect
+import functools
 import math
-import re
-from collections.abc import Sequence
-from dataclasses import dataclass, field
+from collections.abc import Mapping, Sequence
+from dataclasses import dataclass, field, replace
 from fractions import Fraction
 from typing import Any
 
@@ -20,18 +20,16 @@ from arbiter_host.demands import Measured
 from arbiter_host.faults import HostFault, NoHost
 from arbiter_host.model import Group, Model, check_count, checked
 from arbiter_host.names import NOWHERE, shown
+from arbiter_host.owned import NONE, Owned, Range, Setting
+from arbiter_host.sources.beside import Place
 from arbiter_host.sources.data import loads, table, tables, text
+from arbiter_host.sources.pods import (CLASSES, TOP, Amounts, Container, Pod, folder_of, pod_of,
+                                       requested, scope_of, thousandths)
+from arbiter_host.sources.usage import Used, some
 
-TOP = "kubepods"
-CLASSES = {"Guaranteed": TOP, "Burstable": f"{TOP}/burstable", "BestEffort": f"{TOP}/besteffort"}
 ENDED = ("Succeeded", "Failed")
-# A quantity: a number, and either a suffix or an exponent. None below 0 is an amount of CPU.
-QUANTITY = re.compile(r"\+?([0-9]{1,30}(?:\.[0-9]{0,30})?|\.[0-9]{1,30})"
-                      r"(?:([numkMGTPE]|[KMGTPE]i)|[eE]([+-]?[0-9]{1,2}))?")
-SUFFIXES = {"": Fraction(1), "n": Fraction(1, 10**9), "u": Fraction(1, 10**6),
-            "m": Fraction(1, 1000),
-            **{letter: Fraction(1000) ** power for power, letter in enumerate("kMGTPE", 1)},
-            **{f"{letter}i": Fraction(1024) ** power for power, letter in enumerate("KMGTPE", 1)}}
+# A request of so many thousandths has the greatest shares; no greater one weighs more.
+MOST_REQUEST = units.MAX_SHARES * 1000 // 1024
 
 
 @dataclass(frozen=True)
@@ -46,200 +44,6 @@ class Wish:
     runtime: str = "linear"
     driver: str = "systemd"
     want: str = "request"
-
-
-@dataclass(frozen=True)
-class Amounts:
-    """Requests and limits of CPU in whole thousandths; None where not given."""
-
-    request: int | None = None
-    limit: int | None = None
-
-
-@dataclass
-class Container:
-    """A container that has a group."""
-
-    name: str
-    amounts: Amounts
-    identifier: str = ""
-    is_init: bool = False
-    is_sidecar: bool = False
-    is_running: bool = False
-
-
-@dataclass
-class Pod:
-    """A pod: what kubelet reckons with."""
-
-    namespace: str
-    name: str
-    uid: str
-    quality: str
-    amounts: Amounts
-    containers: list[Container] = field(default_factory=list)
-
-    @property
-    def title(self) -> str:
-        """Namespace and name."""
-        return f"{self.namespace}/{self.name}"
-
-
-def quantity(value: Any) -> Fraction:
-    """Thousandths of a CPU of a quantity; a fault where Kubernetes takes none of this form."""
-    word = json.dumps(value) if isinstance(value, (int, float, bool)) else str(value)[:60]
-    found = QUANTITY.fullmatch(word)
-    if not found:
-        raise HostFault(f"{shown(word)!r} is no quantity of CPU")
-    amount = Fraction(found.group(1)) * SUFFIXES[found.group(2) or ""] * 1000
-    if found.group(3):
-        amount *= Fraction(10) ** int(found.group(3))
-    if amount > units.MAX_CPUS * 1000:
-        raise HostFault(f"{word!r} is above {units.MAX_CPUS} CPUs")
-    return amount
-
-
-def thousandths(value: Any, where: str, notes: list[str]) -> int | None:
-    """A quantity in whole thousandths, rounded up as kubelet does."""
-    if value is None:
-        return None
-    try:
-        return math.ceil(quantity(value))
-    except HostFault as fault:
-        notes.append(f"{where}: {fault.message}: it is left out")
-        return None
-
-
-def amounts_of(resources: dict[str, Any], where: str, notes: list[str]) -> Amounts:
-    """Request and limit of CPU. A limit without a request is the request too."""
-    limit = thousandths(table(resources, "limits").get("cpu"), where, notes)
-    request = thousandths(table(resources, "requests").get("cpu"), where, notes)
-    return Amounts(limit if request is None else request, limit)
-
-
-def identifier_of(status: dict[str, Any]) -> str:
-    """The runtime's identifier of a container, as the names of groups have it."""
-    kind, _, identifier = text(status, "containerID").partition("://")
-    prefix = {"containerd": "cri-containerd-", "cri-o": "crio-", "docker": "docker-"}.get(kind, "")
-    return prefix + identifier if identifier else ""
-
-
-def containers_of(pod: dict[str, Any], where: str, notes: list[str]) -> list[Container]:
-    """All containers of a pod: init containers first, in order."""
-    found = []
-    for key, statuses in (("initContainers", "initContainerStatuses"),
-                          ("containers", "containerStatuses")):
-        status = {text(each, "name"): each for each in tables(table(pod, "status"), statuses)}
-        for each in tables(table(pod, "spec"), key):
-            name = text(each, "name") or "unnamed"
-            known = status.get(name, {})
-            is_init = key == "initContainers"
-            amounts = amounts_of(table(each, "resources"), f"{where}/{name}", notes)
-            found.append(Container(name, amounts, identifier_of(known), is_init,
-                                   is_init and text(each, "restartPolicy") == "Always",
-                                   "running" in table(known, "state")))
-    return found
-
-
-def requested(containers: Sequence[Container], key: str) -> int:
-    """What a pod's containers take at most at once, in thousandths, by request or limit."""
-    def value(container: Container) -> int:
-        return getattr(container.amounts, key) or 0
-
-    sidecars, most = 0, 0
-    for each in containers:
-        if each.is_sidecar:
-            sidecars += value(each)
-            most = max(most, sidecars)
-        elif each.is_init:
-            most = max(most, sidecars + value(each))
-    return max(sum(value(each) for each in containers if not each.is_init) + sidecars, most)
-
-
-def is_limited(containers: Sequence[Container]) -> bool:
-    """Whether kubelet sets a limit of CPU for the pod of these containers.
-
-    Each container needs a limit. kubelet counts an init container or sidecar together with the
-    sidecars before it, so one without a limit is covered where such a sidecar has one.
-    """
-    sidecars = 0
-    for each in containers:
-        limit = each.amounts.limit or 0
-        if limit + (sidecars if each.is_init else 0) == 0:
-            return False
-        sidecars += limit if each.is_sidecar else 0
-    return bool(containers)
-
-
-def pod_amounts(pod: dict[str, Any], containers: Sequence[Container], where: str,
-                notes: list[str]) -> Amounts:
-    """Request and limit of a whole pod, with its overhead."""
-    spec = table(pod, "spec")
-    overhead = thousandths(table(spec, "overhead").get("cpu"), where, notes) or 0
-    own = amounts_of(table(spec, "resources"), where, notes)
-    request = requested(containers, "request") if own.request is None else own.request
-    limit = own.limit
-    if limit is None and is_limited(containers):
-        limit = requested(containers, "limit")
-    return Amounts(request + overhead, None if limit is None else limit + overhead)
-
-
-def memory_of(container: dict[str, Any], key: str) -> Any:
-    """A memory quantity of a container, for the quality class."""
-    return table(container, "resources", key).get("memory")
-
-
-def quality_of(pod: dict[str, Any], containers: Sequence[Container]) -> str:
-    """The quality class: as the status says, else by kubelet's rule."""
-    told = text(table(pod, "status"), "qosClass")
-    if told in CLASSES:
-        return told
-    spec = table(pod, "spec")
-    raw = tables(spec, "initContainers") + tables(spec, "containers")
-    asks = any(each.amounts.request or each.amounts.limit for each in containers)
-    asks = asks or any(memory_of(each, key) for each in raw for key in ("requests", "limits"))
-    if not asks:
-        return "BestEffort"
-    equal = all(each.amounts.limit and each.amounts.request == each.amounts.limit
-                for each in containers)
-    for each in raw:
-        limit = memory_of(each, "limits")
-        equal = equal and bool(limit) and memory_of(each, "requests") in (None, limit)
-    return "Guaranteed" if equal else "Burstable"
-
-
-def pod_of(pod: dict[str, Any], notes: list[str]) -> Pod:
-    """A pod as kubelet reckons with it."""
-    metadata = table(pod, "metadata")
-    name, namespace = text(metadata, "name") or "unnamed", text(metadata, "namespace") or "default"
-    where = f"{namespace}/{name}"
-    containers = containers_of(pod, where, notes)
-    amounts = pod_amounts(pod, containers, where, notes)
-    return Pod(namespace, name, text(metadata, "uid"), quality_of(pod, containers), amounts,
-               [each for each in containers
-                if not each.is_init or each.is_sidecar or each.is_running])
-
-
-def folder_of(pod: Pod, driver: str) -> str:
-    """The folder of a pod below /sys/fs/cgroup, by the driver of kubelet."""
-    quality = {"Guaranteed": "", "Burstable": "burstable", "BestEffort": "besteffort"}[pod.quality]
-    if driver == "cgroupfs":
-        return "/".join(each for each in (TOP, quality, f"pod{pod.uid}") if each)
-    slices, prefix = [f"{TOP}.slice"], TOP
-    for part in (quality, "pod" + pod.uid.replace("-", "_")):
-        if part:
-            prefix += f"-{part}"
-            slices.append(f"{prefix}.slice")
-    return "/".join(slices)
-
-
-def scope_of(folder: str, container: Container, driver: str) -> str:
-    """The folder of a container, if its identifier is known."""
-    if not container.identifier:
-        return NOWHERE
-    if driver == "cgroupfs":
-        return f"{folder}/{container.identifier.rpartition('-')[2]}"
-    return f"{folder}/{container.identifier}.scope"
 
 
 def items_of(found: Any, name: str) -> list[dict[str, Any]]:
@@ -258,6 +62,11 @@ def is_pod(item: dict[str, Any]) -> bool:
     return item.get("kind", "Pod") == "Pod" and isinstance(item.get("spec"), dict)
 
 
+def has_ended(item: dict[str, Any]) -> bool:
+    """Whether a pod has ended, so that it has no group."""
+    return text(table(item, "status"), "phase") in ENDED
+
+
 def pods_on(items: Sequence[dict[str, Any]], node: str, notes: list[str]) -> list[Pod]:
     """The pods of one node that have not ended; a fault where several nodes are meant."""
     pods = [each for each in items if is_pod(each)]
@@ -267,7 +76,7 @@ def pods_on(items: Sequence[dict[str, Any]], node: str, notes: list[str]) -> lis
     if len(nodes) > 1:
         some = ", ".join(shown(each) for each in sorted(nodes)[:5])
         raise HostFault(f"the pods are of {len(nodes)} nodes ({some}): choose one by --node")
-    lasting = [each for each in pods if text(table(each, "status"), "phase") not in ENDED]
+    lasting = [each for each in pods if not has_ended(each)]
     if len(lasting) < len(pods):
         notes.append(f"pods that have ended, left out: {len(pods) - len(lasting)}")
     # A pod has a group of its own and one of its pause container.
@@ -288,10 +97,13 @@ def node_of(items: Sequence[dict[str, Any]], wish: Wish) -> dict[str, Any] | Non
 class Builder:
     """Makes the groups of pods."""
 
-    def __init__(self, model: Model, library: Library, wish: Wish) -> None:
-        self.model, self.library, self.wish = model, library, wish
+    def __init__(self, model: Model, library: Library, wish: Wish,
+                 known: Mapping[Place, Measured]) -> None:
+        self.model, self.library, self.wish, self.known = model, library, wish, known
         self.measured: dict[str, Measured] = {}
         self.taken: dict[str, set[str]] = {}
+        # The places of a pod and of its container, by the path of the group.
+        self.places: dict[str, Place] = {}
 
     def weight(self, amount: int, conversion: str) -> int:
         """The weight that a request gets by a conversion."""
@@ -312,9 +124,10 @@ class Builder:
         self.model.add(Group(TOP, weight=weight, place=self.folder("")))
         burstable = sum(pod.amounts.request or 0 for pod in pods if pod.quality == "Burstable")
         for quality, amount in (("burstable", burstable), ("besteffort", 0)):
-            self.model.add(Group(f"{TOP}/{quality}", weight=self.weight(amount, kubelet),
-                                 place=self.folder(quality)))
+            made = self.model.add(Group(f"{TOP}/{quality}", weight=self.weight(amount, kubelet),
+                                        place=self.folder(quality)))
             self.taken.setdefault(TOP, set()).add(quality)
+            self.measured[made.path] = Measured(request=Fraction(0), tasks=0)
 
     def folder(self, quality: str) -> str:
         """The folder of a class."""
@@ -323,7 +136,7 @@ class Builder:
         below = f"/{TOP}-{quality}.slice" if quality else ""
         return f"{TOP}.slice{below}"
 
-    def pod(self, pod: Pod) -> None:
+    def pod(self, pod: Pod, place: int) -> None:
         """Makes a pod, its pause container and its containers."""
         path = self.name(CLASSES[pod.quality], f"{pod.namespace}:{pod.name}")
         folder = folder_of(pod, self.wish.driver)
@@ -336,35 +149,208 @@ class Builder:
         pause = self.name(path, "pause")
         self.model.add(Group(pause, weight=1, title=f"{pod.title}/pause", place=NOWHERE))
         self.measured[pause] = Measured(request=Fraction(0), tasks=0)
-        for container in pod.containers:
-            self.container(pod, path, folder, container)
+        for number, container in enumerate(pod.parts):
+            if container.has_group:
+                made = self.container(pod, path, folder, container)
+                self.places[made] = (place, number)
+                request = container.amounts.request or 0
+                self.measured[made] = replace(self.known.get((place, number), Measured()),
+                                              request=Fraction(request))
 
-    def container(self, pod: Pod, parent: str, folder: str, container: Container) -> None:
-        """Makes a container."""
+    def container(self, pod: Pod, parent: str, folder: str, container: Container) -> str:
+        """Makes a container, and returns its path."""
         path, amounts = self.name(parent, container.name), container.amounts
         group = Group(path, self.weight(amounts.request or 0, self.wish.runtime),
                       title=f"{pod.title}/{container.name}",
                       place=scope_of(folder, container, self.wish.driver))
         if amounts.limit:
             group.quota = units.quota_of_thousandths(amounts.limit)
-        self.model.add(group)
-        self.measured[path] = Measured(request=Fraction(amounts.request or 0))
+        return self.model.add(group).path
 
 
-def tell_limits(model: Model, wish: Wish, measured: dict[str, Measured]) -> None:
-    """Sets the demands. The pause container asks for nothing."""
-    if wish.want in ("usage", "peak", "p95", "psi"):
-        raise HostFault(f"--want {wish.want} needs readings: pods have request, limit and busy", 2)
-    demands.set_demands(model, measured, wish.want, Fraction(1))
-    for path, group in model.groups.items():
-        found = measured.get(path)
-        if found is not None and found.tasks == 0:
-            group.demand = Fraction(0)
+def tell_limits(model: Model, wish: Wish, builder: Builder, seconds: Fraction) -> None:
+    """Sets the demands. Pause containers and classes without a pod ask for nothing."""
+    if wish.want in demands.OF_USE and not builder.known:
+        raise HostFault(f"--want {wish.want} needs --usage or --cgroup: pods have request, limit"
+                        " and busy", 2)
+    idle = builder.measured.keys() - builder.places.keys()
+    for path in idle if wish.want in demands.OF_USE else ():
+        builder.measured[path].told = Fraction(0)
+    demands.set_demands(model, builder.measured, wish.want, seconds)
+    for path in idle:
+        model.groups[path].demand = Fraction(0)
 
 
-def read(files: Sequence[tuple[str, bytes]], host: Host | None, library: Library,
-         wish: Wish = Wish()) -> Model:
-    """The model of a node from the files of its pods and of the node itself."""
+def amount_of(setting: Setting) -> int | None:
+    """The whole thousandths of a request or limit, rounded up as kubelet does; None for none."""
+    if setting.value in NONE:
+        return None
+    try:
+        return math.ceil(units.parse_cpu(setting.value))
+    except HostFault as fault:
+        raise setting.fault(fault.message) from fault
+
+
+def check_amounts(pod: Pod, container: Container) -> None:
+    """A fault where Kubernetes takes no such request or limit of a container."""
+    request, limit = container.amounts.request or 0, container.amounts.limit
+    where = shown(f"{pod.title}/{container.name}")
+    if limit is not None and request > limit:
+        raise HostFault(f"{where}: its request {request}m is above its limit {limit}m, which"
+                        " Kubernetes refuses")
+    if pod.own.request is not None and requested(pod.parts, "request") > pod.own.request:
+        raise HostFault(f"{where}: the requests of its pod's containers are above the request"
+                        f" {pod.own.request}m of the pod itself, which Kubernetes refuses")
+    if pod.own.limit is not None and (limit or 0) > pod.own.limit:
+        raise HostFault(f"{where}: its limit {limit}m is above the limit {pod.own.limit}m of the"
+                        " pod itself, which Kubernetes refuses")
+
+
+@dataclass(frozen=True)
+class Source:
+    """Pods and their node as they were read. Requests and limits of them can be changed."""
+
+    library: Library
+    wish: Wish
+    host: Host
+    pods: tuple[Pod, ...]
+    # Thousandths that the node has for pods; None without the node's JSON.
+    allocatable: int | None = None
+    names_host: bool = False
+    notes: tuple[str, ...] = ()
+    # What was measured of containers, and the seconds from one reading to the next.
+    known: Mapping[Place, Measured] = field(default_factory=dict)
+    seconds: Fraction = Fraction(1)
+
+    keys = ("request", "limit")
+
+    @functools.cached_property
+    def built(self) -> tuple[Model, dict[str, Place]]:
+        """The model, and the places of a pod and of its container by the path of the group."""
+        model = Model(checked(self.host), notes=list(self.notes), names_host=self.names_host)
+        builder = Builder(model, self.library, self.wish, self.known)
+        builder.classes(self.pods, self.allocatable)
+        for place, pod in enumerate(self.pods):
+            builder.pod(pod, place)
+        tell_limits(model, self.wish, builder, self.seconds)
+        return model, builder.places
+
+    def model(self) -> Model:
+        """The model."""
+        return replace(self.built[0].copy(), owned=self)
+
+    def folders(self) -> dict[Place, tuple[str, ...]]:
+        """Where each container may be below the top of a tree, by the drivers of kubelet."""
+        drivers = sorted(("systemd", "cgroupfs"), key=lambda each: each != self.wish.driver)
+        return {(place, number): tuple(scope_of(folder_of(pod, driver), container, driver)
+                                       for driver in drivers)
+                for place, pod in enumerate(self.pods)
+                for number, container in enumerate(pod.parts)
+                if container.has_group and container.identifier}
+
+    def with_readings(self, known: Mapping[Place, Measured], seconds: Fraction) -> Source:
+        """The same with what was measured in a tree of cgroups."""
+        return replace(self, known=known, seconds=seconds)
+
+    def with_usage(self, entries: Sequence[Used], name: str) -> Source:
+        """The same with what others measured. What it has no container of is told."""
+        by_name: dict[str, list[int]] = {}
+        for place, pod in enumerate(self.pods):
+            by_name.setdefault(pod.name, []).append(place)
+            by_name.setdefault(pod.title, []).append(place)
+        known, missing = {}, []
+        for entry in entries:
+            word = f"{entry.namespace}/{entry.pod}" if entry.namespace else entry.pod
+            places = [(place, number) for place in by_name.get(word, ())
+                      for number, each in enumerate(self.pods[place].parts)
+                      if each.has_group and entry.container in ("", each.name)]
+            if len(places) == 1:
+                known[places[0]] = Measured(told=entry.amount)
+            else:
+                missing.append(entry.title + (f" ({len(places)} containers)" if places else ""))
+        told = f"{name}: used by containers that are not here, {some(missing)}"
+        if not known:
+            raise HostFault(told)
+        return replace(self, known=known, notes=(*self.notes, *([told] if missing else [])))
+
+    def has(self, path: str) -> bool:
+        """Whether a group is a container that the JSON has."""
+        return path in self.built[1]
+
+    def changed(self, settings: Sequence[Setting]) -> Source:
+        """The same with other requests and limits. All are made before they are checked."""
+        pods, changed = list(self.pods), set()
+        for setting in settings:
+            place, number = self.built[1][setting.path]
+            amounts = replace(pods[place].parts[number].amounts,
+                              **{setting.key: amount_of(setting)})
+            if amounts.request is None:
+                amounts = Amounts(amounts.limit, amounts.limit)
+            pods[place] = pods[place].with_amounts(number, amounts)
+            changed.add((place, number))
+        for place, number in sorted(changed):
+            check_amounts(pods[place], pods[place].parts[number])
+        return replace(self, pods=tuple(pods), notes=(*self.notes, *self.told(pods)))
+
+    def told(self, pods: Sequence[Pod]) -> list[str]:
+        """What other pods than those that were read are to be told."""
+        found = [f"{now.title}: {now.quality} and no more {was.quality}: its class is that of a pod"
+                 " that is made anew" for was, now in zip(self.pods, pods)
+                 if was.quality != now.quality]
+        asked = requested_by(pods)
+        if self.allocatable is not None and asked > max(self.allocatable, requested_by(self.pods)):
+            found.append(f"the pods request {asked}m of the {self.allocatable}m that the node has"
+                         " for them: the scheduler puts no such pods there")
+        return found
+
+    def ranges(self, path: str) -> list[Range]:
+        """The requests that can be asked for of a container, at most what the node has left."""
+        place, number = self.built[1][path]
+        amounts = self.pods[place].parts[number].amounts
+        now, most, why = amounts.request or 0, MOST_REQUEST, "the most that counts"
+        if self.allocatable is not None:
+            room = self.allocatable - requested_by(self.pods) + self.request_with(path, now)
+            fits = bisect.bisect_right(range(most + 1), room,
+                                       key=lambda each: self.request_with(path, each))
+            if max(fits - 1, now) < most:
+                most, why = max(fits - 1, now), "all that the node has left"
+        if amounts.limit is not None and amounts.limit < most:
+            most, why = amounts.limit, "its limit"
+        parts = [(0, 0), (1, most - 1), (most, most)]
+        return [Range("request", f"{now}m", [each for each in parts if each[0] <= each[1]],
+                      lambda each: f"{each}m", f"{most}m is {why}")]
+
+    def joined(self, other: Owned) -> Source | None:
+        """This node with the pods of another source. A fault where it has not the room."""
+        if not isinstance(other, Source):
+            return None
+        here = {pod.title for pod in self.pods}
+        for pod in other.pods:
+            if pod.title in here:
+                raise HostFault(f"{shown(pod.title)}: the host has this group already")
+        asked = requested_by(other.pods)
+        if self.allocatable is not None and asked > (
+                self.allocatable - requested_by(self.pods)):
+            raise HostFault(f"it requests {asked}m, and {self.allocatable}m less the"
+                            f" {requested_by(self.pods)}m of others are there")
+        return replace(self, pods=(*self.pods, *other.pods))
+
+    def request_with(self, path: str, request: int) -> int:
+        """The request of a container's pod where the container has another one."""
+        place, number = self.built[1][path]
+        pod = self.pods[place]
+        amounts = Amounts(request, pod.parts[number].amounts.limit)
+        return pod.with_amounts(number, amounts).amounts.request or 0
+
+
+def requested_by(pods: Sequence[Pod]) -> int:
+    """Thousandths that pods request all in all."""
+    return sum(pod.amounts.request or 0 for pod in pods)
+
+
+def source_of(files: Sequence[tuple[str, bytes]], host: Host | None, library: Library,
+              wish: Wish = Wish()) -> Source:
+    """A node from the files of its pods and of the node itself."""
     items = [item for name, data in files for item in items_of(loads(data, name), name)]
     node = node_of(items, wish)
     name = text(table(node, "metadata"), "name") if node else wish.node
@@ -375,13 +361,14 @@ def read(files: Sequence[tuple[str, bytes]], host: Host | None, library: Library
         if not capacity:
             raise NoHost("number of CPUs unknown: pass the node's JSON or --cpus")
         host = Host(max(capacity // 1000, 1), units.DEFAULT_PERIOD, 1000)
-    model = Model(checked(host), notes=notes, names_host=capacity is not None)
     pods = pods_on(items, name, notes)
     if node is None:
         notes.append("no node's JSON: kubepods has weight 100")
-    builder = Builder(model, library, wish)
-    builder.classes(pods, allocatable)
-    for pod in pods:
-        builder.pod(pod)
-    tell_limits(model, wish, builder.measured)
-    return model
+    return Source(library, wish, host, tuple(pods), allocatable, capacity is not None,
+                  tuple(notes))
+
+
+def read(files: Sequence[tuple[str, bytes]], host: Host | None, library: Library,
+         wish: Wish = Wish()) -> Model:
+    """The model of a node from the files of its pods and of the node itself."""
+    return source_of(files, host, library, wish).model()

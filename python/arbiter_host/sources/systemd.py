@@ -4,8 +4,10 @@ Groups stand where `ControlGroup` says. Without a second reading usage is not kn
 """
 from __future__ import annotations
 
+import functools
 import re
 from collections.abc import Iterator, Sequence
+from dataclasses import dataclass, replace
 from fractions import Fraction
 
 from arbiter import Host
@@ -14,9 +16,14 @@ from arbiter_host.demands import Measured, Reading
 from arbiter_host.faults import HostFault
 from arbiter_host.model import MAX_DEPTH, Group, Model, checked
 from arbiter_host.names import shown
+from arbiter_host.owned import NONE, Owned, Range, Setting
 
 NOT_SET = ("", "[not set]", "infinity", "18446744073709551615")
 SECOND = 10**6
+# A quota of systemd is a number of hundredths of a percent of one CPU.
+QUOTA = re.compile(r"([0-9]{1,9})(?:\.([0-9]{1,2}))?%")
+# Greatest quota that systemd can write, in hundredths of a percent.
+MOST_QUOTA = 10**9
 
 
 def blocks(data: bytes) -> Iterator[dict[str, str]]:
@@ -119,23 +126,109 @@ def ordered(found: dict[str, dict[str, str]]) -> list[str]:
     return sorted(found, key=lambda path: path.split("/"))
 
 
-def read(files: Sequence[tuple[str, bytes]], host: Host, want: str = "busy",
-         seconds: Fraction = Fraction(1)) -> Model:
-    """The model of one file, or of several that were printed some seconds apart."""
+def weight_word(setting: Setting) -> str:
+    """The property of a `CPUWeight=`."""
+    word = setting.value
+    if word in NONE:
+        return "[not set]"
+    number = int(word) if word.isascii() and word.isdigit() and len(word) <= 9 else 0
+    if word != "idle" and not units.MIN_WEIGHT <= number <= units.MAX_WEIGHT:
+        raise setting.fault(f"not {units.MIN_WEIGHT} to {units.MAX_WEIGHT}, or idle")
+    return word
+
+
+def quota_word(setting: Setting) -> str:
+    """The property of a `CPUQuota=`: microseconds of each second."""
+    if setting.value in NONE:
+        return "infinity"
+    found = QUOTA.fullmatch(setting.value)
+    hundredths = found and int(found.group(1)) * 100 + int((found.group(2) or "").ljust(2, "0"))
+    if not hundredths or hundredths > MOST_QUOTA:
+        raise setting.fault("not a percentage of one CPU as systemd takes it, such as 150%")
+    return f"{hundredths * SECOND // 10000}us"
+
+
+@dataclass(frozen=True)
+class Source:
+    """Units as they were read. `CPUWeight=` and `CPUQuota=` of them can be changed."""
+
+    host: Host
+    want: str
+    seconds: Fraction
+    # The properties of each unit by its path, and those of each reading.
+    found: dict[str, dict[str, str]]
+    readings: tuple[dict[str, dict[str, str]], ...]
+    has_left_out: bool = False
+
+    keys = ("CPUWeight", "CPUQuota")
+
+    @functools.cached_property
+    def built(self) -> Model:
+        """The model."""
+        model, measured = Model(checked(self.host)), {}
+        for path in ordered(self.found):
+            add(model, self.found[path], path)
+            counters = [reading_of(each.get(path, {})) for each in self.readings]
+            measured[path] = Measured(counters,
+                                      tasks=whole(self.found[path].get("TasksCurrent", "")))
+        if self.has_left_out:
+            model.notes.append("units without a group are left out")
+        demands.set_demands(model, measured, self.want, self.seconds)
+        return model
+
+    def model(self) -> Model:
+        """The model."""
+        return replace(self.built.copy(), owned=self)
+
+    def has(self, path: str) -> bool:
+        """Whether a group is a unit that was printed."""
+        return path in self.found
+
+    def changed(self, settings: Sequence[Setting]) -> Source:
+        """The same with other weights and quotas."""
+        found = dict(self.found)
+        for setting in settings:
+            change = ({"CPUWeight": weight_word(setting)} if setting.key == "CPUWeight"
+                      else {"CPUQuotaPerSecUSec": quota_word(setting)})
+            found[setting.path] = {**found[setting.path], **change}
+        return replace(self, found=found)
+
+    def joined(self, _: Owned) -> None:
+        """None: it takes no groups of another."""
+        return None
+
+    def ranges(self, path: str) -> list[Range]:
+        """The weights and the quotas that can be asked for of a unit."""
+        unit, group = self.found[path], self.built.groups[path]
+        most = 10000 * self.host.processors
+        quota = "-" if group.quota is None else percent(
+            Fraction(10000 * group.quota, group.period))
+        weight = "-" if unit.get("CPUWeight", "") in NOT_SET else str(unit["CPUWeight"])
+        return [Range("CPUWeight", shown(weight[:20]), [(units.MIN_WEIGHT, units.MAX_WEIGHT)], str,
+                      f"{units.MAX_WEIGHT} is the greatest"),
+                Range("CPUQuota", quota, [(1, most)], lambda each: percent(Fraction(each)),
+                      f"{percent(Fraction(most))} are all CPUs")]
+
+
+def percent(hundredths: Fraction) -> str:
+    """Hundredths of a percent as systemd takes them."""
+    return f"{units.decimal(hundredths / 100, 2)}%"
+
+
+def source_of(files: Sequence[tuple[str, bytes]], host: Host, want: str = "busy",
+              seconds: Fraction = Fraction(1)) -> Source:
+    """The units of one file, or of several that were printed some seconds apart."""
     readings = [{path_of(unit): unit for unit in blocks(data)} for _, data in files]
     found = {path: unit for path, unit in readings[0].items()
              if path not in ("", ".") and path.count("/") < MAX_DEPTH}
     if not any("Id" in unit for unit in readings[0].values()):
         raise HostFault(f"{files[0][0]}: no units as `systemctl show '*.slice' '*.service'"
                         " '*.scope'` prints them")
-    model = Model(checked(host))
-    measured = {}
-    for path in ordered(found):
-        add(model, found[path], path)
-        counters = [reading_of(each.get(path, {})) for each in readings]
-        measured[path] = Measured(counters, tasks=whole(found[path].get("TasksCurrent", "")))
-    left = sum(1 for unit in readings[0].values() if path_of(unit) == "")
-    if left:
-        model.notes.append("units without a group are left out")
-    demands.set_demands(model, measured, want, seconds)
-    return model
+    return Source(host, want, seconds, found, tuple(readings),
+                  any(path_of(unit) == "" for unit in readings[0].values()))
+
+
+def read(files: Sequence[tuple[str, bytes]], host: Host, want: str = "busy",
+         seconds: Fraction = Fraction(1)) -> Model:
+    """The model of one file, or of several that were printed some seconds apart."""
+    return source_of(files, host, want, seconds).model()

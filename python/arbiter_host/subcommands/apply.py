@@ -57,7 +57,7 @@ def run_apply(options: argparse.Namespace) -> None:
         raise UsageFault("apply takes BEFORE and AFTER, or BEFORE and --set")
     by = engine.find(options.library)
     models = [load.of_files(options, files, by) for files in sources]
-    after = change.changed(models[-1], options.set)
+    after = change.told(models[-1], change.changed(models[-1], options.set))
     root, way = beneath.Root(options.root), way_of(options)
     found, left = apply.changes(models[0], after, root)
     steps = apply.planned_steps(found, way)

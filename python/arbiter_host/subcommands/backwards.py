@@ -5,7 +5,7 @@ import argparse
 from collections.abc import Sequence
 
 from arbiter_host import backwards, demands, load, text, units
-from arbiter_host.backwards import Knob, Need
+from arbiter_host.backwards import Knob, Need, OwnedKnob
 from arbiter_host.faults import HostFault, UsageFault
 from arbiter_host.names import short, shown
 from arbiter_host.output import emit_json, emit_styled
@@ -35,7 +35,7 @@ def value_words(found: Need, knob: Knob, value: int | None, unit: str) -> str:
     return text.amount(found.before, value, unit) if knob.name == "limit" else str(value)
 
 
-def who_pays(found: Need, knob: Knob, unit: str) -> str:
+def who_pays(found: Need, knob: Knob | OwnedKnob, unit: str) -> str:
     """The groups that get less, the greatest loss first, in words."""
     if knob.plan is None:
         return f"no {knob.name} reaches it" if knob.name != "CPUs" else "64 CPUs do not reach it"
@@ -61,8 +61,17 @@ def need_lines(found: Need, unit: str) -> list[tuple[str, str]]:
     rows += [(knob.name, value_words(found, knob, knob.now, unit),
               value_words(found, knob, knob.least, unit), who_pays(found, knob, unit))
              for knob in found.knobs]
-    styles = ["bold", *("" if knob.plan else "yellow" for knob in found.knobs)]
+    rows += [owned_row(found, knob, unit) for knob in found.owned]
+    plans = [*(knob.plan for knob in found.knobs), *(knob.plan for knob in found.owned)]
+    styles = ["bold", *("" if each else "yellow" for each in plans)]
     return [*lines, ("", ""), *zip(aligned(rows, 1), styles)]
+
+
+def owned_row(found: Need, knob: OwnedKnob, unit: str) -> tuple[str, str, str, str]:
+    """The row of a setting that people own, with what is told of it."""
+    words = who_pays(found, knob, unit)
+    told = f" ({shown(knob.told)})" if knob.told else ""
+    return knob.name, knob.now, knob.least or "-", f"{words}{told}"
 
 
 def run_need(options: argparse.Namespace) -> None:
@@ -142,10 +151,15 @@ NEED_DETAILS = (
     "The plan of each least value is accepted by the proved check. A group that is given more"
     " weight, or a host with more CPUs, takes nothing from the group. So no lesser value reaches"
     " AMOUNT.",
+    "For a container of a pod it also prints the least request, with which the weights of the"
+    " container, its pod, its class and kubepods reach AMOUNT; for a unit CPUWeight and CPUQuota;"
+    " for a container of docker cpu-shares and cpus. What is asked for stays as it is.",
 )
 NEED_EXAMPLES = (
     ("what web needs for one and a half CPUs", "arbiterctl need web 1.5cpu host.toml"),
     ("the same in slices, as JSON", "arbiterctl need web 1.5cpu host.toml --json"),
+    ("the request that gives a container what it needs when all are busy",
+     "arbiterctl need prod/web-7c9f/nginx 900m pods.json node.json --want busy"),
 )
 NEED = Subcommand("need",
                   "Says with which weight, limit or number of CPUs GROUP gets AMOUNT, the least of"

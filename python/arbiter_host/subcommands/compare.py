@@ -27,7 +27,8 @@ def compared(options: argparse.Namespace) -> tuple[Plan, Plan]:
         models.append(models[0].with_host(load.chosen_host(options, models[0].host)))
     for model, files in zip(models, sources):
         load.warn(model, source_name([path for path, _ in files]))
-    return plan(by, models[0]), plan(by, change.changed(models[1], options.set))
+    after = change.told(models[1], change.changed(models[1], options.set))
+    return plan(by, models[0]), plan(by, after)
 
 
 def as_it_is(options: argparse.Namespace, files: Sequence[load.File], by: Engine) -> Model:
@@ -61,6 +62,10 @@ def add_words(parser: argparse.ArgumentParser) -> None:
 DETAILS = (
     "A change is GROUP.KEY=VALUE, with KEY one of weight, max, burst, period, demand, tasks. `*`"
     " in GROUP stands for any letters. Groups that are the same in both plans are counted alone.",
+    "Of pods, KEY may also be request or limit: the weights and limits of the container, its pod,"
+    " its class and kubepods follow by the formulas of kubelet and the runtime. Of units it may be"
+    " CPUWeight or CPUQuota, of containers of docker cpus or cpu-shares. These changes are made"
+    " first.",
     "The JSON of pods and that of their node, side by side, are one source.",
 )
 EXAMPLES = (
@@ -68,6 +73,8 @@ EXAMPLES = (
      "arbiterctl compare host.toml --set web.weight=400 --cpus 32"),
     ("another weight on a Kubernetes node",
      "arbiterctl compare pods.json node.json --set prod/db-0.weight=300"),
+    ("another request there",
+     "arbiterctl compare pods.json node.json --set prod/web-7c9f/nginx.request=500m"),
     ("two sources, as JSON", "arbiterctl compare before.script after.script --json"),
 )
 COMPARE = Subcommand("compare",

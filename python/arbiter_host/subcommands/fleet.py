@@ -7,10 +7,11 @@ import os
 import sys
 import time
 from collections.abc import Callable
+from dataclasses import replace
 
 from arbiter_host import change, load, names, progress, text
 from arbiter_host.faults import HostFault, UsageFault
-from arbiter_host.fleet import demands, hosts, overtime, page, report, work
+from arbiter_host.fleet import demands, hosts, overtime, page, pending, report, work
 from arbiter_host.fleet.cluster import Cluster
 from arbiter_host.fleet.figures import Host
 from arbiter_host.fleet.gather import Asked, Gatherer
@@ -58,6 +59,8 @@ def check_words(options: argparse.Namespace) -> None:
         raise UsageFault("--rows: 0 or more")
     for word in options.set:
         _, key, value = change.split(word)
+        if change.is_owned(word):
+            continue
         try:
             change.apply(Model(), Group("any"), key, value, False)
         except HostFault as fault:
@@ -92,17 +95,49 @@ def demands_of(options: argparse.Namespace) -> Callable[[str], Lines]:
     return demands.folder(path) if os.path.isdir(path) else demands.table(path)
 
 
-def asked_of(options: argparse.Namespace) -> Asked:
-    """The fleet, and what is asked of it."""
+def fleet_of(options: argparse.Namespace) -> hosts.Fleet:
+    """The fleet that the words name. The nodes of a cluster are read as such."""
+    word = options.hosts if options.action == "place" else options.source[0]
+    fleet = hosts.fleet_of(word)
+    if fleet.is_cluster:
+        options.kind = options.kind or "kubernetes"
+    for note in fleet.notes:
+        print(f"arbiterctl: warning: {names.shown(word)}: {note}", file=sys.stderr)
+    return fleet
+
+
+def asked_of(options: argparse.Namespace) -> tuple[Asked, hosts.Fleet]:
+    """What is asked of a fleet, and the fleet."""
     load.check_options(options)
     recheck = part_of(options.recheck)
     deadline = load.time_option(options.deadline, "--deadline") / 10**6
     if deadline <= 0:
         raise UsageFault("--deadline: above 0")
-    word = options.hosts if options.action == "place" else options.source[0]
-    found = {host.name: host for host in hosts.of_word(word)}
+    fleet = fleet_of(options)
+    found = {host.name: host for host in fleet.hosts}
     over = demands_of(options) if options.action == "series" else None
-    return Asked(job_of(options), found, over, recheck, deadline)
+    return Asked(job_of(options), found, over, recheck, deadline), fleet
+
+
+def placing(asked: Asked, fleet: hosts.Fleet) -> Asked:
+    """What `place` asks of a cluster: a pod of each shape that no node has yet."""
+    found = [[f"{each.title}.json", base64.b64encode(each.data).decode()]
+             for each in fleet.shapes().values()]
+    return replace(asked, job=replace(asked.job, action="place", pods=found))
+
+
+def with_pending(options: argparse.Namespace, asked: Asked, fleet: hosts.Fleet,
+                 found: report.Report) -> report.Report:
+    """The report of a cluster's plan, with where its pods go that no node has yet."""
+    if options.action != "plan" or not fleet.pending:
+        return found
+    store = Store(None)
+    try:
+        gathered(options, placing(asked, fleet), store)
+        answers = [Host(name, answer) for name, answer in store.whole()]
+    finally:
+        store.close()
+    return pending.added(found, pending.placed(fleet, answers, options.by), options.by)
 
 
 def pool_of(options: argparse.Namespace) -> Pool:
@@ -151,7 +186,7 @@ def written(options: argparse.Namespace, found: report.Report) -> None:
 def run(options: argparse.Namespace) -> None:
     """Asks each host of a fleet, and reports."""
     check_words(options)
-    asked = asked_of(options)
+    asked, fleet = asked_of(options)
     store = Store(options.db)
     try:
         trouble = gathered(options, asked, store).trouble
@@ -161,7 +196,8 @@ def run(options: argparse.Namespace) -> None:
         missing = [(name, why or trouble) for name, why in store.unfinished()]
     finally:
         store.close()
-    written(options, report.built(options.action, answers, missing, options.by))
+    found = report.built(options.action, answers, missing, options.by)
+    written(options, with_pending(options, asked, fleet, found))
     if missing:
         raise HostFault(f"hosts that are not answered: {len(missing)} of {len(asked.hosts)}, the"
                         f" first {missing[0][0]}: {missing[0][1]}")
@@ -172,8 +208,8 @@ def add_words(parser: argparse.ArgumentParser) -> None:
     parser.add_argument("action", choices=ACTIONS, metavar="ACTION",
                         help="what is asked: " + ", ".join(ACTIONS))
     parser.add_argument("source", nargs="+", metavar="SOURCE",
-                        help="a folder of hosts or a list of their files, then for series a"
-                        " folder or a table of demands; for place the pods")
+                        help="a folder of hosts, a list of their files or a cluster's JSON, then"
+                        " for series a folder or a table of demands; for place the pods")
     parser.add_argument("--hosts", metavar="DIR|FILE", help="the hosts of place")
     parser.add_argument("--by", choices=tuple(report.RULES), default="least-loss",
                         help="the rule of place by which hosts are ordered (default least-loss)")
@@ -223,6 +259,9 @@ def add_worker_options(parser: argparse.ArgumentParser) -> None:
 DETAILS = (
     "Each file below a folder, or each line of a list, is one host: a script, a host file, or what"
     " import reads but a tree of cgroups. A host has its file's name without the ending.",
+    "Each node of the JSON of `kubectl get nodes,pods -A -o json` is one host too. plan then says"
+    " where each pod would go that no node has yet, by the rule of --by, or why it goes nowhere."
+    " Requests of CPU decide what fits; memory, taints and affinity are not asked.",
     "plan says what each host serves and lacks. what-if makes the changes of --set on each host and"
     " says who gains and loses. place puts each pod into each host, says what it would get and who"
     " would lose, and orders the hosts by the rule of --by.",
@@ -247,6 +286,7 @@ EXAMPLES = (
     ("a day of each host, with what is done kept for a second run",
      "arbiterctl fleet series hosts demands --sample 30m --db day.sqlite"),
     ("where a pod would go", "arbiterctl fleet place pod.toml --hosts hosts --by most-left"),
+    ("a whole cluster", "kubectl get nodes,pods -A -o json | arbiterctl fleet plan -"),
 )
 FLEET = Subcommand("fleet",
                    "Plans many hosts at once and reports what the fleet serves and lacks, what a"

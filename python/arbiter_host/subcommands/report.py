@@ -17,7 +17,8 @@ def run(options: argparse.Namespace) -> None:
     found = loaded_plan(options, options.source)
     if options.set:
         before = before or found
-        found = plan(found_engine(options), change.changed(found.model, options.set))
+        after = change.told(found.model, change.changed(found.model, options.set))
+        found = plan(found_engine(options), after)
     write_file(options.output, report.page(found, options.unit, title, before))
 
 

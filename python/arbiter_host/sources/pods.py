@@ -1,0 +1,244 @@
+"""Pods as their JSON has them, and what kubelet reckons of them: requests, limits, classes."""
+from __future__ import annotations
+
+import json
+import math
+import re
+from collections.abc import Sequence
+from dataclasses import dataclass, replace
+from fractions import Fraction
+from typing import Any
+
+from arbiter_host import units
+from arbiter_host.faults import HostFault
+from arbiter_host.names import NOWHERE, shown
+from arbiter_host.sources.data import table, tables, text
+
+TOP = "kubepods"
+CLASSES = {"Guaranteed": TOP, "Burstable": f"{TOP}/burstable", "BestEffort": f"{TOP}/besteffort"}
+# A quantity: a number, and either a suffix or an exponent. None below 0 is an amount of CPU.
+QUANTITY = re.compile(r"\+?([0-9]{1,30}(?:\.[0-9]{0,30})?|\.[0-9]{1,30})"
+                      r"(?:([numkMGTPE]|[KMGTPE]i)|[eE]([+-]?[0-9]{1,2}))?")
+SUFFIXES = {"": Fraction(1), "n": Fraction(1, 10**9), "u": Fraction(1, 10**6),
+            "m": Fraction(1, 1000),
+            **{letter: Fraction(1000) ** power for power, letter in enumerate("kMGTPE", 1)},
+            **{f"{letter}i": Fraction(1024) ** power for power, letter in enumerate("KMGTPE", 1)}}
+
+
+@dataclass(frozen=True)
+class Amounts:
+    """Requests and limits of CPU in whole thousandths; None where not given."""
+
+    request: int | None = None
+    limit: int | None = None
+
+
+@dataclass(frozen=True)
+class Container:
+    """A container of a pod."""
+
+    name: str
+    amounts: Amounts
+    identifier: str = ""
+    is_init: bool = False
+    is_sidecar: bool = False
+    is_running: bool = False
+
+    @property
+    def has_group(self) -> bool:
+        """Whether it has a group: an init container that does not run has none."""
+        return not self.is_init or self.is_sidecar or self.is_running
+
+
+@dataclass(frozen=True)
+class Pod:
+    """A pod: what kubelet reckons with."""
+
+    namespace: str
+    name: str
+    uid: str
+    # All of its containers, init containers first.
+    parts: tuple[Container, ...] = ()
+    overhead: int = 0
+    # Requests and limits of the pod itself.
+    own: Amounts = Amounts()
+    # The class that its status tells, empty for none.
+    told: str = ""
+    # Whether a container asks for memory, and whether each has a limit of it that is its request.
+    asks_memory: bool = False
+    is_memory_equal: bool = False
+
+    @property
+    def title(self) -> str:
+        """Namespace and name."""
+        return f"{self.namespace}/{self.name}"
+
+    @property
+    def amounts(self) -> Amounts:
+        """Request and limit of the whole pod, with its overhead."""
+        request, limit = self.own.request, self.own.limit
+        if request is None:
+            request = requested(self.parts, "request")
+        if limit is None and is_limited(self.parts):
+            limit = requested(self.parts, "limit")
+        return Amounts(request + self.overhead, None if limit is None else limit + self.overhead)
+
+    @property
+    def quality(self) -> str:
+        """The quality class: as the status says, else by kubelet's rule."""
+        return self.told or self.quality_by_rule
+
+    @property
+    def quality_by_rule(self) -> str:
+        """The quality class by kubelet's rule."""
+        amounts = [each.amounts for each in self.parts]
+        if not (self.asks_memory or any(each.request or each.limit for each in amounts)):
+            return "BestEffort"
+        equal = all(each.limit and each.request == each.limit for each in amounts)
+        return "Guaranteed" if equal and self.is_memory_equal else "Burstable"
+
+    def with_amounts(self, place: int, amounts: Amounts) -> Pod:
+        """The pod with other amounts of one container.
+
+        What the status tells of its class holds where the rule gives the same class as before.
+        """
+        parts = (*self.parts[:place], replace(self.parts[place], amounts=amounts),
+                 *self.parts[place + 1:])
+        after = replace(self, parts=parts)
+        if after.quality_by_rule == self.quality_by_rule:
+            return after
+        return replace(after, told="")
+
+
+def quantity(value: Any) -> Fraction:
+    """Thousandths of a CPU of a quantity; a fault where Kubernetes takes none of this form."""
+    word = json.dumps(value) if isinstance(value, (int, float, bool)) else str(value)[:60]
+    found = QUANTITY.fullmatch(word)
+    if not found:
+        raise HostFault(f"{shown(word)!r} is no quantity of CPU")
+    amount = Fraction(found.group(1)) * SUFFIXES[found.group(2) or ""] * 1000
+    if found.group(3):
+        amount *= Fraction(10) ** int(found.group(3))
+    if amount > units.MAX_CPUS * 1000:
+        raise HostFault(f"{word!r} is above {units.MAX_CPUS} CPUs")
+    return amount
+
+
+def thousandths(value: Any, where: str, notes: list[str]) -> int | None:
+    """A quantity in whole thousandths, rounded up as kubelet does."""
+    if value is None:
+        return None
+    try:
+        return math.ceil(quantity(value))
+    except HostFault as fault:
+        notes.append(f"{where}: {fault.message}: it is left out")
+        return None
+
+
+def amounts_of(resources: dict[str, Any], where: str, notes: list[str]) -> Amounts:
+    """Request and limit of CPU. A limit without a request is the request too."""
+    limit = thousandths(table(resources, "limits").get("cpu"), where, notes)
+    request = thousandths(table(resources, "requests").get("cpu"), where, notes)
+    return Amounts(limit if request is None else request, limit)
+
+
+def identifier_of(status: dict[str, Any]) -> str:
+    """The runtime's identifier of a container, as the names of groups have it."""
+    kind, _, identifier = text(status, "containerID").partition("://")
+    prefix = {"containerd": "cri-containerd-", "cri-o": "crio-", "docker": "docker-"}.get(kind, "")
+    return prefix + identifier if identifier else ""
+
+
+def containers_of(pod: dict[str, Any], where: str, notes: list[str]) -> tuple[Container, ...]:
+    """All containers of a pod: init containers first, in order."""
+    found = []
+    for key, statuses in (("initContainers", "initContainerStatuses"),
+                          ("containers", "containerStatuses")):
+        status = {text(each, "name"): each for each in tables(table(pod, "status"), statuses)}
+        for each in tables(table(pod, "spec"), key):
+            name = text(each, "name") or "unnamed"
+            known = status.get(name, {})
+            is_init = key == "initContainers"
+            amounts = amounts_of(table(each, "resources"), f"{where}/{name}", notes)
+            found.append(Container(name, amounts, identifier_of(known), is_init,
+                                   is_init and text(each, "restartPolicy") == "Always",
+                                   "running" in table(known, "state")))
+    return tuple(found)
+
+
+def requested(containers: Sequence[Container], key: str) -> int:
+    """What a pod's containers take at most at once, in thousandths, by request or limit."""
+    def value(container: Container) -> int:
+        return getattr(container.amounts, key) or 0
+
+    sidecars, most = 0, 0
+    for each in containers:
+        if each.is_sidecar:
+            sidecars += value(each)
+            most = max(most, sidecars)
+        elif each.is_init:
+            most = max(most, sidecars + value(each))
+    return max(sum(value(each) for each in containers if not each.is_init) + sidecars, most)
+
+
+def is_limited(containers: Sequence[Container]) -> bool:
+    """Whether kubelet sets a limit of CPU for the pod of these containers.
+
+    Each container needs a limit. kubelet counts an init container or sidecar together with the
+    sidecars before it, so one without a limit is covered where such a sidecar has one.
+    """
+    sidecars = 0
+    for each in containers:
+        limit = each.amounts.limit or 0
+        if limit + (sidecars if each.is_init else 0) == 0:
+            return False
+        sidecars += limit if each.is_sidecar else 0
+    return bool(containers)
+
+
+def memory_of(container: dict[str, Any], key: str) -> Any:
+    """A memory quantity of a container, for the quality class."""
+    return table(container, "resources", key).get("memory")
+
+
+def is_memory_limited(container: dict[str, Any]) -> bool:
+    """Whether a container has a limit of memory that is its request."""
+    limit = memory_of(container, "limits")
+    return bool(limit) and memory_of(container, "requests") in (None, limit)
+
+
+def pod_of(pod: dict[str, Any], notes: list[str]) -> Pod:
+    """A pod as kubelet reckons with it."""
+    metadata, spec = table(pod, "metadata"), table(pod, "spec")
+    name, namespace = text(metadata, "name") or "unnamed", text(metadata, "namespace") or "default"
+    where = f"{namespace}/{name}"
+    told = text(table(pod, "status"), "qosClass")
+    raw = tables(spec, "initContainers") + tables(spec, "containers")
+    parts = containers_of(pod, where, notes)
+    overhead = thousandths(table(spec, "overhead").get("cpu"), where, notes) or 0
+    own = amounts_of(table(spec, "resources"), where, notes)
+    asks = any(memory_of(each, key) for each in raw for key in ("requests", "limits"))
+    return Pod(namespace, name, text(metadata, "uid"), parts, overhead, own,
+               told if told in CLASSES else "", asks, all(map(is_memory_limited, raw)))
+
+
+def folder_of(pod: Pod, driver: str) -> str:
+    """The folder of a pod below /sys/fs/cgroup, by the driver of kubelet."""
+    quality = {"Guaranteed": "", "Burstable": "burstable", "BestEffort": "besteffort"}[pod.quality]
+    if driver == "cgroupfs":
+        return "/".join(each for each in (TOP, quality, f"pod{pod.uid}") if each)
+    slices, prefix = [f"{TOP}.slice"], TOP
+    for part in (quality, "pod" + pod.uid.replace("-", "_")):
+        if part:
+            prefix += f"-{part}"
+            slices.append(f"{prefix}.slice")
+    return "/".join(slices)
+
+
+def scope_of(folder: str, container: Container, driver: str) -> str:
+    """The folder of a container, if its identifier is known."""
+    if not container.identifier:
+        return NOWHERE
+    if driver == "cgroupfs":
+        return f"{folder}/{container.identifier.rpartition('-')[2]}"
+    return f"{folder}/{container.identifier}.scope"

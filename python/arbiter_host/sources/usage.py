@@ -1,0 +1,165 @@
+"""What containers used, as others measured it: each entry with the names that its file has.
+
+    kubectl top pods -A --containers
+    kubectl get --raw /apis/metrics.k8s.io/v1beta1/pods
+    docker stats --no-stream --format json
+    podman stats --no-stream --format json
+"""
+from __future__ import annotations
+
+import json
+import re
+from collections.abc import Iterator, Sequence
+from fractions import Fraction
+from typing import Any, NamedTuple
+
+from arbiter_host import units
+from arbiter_host.faults import HostFault
+from arbiter_host.names import cut, shown
+from arbiter_host.sources.data import MAX_BYTES, MAX_TEXT, loads, table, tables, text
+from arbiter_host.sources.pods import quantity
+
+# Containers that a file may name, and names of them that are told.
+MOST_ENTRIES = 200000
+MOST_TOLD = 5
+# Columns of `kubectl top pods`, and the names that entries have for them.
+COLUMNS = {"NAMESPACE": "namespace", "POD": "pod", "NAME": "name", "CPU(cores)": "cpu"}
+PERCENT = re.compile(r"([0-9]{1,12}(?:\.[0-9]{1,12})?)%")
+
+
+class Used(NamedTuple):
+    """What one container used, in thousandths of a CPU. Names that a file lacks are empty."""
+
+    amount: Fraction
+    namespace: str = ""
+    pod: str = ""
+    container: str = ""
+    identifier: str = ""
+
+    @property
+    def title(self) -> str:
+        """The names, as people write them."""
+        found = [each for each in (self.namespace, self.pod, self.container) if each]
+        return shown("/".join(found) or self.identifier)
+
+
+def is_text(data: bytes) -> bool:
+    """Whether a file is no JSON."""
+    return data.lstrip(b"\xef\xbb\xbf \t\r\n")[:1] not in (b"{", b"[")
+
+
+def amount_of(word: str, where: str) -> Fraction:
+    """The thousandths of a CPU of a quantity, or of a percentage of one CPU."""
+    percent = PERCENT.fullmatch(word.strip())
+    if percent:
+        return Fraction(percent.group(1)) * 10
+    try:
+        return quantity(word)
+    except HostFault as fault:
+        raise HostFault(f"{where}: {fault.message}") from fault
+
+
+def columns_of(head: str, name: str) -> list[str]:
+    """The entries' names of the columns of `kubectl top pods`; empty for other columns."""
+    words = head.split()
+    found = [COLUMNS.get(each, "") for each in words]
+    if "cpu" not in found or "name" not in found:
+        raise HostFault(f"{name}:1: no usage as `kubectl top pods -A --containers`, metrics-server"
+                        " or `docker stats --no-stream --format json` prints it")
+    if "pod" not in found:
+        # Without --containers NAME is the pod.
+        found[found.index("name")] = "pod"
+    return found
+
+
+def of_text(data: bytes, name: str) -> Iterator[Used]:
+    """The entries of `kubectl top pods`."""
+    lines = data.decode("utf-8-sig", errors="replace").split("\n")
+    begin = next((at for at, line in enumerate(lines) if line.strip()), None)
+    if begin is None:
+        raise HostFault(f"{name}: empty: it names no container")
+    columns = columns_of(lines[begin], name)
+    for number, line in enumerate(lines[begin + 1:], begin + 2):
+        words = line.split()
+        if not words:
+            continue
+        if len(words) != len(columns):
+            raise HostFault(f"{name}:{number}: {len(words)} words and not {len(columns)}")
+        cells = {column: word[:MAX_TEXT] for column, word in zip(columns, words)}
+        yield Used(amount_of(cells["cpu"], f"{name}:{number}"), cells.get("namespace", ""),
+                   cells.get("pod", ""), cells.get("name", ""))
+
+
+def of_metrics(items: Sequence[dict[str, Any]], name: str) -> Iterator[Used]:
+    """The entries of metrics-server: of each pod its containers."""
+    for item in items:
+        metadata = table(item, "metadata")
+        namespace, pod = text(metadata, "namespace"), text(metadata, "name")
+        for each in tables(item, "containers"):
+            container = text(each, "name")
+            where = f"{name}: {shown(f'{namespace}/{pod}/{container}')}"
+            amount = amount_of(str(table(each, "usage").get("cpu"))[:60], where)
+            yield Used(amount, namespace, pod, container)
+
+
+def of_stats(entries: Sequence[Any], name: str) -> Iterator[Used]:
+    """The entries of `docker stats` or `podman stats`. One without an amount is left out."""
+    for number, each in enumerate(entries, 1):
+        keys = (("ID", "Name", "CPUPerc") if isinstance(each, dict) and "CPUPerc" in each
+                else ("id", "name", "cpu_percent"))
+        if not isinstance(each, dict) or keys[2] not in each:
+            raise HostFault(f"{name}:{number}: no container as `docker stats --no-stream --format"
+                            " json` prints it")
+        word = text(each, keys[2])
+        if word not in ("--", ""):
+            yield Used(amount_of(word, f"{name}:{number}"), "", "",
+                       text(each, keys[1]).lstrip("/"), text(each, keys[0]))
+
+
+def lines_of(data: bytes, name: str) -> list[Any]:
+    """The values of JSON with one value in each line; a fault names the line."""
+    found = []
+    for number, line in enumerate(data.split(b"\n"), 1):
+        if line.strip():
+            try:
+                found.append(json.loads(line.decode("utf-8-sig")))
+            except (ValueError, RecursionError) as error:
+                raise HostFault(f"{name}:{number}: no JSON that can be read:"
+                                f" {shown(cut(str(error), 80))}") from error
+    return found
+
+
+def of_json(data: bytes, name: str) -> Iterator[Used]:
+    """The entries of JSON."""
+    values = lines_of(data, name) if b'"CPUPerc"' in data else [loads(data, name)]
+    if len(values) == 1 and isinstance(values[0], dict):
+        found = values[0]
+        if text(found, "kind") == "PodMetricsList" or isinstance(found.get("items"), list):
+            return of_metrics(tables(found, "items"), name)
+        if text(found, "kind") == "PodMetrics":
+            return of_metrics([found], name)
+    if len(values) == 1 and isinstance(values[0], list):
+        values = values[0]
+    return of_stats(values, name)
+
+
+def read(data: bytes, name: str) -> list[Used]:
+    """The entries of a file of usage."""
+    if len(data) > MAX_BYTES:
+        raise HostFault(f"{name}: more than {MAX_BYTES >> 20} MiB")
+    found: list[Used] = []
+    for each in of_text(data, name) if is_text(data) else of_json(data, name):
+        if len(found) >= MOST_ENTRIES:
+            raise HostFault(f"{name}: more than {MOST_ENTRIES} containers")
+        if each.amount > units.MAX_CPUS:
+            raise HostFault(f"{name}: {each.title}: {float(each.amount):g}m is no usage of a host")
+        found.append(each)
+    if not found:
+        raise HostFault(f"{name}: it names no container")
+    return found
+
+
+def some(titles: Sequence[str]) -> str:
+    """The number of some names, with the first of them."""
+    rest = ", .." if len(titles) > MOST_TOLD else ""
+    return f"{len(titles)}: {', '.join(titles[:MOST_TOLD])}{rest}"

@@ -1,0 +1,141 @@
+"""`arbiterctl recommend`."""
+from __future__ import annotations
+
+import argparse
+
+from arbiter_host import change, load, names, recommend, samples, text
+from arbiter_host.faults import UsageFault
+from arbiter_host.model import Model
+from arbiter_host.names import cut, short, shown
+from arbiter_host.output import emit_json, emit_styled
+from arbiter_host.recommend import Recommendation, Use
+from arbiter_host.sources.pods import Amounts
+from arbiter_host.subcommands.backwards import aligned
+from arbiter_host.subcommands.base import (Subcommand, add_reading_options, found_engine,
+                                           source_name)
+from arbiter_host.subcommands.series import add_prometheus_options, mapped
+
+HEADS = ("used", "most", "request", "then", "limit", "then", "gets", "guaranteed", "container")
+
+
+def history_of(options: argparse.Namespace, model: Model) -> list[samples.Sample]:
+    """The samples of the files and of Prometheus. An empty cell is no sample."""
+    found: list[samples.Sample] = []
+    for path in options.history:
+        data, name = load.file_bytes(path), names.shown(path)
+        is_csv = options.csv or path.lower().endswith((".csv", ".tsv"))
+        found += (samples.read_csv(data, name, options.unit, model.host, 0, True) if is_csv
+                  else samples.read_pairs(data, name, options.unit, model.host))
+    if options.prometheus:
+        words = {key: getattr(options, key) for key in ("query", "start", "end", "step")}
+        if not all(words.values()):
+            raise UsageFault("--prometheus takes --query, --start, --end and --step")
+        found += samples.read_prometheus(options.prometheus, words, options.label, options.unit,
+                                         model.host, True)
+    return found
+
+
+def uses_of(options: argparse.Namespace, model: Model) -> tuple[dict[str, Use], int]:
+    """What was seen of each container, and the greatest number of samples."""
+    found = recommend.of_readings(model)
+    history = history_of(options, model)
+    if history:
+        uses, told = recommend.of_history(model, history, mapped(options.map))
+        model.notes += told
+        found |= {path: Use(use.values, found[path].wanted if path in found else use.wanted)
+                  for path, use in uses.items()}
+    return found, max((len(use.values) for use in found.values()), default=0)
+
+
+def run(options: argparse.Namespace) -> None:
+    """Prints what is proposed."""
+    rule = recommend.rule_of(options.target, options.headroom)
+    by = found_engine(options)
+    model = load.load(options, options.source, by)
+    recommend.source_of(model)
+    uses, count = uses_of(options, model)
+    load.warn(model, source_name(options.source))
+    found = recommend.recommended(by, model, uses, rule)
+    change.told(model, found.after.model)
+    if options.json:
+        emit_json(recommend.as_data(found))
+    else:
+        emit_styled(lines_of(found, count))
+
+
+def cells(amounts: Amounts) -> tuple[str, str]:
+    """A request and a limit as Kubernetes writes them."""
+    request, limit = ("-" if each is None else f"{each}m" for each in (amounts.request,
+                                                                        amounts.limit))
+    return request, limit
+
+
+def lines_of(found: Recommendation, count: int) -> list[tuple[str, str]]:
+    """The lines of `recommend`. A container that is short then is red."""
+    percent, headroom = found.rule.percent, float(found.rule.headroom * 100)
+    of_node = "" if found.allocatable is None else f", of {found.allocatable}m that the node has"
+    groups = found.after.by_path()
+    rows, styles = [list(HEADS)], ["bold"]
+    for each, path, owed in zip(found.proposals, found.paths, found.guaranteed):
+        now, then, group = cells(each.now), cells(each.then), groups[path]
+        mark = "*" if each.is_throttled else ""
+        rows.append([f"{float(each.used):.0f}m", f"{float(each.most):.0f}m{mark}", now[0], then[0],
+                     now[1], then[1], text.amount(found.after, group.gets, "m") + "m",
+                     text.amount(found.after, owed, "m") + "m",
+                     cut(short(shown(each.title)), 100)])
+        styles.append("red" if group.gets < group.want else "")
+    short_ = [shown(each.title) for each, path in zip(found.proposals, found.paths)
+              if groups[path].gets < groups[path].want]
+    lines = [(text.host_words(found.after), ""),
+             (f"p{percent} of at most {count} samples, and {headroom:g}% on top; the proved check"
+              " accepted the plan", ""),
+             (f"requests of all pods: {found.requests[0]}m now, {found.requests[1]}m then{of_node}",
+              "red" if (found.allocatable or found.requests[1]) < found.requests[1] else ""),
+             (f"short when each uses this at once: {len(short_)}"
+              + (f" ({', '.join(short_[:3])}{', ..' if len(short_) > 3 else ''})" if short_
+                 else ""), "red" if short_ else ""), ("", ""), *zip(aligned(rows, 0), styles)]
+    if any(each.is_throttled for each in found.proposals):
+        lines.append(("* throttled at its limit: it wanted more than it used", ""))
+    return lines
+
+
+def add_words(parser: argparse.ArgumentParser) -> None:
+    """The words of `recommend`."""
+    parser.add_argument("source", nargs="+", metavar="SOURCE", help="pods and their node, as of"
+                        " explain")
+    parser.add_argument("--target", default="p95", metavar="pN", help="the percentile of the use"
+                        " that is requested, p1 to p100 or max (default p95)")
+    parser.add_argument("--headroom", default="15%", metavar="PART", help="what is put on top of"
+                        " it (default 15%%)")
+    parser.add_argument("--history", action="append", default=[], metavar="FILE", help="what"
+                        " containers used over time, as the demands of series")
+    parser.add_argument("--csv", action="store_true", help="the history is CSV")
+    parser.add_argument("--unit", choices=text.UNITS, default="cpu", help="unit of the history"
+                        " (default cpu)")
+    parser.add_argument("--map", action="append", default=[], metavar="COLUMN=GROUP",
+                        help="the container of a column whose name is not the container's")
+    parser.add_argument("--json", action="store_true", help="print the same as JSON, with the words"
+                        " of --set")
+    add_prometheus_options(parser)
+    add_reading_options(parser)
+
+
+DETAILS = (
+    "The request is the percentile of --target with --headroom on top, at least 10m. The limit is"
+    " the greatest use, or what a throttled container wanted at least, with the same on top. A"
+    " container without a limit gets none. In a guaranteed pod the request is the limit.",
+    "What was used is said by --history, --prometheus, --usage or --cgroup; the last tells of"
+    " throttling too. A container of which nothing is said stays as it is.",
+    "In the plan each container asks for what it used at the percentile, with the proposed weights"
+    " and limits. Beside it is what each is guaranteed, whatever the others ask for.",
+)
+EXAMPLES = (
+    ("from what was used at one time",
+     "kubectl top pods -A --containers | arbiterctl recommend pods.json node.json --usage -"),
+    ("from a history, as JSON",
+     "arbiterctl recommend pods.json node.json --history pods.csv --target p90 --json"),
+)
+RECOMMEND = Subcommand("recommend",
+                       "Proposes a request and a limit for each container of a node from what it"
+                       " used, and says who would be short and what each is guaranteed.",
+                       add_words, run, DETAILS, EXAMPLES)

@@ -1,0 +1,373 @@
+"""Settings that people own: requests of pods, quotas of units, shares of containers.
+
+Each expected number is worked by hand from the formulas of kubelet, runc, systemd and docker.
+The fixtures are written to the documented formats.
+"""
+import copy
+import json
+from pathlib import Path
+
+import pytest
+import trees
+from arbiter import Host
+from arbiter_host import change
+from arbiter_host.faults import UsageFault
+from arbiter_host.sources import containers, kubernetes, systemd
+
+FIXTURES = Path(__file__).parent / "fixtures"
+PODS, NODE = FIXTURES / "pods.json", FIXTURES / "node.json"
+EIGHT = Host(8, 100000, 1000)
+WEB = "kubepods/burstable/prod:web-7c9f"
+CONTAINERS = {"nginx": ("prod/web-7c9f/nginx", 0), "app": ("prod/proxy-1/app", 3),
+              "postgres": ("prod/db-0/postgres", 1), "report": ("batch/report-x/report", 2)}
+
+
+def groups_of(ctl, *words):
+    """The groups that `import` writes."""
+    return json.loads(ctl.run("import", "any", *words, "--to", "json")[0])["groups"]
+
+
+def test_weights_follow_a_request(ctl):
+    """nginx 1000m is 1024 shares, its pod 1100m 1126, burstable 1950m 1996: 39, 43 and 77.
+
+    A weight is 1 + (shares - 2) * 9999 / 262142, rounded down.
+    """
+    found = groups_of(ctl, PODS, NODE, "--set", "prod/web-7c9f/nginx.request=1cpu")
+    weights = [found[path]["weight"] for path in (f"{WEB}/nginx", WEB, "kubepods/burstable",
+                                                  "kubepods", "kubepods/burstable/prod:proxy-1")]
+    assert weights == [39, 43, 77, 137, 34]
+    assert found[f"{WEB}/nginx"]["demand"] == "1cpu"
+
+
+def test_limits_follow_a_limit(ctl):
+    """nginx 1500m and metrics 200m are 1700m for the pod."""
+    found = groups_of(ctl, PODS, NODE, "--set", "prod/web-7c9f/nginx.limit=1500m")
+    assert [found[path]["max"] for path in (f"{WEB}/nginx", WEB)] == [
+        "150000 100000", "170000 100000"]
+    found = groups_of(ctl, PODS, NODE, "--set", "prod/web-7c9f/nginx.limit=max")
+    assert "max" not in found[f"{WEB}/nginx"] and "max" not in found[WEB]
+
+
+def edited(folder, name, requests, limits):
+    """The pods' JSON with other requests and limits of a container, and no told class."""
+    found = json.loads(PODS.read_text())
+    pod = found["items"][CONTAINERS[name][1]]
+    (container,) = [each for each in pod["spec"]["containers"] if each["name"] == name]
+    for key, value in (("requests", requests), ("limits", limits)):
+        if value:
+            container["resources"].setdefault(key, {})["cpu"] = value
+    del pod["status"]["qosClass"]
+    (folder / "pods.json").write_text(json.dumps(found))
+    return folder / "pods.json"
+
+
+@pytest.mark.parametrize("name, requests, limits", [
+    ("nginx", "980m", None), ("nginx", None, "3"), ("nginx", "1500m", "2"), ("app", "0", None),
+    # A class changes: from guaranteed, from best effort, and to guaranteed.
+    ("postgres", "400m", None), ("report", "300m", None), ("report", None, "2500m"),
+    ("postgres", "3", "3"),
+])
+@pytest.mark.parametrize("words", [(), ("--want", "busy"), ("--want", "limit", "--scale", ".=2"),
+                                   ("--runtime", "log", "--driver", "cgroupfs"),
+                                   ("--cpus", "6", "--slice", "5ms")])
+def test_a_change_is_an_edit_of_the_json(ctl, folder, name, requests, limits, words):
+    """Each group is the one that the edited JSON gives."""
+    changes = [("request", requests), ("limit", limits)]
+    if name == "report" and limits:
+        changes = [("limit", limits), ("request", limits)]
+    sets = [word for key, value in changes if value
+            for word in ("--set", f"{CONTAINERS[name][0]}.{key}={value}")]
+    found = groups_of(ctl, PODS, NODE, *sets, *words)
+    wanted = groups_of(ctl, edited(folder, name, requests, limits), NODE, *words)
+    assert list(found.items()) == list(wanted.items())
+
+
+def test_a_class_that_changes_is_told(ctl):
+    """Best effort with a request is burstable: another path, told."""
+    out, err = ctl.run("compare", PODS, NODE, "--set", "batch/report-x/report.request=200m",
+                       "--want", "busy", "--json")
+    assert ("warning: --set: batch/report-x: Burstable and no more BestEffort: its class is that of"
+            " a pod that is made anew") in err
+    paths = [each["group"] for each in json.loads(out)["changed"]]
+    assert "kubepods/besteffort/batch:report-x/report" in paths
+    assert "kubepods/burstable/batch:report-x/report" in paths
+
+
+def test_more_than_the_node_has_is_told(ctl):
+    """3200m are requested of 3500m; 550m more are not there."""
+    words = ("compare", PODS, NODE, "--set")
+    assert "warning: --set" not in ctl.run(*words, "prod/web-7c9f/nginx.request=550m")[1]
+    assert ("the pods request 3501m of the 3500m that the node has for them"
+            in ctl.run(*words, "prod/web-7c9f/nginx.request=551m")[1])
+
+
+def test_patterns_name_titles(ctl):
+    """`*` stands for letters of namespace/pod/container too; what has no request is left out."""
+    found = groups_of(ctl, PODS, NODE, "--set", "prod/web-*/*.request=200m")
+    assert (found[f"{WEB}/nginx"]["demand"], found[f"{WEB}/metrics"]["demand"]) == ("200m", "200m")
+    assert "demand" not in found[f"{WEB}/pause"]
+
+
+def test_other_changes_come_after(ctl):
+    """A weight that is set stays, wherever its word stands."""
+    found = groups_of(ctl, PODS, NODE, "--set", f"{WEB}.weight=7", "--set",
+                      "prod/web-7c9f/nginx.request=1cpu")
+    assert (found[WEB]["weight"], found[f"{WEB}/nginx"]["weight"]) == (7, 39)
+
+
+def test_report_and_apply_take_requests(ctl, folder):
+    """The page has the new amounts, and the steps are those of all weights that follow."""
+    words = ("--set", "prod/web-7c9f/nginx.request=1cpu")
+    ctl.run("report", PODS, NODE, *words, "-o", folder / "page.html")
+    assert "prod:web-7c9f" in (folder / "page.html").read_text()
+    trees.root2(folder / "t")
+    for line in (FIXTURES / "node.cgroups").read_text().split("\n")[1:-1]:
+        path, weight, quota = line.split(" ")
+        trees.group2(folder / "t" / path, weight, f"{quota} 100000")
+    out, _ = ctl.run("apply", PODS, NODE, *words, "--root", folder / "t", "--by", "files")
+    steps = [(line.split()[1], line.split("/")[-2][:22]) for line in out.split("\n")[:-1]]
+    assert [step[0] for step in steps] == ["77", "43", "39"]
+    assert steps[0][1] == "kubepods-burstable.sli"
+
+
+@pytest.mark.parametrize("word, words", [
+    ("prod/web-7c9f/nginx.request=lots", "'lots' is no amount of CPU"),
+    ("prod/web-7c9f/nginx.request=-1", "'-1' is no amount of CPU"),
+    ("prod/web-7c9f/nginx.request=1.5cpu", "its request 1500m is above its limit 1000m"),
+    ("prod/web-7c9f/nginx.limit=200m", "its request 250m is above its limit 200m"),
+    ("prod/web-7c9f.request=1", "prod/web-7c9f has no request in this source"),
+    ("prod/web-7c9f/pause.limit=1", "has no limit in this source"),
+    ("kubepods.request=1", "has no request"), ("prod/none/x.request=1", "no group prod/none/x"),
+    ("prod/web-7c9f/nginx.cpus=1", "cpus is a setting of containers; this source has request,"),
+    ("prod/web-7c9f/nginx.request=1e999", "is no amount of CPU"),
+    ("prod/web-7c9f/nginx.request=" + "9" * 40, "is no amount of CPU"),
+    ("prod/web-7c9f/nginx.request=2000000000", "is above 1000000000 CPUs"),
+    ("prod/web-7c9f/nginx.request=\x1b[31m1", "\\x1b[31m1"),
+], ids=lambda each: ascii(each)[:30])
+def test_bad_requests_of_pods(ctl, word, words):
+    """One line names the word, and nothing is planned."""
+    out, err = ctl.run("compare", PODS, NODE, "--set", word, status=2)
+    assert out == "" and words in err and "\x1b" not in err
+    assert err.split("\n")[-2].startswith("arbiterctl: --set ")
+
+
+def test_pod_level_amounts_bound_their_containers(engine):
+    """The containers of a pod request no more than the pod itself, and have no greater limit."""
+    found = json.loads(PODS.read_text())
+    found["items"][0]["spec"]["resources"] = {"requests": {"cpu": "400m"}, "limits": {"cpu": "2"}}
+    files = [("p", json.dumps(found).encode()), ("n", NODE.read_bytes())]
+    model = kubernetes.read(files, None, engine.library)
+    after = change.changed(model, ["prod/web-7c9f/nginx.request=300m"])
+    # The pod keeps 400m, which are 409 shares; 300m are 307.
+    assert (after.groups[WEB].weight, after.groups[f"{WEB}/nginx"].weight) == (16, 12)
+    for word, words in (("request=301m", "above the request 400m of the pod itself"),
+                        ("limit=2100m", "above the limit 2000m of the pod itself")):
+        with pytest.raises(UsageFault, match=words):
+            change.changed(model, [f"prod/web-7c9f/nginx.{word}"])
+
+
+def test_a_source_without_such_settings(ctl, folder):
+    """A script has no requests."""
+    (folder / "s").write_text("# arbiter run --processors 1\nmkdir a\n")
+    _, err = ctl.run("compare", folder / "s", "--set", "a.request=1", status=2)
+    assert "request is a setting of pods, which this source has none of" in err
+
+
+# need
+
+def two_pods(folder, limit=None):
+    """Two burstable pods of 100m and 300m on a node of 2 CPUs with 2000m for pods."""
+    def pod(name, request):
+        resources = {"requests": {"cpu": request}, **({"limits": {"cpu": limit}} if limit else {})}
+        return {"kind": "Pod", "metadata": {"name": name, "namespace": "x", "uid": name},
+                "spec": {"containers": [{"name": "c", "resources": resources}]}}
+
+    node = {"kind": "Node", "metadata": {"name": "n"},
+            "status": {"capacity": {"cpu": "2"}, "allocatable": {"cpu": "2"}}}
+    (folder / "n.json").write_text(json.dumps({"kind": "List", "items": [
+        pod("a", "100m"), pod("b", "300m"), node]}))
+    return folder / "n.json"
+
+
+def needed(ctl, *words):
+    """The settings of people in the answer of `need`, by name."""
+    found = json.loads(ctl.run("need", *words, "--want", "busy", "--json")[0])
+    return {each["name"]: each for each in found["settings"]}, found
+
+
+def test_the_least_request(ctl, folder):
+    """Pods of weights w and 12 share 200 slices: w = 12 gives 100, which 285m are and 284m not.
+
+    285m are 291 shares: 1 + 289 * 9999 / 262142 = 12.02. 284m are 290: 11.98.
+    """
+    by, found = needed(ctl, "x/a/c", "1cpu", two_pods(folder))
+    assert found["gets_millicpu"] == 500
+    assert (by["request"]["now"], by["request"]["least"], by["request"]["told"]) == (
+        "100m", "285m", "")
+    assert by["request"]["pays"] == [{"group": "kubepods/burstable/x:b/c", "millicpu": 500}]
+    # The weight of the one container of a pod decides nothing.
+    assert [each["least"] for each in found["knobs"] if each["name"] == "weight"] == [None]
+    out, _ = ctl.run("need", "x/a/c", "1cpu", folder / "n.json", "--want", "busy")
+    assert "\nrequest  100m   285m  kubepods/burstable/x:b/c -0.50\n" in out
+
+
+def test_a_request_that_the_node_has_not(ctl, folder):
+    """180 of 200 slices take a weight of 106, 2691m. The node has 1700m left."""
+    by, _ = needed(ctl, "x/a/c", "1.8cpu", two_pods(folder))
+    assert by["request"]["least"] is None and by["request"]["pays"] == []
+    out, _ = ctl.run("need", "x/a/c", "1.8cpu", folder / "n.json", "--want", "busy")
+    assert "no request reaches it (1700m is the node has no more left)" not in out
+    assert "no request reaches it (1700m is all that the node has left)" in out
+
+
+def test_a_request_up_to_the_limit(ctl, folder):
+    """Requests end at the limit of the container."""
+    by, _ = needed(ctl, "x/a/c", "1cpu", two_pods(folder, "300m"))
+    assert by["request"]["least"] is None
+    by, _ = needed(ctl, "x/a/c", "300m", two_pods(folder, "300m"))
+    assert by["request"]["least"] == "0m"
+
+
+def test_a_request_that_makes_a_pod_burstable(ctl):
+    """300 slices go to pods of weights 14, 34 and w: 10 gives 52, and 9 gives 47.
+
+    233m are 238 shares: 1 + 236 * 9999 / 262142 = 10.002. 232m are 237: 9.96.
+    """
+    by, found = needed(ctl, "batch/report-x/report", "500m", PODS, NODE)
+    assert found["gets_millicpu"] == 60
+    assert by["request"]["least"] == "233m" and "no more BestEffort" in by["request"]["told"]
+
+
+@pytest.mark.parametrize("amount", ["200m", "350m", "600m", "800m"])
+def test_one_thousandth_less_does_not_reach(ctl, amount):
+    """Against the plans of the edited requests."""
+    by, _ = needed(ctl, "prod/web-7c9f/nginx", amount, PODS, NODE)
+    least = by["request"]["least"]
+    asked = int(amount[:-1])
+
+    def gets(request):
+        out, _ = ctl.run("compare", PODS, NODE, "--want", "busy", "--json", "--set",
+                         f"prod/web-7c9f/nginx.request={request}m")
+        (found,) = [each["gets"]["millicpu"] for each in json.loads(out)["after"]["groups"]
+                    if each["group"] == f"{WEB}/nginx"]
+        return found
+
+    if least is None:
+        assert gets(550) < asked
+    else:
+        assert gets(int(least[:-1])) >= asked
+        assert least == "0m" or gets(int(least[:-1]) - 1) < asked
+
+
+# systemd and docker
+
+def of(group):
+    """Weight, quota and period of a group."""
+    return group.weight, group.quota, group.period
+
+
+@pytest.mark.parametrize("words, wanted", [
+    (["CPUWeight=300"], (300, 50000, 100000)), (["CPUWeight=idle"], (1, 50000, 100000)),
+    (["CPUWeight="], (100, 50000, 100000)), (["CPUQuota=12.5%"], (200, 12500, 100000)),
+    # 5 ms of a second are 1 ms in 200 ms: systemd takes the longer period.
+    (["CPUQuota=0.5%"], (200, 1000, 200000)), (["CPUQuota=infinity"], (200, None, 100000)),
+    (["CPUQuota=350%", "CPUWeight=1"], (1, 350000, 100000)),
+])
+def test_units(words, wanted):
+    """Properties of ssh.service, which has weight 200 and half a CPU."""
+    model = systemd.read([("u", (FIXTURES / "units.show").read_bytes())], EIGHT)
+    after = change.changed(model, [f"ssh.service.{word}" for word in words])
+    assert of(after.groups["system.slice/ssh.service"]) == wanted
+    assert of(model.groups["system.slice/ssh.service"]) == (200, 50000, 100000)
+
+
+@pytest.mark.parametrize("word", [
+    "CPUWeight=0", "CPUWeight=10001", "CPUWeight=1.5", "CPUWeight=\u0661", "CPUQuota=0%",
+    "CPUQuota=50", "CPUQuota=-5%", "CPUQuota=12.345%", "CPUQuota=1e3%", "CPUQuota=9999999999%",
+    "request=1", "CPUWeight=" + "9" * 5000,
+], ids=lambda each: ascii(each)[:30])
+def test_bad_settings_of_units(word):
+    model = systemd.read([("u", (FIXTURES / "units.show").read_bytes())], EIGHT)
+    with pytest.raises(UsageFault, match="^--set "):
+        change.changed(model, [f"ssh.service.{word}"])
+
+
+def test_what_a_unit_needs(ctl):
+    """800m are 80% of a CPU, and 79.99% are a slice less. The weight is not in the way."""
+    by, _ = needed(ctl, "ssh.service", "800m", FIXTURES / "units.show", "--cpus", "8")
+    assert (by["CPUQuota"]["now"], by["CPUQuota"]["least"]) == ("50%", "80%")
+    assert (by["CPUWeight"]["now"], by["CPUWeight"]["least"]) == ("200", None)
+
+
+@pytest.mark.parametrize("words, wanted", [
+    (["cpus=2.5"], (79, 250000, 100000)), (["cpus=0"], (79, None, 100000)),
+    # 512 shares: 1 + 510 * 9999 / 262142 = 20.4.
+    (["cpu-shares=512"], (20, 150000, 100000)), (["cpu-shares=0"], (100, 150000, 100000)),
+    (["cpus=125m", "cpu-shares=2"], (1, 12500, 100000)),
+])
+def test_docker(engine, words, wanted):
+    """Options of web, which has 2048 shares and 1.5 CPUs."""
+    data = (FIXTURES / "docker.json").read_bytes()
+    model = containers.read([("d", data)], EIGHT, engine.library)
+    after = change.changed(model, [f"system.slice/web.{word}" for word in words])
+    assert of(after.groups["system.slice/web"]) == wanted
+
+
+def test_cpus_stand_in_place_of_a_quota(engine):
+    """db has 20 ms of 50 ms; `--cpus` is half of 100 ms."""
+    model = containers.read([("d", (FIXTURES / "docker.json").read_bytes())], EIGHT, engine.library)
+    after = change.changed(model, ["system.slice/db.cpus=0.5"])
+    assert of(after.groups["system.slice/db"]) == (100, 50000, 100000)
+
+
+@pytest.mark.parametrize("word", [
+    "cpus=8.01", "cpus=0.009", "cpus=-1", "cpus=x", "cpus=0.0000000001", "cpu-shares=1",
+    "cpu-shares=262145", "cpu-shares=2.5", "cpu-shares=-1", "CPUQuota=5%",
+])
+def test_bad_settings_of_containers(engine, word):
+    model = containers.read([("d", (FIXTURES / "docker.json").read_bytes())], EIGHT, engine.library)
+    with pytest.raises(UsageFault, match="^--set "):
+        change.changed(model, [f"system.slice/web.{word}"])
+
+
+def test_what_a_container_needs(ctl):
+    """Its 1.5 CPUs are in the way of 1.8, and shares are not."""
+    by, _ = needed(ctl, "system.slice/web", "1800m", FIXTURES / "docker.json", "--cpus", "8")
+    assert (by["cpus"]["now"], by["cpus"]["least"]) == ("1.5", "1.8")
+    assert (by["cpu-shares"]["now"], by["cpu-shares"]["least"]) == ("2048", None)
+
+
+# fleets
+
+def test_a_fleet_takes_requests(ctl, folder):
+    """A host with the container changes, and a host without it stays."""
+    both = {"kind": "List", "items": [*json.loads(PODS.read_text())["items"],
+                                      json.loads(NODE.read_text())]}
+    (folder / "h").mkdir()
+    (folder / "h/n1.json").write_text(json.dumps(both))
+    other = copy.deepcopy(both)
+    other["items"] = [each for each in other["items"] if each["metadata"]["name"] != "web-7c9f"]
+    (folder / "h/n2.json").write_text(json.dumps(other))
+    found = json.loads(ctl.run("fleet", "what-if", folder / "h", "--set",
+                               "prod/web-7c9f/nginx.request=1cpu", "--want", "busy", "--workers",
+                               "0", "--json")[0])
+    one, two = found["hosts"]
+    whole = json.loads(ctl.run("compare", PODS, NODE, "--want", "busy", "--set",
+                               "prod/web-7c9f/nginx.request=1cpu", "--json")[0])
+    rise = [each["change_millicpu"] for each in whole["changed"]
+            if each["group"] == f"{WEB}/nginx"]
+    assert [each * 10 for path, each in one["gains"] if path == f"{WEB}/nginx"] == rise
+    assert (one["matched"], two["matched"], two["changes"][0][0]) == (1, 0, 0)
+
+
+def test_a_class_that_changes_in_a_fleet(ctl, folder):
+    """The pod has another path after the change, and its row is the same."""
+    both = {"kind": "List", "items": [*json.loads(PODS.read_text())["items"],
+                                      json.loads(NODE.read_text())]}
+    (folder / "h").mkdir()
+    (folder / "h/n1.json").write_text(json.dumps(both))
+    found = json.loads(ctl.run("fleet", "what-if", folder / "h", "--set",
+                               "batch/report-x/report.request=233m", "--want", "busy", "--workers",
+                               "0", "--json")[0])
+    # 52 slices and not 6.
+    assert ["kubepods/besteffort/batch:report-x/report", 46] in found["hosts"][0]["gains"]

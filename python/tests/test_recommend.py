@@ -1,0 +1,178 @@
+"""Requests and limits that are proposed from use. Each expected number is worked by hand."""
+import json
+from fractions import Fraction
+from pathlib import Path
+
+import pytest
+import trees
+from arbiter_host import recommend
+from arbiter_host.faults import UsageFault
+
+FIXTURES = Path(__file__).parent / "fixtures"
+PODS, NODE = FIXTURES / "pods.json", FIXTURES / "node.json"
+
+
+def node_of(folder, cpus, limits=None):
+    """Two burstable pods of 100m and 300m on a node."""
+    def pod(name, request):
+        resources = {"requests": {"cpu": request}}
+        if limits:
+            resources["limits"] = {"cpu": limits}
+        return {"kind": "Pod", "metadata": {"name": name, "namespace": "x", "uid": name},
+                "spec": {"containers": [{"name": "c", "resources": resources}]}}
+
+    node = {"kind": "Node", "metadata": {"name": "n"},
+            "status": {"capacity": {"cpu": cpus}, "allocatable": {"cpu": cpus}}}
+    (folder / "n.json").write_text(json.dumps({"kind": "List", "items": [
+        pod("a", "100m"), pod("b", "300m"), node]}))
+    return folder / "n.json"
+
+
+def recommended(ctl, *words, **options):
+    """The proposals by container, all that JSON says, and what is warned of."""
+    out, err = ctl.run("recommend", *words, "--json", **options)
+    found = json.loads(out)
+    return {each["container"]: each for each in found["containers"]}, found, err
+
+
+def amounts(each):
+    """The proposed request and limit."""
+    return each["recommended"]["request_millicpu"], each["recommended"]["limit_millicpu"]
+
+
+def top_of(folder, **used):
+    """A file of kubectl top."""
+    lines = [f"x {name} c {amount} 1Mi\n" for name, amount in used.items()]
+    (folder / "top").write_text("NAMESPACE POD NAME CPU(cores) MEMORY(bytes)\n" + "".join(lines))
+    return folder / "top"
+
+
+def test_who_is_short_and_what_is_guaranteed(ctl, folder):
+    """900m and 600m and 15% are 1035m and 690m: 1059 and 706 shares, weights 41 and 27.
+
+    Of 100 slices these are 60 and 40. With weights 4 and 12 b has its 60 and a the rest. Where all
+    others ask, best effort takes 1, the pods have 60 and 39, and their pause containers 1 each.
+    """
+    words = (node_of(folder, "1"), "--usage", top_of(folder, a="900m", b="600m"))
+    by, found, err = recommended(ctl, *words)
+    assert [amounts(by[name]) for name in ("x/a/c", "x/b/c")] == [(1035, None), (690, None)]
+    assert [(each["gets_now_millicpu"], each["gets_millicpu"], each["guaranteed_millicpu"])
+            for each in by.values()] == [(400, 600, 590), (600, 400, 380)]
+    assert (found["requests_millicpu"], found["recommended_requests_millicpu"],
+            found["allocatable_millicpu"]) == (400, 1725, 1000)
+    assert "the pods request 1725m of the 1000m that the node has for them" in err
+    assert by["x/a/c"]["set"] == ["x/a/c.request=1035m"]
+    out, _ = ctl.run("recommend", *words)
+    assert "p95 of at most 1 samples, and 15% on top; the proved check accepted the plan" in out
+    assert "short when each uses this at once: 2 (x/a/c, x/b/c)" in out
+    assert "requests of all pods: 400m now, 1725m then, of 1000m that the node has" in out
+    assert out.split("\n")[-2].split() == ["600m", "600m", "300m", "690m", "-", "-", "400m",
+                                           "380m", "x/b/c"]
+
+
+def test_what_is_proposed_can_be_compared(ctl, folder):
+    """The words of `set` are those of `compare`, and the plan is that of `recommend`."""
+    words = (node_of(folder, "1"), "--usage", top_of(folder, a="900m", b="600m"))
+    by, _, _ = recommended(ctl, *words)
+    sets = [word for each in by.values() for one in each["set"] for word in ("--set", one)]
+    out, _ = ctl.run("compare", *words, *sets, "--json")
+    gets = {each["group"]: each["gets"]["millicpu"] for each in json.loads(out)["after"]["groups"]}
+    assert [gets[f"kubepods/burstable/x:{name}/c"] for name in "ab"] == [600, 400]
+
+
+# Twenty samples of 10m to 200m, of which one cell of b is empty.
+HISTORY = "time,x/a/c,x/b\n" + "".join(
+    f"{at},{at * 10}m,{'' if at == 7 else '50m'}\n" for at in range(1, 21))
+
+
+@pytest.mark.parametrize("target, headroom, a, b", [
+    # The 19th of 20 is 190m; 218.5m are rounded up. The limit is of 200m.
+    ("p95", "15%", (219, 230), (58, 58)), ("p50", "0%", (100, 200), (50, 50)),
+    ("max", "100%", (400, 400), (100, 100)), ("p1", "0", (10, 200), (50, 50)),
+    ("p100", "12.5%", (225, 225), (57, 57)),
+])
+def test_percentiles_of_a_history(ctl, folder, target, headroom, a, b):
+    """Nearest ranks of the samples that are there; a pod of one container stands for it."""
+    (folder / "h.csv").write_text(HISTORY)
+    by, _, err = recommended(ctl, node_of(folder, "2", "1"), "--history", folder / "h.csv",
+                             "--target", target, "--headroom", headroom)
+    assert (amounts(by["x/a/c"]), amounts(by["x/b/c"])) == (a, b) and "warning" not in err
+
+
+def test_histories_are_one(ctl, folder):
+    """Two files of ten samples are one of twenty; columns of others are told."""
+    lines = HISTORY.split("\n")
+    (folder / "1.csv").write_text("\n".join(lines[:11]))
+    (folder / "2.csv").write_text("\n".join([lines[0], *lines[11:]]))
+    (folder / "3.csv").write_text("time,other,x/*\n1,5m,7m\n")
+    by, _, err = recommended(ctl, node_of(folder, "2", "1"), *(
+        word for name in "123" for word in ("--history", folder / f"{name}.csv")))
+    assert amounts(by["x/a/c"]) == (219, 230)
+    assert "columns of no container here, 2: other, x/* (2 containers)" in err
+
+
+def test_use_below_the_least(ctl, folder):
+    """10m are the least that is requested."""
+    by, _, _ = recommended(ctl, node_of(folder, "2"), "--usage", top_of(folder, a="1m"))
+    assert list(by) == ["x/a/c"] and amounts(by["x/a/c"]) == (10, None)
+
+
+def test_classes(ctl):
+    """A guaranteed pod stays so: its limit is its request. Best effort becomes burstable, told.
+
+    1000m, 40m, 640m, 812m, 480m and 95m with 15% on top. The init container of db-0 keeps 2000m.
+    """
+    by, found, err = recommended(ctl, PODS, NODE, "--usage", FIXTURES / "top.txt")
+    assert {name.split("/")[-1]: amounts(each) for name, each in by.items()} == {
+        "nginx": (1150, 1150), "metrics": (46, 46), "postgres": (736, 736), "report": (934, None),
+        "app": (552, 552), "envoy": (110, None)}
+    assert found["recommended_requests_millicpu"] == 1196 + 2000 + 934 + 912
+    assert "batch/report-x: Burstable and no more BestEffort" in err and "db-0" not in err
+
+
+def test_a_throttled_container(ctl, folder):
+    """Throttled in half of its periods at 1000m it wanted 2000m at least: a limit of 2300m."""
+    pod = ("kubepods.slice/kubepods-burstable.slice/kubepods-burstable-pod00000001_0b1c_4d2e_8f3a_"
+           "0123456789ab.slice")
+    nginx = f"{pod}/cri-containerd-{'a1' * 32}.scope"
+    for copy, factor in (("a", 0), ("b", 1)):
+        trees.root2(folder / copy)
+        trees.group2(folder / copy / nginx, usage=3 * 10**6 * factor, periods=100 * factor,
+                     throttled=50 * factor, waited=9 * 10**6 * factor)
+    words = (PODS, NODE, "--cgroup", folder / "a", "--later", folder / "b", "--interval", "10s")
+    by, _, _ = recommended(ctl, *words)
+    assert amounts(by["prod/web-7c9f/nginx"]) == (345, 2300)
+    assert by["prod/web-7c9f/nginx"]["throttled"] is True
+    out, _ = ctl.run("recommend", *words)
+    assert "300m*" in out and "* throttled at its limit: it wanted more than it used" in out
+
+
+@pytest.mark.parametrize("target, headroom, wanted", [
+    ("p95", "15%", (95, Fraction(15, 100))), ("max", "0", (100, 0)), ("p1", "1000%", (1, 10)),
+])
+def test_rules(target, headroom, wanted):
+    rule = recommend.rule_of(target, headroom)
+    assert (rule.percent, rule.headroom) == wanted
+
+
+@pytest.mark.parametrize("target, headroom", [
+    ("p0", "15%"), ("p101", "15%"), ("95", "15%"), ("p9.5", "15%"), ("\x1b", "15%"), ("", "15%"),
+    ("p95", "-1%"), ("p95", "x"), ("p95", "1001%"), ("p95", "15m"), ("p95", "1e99%"),
+])
+def test_bad_rules(target, headroom):
+    with pytest.raises(UsageFault):
+        recommend.rule_of(target, headroom)
+
+
+def test_what_recommend_refuses(ctl, folder):
+    """Other sources, nothing seen, a broken history: one line each."""
+    (folder / "s").write_text("# arbiter run --processors 1\nmkdir a\n")
+    assert "recommend is for pods" in ctl.run("recommend", folder / "s", status=2)[1]
+    assert "nothing was seen of any container" in ctl.run("recommend", PODS, NODE, status=1)[1]
+    (folder / "h.csv").write_text("time,prod/db-0\n1,x\n")
+    _, err = ctl.run("recommend", PODS, NODE, "--history", folder / "h.csv", status=1)
+    assert "h.csv:2: 'x' is no number" in err
+    _, err = ctl.run("recommend", PODS, NODE, "--history", folder / "none", status=1)
+    assert "No such file" in err
+    _, err = ctl.run("recommend", PODS, NODE, "--prometheus", "http://127.0.0.1:1", status=2)
+    assert "--prometheus takes" in err
