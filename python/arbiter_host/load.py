@@ -265,13 +265,19 @@ def standard_input() -> bytes:
     return file_bytes("-")
 
 
+def usage_of(options: argparse.Namespace) -> list[Used]:
+    """The entries of the file of `--usage`."""
+    from arbiter_host.sources import usage
+    if options.usage == "-" and "-" in options.source:
+        raise UsageFault("--usage -: standard input is the source already")
+    data = standard_input() if options.usage == "-" else file_bytes(options.usage)
+    return usage.read(data, names.shown(options.usage))
+
+
 def with_use(options: argparse.Namespace, source: Measurable) -> Owned:
     """A source with what its groups used, where an option says it."""
     if options.usage is not None:
-        from arbiter_host.sources import usage
-        data = standard_input() if options.usage == "-" else file_bytes(options.usage)
-        name = names.shown(options.usage)
-        return source.with_usage(usage.read(data, name), name)
+        return source.with_usage(usage_of(options), names.shown(options.usage))
     if options.cgroup is not None:
         from arbiter_host.sources import beside
         known, seconds = beside.measured(options.cgroup, source.folders(),

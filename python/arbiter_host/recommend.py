@@ -101,11 +101,11 @@ def containers_of(model: Model, word: str) -> list[str]:
     """The containers that a column names: itself, or those of a pod."""
     source = source_of(model)
     try:
-        paths = [group.path for group in demands.matching(model, word)]
+        paths = {group.path for group in demands.matching(model, word)}
     except HostFault:
         return []
     return [path for path in model.groups if source.has(path)
-            and any(path == each or path.startswith(f"{each}/") for each in paths)]
+            and (path in paths or names.parent_path(path) in paths)]
 
 
 def of_history(model: Model, found: Sequence[samples.Sample],

@@ -126,6 +126,53 @@ def test_a_broken_node_is_named(ctl):
     assert "x/p" in out and "good" in out
 
 
+def test_nodes_that_take_no_such_pod(ctl):
+    """Cordons, taints that are not tolerated and labels that are not there keep a pod away."""
+    shut, keyed, plain = node("shut"), node("keyed"), node("plain")
+    shut["spec"] = {"unschedulable": True}
+    keyed["spec"] = {"taints": [{"key": "gpu", "value": "yes", "effect": "NoSchedule"},
+                                {"key": "soft", "effect": "PreferNoSchedule"}]}
+    keyed["metadata"]["labels"] = {"disk": "ssd"}
+    pods = [pending(name) for name in ("any", "equal", "exists", "other", "ssd", "hdd", "all")]
+    wishes = {"equal": {"key": "gpu", "value": "yes"}, "other": {"key": "gpu", "value": "no"},
+              "exists": {"key": "gpu", "operator": "Exists", "effect": "NoSchedule"},
+              "ssd": {"operator": "Exists"}, "hdd": {"operator": "Exists"},
+              "all": {"key": "gpu", "operator": "Exists", "effect": "NoExecute"}}
+    for each in pods:
+        name = each["metadata"]["name"]
+        if name in wishes:
+            each["spec"]["tolerations"] = [wishes[name]]
+        if name in ("equal", "exists", "ssd", "hdd", "other", "all"):
+            each["spec"]["nodeSelector"] = {"disk": "hdd" if name == "hdd" else "ssd"}
+    # One pod a run, so that none takes the room of another.
+    found = {}
+    for each in pods:
+        data = cluster(shut, keyed, plain, each)
+        (one,) = planned(ctl, "-", given=data)[0]["pending"]
+        found[each["metadata"]["name"]] = one["host"] or one["why"]
+    none = "keyed: it does not tolerate the taint gpu, and so 2 more"
+    assert found == {"any": "plain", "equal": "keyed", "exists": "keyed", "other": none,
+                     "ssd": "keyed", "hdd": "keyed: the node has no label disk=hdd, and so 2 more",
+                     "all": none}
+
+
+def test_usage_of_a_cluster(ctl, folder):
+    """Each node has the use of its pods: n1 308 slices, and n2 70. A pod that waits asks anew."""
+    top = (FIXTURES / "top.txt").read_text() + "prod api-0 main 700m 9Mi\nteam far main 1m 9Mi\n"
+    (folder / "top").write_text(top)
+    found, err = planned(ctl, CLUSTER, "--usage", folder / "top")
+    assert [(each["host"], each["wanted"]) for each in found["hosts"]] == [("n1", 308), ("n2", 70)]
+    assert ("used by pods that no node here has: 2: kube-system/coredns-5d78-4x2, team/far" in err)
+    job = found["pending"][0]
+    assert (job["host"], job["wants_cpus"], job["gets_cpus"]) == ("n2", 1, 1)
+    (folder / "top").write_text("NAMESPACE POD NAME CPU(cores)\nprod api-0 main 1m\n")
+    out, _ = ctl.run("fleet", "plan", CLUSTER, *NEEDS, "--usage", folder / "top", status=1)
+    assert "n1: --want usage: what these pods used is not told" in out
+    (folder / "top").write_text("NAMESPACE NAME CPU(cores)\nprod api-0 1m\n")
+    _, err = ctl.run("fleet", "plan", CLUSTER, *NEEDS, "--usage", folder / "top", status=1)
+    assert "prod/api-0: of a cluster usage is told by namespace, pod and container" in err
+
+
 def test_pods_of_one_shape_are_asked_once(folder):
     """Replicas differ in names alone."""
     (folder / "c.json").write_bytes(cluster(node("n"), *(

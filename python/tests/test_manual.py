@@ -92,7 +92,7 @@ def test_main_page(ctl):
 def examples(ctl, folder):
     """A folder with the files that the examples name, and their commands on the PATH."""
     fixtures = PACKAGE / "tests/fixtures"
-    for name in ("pods.json", "node.json"):
+    for name in ("pods.json", "node.json", "cluster.json"):
         shutil.copy(fixtures / name, folder)
     (folder / "pods.csv").write_text("time,prod/db-0\n10:00,0.5\n10:30,0.7\n")
     host = ("[host]\ncpus = 16\nslice = \"1ms\"\n[groups.web]\nweight = 200\nmax = \"2cpu\"\n"

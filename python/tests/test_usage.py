@@ -119,7 +119,7 @@ def test_bad_usage(ctl, folder, text, words):
                                                          "--usage belongs to --want usage"),
     (("--usage", "x", "--want", "p95"), "--usage belongs to --want usage"),
     (("--cgroup", "x", "--want", "request"), "--cgroup belongs to --want usage, peak, p95, psi"),
-    (("--want", "usage"), "--want usage needs --usage or --cgroup"),
+    (("--want", "usage"), "what these pods used is not told (--usage, --cgroup)"),
 ])
 def test_words_that_do_not_go_together(ctl, words, told):
     assert told in ctl.run("explain", PODS, NODE, *words, status=2)[1]
@@ -130,7 +130,16 @@ def test_usage_belongs_to_pods_and_containers(ctl, folder):
     for source, kind in ((folder / "s", "script"), (FIXTURES / "units.show", "systemd")):
         _, err = ctl.run("explain", source, "--usage", FIXTURES / "top.txt", status=2)
         assert f"--usage belongs to pods and containers, and not to {kind}" in err
-    assert "fleet has none" in ctl.run("fleet", "plan", folder, "--usage", "x", status=2)[1]
+    words = ("--usage", FIXTURES / "top.txt")
+    assert "other hosts have none" in ctl.run("fleet", "plan", folder, *words, status=2)[1]
+    assert "fleet has none" in ctl.run("fleet", "plan", folder, "--cgroup", "x", status=2)[1]
+
+
+def test_standard_input_is_one_thing(ctl):
+    """It is the source or what was used, and not both."""
+    for words in (("explain", "-"), ("fleet", "plan", "-")):
+        _, err = ctl.run(*words, "--usage", "-", given=PODS.read_bytes(), status=2)
+        assert "--usage -: standard input is the source already" in err
 
 
 def test_a_file_that_is_not_there_and_a_pipe(ctl, folder):

@@ -132,9 +132,11 @@ def loss(rises: Sequence[tuple[int, str]]) -> dict[str, Any]:
 
 
 def pod_of(job: Job, place: int, model: Model, engine: Engine) -> Model:
-    """The groups of a pod, as its file has them for this host's CPUs."""
+    """The groups of a pod, as its file has them for this host's CPUs. It has used nothing yet."""
     name = job.pods[place][0]
-    options = job.namespace(cpus=model.host.processors, period=None, slice=None, kind=None)
+    want = None if job.options["want"] in demands.OF_USE else job.options["want"]
+    options = job.namespace(cpus=model.host.processors, period=None, slice=None, kind=None,
+                            want=want)
     return load.of_bytes(options, name, job.pod_bytes(place), engine)
 
 

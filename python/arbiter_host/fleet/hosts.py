@@ -2,8 +2,9 @@
 from __future__ import annotations
 
 import json
+import math
 import os
-from collections.abc import Iterator, Sequence
+from collections.abc import Iterator, Mapping, Sequence
 from dataclasses import dataclass, replace
 from typing import Any
 
@@ -11,7 +12,7 @@ from arbiter_host import load, names
 from arbiter_host.faults import HostFault, UsageFault, strerror
 from arbiter_host.sources import kubernetes, pods
 from arbiter_host.sources.data import MAX_BYTES, table, text
-from arbiter_host.sources.usage import some
+from arbiter_host.sources.usage import Used, some
 
 
 @dataclass(frozen=True)
@@ -123,14 +124,19 @@ def of_word(word: str) -> list[HostFile]:
     return fleet_of(word).hosts
 
 
-def fleet_of(word: str) -> Fleet:
-    """The fleet of a word of the command line: a folder, a list of files, or a cluster."""
+def fleet_of(word: str, used: Sequence[Used] = ()) -> Fleet:
+    """The fleet of a word of the command line: a folder, a list of files, or a cluster.
+
+    What pods used is of a cluster alone.
+    """
     if os.path.isdir(word):
         fleet = Fleet(named(list(below(word)), word))
     else:
         data = load.file_bytes(word)
         whole = document(data)
-        fleet = of_list(word, data) if whole is None else of_cluster(word, whole)
+        fleet = of_list(word, data) if whole is None else of_cluster(word, whole, used)
+    if used and not fleet.is_cluster:
+        raise UsageFault("--usage is of the pods of a cluster: other hosts have none")
     if not fleet.hosts:
         raise HostFault(f"{names.shown(word)}: no host")
     return fleet
@@ -143,8 +149,9 @@ def of_list(word: str, data: bytes) -> Fleet:
     return Fleet(named(paths, os.path.commonpath(folders)) if paths else [])
 
 
-def of_cluster(word: str, whole: Any) -> Fleet:
-    """A host for each node of `kubectl get nodes,pods -A -o json`, with the pods that it has."""
+def of_cluster(word: str, whole: Any, used: Sequence[Used] = ()) -> Fleet:
+    """A host for each node of `kubectl get nodes,pods -A -o json`, with the pods that it has and
+    what these used."""
     items = whole.get("items") if isinstance(whole, dict) else None
     items = [each for each in items if isinstance(each, dict)] if isinstance(items, list) else []
     nodes = {text(table(each, "metadata"), "name"): each for each in items
@@ -164,11 +171,31 @@ def of_cluster(word: str, whole: Any) -> Fleet:
             of_node[place].append(pod)
         elif not kubernetes.has_ended(pod):
             (lost if place else pending).append(pod)
-    found = [host_of(word, nodes[name], of_node[name]) for name in sorted(nodes)]
-    notes = [f"pods of nodes that are not in it, left out: {some([title(pod) for pod in lost])}"]
+    metrics = metrics_of(used)
+    found = [host_of(word, nodes[name], of_node[name], metrics) for name in sorted(nodes)]
+    notes = [f"pods of nodes that are not in it, left out: {some(list(map(title, lost)))}"
+             ] if lost else []
+    here = {title(pod) for each in of_node.values() for pod in each}
+    missing = [name for name in metrics if names.shown(name) not in here]
+    if missing:
+        notes.append(f"used by pods that no node here has: {some(list(map(names.shown, missing)))}")
     return Fleet([host for host, _ in found], tuple(map(pending_of, pending)),
-                 {host.name: room for host, room in found if room is not None},
-                 tuple(notes if lost else ()))
+                 {host.name: room for host, room in found if room is not None}, tuple(notes))
+
+
+def metrics_of(used: Sequence[Used]) -> dict[str, dict[str, Any]]:
+    """What was used as objects of metrics-server, by the title of the pod."""
+    found: dict[str, dict[str, Any]] = {}
+    for each in used:
+        if not (each.namespace and each.pod and each.container):
+            raise HostFault(f"{each.title}: of a cluster usage is told by namespace, pod and"
+                            " container: kubectl top pods -A --containers")
+        metrics = found.setdefault(f"{each.namespace}/{each.pod}", {
+            "kind": "PodMetrics", "metadata": {"namespace": each.namespace, "name": each.pod},
+            "containers": []})
+        nano = math.ceil(each.amount * 10**6)
+        metrics["containers"].append({"name": each.container, "usage": {"cpu": f"{nano}n"}})
+    return found
 
 
 def title(pod: dict[str, Any]) -> str:
@@ -176,11 +203,13 @@ def title(pod: dict[str, Any]) -> str:
     return names.shown(pods.pod_of(pod, []).title)
 
 
-def host_of(word: str, node: dict[str, Any],
-            of_node: Sequence[dict[str, Any]]) -> tuple[HostFile, int | None]:
+def host_of(word: str, node: dict[str, Any], of_node: Sequence[dict[str, Any]],
+            metrics: Mapping[str, dict[str, Any]]) -> tuple[HostFile, int | None]:
     """A node as a host, and the thousandths that it has left for requests."""
     name = names.shown(text(table(node, "metadata"), "name") or "unnamed")
-    data = json.dumps({"kind": "List", "items": [node, *of_node]}).encode()
+    titles = [pods.pod_of(pod, []).title for pod in of_node]
+    used = [metrics[each] for each in dict.fromkeys(titles) if each in metrics]
+    data = json.dumps({"kind": "List", "items": [node, *of_node, *used]}).encode()
     allocatable = pods.thousandths(table(node, "status", "allocatable").get("cpu"), "", [])
     asked = kubernetes.requested_by([pods.pod_of(pod, []) for pod in of_node
                                      if not kubernetes.has_ended(pod)])

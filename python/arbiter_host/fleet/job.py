@@ -65,6 +65,7 @@ def reading(options: argparse.Namespace) -> dict[str, Any]:
     """The reading options of a command line. Later copies belong to one host."""
     if options.later:
         raise UsageFault("--later names a copy of one host: fleet has none")
-    if options.usage is not None or options.cgroup is not None:
-        raise UsageFault("--usage and --cgroup are of one host: fleet has none")
-    return {key: getattr(options, key) for key in READING}
+    if options.cgroup is not None:
+        raise UsageFault("--cgroup is of one host: fleet has none")
+    # What was used goes to each node with its pods.
+    return {**{key: getattr(options, key) for key in READING}, "usage": None}

@@ -25,7 +25,8 @@ from arbiter_host.sources.beside import Place
 from arbiter_host.sources.data import loads, table, tables, text
 from arbiter_host.sources.pods import (CLASSES, TOP, Amounts, Container, Pod, folder_of, pod_of,
                                        requested, scope_of, thousandths)
-from arbiter_host.sources.usage import Used, some
+from arbiter_host.sources.scheduling import NodeFacts, node_facts
+from arbiter_host.sources.usage import Used, of_metrics, some
 
 ENDED = ("Succeeded", "Failed")
 # A request of so many thousandths has the greatest shares; no greater one weighs more.
@@ -170,9 +171,9 @@ class Builder:
 
 def tell_limits(model: Model, wish: Wish, builder: Builder, seconds: Fraction) -> None:
     """Sets the demands. Pause containers and classes without a pod ask for nothing."""
-    if wish.want in demands.OF_USE and not builder.known:
-        raise HostFault(f"--want {wish.want} needs --usage or --cgroup: pods have request, limit"
-                        " and busy", 2)
+    if wish.want in demands.OF_USE and not builder.known and builder.places:
+        raise HostFault(f"--want {wish.want}: what these pods used is not told (--usage, --cgroup);"
+                        " they have request, limit and busy", 2)
     idle = builder.measured.keys() - builder.places.keys()
     for path in idle if wish.want in demands.OF_USE else ():
         builder.measured[path].told = Fraction(0)
@@ -221,6 +222,7 @@ class Source:
     # What was measured of containers, and the seconds from one reading to the next.
     known: Mapping[Place, Measured] = field(default_factory=dict)
     seconds: Fraction = Fraction(1)
+    node: NodeFacts = NodeFacts()
 
     keys = ("request", "limit")
 
@@ -239,14 +241,18 @@ class Source:
         """The model."""
         return replace(self.built[0].copy(), owned=self)
 
+    def folders_of(self, driver: str) -> dict[Place, str]:
+        """Where each container is below the top of a tree, by one driver of kubelet."""
+        return {(place, number): scope_of(folder_of(pod, driver), container, driver)
+                for place, pod in enumerate(self.pods)
+                for number, container in enumerate(pod.parts) if container.has_group}
+
     def folders(self) -> dict[Place, tuple[str, ...]]:
         """Where each container may be below the top of a tree, by the drivers of kubelet."""
         drivers = sorted(("systemd", "cgroupfs"), key=lambda each: each != self.wish.driver)
-        return {(place, number): tuple(scope_of(folder_of(pod, driver), container, driver)
-                                       for driver in drivers)
-                for place, pod in enumerate(self.pods)
-                for number, container in enumerate(pod.parts)
-                if container.has_group and container.identifier}
+        found = [self.folders_of(driver) for driver in drivers]
+        return {place: tuple(each[place] for each in found) for place in found[0]
+                if found[0][place] != NOWHERE}
 
     def with_readings(self, known: Mapping[Place, Measured], seconds: Fraction) -> Source:
         """The same with what was measured in a tree of cgroups."""
@@ -254,16 +260,16 @@ class Source:
 
     def with_usage(self, entries: Sequence[Used], name: str) -> Source:
         """The same with what others measured. What it has no container of is told."""
-        by_name: dict[str, list[int]] = {}
-        for place, pod in enumerate(self.pods):
-            by_name.setdefault(pod.name, []).append(place)
-            by_name.setdefault(pod.title, []).append(place)
+        by_name: dict[tuple[str, str], list[Place]] = {}
+        for place, number in self.folders_of(self.wish.driver):
+            pod = self.pods[place]
+            for word in (pod.name, pod.title):
+                for name_ in ("", pod.parts[number].name):
+                    by_name.setdefault((word, name_), []).append((place, number))
         known, missing = {}, []
         for entry in entries:
             word = f"{entry.namespace}/{entry.pod}" if entry.namespace else entry.pod
-            places = [(place, number) for place in by_name.get(word, ())
-                      for number, each in enumerate(self.pods[place].parts)
-                      if each.has_group and entry.container in ("", each.name)]
+            places = by_name.get((word, entry.container), [])
             if len(places) == 1:
                 known[places[0]] = Measured(told=entry.amount)
             else:
@@ -328,12 +334,18 @@ class Source:
         for pod in other.pods:
             if pod.title in here:
                 raise HostFault(f"{shown(pod.title)}: the host has this group already")
+            self.node.check(pod)
         asked = requested_by(other.pods)
-        if self.allocatable is not None and asked > (
-                self.allocatable - requested_by(self.pods)):
+        if self.allocatable is not None and asked > self.allocatable - requested_by(self.pods):
             raise HostFault(f"it requests {asked}m, and {self.allocatable}m less the"
                             f" {requested_by(self.pods)}m of others are there")
-        return replace(self, pods=(*self.pods, *other.pods))
+        known = dict(self.known)
+        if self.wish.want in demands.OF_USE:
+            # What is new has used nothing yet: it asks for its requests.
+            known |= {(len(self.pods) + place, number): Measured(
+                told=Fraction(other.pods[place].parts[number].amounts.request or 0))
+                for place, number in other.folders_of(other.wish.driver)}
+        return replace(self, pods=(*self.pods, *other.pods), known=known)
 
     def request_with(self, path: str, request: int) -> int:
         """The request of a container's pod where the container has another one."""
@@ -364,8 +376,10 @@ def source_of(files: Sequence[tuple[str, bytes]], host: Host | None, library: Li
     pods = pods_on(items, name, notes)
     if node is None:
         notes.append("no node's JSON: kubepods has weight 100")
-    return Source(library, wish, host, tuple(pods), allocatable, capacity is not None,
-                  tuple(notes))
+    source = Source(library, wish, host, tuple(pods), allocatable, capacity is not None,
+                    tuple(notes), node=node_facts(node))
+    used = list(of_metrics([each for each in items if each.get("kind") == "PodMetrics"], "usage"))
+    return source.with_usage(used, "usage") if used else source
 
 
 def read(files: Sequence[tuple[str, bytes]], host: Host | None, library: Library,

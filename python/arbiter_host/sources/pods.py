@@ -51,6 +51,16 @@ class Container:
 
 
 @dataclass(frozen=True)
+class Toleration:
+    """The taints that a pod tolerates: those of a key, a value and an effect. Empty: of any."""
+
+    key: str = ""
+    # Any value where this is none.
+    value: str | None = None
+    effect: str = ""
+
+
+@dataclass(frozen=True)
 class Pod:
     """A pod: what kubelet reckons with."""
 
@@ -67,6 +77,9 @@ class Pod:
     # Whether a container asks for memory, and whether each has a limit of it that is its request.
     asks_memory: bool = False
     is_memory_equal: bool = False
+    # The labels that its node must have, and the taints of a node that it tolerates.
+    selector: tuple[tuple[str, str], ...] = ()
+    tolerations: tuple[Toleration, ...] = ()
 
     @property
     def title(self) -> str:
@@ -219,7 +232,21 @@ def pod_of(pod: dict[str, Any], notes: list[str]) -> Pod:
     own = amounts_of(table(spec, "resources"), where, notes)
     asks = any(memory_of(each, key) for each in raw for key in ("requests", "limits"))
     return Pod(namespace, name, text(metadata, "uid"), parts, overhead, own,
-               told if told in CLASSES else "", asks, all(map(is_memory_limited, raw)))
+               told if told in CLASSES else "", asks, all(map(is_memory_limited, raw)),
+               selector_of(spec), tuple(map(toleration_of, tables(spec, "tolerations"))))
+
+
+def selector_of(spec: dict[str, Any]) -> tuple[tuple[str, str], ...]:
+    """The labels that a pod's node must have."""
+    found = table(spec, "nodeSelector")
+    return tuple(sorted((key, text(found, key)) for key in found))
+
+
+def toleration_of(found: dict[str, Any]) -> Toleration:
+    """A toleration. Without an operator the value has to be equal."""
+    is_any = text(found, "operator") == "Exists"
+    return Toleration(text(found, "key"), None if is_any else text(found, "value"),
+                      text(found, "effect"))
 
 
 def folder_of(pod: Pod, driver: str) -> str:

@@ -98,7 +98,10 @@ def demands_of(options: argparse.Namespace) -> Callable[[str], Lines]:
 def fleet_of(options: argparse.Namespace) -> hosts.Fleet:
     """The fleet that the words name. The nodes of a cluster are read as such."""
     word = options.hosts if options.action == "place" else options.source[0]
-    fleet = hosts.fleet_of(word)
+    used = [] if options.usage is None else load.usage_of(options)
+    if used:
+        options.want = load.want_of(options, "usage")
+    fleet = hosts.fleet_of(word, used)
     if fleet.is_cluster:
         options.kind = options.kind or "kubernetes"
     for note in fleet.notes:
@@ -261,7 +264,8 @@ DETAILS = (
     " import reads but a tree of cgroups. A host has its file's name without the ending.",
     "Each node of the JSON of `kubectl get nodes,pods -A -o json` is one host too. plan then says"
     " where each pod would go that no node has yet, by the rule of --by, or why it goes nowhere."
-    " Requests of CPU decide what fits; memory, taints and affinity are not asked.",
+    " Requests of CPU, nodeSelector, taints and cordons decide what fits; memory and affinity are"
+    " not asked. --usage of all pods makes what they used their demands.",
     "plan says what each host serves and lacks. what-if makes the changes of --set on each host and"
     " says who gains and loses. place puts each pod into each host, says what it would get and who"
     " would lose, and orders the hosts by the rule of --by.",
@@ -287,6 +291,8 @@ EXAMPLES = (
      "arbiterctl fleet series hosts demands --sample 30m --db day.sqlite"),
     ("where a pod would go", "arbiterctl fleet place pod.toml --hosts hosts --by most-left"),
     ("a whole cluster", "kubectl get nodes,pods -A -o json | arbiterctl fleet plan -"),
+    ("the same with what its pods use now",
+     "kubectl top pods -A --containers | arbiterctl fleet plan cluster.json --usage -"),
 )
 FLEET = Subcommand("fleet",
                    "Plans many hosts at once and reports what the fleet serves and lacks, what a"
