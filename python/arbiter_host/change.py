@@ -44,6 +44,15 @@ def apply(model: Model, group: Group, key: str, value: str, has_children: bool) 
     check_settings(group)
 
 
+def check_value(word: str) -> None:
+    """A fault where the value of a setting that people own is none on any host."""
+    from arbiter_host.sources import containers, kubernetes, systemd
+    setting = Setting(*split(word))
+    checks = {"pods": kubernetes.amount_of, "units": systemd.check,
+              "containers": containers.check}
+    checks[owned.KEYS[setting.key]](setting)
+
+
 def settings_of(model: Model, source: Owned, word: str) -> list[Setting]:
     """The settings of a source that a word changes."""
     pattern, key, value = split(word)

@@ -268,7 +268,8 @@ def standard_input() -> bytes:
 def usage_of(options: argparse.Namespace) -> list[Used]:
     """The entries of the file of `--usage`."""
     from arbiter_host.sources import usage
-    if options.usage == "-" and "-" in options.source:
+    paths = [options.source] if isinstance(options.source, str) else options.source
+    if options.usage == "-" and "-" in paths:
         raise UsageFault("--usage -: standard input is the source already")
     data = standard_input() if options.usage == "-" else file_bytes(options.usage)
     return usage.read(data, names.shown(options.usage))

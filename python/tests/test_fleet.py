@@ -579,6 +579,9 @@ def test_forms_hold_the_answers(fleet, calls):
 @pytest.mark.parametrize("words", [
     ("plan", "a", "b"), ("plan", "a", "--set", "x.weight=1"), ("what-if", "a"),
     ("what-if", "a", "--set", "x.weight=0"), ("what-if", "a", "--set", "x.frob=0"),
+    ("what-if", "a", "--set", "x.request=lots"), ("what-if", "a", "--set", "x.CPUQuota=0%"),
+    ("what-if", "a", "--set", "x.CPUWeight=0"), ("what-if", "a", "--set", "x.cpus=-1"),
+    ("what-if", "a", "--set", "x.cpu-shares=1"),
     ("place", "a"), ("plan", "a", "--hosts", "b"), ("series", "a"), ("plan", "a", "--recheck", "x"),
     ("plan", "a", "--recheck", "101%"), ("plan", "a", "--workers", "-1"),
     ("plan", "a", "--deadline", "0"), ("plan", "a", "--workers", "1", "--scheduler", "tcp://x"),

@@ -63,7 +63,7 @@ def test_who_is_short_and_what_is_guaranteed(ctl, folder):
     assert "the pods request 1725m of the 1000m that the node has for them" in err
     assert by["x/a/c"]["set"] == ["x/a/c.request=1035m"]
     out, _ = ctl.run("recommend", *words)
-    assert "p95 of at most 1 samples, and 15% on top; the proved check accepted the plan" in out
+    assert "p95 of at most 1 sample, and 15% on top; the proved check accepted the plan" in out
     assert "short when each uses this at once: 2 (x/a/c, x/b/c)" in out
     assert "requests of all pods: 400m now, 1725m then, of 1000m that the node has" in out
     assert out.split("\n")[-2].split() == ["600m", "600m", "300m", "690m", "-", "-", "400m",

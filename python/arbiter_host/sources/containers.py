@@ -11,7 +11,7 @@ from arbiter import Host, Library
 from arbiter_host import demands, names, units
 from arbiter_host.demands import Measured
 from arbiter_host.faults import HostFault
-from arbiter_host.model import Group, Model, check_count, checked
+from arbiter_host.model import MAX_CAPACITY, Group, Model, check_count, checked
 from arbiter_host.owned import NONE, Owned, Range, Setting
 from arbiter_host.sources import systemd
 from arbiter_host.sources.beside import Place
@@ -137,6 +137,11 @@ def config_with(container: dict[str, Any], setting: Setting, host: Host) -> dict
     if shares and not units.MIN_SHARES <= shares <= units.MAX_SHARES:
         raise setting.fault(f"not {units.MIN_SHARES} to {units.MAX_SHARES}, or 0 for the default")
     return {**config, "CpuShares": shares}
+
+
+def check(setting: Setting) -> None:
+    """A fault where no container takes a setting on any host."""
+    config_with({}, setting, Host(MAX_CAPACITY))
 
 
 def nano_of(setting: Setting, host: Host) -> int:

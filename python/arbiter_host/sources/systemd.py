@@ -148,6 +148,18 @@ def quota_word(setting: Setting) -> str:
     return f"{hundredths * SECOND // 10000}us"
 
 
+def changed_unit(unit: dict[str, str], setting: Setting) -> dict[str, str]:
+    """The properties of a unit with another weight or quota."""
+    if setting.key == "CPUWeight":
+        return {**unit, "CPUWeight": weight_word(setting)}
+    return {**unit, "CPUQuotaPerSecUSec": quota_word(setting)}
+
+
+def check(setting: Setting) -> None:
+    """A fault where no unit takes a setting."""
+    changed_unit({}, setting)
+
+
 @dataclass(frozen=True)
 class Source:
     """Units as they were read. `CPUWeight=` and `CPUQuota=` of them can be changed."""
@@ -188,9 +200,7 @@ class Source:
         """The same with other weights and quotas."""
         found = dict(self.found)
         for setting in settings:
-            change = ({"CPUWeight": weight_word(setting)} if setting.key == "CPUWeight"
-                      else {"CPUQuotaPerSecUSec": quota_word(setting)})
-            found[setting.path] = {**found[setting.path], **change}
+            found[setting.path] = changed_unit(found[setting.path], setting)
         return replace(self, found=found)
 
     def joined(self, _: Owned) -> None:

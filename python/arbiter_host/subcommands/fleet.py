@@ -59,10 +59,11 @@ def check_words(options: argparse.Namespace) -> None:
         raise UsageFault("--rows: 0 or more")
     for word in options.set:
         _, key, value = change.split(word)
-        if change.is_owned(word):
-            continue
         try:
-            change.apply(Model(), Group("any"), key, value, False)
+            if change.is_owned(word):
+                change.check_value(word)
+            else:
+                change.apply(Model(), Group("any"), key, value, False)
         except HostFault as fault:
             raise UsageFault(f"--set {names.shown(word)}: {fault.message}") from fault
 
