@@ -22,9 +22,9 @@ def planned(ctl, *words, **options):
 def test_each_node_is_a_row(ctl):
     """n1 is the node of the fixtures alone, n2 has one pod of 500m."""
     found, err = planned(ctl, "-", given=CLUSTER.read_bytes())
-    one, two = found["hosts"]
-    assert [(each["host"], each["cpus"], each["groups"], each["served"]) for each in (one, two)] == [
-        ("n1", 4, 17, 195), ("n2", 2, 6, 50)]
+    one = found["hosts"][0]
+    assert [(each["host"], each["cpus"], each["groups"], each["served"])
+            for each in found["hosts"]] == [("n1", 4, 17, 195), ("n2", 2, 6, 50)]
     whole = json.loads(ctl.run("explain", FIXTURES / "pods.json", FIXTURES / "node.json",
                                "--json")[0])
     assert (one["served"], one["wanted"], one["groups"]) == (
@@ -69,8 +69,8 @@ def test_a_pod_weighs_on_its_class(ctl, folder):
 
 def test_other_questions_of_a_cluster(ctl):
     """what-if takes a cluster too."""
-    out, _ = ctl.run("fleet", "what-if", CLUSTER, "--set", "prod/web-*/nginx.request=1cpu", "--want",
-                     "busy", *NEEDS, "--json")
+    out, _ = ctl.run("fleet", "what-if", CLUSTER, "--set", "prod/web-*/nginx.request=1cpu",
+                     "--want", "busy", *NEEDS, "--json")
     found = json.loads(out)
     assert [host["matched"] for host in found["hosts"]] == [1, 0]
 
@@ -93,8 +93,9 @@ def pending(name, request="1", **metadata):
             "status": {"phase": "Pending"}}
 
 
-@pytest.mark.parametrize("name", ["n1.script", "n1.toml", "a\x1b[31m", "../../etc", "<b>", "x" * 300],
-                         ids=lambda each: ascii(each)[:20])
+@pytest.mark.parametrize("name", [
+    "n1.script", "n1.toml", "a\x1b[31m", "../../etc", "<b>", "x" * 300,
+], ids=lambda each: ascii(each)[:20])
 def test_names_of_nodes_and_pods(ctl, name):
     """A name says nothing of what a node is, and reaches no terminal raw."""
     data = cluster(node(name), pending(name), pending("y.toml", "3"))

@@ -86,9 +86,10 @@ def lines_of(found: Recommendation, count: int) -> list[tuple[str, str]]:
         styles.append("red" if group.gets < group.want else "")
     short_ = [shown(each.title) for each, path in zip(found.proposals, found.paths)
               if groups[path].gets < groups[path].want]
+    many = f"{count} sample" + ("s" if count > 1 else "")
     lines = [(text.host_words(found.after), ""),
-             (f"p{percent} of at most {count} sample{'s' if count > 1 else ''}, and {headroom:g}% on"
-              " top; the proved check accepted the plan", ""),
+             (f"p{percent} of at most {many}, and {headroom:g}% on top; the proved check accepted"
+              " the plan", ""),
              (f"requests of all pods: {found.requests[0]}m now, {found.requests[1]}m then{of_node}",
               "red" if (found.allocatable or found.requests[1]) < found.requests[1] else ""),
              (f"short when each uses this at once: {len(short_)}"
