@@ -12,7 +12,8 @@ use Rattle.bw_plan.specs.Laws.{HasOnePlan, ThereIsOnePlan}
 use Rattle.bw_plan_laws.specs.Host.{RaisedLimitsServeNoLess}
 use Rattle.bw_plan_laws.specs.Weight.{IsHeavierAround, OthersWeightsGiveNothing}
 use Rattle.bw_plan_laws.specs.Weight.{RaisedWeightAloneGains}
-use Rattle.bw_plan_laws.proofs.CallerLemmas.{leaf_same}
+use Rattle.bw_plan_laws.proofs.CallerLemmas.{leaf_same, under_same, same_tree, weights_same}
+use Rattle.bw_plan_laws.proofs.CallerLemmas.{limits_same}
 use Rattle.bw_questions.specs.declared.tuned.goal.Goal.{Goal}
 use Rattle.bw_questions.specs.declared.tuned.measure.Measure.{Measure}
 use Rattle.bw_questions.specs.declared.tuned.measure.Measure.TheVariants.{Planned, Guaranteed}
@@ -22,8 +23,7 @@ use Rattle.bw_questions.specs.Least.{Reaches, IsLeast}
 use Rattle.bw_questions.specs.Tune.{IsMet, judged}
 use Rattle.bw_questions.proofs.Alike.{IsAlike, alike_back, alike_on, with_alike}
 use Rattle.bw_questions.proofs.Alike.{around, same_around, lighter_reaches}
-use Rattle.bw_questions.proofs.BusyRows.{AreBusy, are_busy, busy_demand, busy-IsInstance, same_tree}
-use Rattle.bw_questions.proofs.BusyRows.{weights_same, limits_same, under_same}
+use Rattle.bw_questions.proofs.BusyRows.{AreBusy, are_busy, busy_demand, busy-IsInstance}
 use Rattle.bw_questions.proofs.LeastAmount.{busy_asked, least}
 use Rattle.bw_questions.proofs.Rising.{weighed, weight-IsInstance, weights_rise}
 use Rattle.bw_questions.proofs.StillInstance.{weight_here, weight_other}
@@ -38,14 +38,14 @@ pub judged_inside : (measure : Measure) (groups : Groups) (group : ℕ) → grou
     → group < length (judged measure groups group).rows
 judged_inside Planned groups group below = below
 judged_inside Guaranteed groups group below =
-    omega (arith, below, (are_busy groups.rows group).one_each)
+    omega (arith, below, (are_busy groups.rows group).alike.one_each)
 
 -- Weights are those of the instance.
 pub judged_weight : (measure : Measure) (groups : Groups) → IsInstance groups → (group h : ℕ)
     → weight_of (judged measure groups group).rows h ≡ weight_of groups.rows h
 judged_weight Planned groups valid group h = refl
 judged_weight Guaranteed groups valid group h =
-    weights_same groups valid group (busy_rows groups.rows group) (are_busy groups.rows group) h
+    weights_same groups.rows (busy_rows groups.rows group) (are_busy groups.rows group).alike h
 
 -- busy rows of instances that differ in weights alone
 module _ (a b : Groups) (va : IsInstance a) (vb : IsInstance b) (group : ℕ)
@@ -67,10 +67,10 @@ module _ (a b : Groups) (va : IsInstance a) (vb : IsInstance b) (group : ℕ)
   busy_alike : IsAlike (judged Guaranteed a group) (judged Guaranteed b group)
   busy_alike = record {
     tree = record {
-      as_many = bb.one_each ∙ alike.tree.as_many ∙ sym ba.one_each;
-      parents = λ g. (same_tree b vb group (busy_rows b.rows group) bb).parents g
+      as_many = bb.alike.one_each ∙ alike.tree.as_many ∙ sym ba.alike.one_each;
+      parents = λ g. (same_tree b.rows (busy_rows b.rows group) bb.alike).parents g
           ∙ alike.tree.parents g
-          ∙ sym ((same_tree a va group (busy_rows a.rows group) ba).parents g);
+          ∙ sym ((same_tree a.rows (busy_rows a.rows group) ba.alike).parents g);
     };
     demands = λ h. elim (cases_lt h (length a.rows)) [
       | inl within ↦
@@ -79,12 +79,12 @@ module _ (a b : Groups) (va : IsInstance a) (vb : IsInstance b) (group : ℕ)
       | inr past ↦
           ap (λ (r : Row). r.demand)
           (get_or_past (busy_rows b.rows group) h no_row
-          (omega (arith, past, bb.one_each, alike.tree.as_many)))
+          (omega (arith, past, bb.alike.one_each, alike.tree.as_many)))
           ∙ sym (ap (λ (r : Row). r.demand)
-          (get_or_past (busy_rows a.rows group) h no_row (omega (arith, past, ba.one_each))))
+          (get_or_past (busy_rows a.rows group) h no_row (omega (arith, past, ba.alike.one_each))))
     ];
-    limits = λ h. limits_same b vb group (busy_rows b.rows group) bb h ∙ alike.limits h
-        ∙ sym (limits_same a va group (busy_rows a.rows group) ba h);
+    limits = λ h. limits_same b (busy_rows b.rows group) bb.alike h ∙ alike.limits h
+        ∙ sym (limits_same a (busy_rows a.rows group) ba.alike h);
   }
 
 pub judged_alike : (measure : Measure) (a b : Groups) → IsInstance a → IsInstance b → (group : ℕ)
@@ -98,7 +98,7 @@ judged_under Planned groups valid group h = refl
 judged_under Guaranteed groups valid group h =
     under_same groups.rows (busy_rows groups.rows group) valid.tree
     (judged-IsInstance Guaranteed groups valid group).tree
-    (same_tree groups valid group (busy_rows groups.rows group) (are_busy groups.rows group))
+    (same_tree groups.rows (busy_rows groups.rows group) (are_busy groups.rows group).alike)
     h group
 
 pub judged_around : (measure : Measure) (a b : Groups) → IsInstance a → IsInstance b → (group : ℕ)

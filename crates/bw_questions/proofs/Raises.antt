@@ -10,6 +10,7 @@ use Rattle.bw_model.specs.declared.limits.TheConstants.{MIN_WEIGHT, MAX_WEIGHT}
 use Rattle.bw_model.specs.Groups.{Groups, IsInstance, weight_of, is_under}
 use Rattle.bw_plan.specs.Laws.{ThereIsOnePlan}
 use Rattle.bw_plan_laws.specs.Weight.{IsHeavierAround, OthersWeightsGiveNothing}
+use Rattle.bw_plan_laws.proofs.CallerLemmas.{under_same}
 use Rattle.bw_questions.specs.declared.tuned.goal.Goal.{Goal}
 use Rattle.bw_questions.specs.declared.tuned.measure.Measure.{Measure}
 use Rattle.bw_questions.specs.declared.tuned.tuning.Conflict.{Conflict}
@@ -19,7 +20,6 @@ use Rattle.bw_questions.specs.Raising.{IsTooMuch}
 use Rattle.bw_questions.specs.Tune.{goal_at, AreGoals, IsMet, IsReweighted, IsNoLighter}
 use Rattle.bw_questions.specs.Tune.{IsTuned, IsLeastRaise, AreMet, AreMarkedMet}
 use Rattle.bw_questions.proofs.Alike.{IsAlike, alike_back, alike_on, with_alike, around}
-use Rattle.bw_questions.proofs.BusyRows.{under_same}
 use Rattle.bw_questions.proofs.Judged.{lighter_meets}
 use Rattle.bw_questions.proofs.Rising.{weighed, weight-IsInstance}
 use Rattle.bw_questions.proofs.StillInstance.{weight_here, weight_other}

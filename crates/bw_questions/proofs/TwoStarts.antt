@@ -4,6 +4,7 @@ use Rattle.std.proofs.Common.{inl, inr, ap}
 use Rattle.std.proofs.lemmas.Bool.{cases_eq}
 use Rattle.bw_model.specs.declared.limits.TheConstants.{MIN_WEIGHT}
 use Rattle.bw_model.specs.Groups.{Groups, IsInstance, weight_of}
+use Rattle.bw_plan_laws.proofs.CallerLemmas.{under_same}
 use Rattle.bw_questions.specs.declared.tuned.goal.Goal.{Goal}
 use Rattle.bw_questions.specs.declared.tuned.measure.Measure.{Measure}
 use Rattle.bw_questions.specs.declared.tuned.tuning.Conflict.{Conflict}
@@ -12,7 +13,6 @@ use Rattle.bw_questions.specs.declared.tuned.tuning.Tuning.TheVariants.{Met, Unm
 use Rattle.bw_questions.specs.Change.{with_weight}
 use Rattle.bw_questions.specs.Raising.{IsRaising, IsTooMuch}
 use Rattle.bw_questions.specs.Tune.{goal_at, AreGoals, IsReweighted, IsNoLighter, IsTuning}
-use Rattle.bw_questions.proofs.BusyRows.{under_same}
 use Rattle.bw_questions.proofs.Raises.{reweighted_on, reweighted_back}
 use Rattle.bw_questions.proofs.Rising.{weighed}
 use Rattle.bw_questions.proofs.StillInstance.{weight_here, weight_other}
