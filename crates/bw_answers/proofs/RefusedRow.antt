@@ -1,7 +1,7 @@
 -- Rows that have a fault, and the refusal.
 use Rattle.std.proofs.Common.{◌≡◌, ℕ, suc, ◌+◌, ◌<◌, ◌≤◌, ◌==◌, List, [], ◌∷◌, Bool, true}
 use Rattle.std.proofs.Common.{false, ◌||◌, not, Option, None, Some, length, get_or, refl, ap}
-use Rattle.std.proofs.Common.{sym, ◌∙◌, arith, cond, zero-add}
+use Rattle.std.proofs.Common.{sym, ◌∙◌, arith, zero-add}
 use Rattle.std.specs.Prelude.{nat_lt, is_some, if◌then◌else◌}
 use Rattle.std.specs.List.{list_any, list_all, enumerate_from}
 use Rattle.std.proofs.lemmas.Bool.{and_parts, and_from, eqb-true, not-false, not-true}
@@ -24,11 +24,9 @@ use Rattle.bw_model.specs.Groups.{depth_of}
 use Rattle.bw_model.specs.Refusal.{is_earlier, are_earlier, depths_of, demand_above}
 use Rattle.bw_model.specs.Refusal.{is_root_limited, refusal}
 use Rattle.bw_model.proofs.CallerLemmas.{earlier-AreTreeRows, depth_of-top, depth_of-step}
-use Rattle.bw_model.specs.Faults.{instance_fault_number}
-use Rattle.bw_columns.specs.Asked.{Table, row_in, rows_in, are_even}
+use Rattle.bw_columns.specs.Asked.{Table, row_in, rows_in}
 use Rattle.bw_answers.specs.RefusedRow.{IsFirstRow, IsNoRow}
 use Rattle.bw_columns.proofs.CallerLemmas.{rows_length}
-use Rattle.std.specs.Option.{option_map_or}
 
 -- row g of the columns
 pub row_of-rows_in : (table : Table) (g : ℕ) → g < length table.parents

@@ -1,7 +1,6 @@
 -- The row that a refusal of rows speaks of.
 use Rattle.std.specs.Prelude.{◌≡◌, ℕ, ◌<◌, Bool, true, false, ◌||◌, ◌&&◌, ◌==◌, not, nat_lt, List}
-use Rattle.std.specs.Prelude.{is_some, length, unwrap_or, if◌then◌else◌}
-use Rattle.std.specs.Option.{option_map_or}
+use Rattle.std.specs.Prelude.{is_some, length, unwrap_or}
 use Rattle.bw_model.specs.declared.limits.TheConstants.{MAX_GROUPS, MIN_WEIGHT, MAX_WEIGHT}
 use Rattle.bw_model.specs.declared.limits.TheConstants.{MAX_DEPTH, MAX_DEMAND}
 use Rattle.bw_model.specs.declared.row.Row.{Row}
@@ -14,8 +13,6 @@ use Rattle.bw_model.specs.declared.instance_fault.InstanceFault.TheVariants.{Roo
 use Rattle.bw_model.specs.declared.instance_fault.InstanceFault.TheVariants.{OutOfMemory}
 use Rattle.bw_model.specs.Groups.{row_of, parent_of, weight_of, demand_of, depth_of}
 use Rattle.bw_model.specs.Refusal.{is_earlier, demand_above, refusal}
-use Rattle.bw_model.specs.Faults.{instance_fault_number}
-use Rattle.bw_columns.specs.Asked.{Table, rows_in, are_even}
 
 -- whether a row is one for which a fault refuses the rows
 abbrev pub has_fault : List Row → InstanceFault → ℕ → Bool

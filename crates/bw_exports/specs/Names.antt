@@ -30,7 +30,7 @@ name_of_fault LineTooLong = script_fault_name of_line.LineTooLong
 
 -- no fault has this number
 abbrev pub IsNumberOfNone : {F : Type 0} → (F → ℕ) → ℕ → Type 0
-IsNumberOfNone number_of number = (fault : F) → number_of fault ≡ number → ⊥
+IsNumberOfNone {F} number_of number = (fault : F) → number_of fault ≡ number → ⊥
 
 -- the name at the front, a 0 behind it, and then what stood there; all as it was where there is no
 -- room for both

@@ -10,6 +10,21 @@ use bw_answers::certified_plan_of;
 use bw_columns::{Columns, Host, write_certificate};
 use std::alloc::Global;
 
+// Whether each column for the answer has so many entries.
+fn are_fit(
+    count: usize,
+    amounts: &[u64],
+    flags: &[u8],
+    nums: &[u64],
+    dens: &[u64],
+    places: &[u32],
+) -> bool
+    ensures { result ≡ are_of_length count
+        (amounts.now ∷ flags.now ∷ nums.now ∷ dens.now ∷ places.now ∷ []) }
+{
+    amounts.len() == count && is_certificate_fit(count, flags, nums, dens, places)
+}
+
 /// The plan of the rows, as [`crate::plan_call::arbiter_plan`] has them, with a certificate that
 /// [`crate::check_call::arbiter_check`] accepts.
 ///
@@ -51,8 +66,7 @@ pub extern "C" fn arbiter_certify(
     ensures dens_kept { 0 < result → dens.new ≡ dens.old }
     ensures places_kept { 0 < result → places.new ≡ places.old }
 {
-    let count = parents.len();
-    let fit = amounts.len() == count && is_certificate_fit(count, flags, nums, dens, places);
+    let fit = are_fit(parents.len(), amounts, flags, nums, dens, places);
     let host = Host::new(processors, period_us, slice_us);
     let columns = Columns::new(parents, weights, limits, demands);
     match certified_plan_of(alloc, fit, host, &columns) {

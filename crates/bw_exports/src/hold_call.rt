@@ -10,6 +10,28 @@ use bw_answers::held_of;
 use bw_columns::{Columns, Host, write_certificate};
 use std::alloc::Global;
 
+// Whether each column beside the rows has so many entries.
+fn are_fit(
+    count: usize,
+    hungry: &[u8],
+    held: &[u64],
+    demands: &[u64],
+    amounts: &[u64],
+    flags: &[u8],
+    nums: &[u64],
+    dens: &[u64],
+    places: &[u32],
+) -> bool
+    ensures { result ≡ are_of_length count (hungry.now ∷ held.now ∷ demands.now ∷ amounts.now
+        ∷ flags.now ∷ nums.now ∷ dens.now ∷ places.now ∷ []) }
+{
+    hungry.len() == count
+        && held.len() == count
+        && demands.len() == count
+        && amounts.len() == count
+        && is_certificate_fit(count, flags, nums, dens, places)
+}
+
 /// The limits of the next round, from what each leaf used in the last one.
 ///
 /// The rows are those of [`crate::plan_call::arbiter_plan`], with the slices that each leaf used,
@@ -60,12 +82,17 @@ pub extern "C" fn arbiter_hold(
     ensures dens_kept { 0 < result → dens.new ≡ dens.old }
     ensures places_kept { 0 < result → places.new ≡ places.old }
 {
-    let count = parents.len();
-    let fit = hungry.len() == count
-        && held.len() == count
-        && demands.len() == count
-        && amounts.len() == count
-        && is_certificate_fit(count, flags, nums, dens, places);
+    let fit = are_fit(
+        parents.len(),
+        hungry,
+        held,
+        demands,
+        amounts,
+        flags,
+        nums,
+        dens,
+        places,
+    );
     let host = Host::new(processors, period_us, slice_us);
     let columns = Columns::new(parents, weights, limits, used);
     match held_of(alloc, fit, host, &columns, hungry) {

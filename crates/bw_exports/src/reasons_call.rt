@@ -8,6 +8,13 @@ use bw_answers::reasons_of;
 use bw_columns::{Columns, Host};
 use std::alloc::Global;
 
+// Whether both columns for the answer have so many entries.
+fn are_fit(count: usize, reasons: &[u8], blamed: &[u32]) -> bool
+    ensures { result ≡ are_of_length count (reasons.now ∷ blamed.now ∷ []) }
+{
+    reasons.len() == count && blamed.len() == count
+}
+
 /// Why each group gets what it gets, of the rows that [`crate::plan_call::arbiter_plan`] has.
 ///
 /// If the answer is 0, each row has the number of its reason, and the row that the reason blames:
@@ -45,8 +52,7 @@ pub extern "C" fn arbiter_reasons(
     ensures reasons_kept { 0 < result → reasons.new ≡ reasons.old }
     ensures blamed_kept { 0 < result → blamed.new ≡ blamed.old }
 {
-    let count = parents.len();
-    let fit = reasons.len() == count && blamed.len() == count;
+    let fit = are_fit(parents.len(), reasons, blamed);
     let host = Host::new(processors, period_us, slice_us);
     let columns = Columns::new(parents, weights, limits, demands);
     match reasons_of(alloc, fit, host, &columns) {

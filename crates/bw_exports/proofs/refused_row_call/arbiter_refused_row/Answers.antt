@@ -13,7 +13,7 @@ pub returns-then-not-are_even-clause-number : goal.returns-then-not-are_even-cla
 returns-then-not-are_even-clause-number c =
     let table = table_of c.new-columns.result in
     let uneven : are_even table ≡ false = search rules in
-    c.number.ensures ∙ sym (number_uneven table uneven)
+    c.number.ensures.value ∙ sym (number_uneven table uneven)
     ∙ ap (λ (columns : Columns). rows_number (table_of columns)) c.new-columns.ensures
 
 pub returns-then-len-eq0-clause-number : goal.returns-then-len-eq0-clause-number
@@ -22,7 +22,7 @@ returns-then-len-eq0-clause-number c =
     let even : are_even table ≡ true = search rules in
     let none : length (rows_in table) ≡ 0 =
     rows_length table ∙ sym c.len.ensures ∙ c.if-len-eq0.true in
-    c.number-then-len-eq0.ensures
+    c.number-then-len-eq0.ensures.value
     ∙ sym (number_even table (Some BadParent) even (refused_empty (rows_in table) none))
     ∙ ap (λ (columns : Columns). rows_number (table_of columns)) c.new-columns.ensures
 
@@ -30,7 +30,7 @@ pub returns-in-Some-clause-number : goal.returns-in-Some-clause-number
 returns-in-Some-clause-number c =
     let table = table_of c.new-columns.result in
     let even : are_even table ≡ true = search rules in
-    c.number-in-Some.ensures
+    c.number-in-Some.ensures.value
     ∙ sym (number_even table (Some c.in-Some.fault) even c.in-Some.ensures.fault)
     ∙ ap (λ (columns : Columns). rows_number (table_of columns)) c.new-columns.ensures
 

@@ -22,7 +22,7 @@ returns-then-not-are_even c =
     let shape : Shape = asked_host c.args.processors c.args.period_us c.args.slice_us in
     let text = c.args.text.now in
     let odd : c.are_even.result ≡ false = search rules in
-    uneven shape text before c.number.result (sym c.are_even.ensures ∙ odd) c.number.ensures
+    uneven shape text before c.number.result (sym c.are_even.ensures ∙ odd) c.number.ensures.value
 
 pub returns-in-Err : goal.returns-in-Err
 returns-in-Err c =
@@ -78,7 +78,7 @@ returns-then-not-fits c =
     let few : c.fits.result ≡ false = search rules in
     no_room shape text before c.number-then-not-fits.result t.last t.refused
     (columns_of told.groups) told.lines.items told.faults.items e host read those
-    (sym c.fits.ensures ∙ few) c.number-then-not-fits.ensures
+    (sym c.fits.ensures ∙ few) c.number-then-not-fits.ensures.value
 
 pub returns : goal.returns
 returns c =

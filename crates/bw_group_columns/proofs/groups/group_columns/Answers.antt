@@ -1,7 +1,6 @@
 -- The goals of `group_columns` that are answered by hand.
-use Rattle.std.proofs.Common.{◌≡◌, ◌∙◌, List, sym, subst, ap}
+use Rattle.std.proofs.Common.{◌≡◌, ◌∙◌, sym, subst, ap}
 use Rattle.std.specs.Map.{keys_of}
-use Rattle.bw_model.specs.declared.row.Row.{Row}
 use Rattle.bw_model.specs.Groups.{Groups}
 use Rattle.bw_tree.specs.Snapshot.{instance_of}
 use Rattle.bw_group_columns.specs.Groups.{AreLong}
