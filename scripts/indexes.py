@@ -141,7 +141,8 @@ WHOLE = ("bw_model", "bw_machine")
 # Programs and the C library with its columns, whose definitions put those of the crates below into
 # other forms, and crates of laws, which docs/LAWS.md has in words.
 LEFT_OUT_CRATES = ("arbiter", "bw_columns", "bw_answers", "bw_group_columns", "bw_exports",
-                   "wake_states", "plan_bench", "bw_split_laws", "bw_plan_laws", "bw_shape_laws")
+                   "wake_states", "plan_bench", "bw_split_laws", "bw_plan_laws", "bw_shape_laws",
+                   "bw_placement_laws")
 # Functions of a refusal that say no more than their names.
 PLAIN = re.compile(r"_fault_(?:number|name)$")
 DEFINITIONS_HEAD = """# Definitions

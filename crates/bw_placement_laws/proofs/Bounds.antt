@@ -9,7 +9,7 @@ use Rattle.bw_placement_laws.specs.Placement.{had_in_all, IsHost, AreWithin, Loa
 use Rattle.bw_placement_laws.proofs.Scaled.{host_scaled, one_in_all}
 use Rattle.bw_placement_laws.proofs.Factor.{IsFound, all_found}
 
-factor_pos : (a b : ℕ) → 0 < a * b → 0 < a
+pub factor_pos : (a b : ℕ) → 0 < a * b → 0 < a
 factor_pos zero b h = absurd (omega (arith, h))
 factor_pos (suc a) b h = omega arith
 

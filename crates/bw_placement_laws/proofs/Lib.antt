@@ -1,4 +1,5 @@
 -- The files of lemmas.
+mod Apart
 mod Bounds
 mod Factor
 mod Scaled

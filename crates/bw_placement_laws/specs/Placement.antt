@@ -1,7 +1,7 @@
 -- What each group and task has by the weights on the queues, level by level, and laws of it beside
 -- the plan's fractional shares.
-use Rattle.std.specs.Prelude.{ℕ, ◌*◌, ◌==◌, ◌<◌, List, [], ◌∷◌, ◌++◌, length, cond, All}
-use Rattle.bw_placement_laws.specs.Fractions.{Fraction, times, AreSame, IsAtMost, sum_below}
+use Rattle.std.specs.Prelude.{ℕ, ◌+◌, ◌-◌, ◌*◌, ◌==◌, ◌<◌, List, [], ◌∷◌, ◌++◌, length, cond, All}
+use Rattle.bw_placement_laws.specs.Fractions.{Fraction, plus, times, AreSame, IsAtMost, sum_below}
 use Rattle.bw_placement_laws.specs.Fractions.{fractions_below}
 use Rattle.bw_placement_laws.specs.Queues.{Siblings, NoMore, Leaf, Inner, weights, ArePlaced}
 use Rattle.bw_placement_laws.specs.Queues.{tasks_on, Loads, nothing, both, task_load}
@@ -140,3 +140,26 @@ abbrev pub LoadsAreOneInAll : Type 0
 LoadsAreOneInAll = (processors : ℕ) (host : Siblings) → IsHost processors host
     → AreSame (record { num = sum_below processors (loads host).parts; den = (loads host).unit })
     (record { num = 1; den = 1 })
+
+-- No load is more than `grain` means above another.
+abbrev pub AreApart : ℕ → Siblings → Fraction → Type 0
+AreApart processors host grain = (p q : ℕ) → p < processors → q < processors
+    → IsAtMost (load_on host p) (plus (load_on host q) (times grain (mean processors host)))
+
+-- one and a fraction
+abbrev pub one_and : Fraction → Fraction
+one_and x = record { num = x.den + x.num; den = x.den }
+
+-- one less a fraction; 0 where that is above one
+abbrev pub one_less : Fraction → Fraction
+one_less x = record { num = x.den - x.num; den = x.den }
+
+-- Each group has at least its plan over one and the grain, and at most its plan over one less the
+-- grain.
+abbrev pub GrainBoundsAmounts : Type 0
+GrainBoundsAmounts = (processors : ℕ) (host : Siblings) (grain : Fraction)
+    → IsHost processors host → AreApart processors host grain
+    → All (λ group.
+    IsAtMost (planned processors group) (times (one_and grain) (had_in_all processors group))
+    × IsAtMost (times (one_less grain) (had_in_all processors group)) (planned processors group))
+    (outcomes processors host)

@@ -6,4 +6,6 @@
 
 mod placement;
 
-pub use placement::{loads_are_one_in_all, loads_bound_amounts, placement_is_one_factor};
+pub use placement::{
+    grain_bounds_amounts, loads_are_one_in_all, loads_bound_amounts, placement_is_one_factor,
+};
