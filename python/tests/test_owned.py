@@ -5,14 +5,19 @@ The fixtures are written to the documented formats.
 """
 import copy
 import json
+from fractions import Fraction
 from pathlib import Path
 
 import pytest
 import trees
 from arbiter import Host
-from arbiter_host import change
+from arbiter_host import backwards, change
 from arbiter_host.faults import UsageFault
+from arbiter_host.owned import Setting
+from arbiter_host.plan import plan
 from arbiter_host.sources import containers, kubernetes, systemd
+from hypothesis import HealthCheck, given, settings
+from hypothesis import strategies as st
 
 FIXTURES = Path(__file__).parent / "fixtures"
 PODS, NODE = FIXTURES / "pods.json", FIXTURES / "node.json"
@@ -257,6 +262,49 @@ def test_one_thousandth_less_does_not_reach(ctl, amount):
     else:
         assert gets(int(least[:-1])) >= asked
         assert least == "0m" or gets(int(least[:-1]) - 1) < asked
+
+
+AMOUNTS = st.none() | st.integers(0, 300)
+
+
+@st.composite
+def nodes(draw):
+    """The JSON of a node of 300m to 600m with three pods of one or two containers."""
+    def container(name):
+        request, limit = draw(AMOUNTS), draw(AMOUNTS)
+        if request is not None and limit is not None:
+            request, limit = min(request, limit), max(request, limit)
+        memory = draw(st.sampled_from([{}, {"memory": "1Gi"}]))
+        cpu = {key: {"cpu": f"{value}m", **memory} for key, value in
+               (("requests", request), ("limits", limit)) if value is not None}
+        return {"name": name, "resources": cpu}
+
+    pods = [{"kind": "Pod", "metadata": {"name": f"p{number}", "namespace": "x"},
+             "spec": {"containers": [container(name) for name in "ab"[:draw(st.integers(1, 2))]]}}
+            for number in range(3)]
+    allocatable = draw(st.integers(300, 600))
+    node = {"kind": "Node", "metadata": {"name": "n"},
+            "status": {"capacity": {"cpu": "1"}, "allocatable": {"cpu": f"{allocatable}m"}}}
+    return json.dumps({"kind": "List", "items": [*pods, node]}).encode()
+
+
+@settings(max_examples=25, deadline=None,
+          suppress_health_check=[HealthCheck.function_scoped_fixture])
+@given(data=nodes(), slices=st.integers(1, 60))
+def test_no_lesser_request_reaches(engine, data, slices):
+    """Of all requests that can be asked for, the least that reaches is found, over all classes."""
+    model = kubernetes.read([("p", data)], None, engine.library, kubernetes.Wish(want="busy"))
+    path = next(path for path in model.groups if model.owned.has(path))
+    (of,) = model.owned.ranges(path)
+    (knob,) = backwards.need(engine, model, path, Fraction(10 * slices)).owned
+    row = list(model.groups).index(path) + 1
+
+    def gets(request):
+        setting = Setting(path, "request", f"{request}m")
+        return plan(engine, backwards.with_setting(model, model.owned, setting)).groups[row].gets
+
+    reaching = [request for request in range(of.parts[-1][1] + 1) if gets(request) >= slices]
+    assert knob.least == (f"{reaching[0]}m" if reaching else None)
 
 
 # systemd and docker

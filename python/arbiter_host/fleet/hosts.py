@@ -68,10 +68,12 @@ def below(folder: str) -> Iterator[str]:
         yield from (os.path.join(top, each) for each in files if not each.startswith("."))
 
 
-def document(data: bytes) -> Any:
+def document(word: str, data: bytes) -> Any:
     """The data of a JSON document; None where the bytes are none, and may be a list of files."""
-    if data.lstrip(b"\xef\xbb\xbf \t\r\n")[:1] not in (b"{", b"[") or len(data) > MAX_BYTES:
+    if data[:64].lstrip(b"\xef\xbb\xbf \t\r\n")[:1] not in (b"{", b"["):
         return None
+    if len(data) > MAX_BYTES:
+        raise HostFault(f"{names.shown(word)}: more than {MAX_BYTES >> 20} MiB")
     try:
         return json.loads(data.decode("utf-8-sig"))
     except (ValueError, RecursionError):
@@ -133,7 +135,7 @@ def fleet_of(word: str, used: Sequence[Used] = ()) -> Fleet:
         fleet = Fleet(named(list(below(word)), word))
     else:
         data = load.file_bytes(word)
-        whole = document(data)
+        whole = document(word, data)
         fleet = of_list(word, data) if whole is None else of_cluster(word, whole, used)
     if used and not fleet.is_cluster:
         raise UsageFault("--usage is of the pods of a cluster: other hosts have none")
@@ -173,12 +175,11 @@ def of_cluster(word: str, whole: Any, used: Sequence[Used] = ()) -> Fleet:
             (lost if place else pending).append(pod)
     metrics = metrics_of(used)
     found = [host_of(word, nodes[name], of_node[name], metrics) for name in sorted(nodes)]
-    notes = [f"pods of nodes that are not in it, left out: {some(list(map(title, lost)))}"
-             ] if lost else []
     here = {title(pod) for each in of_node.values() for pod in each}
-    missing = [name for name in metrics if names.shown(name) not in here]
-    if missing:
-        notes.append(f"used by pods that no node here has: {some(list(map(names.shown, missing)))}")
+    told = {"pods of nodes that are not in it, left out": list(map(title, lost)),
+            "used by pods that no node here has": [name for name in metrics if name not in here]}
+    notes = [f"{words}: {some(list(map(names.shown, each)))}"
+             for words, each in told.items() if each]
     return Fleet([host for host, _ in found], tuple(map(pending_of, pending)),
                  {host.name: room for host, room in found if room is not None}, tuple(notes))
 
@@ -199,16 +200,15 @@ def metrics_of(used: Sequence[Used]) -> dict[str, dict[str, Any]]:
 
 
 def title(pod: dict[str, Any]) -> str:
-    """The name of a pod, for messages."""
-    return names.shown(pods.pod_of(pod, []).title)
+    """Namespace and name of a pod."""
+    return "/".join(pods.names_of(pod))
 
 
 def host_of(word: str, node: dict[str, Any], of_node: Sequence[dict[str, Any]],
             metrics: Mapping[str, dict[str, Any]]) -> tuple[HostFile, int | None]:
     """A node as a host, and the thousandths that it has left for requests."""
     name = names.shown(text(table(node, "metadata"), "name") or "unnamed")
-    titles = [pods.pod_of(pod, []).title for pod in of_node]
-    used = [metrics[each] for each in dict.fromkeys(titles) if each in metrics]
+    used = [metrics[each] for each in dict.fromkeys(map(title, of_node)) if each in metrics]
     data = json.dumps({"kind": "List", "items": [node, *of_node, *used]}).encode()
     allocatable = pods.thousandths(table(node, "status", "allocatable").get("cpu"), "", [])
     asked = kubernetes.requested_by([pods.pod_of(pod, []) for pod in of_node

@@ -220,10 +220,16 @@ def is_memory_limited(container: dict[str, Any]) -> bool:
     return bool(limit) and memory_of(container, "requests") in (None, limit)
 
 
+def names_of(pod: dict[str, Any]) -> tuple[str, str]:
+    """The namespace and the name of a pod."""
+    metadata = table(pod, "metadata")
+    return text(metadata, "namespace") or "default", text(metadata, "name") or "unnamed"
+
+
 def pod_of(pod: dict[str, Any], notes: list[str]) -> Pod:
     """A pod as kubelet reckons with it."""
     metadata, spec = table(pod, "metadata"), table(pod, "spec")
-    name, namespace = text(metadata, "name") or "unnamed", text(metadata, "namespace") or "default"
+    namespace, name = names_of(pod)
     where = f"{namespace}/{name}"
     told = text(table(pod, "status"), "qosClass")
     raw = tables(spec, "initContainers") + tables(spec, "containers")
