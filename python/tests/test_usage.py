@@ -137,7 +137,7 @@ def test_usage_belongs_to_pods_and_containers(ctl, folder):
 
 def test_standard_input_is_one_thing(ctl):
     """It is the source or what was used, and not both."""
-    for words in (("explain", "-"), ("fleet", "plan", "-")):
+    for words in (("explain", "-", "--cpus", "4"), ("fleet", "plan", "-")):
         _, err = ctl.run(*words, "--usage", "-", given=PODS.read_bytes(), status=2)
         assert "--usage -: standard input is the source already" in err
 
