@@ -26,7 +26,8 @@ if TYPE_CHECKING:
     from arbiter_host.sources import cgroups
     from arbiter_host.sources.usage import Used
 
-KINDS = ("script", "toml", "yaml", "json", "cgroup", "kubernetes", "systemd", "docker")
+KINDS = ("script", "toml", "yaml", "json", "cgroup", "kubernetes", "systemd", "docker",
+         "slurm")
 MAX_FILE = 512 << 20
 TOO_LONG = f"more than {MAX_FILE >> 20} MiB"
 PIECE = 1 << 20
@@ -180,8 +181,16 @@ def file_bytes(path: str, is_plain: bool = False) -> bytes:
     return data
 
 
+def slurm_part(data: bytes) -> str:
+    """Which of Slurm's files this is; empty for none."""
+    from arbiter_host.sources import slurm
+    return slurm.part_of(data)
+
+
 def kind_of_json(data: bytes) -> str:
     """What JSON holds, by its first keys."""
+    if slurm_part(data):
+        return "slurm"
     if re.search(rb'"HostConfig"\s*:', data):
         return "docker"
     if re.search(rb'"kind"\s*:\s*"(Pod|PodList|Node|NodeList|List)"', data):
@@ -202,7 +211,7 @@ def kind_of(path: str, data: bytes | None) -> str:
         return "toml" if re.match(rb"\[[A-Za-z]", begin) else kind_of_json(data)
     if re.search(rb"^(ControlGroup|Slice|CPUWeight)=", data, re.M):
         return "systemd"
-    return "script"
+    return "slurm" if slurm_part(data) else "script"
 
 
 def machine(options: argparse.Namespace) -> Host:
@@ -323,6 +332,15 @@ def read_units(options: argparse.Namespace, files: Sequence[tuple[str, bytes]]) 
     return systemd.read([*files, *later], machine(options), want, interval_of(options.interval))
 
 
+def read_jobs(options: argparse.Namespace, files: Sequence[tuple[str, bytes]]) -> Model:
+    """Jobs of a node of Slurm."""
+    from arbiter_host.sources import slurm
+    if options.cpus is not None:
+        return slurm.read(files, machine(options), options.node, options.want or "")
+    model = slurm.read(files, None, options.node, options.want or "")
+    return model.with_host(chosen_host(options, model.host))
+
+
 def read_host_file(options: argparse.Namespace, kind: str, name: str, data: bytes) -> Model:
     """A host file, with the options in place of its host."""
     from arbiter_host.sources import hostfile
@@ -348,6 +366,8 @@ def read_files(options: argparse.Namespace, kind: str, files: Sequence[tuple[str
         return read_containers(options, files, engine.library)
     if kind == "systemd":
         return read_units(options, files)
+    if kind == "slurm":
+        return read_jobs(options, files)
     if len(files) > 1:
         raise UsageFault(f"{len(files)} files: a {kind} is one")
     if kind == "script":
@@ -364,6 +384,8 @@ def opened(options: argparse.Namespace, paths: Sequence[str]) -> list[File]:
 def part_of(options: argparse.Namespace, file: File) -> str:
     """What a file is a part of: `pods`, `node` for one of nodes alone, else its kind."""
     kind = str(options.kind or kind_of(*file))
+    if kind == "slurm" and file[1] is not None:
+        return f"slurm {slurm_part(file[1])}"
     if kind != "kubernetes" or file[1] is None:
         return kind
     kinds = set(re.findall(rb'"kind"\s*:\s*"(Pod|Node)(?:List)?"', file[1]))
@@ -371,11 +393,15 @@ def part_of(options: argparse.Namespace, file: File) -> str:
 
 
 def sources(options: argparse.Namespace, paths: Sequence[str]) -> list[list[File]]:
-    """The sources that some paths are: pods and their node, side by side, are one."""
+    """The sources that some paths are: pods and their node, side by side, are one.
+
+    So are the files of Slurm.
+    """
     found: list[list[File]] = []
     for file in opened(options, paths):
         pair = [part_of(options, each) for each in (*(found[-1] if found else ()), file)]
-        if sorted(pair) == ["node", "pods"]:
+        is_slurm = all(each.startswith("slurm ") for each in pair) and len(set(pair)) == len(pair)
+        if sorted(pair) == ["node", "pods"] or is_slurm and len(pair) > 1:
             found[-1].append(file)
         else:
             found.append([file])

@@ -1,0 +1,312 @@
+"""Jobs of one node of Slurm: `scontrol show job --json`, `sacct --parsable2` and
+`scontrol show node --json`, any of them side by side.
+
+A job is a group, and its steps are the groups below it. The title of a job is `user/name`. The
+CPUs that it was allotted are its tasks. Slurm writes no weights and no limits.
+"""
+from __future__ import annotations
+
+import itertools
+import re
+from collections.abc import Iterator, Sequence
+from dataclasses import dataclass, field
+from fractions import Fraction
+from typing import Any
+
+from arbiter import Host
+from arbiter_host import demands, names, units
+from arbiter_host.demands import Measured, Reading
+from arbiter_host.faults import HostFault, NoHost
+from arbiter_host.model import Group, Model, check_count, checked
+from arbiter_host.names import NOWHERE, shown
+from arbiter_host.sources.data import MAX_BYTES, loads, number, table, tables, text
+
+JOB = re.compile(r"job_[0-9]+(_[0-9]+)?(\+[0-9]+)?")
+# The folder of all jobs with cgroup v2.
+TOP = "system.slice/slurmstepd.scope"
+RUNNING = ("RUNNING", "COMPLETING", "SUSPENDED")
+HEAD = re.compile(rb"[A-Za-z_0-9|%]*\bJobID(Raw)?\b[A-Za-z_0-9|%]*\r?\n")
+IDENTIFIER = re.compile(r"([0-9]{1,10}(?:_[0-9]{1,10})?(?:\+[0-9]{1,10})?)"
+                        r"(?:\.([A-Za-z0-9+_]{1,40}))?")
+TIME = re.compile(r"(?:([0-9]{1,6})-)?(?:([0-9]{1,6}):)?([0-9]{1,6}):([0-9]{1,6})(\.[0-9]{1,9})?")
+RANGE = re.compile(r"([0-9]{1,9})(?:-([0-9]{1,9}))?")
+MOST_NODES = 65536
+
+
+@dataclass
+class Step:
+    """A step, or a job without steps: CPUs allotted, and microseconds used and passed."""
+
+    cpus: int = 0
+    used: int | None = None
+    passed: int = 0
+
+
+@dataclass
+class Job:
+    """A job that runs on the node."""
+
+    identifier: str
+    user: str = ""
+    name: str = ""
+    whole: Step = field(default_factory=Step)
+    steps: dict[str, Step] = field(default_factory=dict)
+    # The nodes of the job, and whether it is bound to cores; None where that is not told.
+    nodes: list[str] = field(default_factory=list)
+    is_bound: bool | None = None
+    # The name of its folder is told by the number of a job alone.
+    is_raw: bool = True
+
+    @property
+    def title(self) -> str:
+        """User and name, without letters that a terminal could take as a command."""
+        return shown(f"{self.user or 'unknown'}/{self.name or 'unnamed'}")
+
+
+def part_of(data: bytes) -> str:
+    """Which of the three a file is: `jobs`, `nodes` or `sacct`; empty for none."""
+    begin = data.lstrip(b"\xef\xbb\xbf \t\r\n")
+    if begin[:1] == b"{":
+        if re.search(rb'"job_id"\s*:', data) and re.search(rb'"jobs"\s*:', data):
+            return "jobs"
+        is_node = re.search(rb'"(alloc_cpus|effective_cpus)"\s*:', data)
+        return "nodes" if is_node and re.search(rb'"nodes"\s*:', data) else ""
+    return "sacct" if HEAD.match(begin) and b"|" in begin.split(b"\n")[0] else ""
+
+
+def count(value: Any, key: str) -> int:
+    """A number, which newer versions hold in a table: `{"set": true, "number": 8}`."""
+    found = table(value, key)
+    return number(found, "number") if found else number(value, key)
+
+
+def words_of(value: Any, key: str) -> list[str]:
+    """Words: a list in newer versions, one text in older ones."""
+    found = value.get(key) if isinstance(value, dict) else None
+    if isinstance(found, list):
+        return [each for each in found if isinstance(each, str)]
+    return [found] if isinstance(found, str) else []
+
+
+def split_outside(hosts: str) -> list[str]:
+    """The parts of a list of hosts: a comma in brackets separates none."""
+    return [each for each in re.findall(r"(?:[^,\[]|\[[^\]]*\])+", hosts) if each]
+
+
+def ranged(part: str) -> Iterator[str]:
+    """The hosts of one part, such as `n[01-04,7]`, which has at most one pair of brackets."""
+    found = re.fullmatch(r"([^\[\]]*)\[([^\[\]]*)\]([^\[\]]*)", part)
+    if not found and "[" not in part and "]" not in part:
+        yield part
+        return
+    for each in found.group(2).split(",") if found else [""]:
+        pair = RANGE.fullmatch(each)
+        if not (found and pair):
+            raise HostFault(f"{shown(part[:60])!r} is no list of nodes")
+        first, last = int(pair.group(1)), int(pair.group(2) or pair.group(1))
+        for at in range(first, last + 1):
+            yield f"{found.group(1)}{at:0{len(pair.group(1))}}{found.group(3)}"
+
+
+def hosts_of(text_: str) -> list[str]:
+    """The nodes of Slurm's list of hosts."""
+    named = itertools.chain.from_iterable(map(ranged, split_outside(text_)))
+    found = list(itertools.islice(named, MOST_NODES + 1))
+    if len(found) > MOST_NODES:
+        raise HostFault(f"a job of more than {MOST_NODES} nodes")
+    return found
+
+
+def time_of(word: str) -> int:
+    """Microseconds of `[DAYS-[HOURS:]]MINUTES:SECONDS[.PART]`."""
+    found = TIME.fullmatch(word)
+    if not found:
+        raise HostFault(f"{shown(word[:40])!r} is no time of Slurm")
+    days, hours, minutes, seconds = (int(each or 0) for each in found.groups()[:4])
+    whole = ((days * 24 + hours) * 60 + minutes) * 60 + seconds
+    return int((whole + Fraction(found.group(5) or 0)) * 10**6)
+
+
+def allotted(raw: dict[str, Any]) -> list[tuple[str, int, bool]]:
+    """The nodes of a job with its CPUs there, and whether cores are told."""
+    found = []
+    for each in tables(table(raw, "job_resources", "nodes"), "allocation"):
+        sockets = tables(each, "sockets")
+        cores = any(tables(socket, "cores") for socket in sockets)
+        found.append((text(each, "name"), number(table(each, "cpus"), "count"), cores))
+    return found
+
+
+def job_of(raw: dict[str, Any], node: str) -> Job:
+    """A job of `scontrol show job --json`."""
+    job = Job(str(number(raw, "job_id")), text(raw, "user_name"), text(raw, "name"))
+    job.nodes = hosts_of(text(raw, "nodes"))
+    told = allotted(raw)
+    here = [(cpus, cores) for name, cpus, cores in told if name == node or len(told) == 1]
+    if here:
+        job.whole.cpus, job.is_bound = here[0]
+    else:
+        job.whole.cpus = -(-count(raw, "cpus") // max(len(job.nodes), 1))
+    return job
+
+
+def take_jobs(found: Any, node: str, jobs: dict[str, Job]) -> int:
+    """Takes the jobs of one file that run. Returns how many do not."""
+    left = 0
+    for raw in tables(found, "jobs"):
+        if not set(words_of(raw, "job_state")) & set(RUNNING):
+            left += 1
+            continue
+        job = job_of(raw, node)
+        known = jobs.setdefault(job.identifier, job)
+        known.user, known.name, known.nodes = job.user, job.name, job.nodes
+        known.whole.cpus, known.is_bound = job.whole.cpus, job.is_bound
+    return left
+
+
+def rows_of(data: bytes, name: str) -> Iterator[tuple[int, dict[str, str]]]:
+    """The rows of `sacct --parsable2` with their lines."""
+    if len(data) > MAX_BYTES:
+        raise HostFault(f"{name}: more than {MAX_BYTES >> 20} MiB")
+    lines = data.decode("utf-8", "replace").lstrip("\ufeff").split("\n")
+    head = lines[0].rstrip("\r").split("|")
+    for at, line in enumerate(lines[1:], 2):
+        cells = line.rstrip("\r").split("|")
+        if line.strip() and len(cells) == len(head):
+            yield at, dict(zip(head, cells))
+        elif line.strip():
+            # (a name may have a bar: which cell is which cannot be told)
+            raise HostFault(f"{name}:{at}: {len(cells)} cells and not {len(head)}")
+
+
+def step_of(row: dict[str, str]) -> Step:
+    """The figures of a row. One that runs and used nothing yet is not accounted yet."""
+    word = row.get("AllocCPUS", "")
+    step = Step(int(word) if word.isascii() and word.isdigit() and len(word) < 10 else 0)
+    if row.get("TotalCPU") and row.get("Elapsed"):
+        step.used, step.passed = time_of(row["TotalCPU"]), time_of(row["Elapsed"])
+        if step.used == 0 and row.get("State", "RUNNING").startswith("RUNNING"):
+            step.used = None
+    return step
+
+
+def take_row(row: dict[str, str], jobs: dict[str, Job]) -> bool:
+    """Takes a row of sacct. Returns whether it is of something that runs."""
+    word = row.get("JobIDRaw") or row.get("JobID") or ""
+    found = IDENTIFIER.fullmatch(word)
+    if not found:
+        raise HostFault(f"{shown(word[:40])!r} is no JobID")
+    if not row.get("State", "RUNNING").split(" ")[0] in RUNNING:
+        return False
+    job = jobs.setdefault(found.group(1), Job(found.group(1), is_raw=found.group(1).isdigit()))
+    step = step_of(row)
+    if found.group(2):
+        job.steps[found.group(2)] = step
+        return True
+    job.user, job.name = row.get("User") or job.user, row.get("JobName") or job.name
+    job.nodes = job.nodes or hosts_of(row.get("NodeList", "").replace("None assigned", ""))
+    spread = -(-step.cpus // max(len(job.nodes), 1))
+    job.whole = Step(job.whole.cpus or spread, step.used, step.passed)
+    return True
+
+
+def take_rows(data: bytes, name: str, jobs: dict[str, Job]) -> int:
+    """Takes the rows of one file. Returns how many are of what does not run."""
+    left = 0
+    for at, row in rows_of(data, name):
+        try:
+            left += not take_row(row, jobs)
+        except HostFault as fault:
+            raise HostFault(f"{name}:{at}: {fault.message}") from fault
+    return left
+
+
+def node_of(nodes: Sequence[dict[str, Any]], jobs: Sequence[Job], wanted: str) -> str:
+    """The name of the node: the one asked for, else the only one."""
+    if wanted:
+        return wanted
+    known = {text(each, "name") for each in nodes} or {each for job in jobs for each in job.nodes}
+    if len(known) > 1:
+        some = ", ".join(shown(each) for each in sorted(known)[:5])
+        raise HostFault(f"{len(known)} nodes ({some}): choose one by --node")
+    return next(iter(known), "")
+
+
+def host_of(nodes: Sequence[dict[str, Any]], name: str) -> Host:
+    """The host of a node: the CPUs that jobs may have."""
+    for each in nodes:
+        cpus = number(each, "effective_cpus") or number(each, "cpus")
+        if text(each, "name") == name and cpus:
+            return Host(cpus, units.DEFAULT_PERIOD, 1000)
+    raise NoHost("number of CPUs unknown: pass `scontrol show node --json` or --cpus")
+
+
+class Builder:
+    """Makes the groups of jobs."""
+
+    def __init__(self, model: Model) -> None:
+        self.model = model
+        self.measured: dict[str, Measured] = {}
+
+    def group(self, path: str, title: str, place: str, step: Step) -> None:
+        """Makes a group."""
+        self.model.add(Group(path, title=title, place=place))
+        known = step.used is not None and step.passed > 0
+        rate = (step.used or 0) * 10**6 // max(step.passed, 1)
+        readings = [Reading(0), Reading(rate)] if known else []
+        self.measured[path] = Measured(readings, Fraction(1000 * step.cpus), step.cpus or None)
+
+    def job(self, job: Job) -> None:
+        """Makes a job and its steps."""
+        path = f"job_{job.identifier}"
+        place = f"{TOP}/{path}" if job.is_raw else NOWHERE
+        self.group(path, job.title, place, job.whole)
+        for name, step in job.steps.items():
+            below = f"{place}/step_{name}" if job.is_raw else NOWHERE
+            self.group(f"{path}/{names.path_name(f'step_{name}', ())}", f"{job.title}/{name}",
+                       below, Step(step.cpus or job.whole.cpus, step.used, step.passed))
+
+
+def tell(model: Model, jobs: Sequence[Job], left: int) -> None:
+    """Tells what is left out, and which jobs keep to cores of their own."""
+    if left:
+        model.notes.append(f"jobs and steps that do not run, left out: {left}")
+    bound = [f"job_{each.identifier}" for each in jobs if each.is_bound]
+    if bound:
+        more = f" and {len(bound) - 5} more" if len(bound) > 5 else ""
+        model.notes.append(f"bound to cores: {', '.join(bound[:5])}{more}: each keeps to its own"
+                           " CPUs, so what others leave idle does not reach it")
+    wide = [f"job_{each.identifier}" for each in jobs if len(each.nodes) > 1]
+    if wide:
+        model.notes.append(f"on several nodes: {', '.join(wide[:5])}: CPUs that are not told by"
+                           " node are shared out equally, and usage is that of all nodes")
+
+
+def read(files: Sequence[tuple[str, bytes]], host: Host | None, node: str = "",
+         want: str = "") -> Model:
+    """The model of one node's jobs."""
+    jobs: dict[str, Job] = {}
+    parts = [(part_of(data), name, data) for name, data in files]
+    if not {"jobs", "sacct"} & {part for part, _, _ in parts} or "" in [each[0] for each in parts]:
+        raise HostFault(f"{files[0][0]}: no jobs as `scontrol show job --json` or `sacct"
+                        " --parsable2` print them")
+    nodes = [each for part, name, data in parts if part == "nodes"
+             for each in tables(loads(data, name), "nodes")]
+    node = node or (text(nodes[0], "name") if len(nodes) == 1 else "")
+    left = sum(take_jobs(loads(data, name), node, jobs) for part, name, data in parts
+               if part == "jobs")
+    left += sum(take_rows(data, name, jobs) for part, name, data in parts if part == "sacct")
+    name = node_of(nodes, list(jobs.values()), node)
+    model = Model(checked(host or host_of(nodes, name)), names_host=host is None)
+    here = [each for each in jobs.values() if not each.nodes or name in each.nodes or not name]
+    check_count(sum(1 + len(each.steps) for each in here), f"{len(here)} jobs")
+    builder = Builder(model)
+    for job in here:
+        builder.job(job)
+    tell(model, here, left)
+    has_usage = any(part == "sacct" for part, _, _ in parts)
+    chosen = want or ("usage" if has_usage else "request")
+    if chosen not in ("usage", "request", "busy"):
+        raise HostFault(f"--want {chosen} needs readings: jobs have usage, request and busy", 2)
+    demands.set_demands(model, builder.measured, chosen, Fraction(1))
+    return model

@@ -1,0 +1,155 @@
+"""Jobs of Slurm, in the documented forms of its commands: no Slurm was at hand."""
+import json
+from fractions import Fraction
+
+import pytest
+from arbiter import Host
+from arbiter_host import load
+from arbiter_host.faults import HostFault, NoHost
+from arbiter_host.sources import slurm
+from places import PACKAGE
+
+FIXTURES = PACKAGE / "tests/fixtures"
+JOBS, NODES, SACCT = (FIXTURES / name for name in ("slurm-jobs.json", "slurm-nodes.json",
+                                                   "sacct.txt"))
+HEAD = "JobID|JobName|User|State|AllocCPUS|Elapsed|TotalCPU|NodeList\n"
+
+
+def read(*texts, host=None, node="", want=""):
+    """The model of some texts."""
+    return slurm.read([(f"f{at}", text.encode() if isinstance(text, str) else text)
+                       for at, text in enumerate(texts)], host, node, want)
+
+
+def rows(model):
+    """What is known of each group."""
+    return {path: (each.title, each.demand, each.tasks, each.place)
+            for path, each in model.groups.items()}
+
+
+def test_usage_by_hand():
+    """TotalCPU over Elapsed: 5400.5 s in 1800 s are 3000.277m; 43200 s in 86400 s are 500m."""
+    model = read(*(path.read_bytes() for path in (JOBS, NODES, SACCT)))
+    assert model.host == Host(8, 100000, 1000)
+    top = slurm.TOP
+    assert rows(model) == {
+        "job_123": ("alice/train", 0, None, f"{top}/job_123"),
+        "job_123/step_batch": ("alice/train/batch", 0, None, f"{top}/job_123/step_batch"),
+        "job_123/step_0": ("alice/train/0", Fraction(3000277, 1000), 4, f"{top}/job_123/step_0"),
+        "job_124": ("bob/sim", 500, 2, f"{top}/job_124")}
+    assert model.notes == [
+        "jobs and steps that do not run, left out: 2",
+        "bound to cores: job_123: each keeps to its own CPUs, so what others leave idle does not"
+        " reach it",
+        "on several nodes: job_124: CPUs that are not told by node are shared out equally, and"
+        " usage is that of all nodes",
+        "job_123/step_batch: nothing read for --want usage: no demand"]
+
+
+def test_allotted_without_usage():
+    """Without sacct each job asks for the CPUs that it was allotted: 4, and 2 of 4 on two nodes."""
+    model = read(JOBS.read_bytes(), NODES.read_bytes())
+    assert {path: (each.demand, each.tasks) for path, each in model.groups.items()} == {
+        "job_123": (4000, 4), "job_124": (2000, 2)}
+
+
+def test_plan_of_jobs(ctl):
+    """Two CPUs for 3.01 and 0.5: the weights are equal, so the small one gets all it wants."""
+    out, err = ctl.run("explain", JOBS, NODES, SACCT, "--cpus", "2", "--json")
+    found = {each["group"]: each["gets"]["slices"] for each in json.loads(out)["groups"]}
+    assert found == {".": 200, "job_123": 150, "job_123/step_batch": 0, "job_123/step_0": 150,
+                     "job_124": 50}
+    assert "bound to cores: job_123" in err
+    named, _ = ctl.run("need", "alice/train/0", "2cpu", JOBS, NODES, SACCT, "--cpus", "2")
+    assert "job_123/step_0 gets 1.50 of 3.01" in named
+
+
+def test_files_are_known_by_their_bytes(ctl, folder):
+    """Each is found without --from; `import` writes them; the three side by side are one source."""
+    assert [load.kind_of("-", path.read_bytes()) for path in (JOBS, NODES, SACCT)] == ["slurm"] * 3
+    out, _ = ctl.run("import", "slurm", JOBS, NODES, SACCT)
+    assert out.startswith("# arbiter run --processors 8 --period 100000 --slice 1000\n")
+    assert ("# job_124 is bob/sim\n# at system.slice/slurmstepd.scope/job_124\n"
+            "mkdir job_124\n") in out
+    assert "# tasks 4\ndemand job_123/step_0 301\n" in out
+    (folder / "f.script").write_text(out)
+    again, _ = ctl.run("import", "script", folder / "f.script")
+    assert [line for line in again.split("\n") if line[:1] != "#"] == [
+        line for line in out.split("\n") if line[:1] != "#"]
+    words = ["compare", JOBS, NODES, "--set", "job_124.demand=3cpu", "--width", "100"]
+    assert "job_124" in ctl.run(*words)[0]
+    piped = ctl.run("explain", "-", "--cpus", "4", "--node", "n1", given=SACCT.read_bytes())[0]
+    assert "job_124" in piped
+
+
+@pytest.mark.parametrize("text, hosts", [
+    ("n1", ["n1"]), ("n[1-3]", ["n1", "n2", "n3"]), ("n[08-10,12]x,m1", [
+        "n08x", "n09x", "n10x", "n12x", "m1"]), ("", []),
+])
+def test_lists_of_hosts(text, hosts):
+    assert slurm.hosts_of(text) == hosts
+
+
+@pytest.mark.parametrize("text", ["n[1-999999999]", "n[1-2]x[3]", "n[a]", "n[]"])
+def test_lists_of_hosts_that_are_refused(text):
+    with pytest.raises(HostFault):
+        slurm.hosts_of(text)
+
+
+@pytest.mark.parametrize("word, usec", [
+    ("00:00.001", 1000), ("59:59", 3599 * 10**6), ("01:00:00", 3600 * 10**6),
+    ("2-03:04:05.5", ((51 * 60 + 4) * 60 + 5) * 10**6 + 500000), ("100:00:00", 360000 * 10**6),
+])
+def test_times(word, usec):
+    assert slurm.time_of(word) == usec
+
+
+@pytest.mark.parametrize("text, words", [
+    (HEAD + "1|a|b|alice|RUNNING|1|00:01|00:01|n1\n", "f0:2: 9 cells and not 8"),
+    (HEAD + "x|a|alice|RUNNING|1|00:01|00:01|n1\n", "f0:2: 'x' is no JobID"),
+    (HEAD + "1|a|alice|RUNNING|1|soon|00:01|n1\n", "f0:2: 'soon' is no time of Slurm"),
+    (HEAD + "1|a|alice|RUNNING|1|00:01|00:01|n[1-99999999]\n", "f0:2: a job of more than 65536"),
+    ("{}", "no jobs as"), ("", "no jobs as"), ('{"jobs": [{"job_id": 1', "f0:1: no JSON"),
+])
+def test_refused(text, words):
+    with pytest.raises(HostFault) as fault:
+        read(text, host=Host(1, 100000, 1000))
+    assert words in fault.value.message
+
+
+def test_host_and_node_must_be_told():
+    with pytest.raises(NoHost):
+        read(SACCT.read_bytes(), node="n1")
+    with pytest.raises(HostFault, match=r"2 nodes \(n1, n2\): choose one by --node"):
+        read(JOBS.read_bytes(), host=Host(8, 100000, 1000))
+    found = read(JOBS.read_bytes(), host=Host(8, 100000, 1000), node="n2")
+    assert list(found.groups) == ["job_124", "job_126"]
+    with pytest.raises(HostFault, match="jobs have usage, request and busy"):
+        read(JOBS.read_bytes(), NODES.read_bytes(), want="psi")
+
+
+@pytest.mark.parametrize("raw", [
+    {"job_id": "1"}, {"job_id": None}, {"job_id": True}, {"job_id": -5}, {"job_id": 1, "nodes": 7},
+    {"job_id": 1, "cpus": "many"}, {"job_id": 1, "job_resources": []}, {"job_id": 1, "name": {}},
+    {"job_id": 1, "cpus": {"number": 10**30}}, {"job_id": 1, "job_resources": {"nodes": {
+        "allocation": [{"name": [], "cpus": 3, "sockets": "x"}]}}},
+])
+def test_wrong_types(engine, raw):
+    """A plan, or one fault: never another exception."""
+    text = json.dumps({"jobs": [{"job_state": ["RUNNING"], **raw}]})
+    try:
+        model = read(text, host=Host(2, 100000, 1000))
+    except HostFault as fault:
+        assert "\n" not in fault.message
+        return
+    assert model.rows(engine.library)
+
+
+def test_hostile_names(ctl):
+    """Names of jobs and users reach no terminal, path or script raw."""
+    text = json.dumps({"jobs": [{"job_id": 1, "job_state": ["RUNNING"], "nodes": "n1", "cpus": 1,
+                                 "name": "../../x\x1b[31m\n# at /etc", "user_name": "\u202eroot"}]})
+    for command in (["explain"], ["import", "slurm"], ["import", "slurm", "--to", "toml"]):
+        out, err = ctl.run(*command, "-", "--cpus", "2", given=text.encode())
+        assert "\x1b" not in out + err and "\u202e" not in out + err
+        assert "\n# at /etc" not in out and "job_1" in out
