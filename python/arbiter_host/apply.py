@@ -124,18 +124,21 @@ def change_of(one: Group, two: Group, root: Root) -> Change:
 def changes(before: Model, after: Model, root: Root) -> tuple[list[Change], list[str]]:
     """The groups whose settings differ, and what is left alone, in words."""
     found: dict[str, Change] = {}
-    left = []
-    for path in {**before.groups, **after.groups}:
-        one, two = before.groups.get(path), after.groups.get(path)
-        if one is None or two is None:
-            which = "after" if one is None else "before"
-            left.append(f"{path}: only {which}: groups are neither made nor removed")
-        elif settings_of(one) != settings_of(two):
+    for path, one in before.groups.items():
+        two = after.groups.get(path)
+        if two is not None and settings_of(one) != settings_of(two):
             change = change_of(one, two, root)
             if change.folder in found:
                 raise HostFault(f"{shown(path)}: another group has the place {change.folder}")
             found[change.folder] = change
-    return list(found.values()), left
+    return list(found.values()), only_in_one(before, after)
+
+
+def only_in_one(before: Model, after: Model) -> list[str]:
+    """The groups that one of the models lacks, in words."""
+    return [f"{path}: only {'before' if path in before.groups else 'after'}: groups are neither"
+            " made nor removed" for path in {**before.groups, **after.groups}
+            if path not in before.groups or path not in after.groups]
 
 
 def number(text: str) -> int:

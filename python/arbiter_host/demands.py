@@ -145,6 +145,7 @@ def set_demands(model: Model, measured: dict[str, Measured], want: str, seconds:
         note_idle(leaves, measured, model)
     for path in leaves:
         group, found = model.groups[path], measured.get(path, Measured())
+        group.request = found.request
         demand = wanted(want, group, found, model.host, seconds)
         if demand is None:
             model.notes.append(f"{path}: nothing read for --want {want}: no demand")

@@ -62,7 +62,8 @@ class Group:
     many CPUs at most are used at once. `saved` is what the group has left of earlier limits, in
     slices. `title` is a name for people. `place` is the group's folder on its host, absolute or
     below the top of the tree. It is `names.NOWHERE` where that is not known, and empty where the
-    path says it. `identity` is the device and inode of the folder that it was read from.
+    path says it. `identity` is the device and inode of the folder that it was read from. `request`
+    is in thousandths of a CPU, and None where the source has none.
     """
 
     path: str
@@ -76,6 +77,7 @@ class Group:
     title: str = ""
     place: str = ""
     identity: tuple[int, int] | None = None
+    request: Fraction | None = None
 
     @property
     def usable(self) -> Fraction:

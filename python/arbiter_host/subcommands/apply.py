@@ -7,7 +7,8 @@ import time
 from collections.abc import Iterable, Iterator, Sequence
 from contextlib import contextmanager, suppress
 
-from arbiter_host import apply, beneath, change, engine, load, names
+from arbiter_host import apply, beneath, change, engine, exports, load, names
+from arbiter_host.exports import files
 from arbiter_host.faults import HostFault, UsageFault
 from arbiter_host.output import emit
 from arbiter_host.subcommands.base import Subcommand, add_reading_options
@@ -50,16 +51,49 @@ def way_of(options: argparse.Namespace) -> apply.By:
     return apply.By.PERSISTENT if options.persistent else apply.By.RUNTIME
 
 
+def check_words(options: argparse.Namespace) -> None:
+    """A fault where words of the command line do not go together."""
+    if (options.form is None) != (options.to is None):
+        raise UsageFault("--as and --to belong together")
+    if options.form and (options.yes or options.undo):
+        raise UsageFault("--as writes files for review alone: without --yes and --undo")
+
+
+def write_form(options: argparse.Namespace, asked: exports.Asked) -> None:
+    """Writes the change as files for review."""
+    found = exports.documents(options.form, asked)
+    warn(asked.told)
+    if not found:
+        print("arbiterctl: no change: nothing is written", file=sys.stderr)
+        return
+    for path in files.write(options.to, found):
+        print(f"arbiterctl: wrote {names.shown(path)}", file=sys.stderr)
+
+
 def run_apply(options: argparse.Namespace) -> None:
     """Prints the steps from one source to another; with --yes makes them."""
+    check_words(options)
     sources = load.sources(options, options.source)
     if len(sources) > 2 or (len(sources) == 1) != bool(options.set):
         raise UsageFault("apply takes BEFORE and AFTER, or BEFORE and --set")
     by = engine.find(options.library)
-    models = [load.of_files(options, files, by) for files in sources]
+    models = [load.of_files(options, found, by) for found in sources]
     after = change.told(models[-1], change.changed(models[-1], options.set))
     root, way = beneath.Root(options.root), way_of(options)
-    found, left = apply.changes(models[0], after, root)
+    if options.form:
+        write_form(options, exports.Asked(
+            models[0], after, sources[0], sources[1] if len(sources) > 1 else (), root, way,
+            by.library, options.runtime or options.conversion,
+            lambda found: load.of_files(options, found, by)))
+        warn(apply.only_in_one(models[0], after))
+        return
+    set_host(options, apply.changes(models[0], after, root), root, way)
+
+
+def set_host(options: argparse.Namespace, asked: tuple[list[apply.Change], list[str]],
+             root: beneath.Root, way: apply.By) -> None:
+    """Prints the steps of some changes; with --yes makes them."""
+    found, left = asked
     steps = apply.planned_steps(found, way)
     warn([*left, *(apply.passing(steps) if options.persistent else [])])
     if not options.yes or not found:
@@ -101,6 +135,10 @@ def add_apply_words(parser: argparse.ArgumentParser) -> None:
     parser.add_argument("--persistent", action="store_true",
                         help="properties of units are kept over a boot; `undo` keeps the old ones"
                         " so too")
+    parser.add_argument("--as", dest="form", choices=tuple(exports.FORMS), help="write the change"
+                        " in a form to be reviewed and merged; nothing of the host is changed")
+    parser.add_argument("--to", metavar="FILE|DIR", help="where --as writes: a file, `-`, or a"
+                        " folder, with / at its end if it is new")
     parser.add_argument("--undo", metavar="FILE", help="the undo file, which must be new"
                         " (default arbiter-undo-DATE-TIME.json here)")
     parser.add_argument("--yes", action="store_true", help="do it")
@@ -125,6 +163,10 @@ DETAILS = (
     " is a tree, a group that was made again since it was read is refused. A unit is set only if"
     " its group is the folder that changes.",
     "The JSON of pods and that of their node, side by side, are one source.",
+    "With --as the change is written as files: `dropin` of units, `kubectl-patch` of what owns"
+    " pods, `compose` overrides, a play of `ansible`, `slurm` limits of users, or a `shell` script."
+    " What a form cannot say is refused by name, and nothing is written. Files are new, or such"
+    " that --as wrote; no link is followed, and a folder that others may change is refused.",
 )
 UNDO_DETAILS = (
     "A value that is neither what `apply` found nor what it wrote was set by somebody since. It is"
@@ -134,6 +176,8 @@ APPLY_EXAMPLES = (
     ("what would be done", "arbiterctl apply host.script --set web.service.weight=200"),
     ("doing it", "arbiterctl apply host.script --set web.service.weight=200 --yes"
      " --undo undo.json"),
+    ("a drop-in for review", "arbiterctl apply host.script --set web.service.weight=200"
+     " --as dropin --to units/"),
 )
 UNDO_EXAMPLES = (("the old settings again", "arbiterctl undo undo.json --yes"),)
 APPLY = Subcommand("apply",

@@ -1,0 +1,119 @@
+"""What all forms share: a change, the groups that differ, refusals, and files as texts."""
+from __future__ import annotations
+
+from collections.abc import Callable, Iterator, Sequence
+from dataclasses import dataclass, field
+from typing import NamedTuple
+
+from arbiter import Library
+from arbiter_host import apply, load
+from arbiter_host.beneath import Root
+from arbiter_host.faults import HostFault
+from arbiter_host.hold import KUBELET
+from arbiter_host.model import Group, Model, check_settings
+from arbiter_host.names import shown
+
+# What the first lines of each written file hold.
+MARK = "Written by arbiterctl apply --as "
+
+
+class Document(NamedTuple):
+    """A file that is written: its path below the folder, and its text."""
+
+    name: str
+    text: str
+
+
+class Differing(NamedTuple):
+    """A group whose settings differ."""
+
+    path: str
+    before: Group
+    after: Group
+
+    @property
+    def words(self) -> str:
+        """What changes, for a comment: one line."""
+        one, two = (apply.settings_of(each) for each in (self.before, self.after))
+        return f"{shown(self.path)}: {apply.told(one)} -> {apply.told(two)}"
+
+    @property
+    def has_weight(self) -> bool:
+        """Whether the weight changes."""
+        return self.before.weight != self.after.weight
+
+    @property
+    def has_limit(self) -> bool:
+        """Whether the quota or its period changes."""
+        return ((self.before.quota, self.before.period)
+                != (self.after.quota, self.after.period))
+
+    @property
+    def has_burst(self) -> bool:
+        """Whether the burst changes."""
+        return self.before.burst != self.after.burst
+
+
+@dataclass
+class Asked:
+    """A change that is to be written: both models, the files that each was read from, the way."""
+
+    before: Model
+    after: Model
+    files: Sequence[load.File]
+    # The files of AFTER, if it is a source of its own.
+    after_files: Sequence[load.File]
+    root: Root
+    by: apply.By
+    library: Library
+    # The conversion of shares that the runtime makes.
+    runtime: str
+    # Reads files as the first source was read.
+    reread: Callable[[Sequence[load.File]], Model]
+    # What the form cannot say, and what is to be told beside, in words.
+    refused: list[str] = field(default_factory=list)
+    told: list[str] = field(default_factory=list)
+
+    def groups(self) -> Iterator[Differing]:
+        """The groups whose settings differ."""
+        for path, one in self.before.groups.items():
+            two = self.after.groups.get(path)
+            if two is not None and apply.settings_of(one) != apply.settings_of(two):
+                check_settings(two)
+                yield Differing(path, one, two)
+
+    def refuse(self, path: str, why: str) -> None:
+        """Refuses a part of the change."""
+        self.refused.append(f"{shown(path)}: {why}")
+
+    def check(self, form: str) -> None:
+        """A fault that names each part that was refused."""
+        if self.refused:
+            raise HostFault("\n".join([f"--as {form} cannot say this, so nothing is written:",
+                                       *self.refused]))
+
+    def folder(self, group: Differing) -> str | None:
+        """The folder of a group below the root; it is refused where that is not known."""
+        try:
+            return apply.folder_of(group.before, self.root)
+        except HostFault as fault:
+            self.refused.append(fault.message)
+            return None
+
+
+def head(form: str, comment: str = "#") -> str:
+    """The first line of a file."""
+    return f"{comment} {MARK}{form}. Review it, then merge it.\n"
+
+
+def is_of_kubelet(folder: str) -> bool:
+    """Whether kubelet writes the settings of a folder's group."""
+    return any(KUBELET.fullmatch(part) for part in folder.split("/"))
+
+
+def of_kubelet(asked: Asked) -> list[str]:
+    """The groups that change and that kubelet writes again, in words."""
+    found = [each.path for each in asked.groups()
+             if is_of_kubelet(each.path) or is_of_kubelet(each.before.place)]
+    return [f"{shown(path)}: kubelet owns this group, and writes its own settings again"
+            " (--as kubectl-patch changes what it writes)" for path in found]

@@ -1,0 +1,119 @@
+"""Overrides of compose files: `services.NAME.cpus`, `cpu_shares`, `cpu_quota`, `cpu_period`."""
+from __future__ import annotations
+
+import re
+from collections.abc import Iterator
+from typing import Any
+
+import yaml
+
+from arbiter import Library
+from arbiter_host import units
+from arbiter_host.exports.base import Asked, Differing, Document, head
+from arbiter_host.names import last_name, shown
+from arbiter_host.sources.data import loads, number, table, text
+
+NAME = re.compile(r"[a-zA-Z0-9][a-zA-Z0-9_.-]{0,100}")
+LABELS = "com.docker.compose."
+
+
+def by_group(asked: Asked) -> dict[str, dict[str, Any]]:
+    """The containers of the files, by the names of their groups."""
+    found = {}
+    for name, data in asked.files:
+        entries = loads(data or b"[]", shown(name))
+        for each in entries if isinstance(entries, list) else [entries]:
+            identifier = text(each, "Id")
+            for scope in (identifier, f"docker-{identifier}.scope", f"libpod-{identifier}.scope"):
+                found[scope] = each
+    return found
+
+
+def shares_of(library: Library, weight: int, conversion: str) -> int | None:
+    """The least shares that a conversion makes a weight of; None where there are none."""
+    low, high = units.MIN_SHARES, units.MAX_SHARES
+    while low < high:
+        middle = (low + high) // 2
+        if units.weight_of_shares(library, middle, conversion) < weight:
+            low = middle + 1
+        else:
+            high = middle
+    return low if units.weight_of_shares(library, low, conversion) == weight else None
+
+
+def limit_of(group: Differing, config: dict[str, Any]) -> dict[str, Any] | None:
+    """The keys of a limit; None where the key that the service has cannot say it."""
+    quota, period = group.after.quota, group.after.period
+    has_quota = number(config, "CpuQuota") > 0 and not number(config, "NanoCpus")
+    if has_quota:
+        return {"cpu_quota": quota or 0, "cpu_period": period}
+    if quota is None:
+        return {"cpus": 0}
+    if period == units.DEFAULT_PERIOD:
+        whole, rest = divmod(quota, period)
+        return {"cpus": whole + rest / period if rest else whole}
+    return None if number(config, "NanoCpus") else {"cpu_quota": quota, "cpu_period": period}
+
+
+def keys_of(asked: Asked, group: Differing, config: dict[str, Any]) -> dict[str, Any]:
+    """The keys of a service. What compose has no key for is refused."""
+    found: dict[str, Any] = {}
+    if group.has_weight:
+        shares = shares_of(asked.library, group.after.weight, asked.runtime)
+        if shares is None:
+            asked.refuse(group.path, f"no cpu_shares give weight {group.after.weight}")
+        else:
+            found["cpu_shares"] = shares
+    if group.has_limit:
+        limit = limit_of(group, config)
+        if limit is None:
+            asked.refuse(group.path, f"`cpus` has a period of 100000, not {group.after.period}")
+        found |= limit or {}
+    if group.has_burst:
+        asked.refuse(group.path, "a burst: compose has no key for it")
+    return found
+
+
+def services(asked: Asked) -> Iterator[tuple[str, str, Differing, dict[str, Any]]]:
+    """The project and service of each container that changes, and its keys."""
+    containers = by_group(asked)
+    for group in asked.groups():
+        container = containers.get(last_name(group.before.place), {})
+        labels = table(container, "Config", "Labels")
+        project, service = (text(labels, f"{LABELS}{key}") for key in ("project", "service"))
+        if not (NAME.fullmatch(project) and NAME.fullmatch(service)):
+            asked.refuse(group.path, f"no service of compose ({LABELS}project and .service are"
+                         " not among its labels)")
+            continue
+        yield project, service, group, keys_of(asked, group, table(container, "HostConfig"))
+
+
+def check_replicas(asked: Asked, found: dict[tuple[str, str], dict[str, Any]]) -> None:
+    """Refuses a service some of whose containers keep their settings."""
+    changed = {last_name(each.before.place) for each in asked.groups()}
+    for scope, container in by_group(asked).items():
+        labels = table(container, "Config", "Labels")
+        service = (text(labels, f"{LABELS}project"), text(labels, f"{LABELS}service"))
+        is_group = any(last_name(each.place) == scope for each in asked.before.groups.values())
+        if is_group and scope not in changed and service in found:
+            asked.refuse(text(container, "Name").strip("/"),
+                         f"is of the service {service[1]} too, and does not change")
+
+
+def documents(asked: Asked) -> list[Document]:
+    """An override of each project."""
+    found: dict[tuple[str, str], dict[str, Any]] = {}
+    words: dict[str, list[str]] = {}
+    for project, service, group, keys in services(asked):
+        if found.setdefault((project, service), keys) != keys:
+            asked.refuse(group.path, f"the service {service} is to have two settings")
+        words.setdefault(project, []).append(f"# {group.words}\n")
+    check_replicas(asked, found)
+    documents_ = []
+    for project, lines in words.items():
+        data = {"services": {name: keys for (each, name), keys in found.items()
+                             if each == project}}
+        use = f"# docker compose -p {project} -f COMPOSE.yaml -f {project}.override.yaml up -d\n"
+        documents_.append(Document(f"{project}.override.yaml", head("compose") + use
+                                   + "".join(lines) + yaml.safe_dump(data, sort_keys=False)))
+    return documents_

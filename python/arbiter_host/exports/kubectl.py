@@ -1,0 +1,270 @@
+"""Strategic merge patches of what owns pods, for `kubectl patch --patch-file` or kustomize.
+
+The requests and limits of containers are what is written. Weights and limits of pods and classes
+follow from them, so the patched pods are read again: a group that kubelet and the runtime would
+set otherwise than is asked is refused.
+"""
+from __future__ import annotations
+
+import copy
+import json
+import re
+from collections.abc import Sequence
+from fractions import Fraction
+from typing import Any, NamedTuple
+
+import yaml
+
+from arbiter_host import apply, load
+from arbiter_host.exports.base import Asked, Differing, Document, head
+from arbiter_host.exports.compose import shares_of
+from arbiter_host.faults import HostFault
+from arbiter_host.names import shown
+from arbiter_host.sources.data import loads, table, tables, text
+from arbiter_host.sources.kubernetes import is_pod, items_of, thousandths
+
+# What a name of an object may be, so that it can be a part of a file's name and of a command.
+NAME = re.compile(r"[a-z0-9]([-a-z0-9.]{0,251}[a-z0-9])?")
+# Kinds whose template of pods may be changed, and their versions.
+OWNERS = {"Deployment": "apps/v1", "StatefulSet": "apps/v1", "DaemonSet": "apps/v1",
+          "ReplicaSet": "apps/v1", "ReplicationController": "v1"}
+HASH = "pod-template-hash"
+
+
+class Target(NamedTuple):
+    """What a patch is of."""
+
+    kind: str
+    namespace: str
+    name: str
+
+    @property
+    def words(self) -> str:
+        """Its kind and name, for people."""
+        return f"{self.kind} {shown(self.namespace)}/{shown(self.name)}"
+
+
+def namespace_of(item: dict[str, Any]) -> str:
+    """The namespace of an object."""
+    return text(table(item, "metadata"), "namespace") or "default"
+
+
+def controller_of(item: dict[str, Any]) -> tuple[str, str]:
+    """Kind and name of what controls an object; both empty where nothing does."""
+    for each in tables(table(item, "metadata"), "ownerReferences"):
+        if each.get("controller") is True:
+            return text(each, "kind"), text(each, "name")
+    return "", ""
+
+
+def deployment_of(pod: dict[str, Any], name: str, items: Sequence[dict[str, Any]]) -> str:
+    """The Deployment of a pod's ReplicaSet: as its object says, else by the pod's hash."""
+    for each in items:
+        own = (each.get("kind"), namespace_of(each), text(table(each, "metadata"), "name"))
+        if own == ("ReplicaSet", namespace_of(pod), name):
+            kind, above = controller_of(each)
+            return above if kind == "Deployment" else ""
+    mark = text(table(pod, "metadata", "labels"), HASH)
+    return name.removesuffix(f"-{mark}") if mark and name.endswith(f"-{mark}") else ""
+
+
+def target_of(pod: dict[str, Any], items: Sequence[dict[str, Any]]) -> Target:
+    """What owns a pod as far up as its template may be changed; else the pod."""
+    kind, name = controller_of(pod)
+    if kind == "ReplicaSet":
+        above = deployment_of(pod, name, items)
+        kind, name = ("Deployment", above) if above else (kind, name)
+    if kind not in OWNERS:
+        kind, name = "Pod", text(table(pod, "metadata"), "name")
+    return Target(kind, namespace_of(pod), name)
+
+
+class Pods:
+    """The pods of the files, which are changed here, and the containers by their titles."""
+
+    def __init__(self, files: Sequence[load.File]) -> None:
+        self.files = [(name, loads(data or b"{}", shown(name))) for name, data in files]
+        self.items = [item for name, found in self.files for item in items_of(found, shown(name))]
+        self.pods = [each for each in self.items if is_pod(each)]
+        self.containers = {f"{namespace_of(pod)}/{text(table(pod, 'metadata'), 'name')}/"
+                           f"{text(each, 'name')}": (pod, each)
+                           for pod in self.pods for key in ("initContainers", "containers")
+                           for each in tables(table(pod, "spec"), key)}
+
+    def of(self, target: Target) -> list[dict[str, Any]]:
+        """The pods of a target."""
+        return [each for each in self.pods if target_of(each, self.items) == target]
+
+    def written(self) -> list[load.File]:
+        """The files as they are after the change."""
+        return [(name, json.dumps(found).encode()) for name, found in self.files]
+
+
+def cpu_of(container: dict[str, Any], key: str) -> int | None:
+    """A container's amount of CPU in thousandths."""
+    return thousandths(table(container, "resources", key).get("cpu"), "", [])
+
+
+def amount(many: int | None) -> str | None:
+    """An amount of CPU as Kubernetes has it; None takes one away."""
+    return None if many is None else f"{many}m"
+
+
+def request_of(asked: Asked, group: Differing, later: Pods | None) -> int | None:
+    """The request of a container in thousandths: AFTER's, else the least of its weight."""
+    if later is not None and group.before.title in later.containers:
+        return cpu_of(later.containers[group.before.title][1], "requests")
+    if group.after.request is not None and group.after.request != group.before.request:
+        return int(group.after.request)
+    shares = shares_of(asked.library, group.after.weight, asked.runtime)
+    if shares is None:
+        asked.refuse(group.path, f"no request gives weight {group.after.weight}")
+    return None if shares is None else -(-shares * 1000 // 1024)
+
+
+def limit_of(asked: Asked, group: Differing) -> int | None:
+    """The limit of a container in thousandths."""
+    if group.after.quota is None:
+        return None
+    exact = Fraction(1000 * group.after.quota, group.after.period)
+    if exact.denominator != 1:
+        asked.refuse(group.path, "the limit is no whole number of thousandths of a CPU")
+    return int(exact)
+
+
+def changes(asked: Asked, group: Differing, raw: dict[str, Any],
+            later: Pods | None) -> dict[str, dict[str, str | None]]:
+    """The resources of a container that change. A limit alone must not become the request."""
+    found: dict[str, dict[str, str | None]] = {}
+    request = cpu_of(raw, "requests")
+    if group.has_weight:
+        request = request_of(asked, group, later)
+        found["requests"] = {"cpu": amount(request)}
+    if group.has_limit:
+        found["limits"] = {"cpu": amount(limit_of(asked, group))}
+        if request is None:
+            kept = cpu_of(raw, "limits")
+            found["requests"] = {"cpu": amount(0 if kept is None else kept)}
+    return found
+
+
+def patch_raw(container: dict[str, Any], resources: dict[str, dict[str, str | None]]) -> None:
+    """Changes a container of the files as its patch does."""
+    held = container.setdefault("resources", {})
+    for key, value in resources.items():
+        cpu = held.setdefault(key, {})
+        cpu |= value
+        if cpu["cpu"] is None:
+            del cpu["cpu"]
+
+
+def patch_pods(pods: Pods, target: Target, rows: dict[str, Any]) -> None:
+    """Changes all pods of a target, as its patch does. Their class is reckoned again."""
+    for pod in pods.of(target):
+        table(pod, "status").pop("qosClass", None)
+        for key, entries in rows.items():
+            known = {text(each, "name"): each for each in tables(table(pod, "spec"), key)}
+            for each in entries:
+                if each["name"] in known:
+                    patch_raw(known[each["name"]], each["resources"])
+
+
+def check_again(asked: Asked, pods: Pods) -> None:
+    """Refuses each group that kubelet and the runtime would set otherwise than is asked."""
+    found = asked.reread(pods.written()).groups
+    for path, group in asked.after.groups.items():
+        if path not in asked.before.groups:
+            continue
+        wanted, would = apply.settings_of(group), None
+        if path in found:
+            would = apply.settings_of(found[path])
+        if wanted != would:
+            told = f"set {apply.told(would)}" if would else "put it into another class"
+            asked.refuse(path, f"{apply.told(wanted)} is asked for, and Kubernetes would {told}:"
+                         " requests and limits of containers decide it")
+
+
+def check_classes(asked: Asked) -> None:
+    """Refuses what is another group in AFTER, since the class of its pod is another."""
+    places = {each.title: path for path, each in asked.after.groups.items() if each.title}
+    for path, each in asked.before.groups.items():
+        if path not in asked.after.groups and each.title in places:
+            asked.refuse(path, f"is {shown(places[each.title])} in AFTER: the class of its pod"
+                         " would be another")
+
+
+def key_of(pod: dict[str, Any], name: str) -> str:
+    """The list of a pod in which a container stands."""
+    inits = [text(each, "name") for each in tables(table(pod, "spec"), "initContainers")]
+    return "initContainers" if name in inits else "containers"
+
+
+def add(asked: Asked, found: dict[Target, dict[str, Any]], target: Target,
+        entry: tuple[str, str, dict[str, dict[str, str | None]]]) -> None:
+    """Adds a container to the patch of its target."""
+    key, name, resources = entry
+    rows = found.setdefault(target, {}).setdefault(key, [])
+    known = next((each for each in rows if each["name"] == name), None)
+    if known is None:
+        rows.append({"name": name, "resources": resources})
+    elif known["resources"] != resources:
+        asked.refuse(f"{target.words}, container {name}", "two of its pods are to have two"
+                     " settings")
+
+
+def command_of(target: Target, file: str) -> str:
+    """How a patch is applied."""
+    more = " --subresource resize" if target.kind == "Pod" else ""
+    return (f"# kubectl -n {target.namespace} patch {target.kind.lower()} {target.name}{more}"
+            f" --patch-file {file}\n")
+
+
+def document(target: Target, rows: dict[str, Any], words: Sequence[str]) -> Document:
+    """The patch of one target."""
+    data: dict[str, Any] = {
+        "apiVersion": OWNERS.get(target.kind, "v1"), "kind": target.kind,
+        "metadata": {"name": target.name, "namespace": target.namespace}}
+    data["spec"] = rows if target.kind == "Pod" else {"template": {"spec": rows}}
+    file = f"{target.namespace}.{target.kind.lower()}.{target.name}.yaml"
+    lines = "".join(f"# {each}\n" for each in words)
+    return Document(file, head("kubectl-patch") + command_of(target, file) + lines
+                    + yaml.safe_dump(data, sort_keys=False))
+
+
+def tell(asked: Asked, pods: Pods, targets: Sequence[Target]) -> None:
+    """Tells how far a patch reaches: all pods of an owner, or one pod that has none."""
+    for target in targets:
+        if target.kind == "Pod":
+            asked.told.append(f"{target.words}: nothing owns it whose template may change: its"
+                              " patch lasts as long as it")
+        else:
+            asked.told.append(f"{target.words}: the patch changes all its pods, on all nodes; in"
+                              f" these files it has {len(pods.of(target))}")
+
+
+def documents(asked: Asked) -> list[Document]:
+    """A patch of each owner, or of a pod without one."""
+    try:
+        pods = Pods(copy.deepcopy(list(asked.files)))
+        later = Pods(asked.after_files) if asked.after_files else None
+    except HostFault as fault:
+        raise HostFault(f"--as kubectl-patch is for pods: {fault.message}") from fault
+    found: dict[Target, dict[str, Any]] = {}
+    words: dict[Target, list[str]] = {}
+    for group in asked.groups():
+        if group.before.title not in pods.containers:
+            continue
+        pod, container = pods.containers[group.before.title]
+        target, name = target_of(pod, pods.items), text(container, "name")
+        if not (NAME.fullmatch(target.namespace) and NAME.fullmatch(target.name)):
+            asked.refuse(group.path, f"{target.words} is no name that Kubernetes takes")
+            continue
+        resources = changes(asked, group, container, later)
+        add(asked, found, target, (key_of(pod, name), name, resources))
+        words.setdefault(target, []).append(group.words)
+    for target, rows in found.items():
+        patch_pods(pods, target, rows)
+    check_classes(asked)
+    check_again(asked, pods)
+    tell(asked, pods, list(found))
+    return [document(target, rows, words[target]) for target, rows in found.items()]

@@ -1,0 +1,51 @@
+"""A script of bash that makes the steps of `apply`, each after a look at what stands there."""
+from __future__ import annotations
+
+import os
+import shlex
+
+from arbiter_host import apply
+from arbiter_host.exports.base import Asked, Document, head, of_kubelet
+from arbiter_host.names import shown
+
+BEGIN = """\
+set -euo pipefail
+root=${1:-/sys/fs/cgroup}
+# Writes a file that holds what stood when this script was written.
+put() { # FILE OLD NEW
+  local now
+  now=$(cat -- "$root/$1")
+  [ "$now" = "$2" ] || { echo "$0: $1 holds $now, not $2" >&2; exit 1; }
+  echo "$3" > "$root/$1"
+}
+"""
+
+
+def quoted(text: str) -> str:
+    """A text as one word of bash, in letters that a terminal shows."""
+    if shown(text) == text:
+        return shlex.quote(text)
+    return "$'" + "".join(chr(each) if 32 <= each < 127 and each not in b"'\\" else f"\\{each:03o}"
+                          for each in os.fsencode(text)) + "'"
+
+
+def line_of(step: apply.Step) -> str:
+    """A step as a line."""
+    if step.unit:
+        return shlex.join(apply.command_of(step))
+    words = (f"{step.folder}/{step.file}", step.old, step.new)
+    return " ".join(["put", *map(quoted, words)])
+
+
+def documents(asked: Asked) -> list[Document]:
+    """One script."""
+    lines = []
+    changes, _ = apply.changes(asked.before, asked.after, asked.root)
+    for group, change in zip(asked.groups(), changes):
+        lines += [f"# {group.words}",
+                  *map(line_of, apply.steps_of(change, change.before, asked.by))]
+    asked.told += of_kubelet(asked)
+    text = "".join(f"{line}\n" for line in lines)
+    use = "# bash arbiter.sh [ROOT]\n"
+    return [Document("arbiter.sh", f"#!/bin/bash\n{head('shell')}{use}{BEGIN}{text}")
+            ] if lines else []
