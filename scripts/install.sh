@@ -27,6 +27,7 @@ find_installed() {
     share/completions/_arbiterctl share/zsh/site-functions/_arbiterctl 644
     share/completions/arbiterctl.fish share/fish/vendor_completions.d/arbiterctl.fish 644
     share/systemd/arbiter-hold.service lib/systemd/system/arbiter-hold.service 644
+    share/grafana.json share/arbiter/grafana.json 644
   )
 }
 

@@ -30,6 +30,7 @@ FILES = {
     "share/zsh/site-functions/_arbiterctl": ("share/completions/_arbiterctl", 0o644),
     "share/fish/vendor_completions.d/arbiterctl.fish": ("share/completions/arbiterctl.fish", 0o644),
     "lib/systemd/system/arbiter-hold.service": ("share/systemd/arbiter-hold.service", 0o644),
+    "share/arbiter/grafana.json": ("share/grafana.json", 0o644),
     **{f"share/man/man1/{path.name}": (f"share/man/{path.name}", 0o644)
        for path in (ROOT / "share/man").iterdir()},
 }

@@ -1,6 +1,8 @@
 """Faults that end a command with one line, and warnings that do not."""
 from __future__ import annotations
 
+from collections.abc import Sequence
+
 
 class HostFault(Exception):
     """Fault that ends a command with one line on standard error, and its exit status."""
@@ -35,9 +37,18 @@ class RefusedLines(HostFault):
         super().__init__("\n".join(lines), 4)
 
 
+class Alerted(HostFault):
+    """Alerts of `watch` that hold: status 5."""
+
+    def __init__(self, alerts: Sequence[tuple[str, str]]) -> None:
+        super().__init__("\n".join(f"alert: {condition}: {group}" for condition, group in alerts)
+                         or "alert: none holds any more", 5)
+
+
 # Debian's packages of modules that are imported where they are needed.
 PACKAGES = {"rich": "python3-rich", "yaml": "python3-yaml", "jinja2": "python3-jinja2",
-            "dask": "python3-distributed", "distributed": "python3-distributed"}
+            "prometheus_client": "python3-prometheus-client", "dask": "python3-distributed",
+            "distributed": "python3-distributed"}
 
 
 def missing_module(error: ModuleNotFoundError) -> HostFault | None:

@@ -12,6 +12,7 @@ STATUSES = {
     2: "the words of the command line or the host were refused",
     3: "the C library is missing, or older than arbiterctl",
     4: "lines of a script were refused, under --strict",
+    5: "an alert of watch was raised",
 }
 ENVIRONMENT = {
     "ARBITER_LIBRARY": "The C library, as of --library.",
@@ -29,6 +30,8 @@ KINDS = {
     "kubernetes": "What `kubectl get pods -o json` prints, and a node's JSON beside it.",
     "systemd": "What `systemctl show '*.slice' '*.service' '*.scope'` prints.",
     "docker": "What `docker inspect` or `podman inspect` prints.",
+    "slurm": "What `scontrol show job --json` or `sacct --parsable2` print, and `scontrol show node"
+             " --json` beside it.",
 }
 
 

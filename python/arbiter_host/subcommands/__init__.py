@@ -29,6 +29,7 @@ PLACES = {
     "report": Place("report", "REPORT", "write a plan as one HTML page"),
     "series": Place("series", "SERIES", "plan many samples of demands"),
     "top": Place("top", "TOP", "live view over a host's cgroups and their plan"),
+    "watch": Place("watch", "WATCH", "tell when a host gets bad: alerts and metrics"),
     "fleet": Place("fleet", "FLEET", "ask many hosts at once, on all processors"),
     "apply": Place("apply", "APPLY", "set weights and limits on a host; without --yes only print"),
     "undo": Place("apply", "UNDO", "bring the settings before `apply` back"),

@@ -1,0 +1,353 @@
+"""Watch: worked figures, alerts, metrics as Prometheus reads them, and who can read them."""
+import json
+import os
+import re
+import shlex
+import signal
+import socket
+import subprocess
+import sys
+import time
+import urllib.error
+import urllib.request
+from fractions import Fraction
+
+import pytest
+import sockets
+import trees
+from arbiter import Host
+from arbiter_host import metrics, watch
+from arbiter_host.faults import HostFault, UsageFault
+from arbiter_host.model import Group, Model
+from arbiter_host.plan import plan
+from places import PACKAGE
+from prometheus_client import generate_latest
+from prometheus_client.openmetrics import exposition, parser
+from prometheus_client.parser import text_string_to_metric_families
+
+BOARD = PACKAGE.parent / "share/grafana.json"
+TWO = Host(2, 100000, 1000)
+# b has so little weight that it gets none of the 20 slices.
+STARVES = (b"# arbiter run --processors 1 --period 100000 --slice 5000\nmkdir a\nmkdir b\n"
+           b"write a cpu.weight 10000\nwrite b cpu.weight 1\ndemand a 20\ndemand b 20\n")
+
+
+class World:
+    """A tree of two groups with a clock. Ten seconds pass from one reading to the next."""
+
+    def __init__(self, folder):
+        self.top, self.now = folder / "t", 0.0
+        trees.root2(self.top)
+        self.put("web", 300, "50000 100000")
+        self.put("batch", 100, "max 100000")
+
+    def put(self, name, weight, maximum, usage=0, **counters):
+        trees.group2(self.top / name, weight, maximum, 0, usage, threads=2, **counters)
+
+    def tree(self, engine, want="psi"):
+        return watch.Tree(engine, str(self.top), TWO, want, lambda: self.now)
+
+    def later(self):
+        """web used 5 s and was throttled in 40 of 100 periods; batch used 12 s and waited 2 s."""
+        self.now += 10
+        trees.root2(self.top, 17 * 10**6)
+        self.put("web", 300, "50000 100000", 5 * 10**6, periods=100, throttled=40)
+        self.put("batch", 100, "max 100000", 12 * 10**6, waited=2 * 10**6)
+
+
+def test_figures_by_hand(engine, folder):
+    """web wants its 500m * 100/60 = 833.3m, in slices 840m; batch wants 1200m / 0.8 = 1500m."""
+    world = World(folder)
+    tree = world.tree(engine)
+    world.later()
+    found = {each.path: each for each in tree.round().figures()}
+    assert (found["web"].want, found["web"].plan) == (840, 500)
+    assert (found["web"].got, found["web"].throttled, found["web"].off) == (500, Fraction(2, 5), 0)
+    assert (found["batch"].want, found["batch"].plan) == (1500, 1500)
+    assert (found["batch"].got, found["batch"].throttled, found["batch"].off) == (1200, 0, -300)
+    assert (found["."].got, found["."].plan) == (1700, 2000)
+    held = watch.alerts(list(found.values()), watch.conditions(
+        "starved,throttled>39%,throttled>40%,lack>300m,lack>340m,off>299m,off>300m,b*:off,web:off"))
+    assert [tuple(each) for each in held] == [
+        ("throttled>39%", "web"), ("lack>300m", "web"), ("off>299m", "batch"), ("b*:off", "batch")]
+
+
+def test_a_group_made_again_is_not_compared(engine, folder):
+    """Its counters began anew. One that is new has no figures of use."""
+    world = World(folder)
+    tree = world.tree(engine)
+    world.later()
+    (world.top / "web").rename(folder / "old")
+    world.put("web", 300, "50000 100000", 1)
+    world.put("new", 100, "max 100000", 1)
+    found = {each.path: each for each in tree.round().figures()}
+    assert found["web"].got is None and found["new"].got is None
+    assert found["batch"].got == 1200
+
+
+@pytest.mark.parametrize("text, words", [
+    ("frob", "not [GROUP:]starved"), ("starved>1", "starved has no number"),
+    ("throttled>5", "no part of the periods"), ("throttled>101%", "no part of the periods"),
+    ("throttled>", "not [GROUP:]"), ("lack>x", "no amount of CPU"), ("lack>-1", "no amount of CPU"),
+    ("web:", "not [GROUP:]"), ("off>1e20", "is above"),
+])
+def test_conditions_that_are_refused(text, words):
+    with pytest.raises(UsageFault) as fault:
+        watch.conditions(text)
+    assert words in fault.value.message and fault.value.status == 2
+
+
+def test_alerts_that_last():
+    """Raised once after so many rounds in a row, and again after a round without."""
+    state, one = watch.State(), watch.Alert("starved", "a")
+    rounds = [[one], [one], [one], [], [one], [one]]
+    raised = []
+    for each in rounds:
+        raised.append(bool(state.raised(each, 2)))
+    assert raised == [False, True, False, False, False, True]
+    assert state.held(2) == [one]
+
+
+def test_turns_leave_rounds_out():
+    """Rounds stand at multiples of the interval. One that took too long leaves some out."""
+    now, at = [0.0], []
+
+    def sleep(seconds):
+        now[0] += seconds
+
+    for _ in watch.turns(watch.Times(Fraction(10), Fraction(60)), lambda: now[0], sleep, True):
+        at.append(now[0])
+        now[0] += 25 if len(at) == 2 else 1
+    assert at == [10, 20, 50, 60]
+
+
+# the command
+
+def test_once_of_a_script(ctl, folder):
+    """Status 5 and the group, or 0; one line of JSON."""
+    (folder / "s.script").write_bytes(STARVES)
+    words = ["watch", folder / "s.script", "--once", "--alert"]
+    out, err = ctl.run(*words, "starved", status=5)
+    assert err == "arbiterctl: alert: starved: b\n"
+    assert json.loads(out) == {"round": 1, "wanted_cpus": 2, "planned_cpus": 1,
+                               "alerts": [{"alert": "starved", "group": "b"}]}
+    assert json.loads(ctl.run(*words, "a:starved")[0])["alerts"] == []
+    assert json.loads(ctl.run(*words, "starved", "--after", "2")[0])["alerts"] == []
+
+
+def test_once_of_a_tree(ctl, folder):
+    World(folder)
+    out, _ = ctl.run("watch", folder / "t", "--once", "--interval", "50ms", "--cpus", "2",
+                     "--alert", "starved,throttled>5%")
+    assert json.loads(out) == {"round": 1, "wanted_cpus": 0, "planned_cpus": 0, "alerts": []}
+
+
+def test_command_of_an_alert(ctl, folder):
+    """It runs without a shell, once for an alert that stands, with JSON on its input."""
+    (folder / "s.script").write_bytes(STARVES)
+    log = folder / "log $(id)"
+    script = "import sys; open(sys.argv[1], 'a').write(sys.argv[2] + sys.stdin.read())"
+    command = shlex.join(["/usr/bin/python3", "-c", script, str(log), "$(id);"])
+    out, err = ctl.run("watch", folder / "s.script", "--alert", "starved", "--command", command,
+                       "--interval", "500ms", "--for", "3s", status=5)
+    assert out.count('"alerts": [{"alert": "starved", "group": "b"}]') >= 2
+    assert log.read_text() == '$(id);[{"condition": "starved", "group": "b"}]\n'
+    for bad, why in (("/nowhere/x", "No such file"), ("false", "status 1")):
+        _, err = ctl.run("watch", folder / "s.script", "--alert", "starved", "--once", "--command",
+                         bad, status=5)
+        assert f"warning: --command {bad}: {why}" in err
+    ctl.run("watch", folder / "s.script", "--command", "'", status=2)
+
+
+@pytest.mark.parametrize("words, told", [
+    (["--alert", "throttled>5%"], "trees of cgroups alone are measured"),
+    (["--after", "0"], "--after: 1 to"), (["--interval", "0"], "--interval: above 0"),
+    (["--for", "x"], "--for: 'x' is no time"), (["--listen", "0.0.0.0:1"], "not a loopback"),
+])
+def test_words_that_are_refused(ctl, folder, words, told):
+    (folder / "s.script").write_bytes(STARVES)
+    assert told in ctl.run("watch", folder / "s.script", "--once", *words, status=2)[1]
+    assert "read once" in ctl.run("watch", "-", status=2)[1]
+
+
+def test_two_failed_rounds_end_it(ctl, folder):
+    """One is told, and may pass."""
+    _, err = ctl.run("watch", folder / "none.script", "--interval", "50ms", status=1)
+    assert err.count("No such file or directory") == 2 and "warning" in err
+
+
+# metrics
+
+def round_of(engine, *names):
+    """A round of some groups that want 500m each, of one CPU."""
+    model = Model(Host(1, 100000, 5000))
+    for name in names:
+        model.add(Group(name, demand=Fraction(500)))
+    return watch.Round(plan(engine, model), {names[0]: Fraction(250)}, {names[0]: Fraction(1, 4)})
+
+
+def families(text):
+    """Samples by name and group."""
+    return {(sample.name, sample.labels.get("group", "")): sample.value
+            for family in text_string_to_metric_families(text) for sample in family.samples}
+
+
+def test_metrics_by_hand(engine):
+    """Prometheus' own parsers read them, in both of its forms."""
+    figured = metrics.Figured()
+    figured.put(round_of(engine, "a", "b", "c").figures(), [watch.Alert("lack>100m", "c")])
+    registry = metrics.registry_of(figured)
+    found = families(generate_latest(registry).decode())
+    # 20 slices of 50m for three wants of 10: 7, 7 and 6, the earlier ones first.
+    assert [found["arbiter_plan_gets_cpus", each] for each in ".abc"] == [1, 0.35, 0.35, 0.3]
+    assert found["arbiter_plan_wants_cpus", "b"] == 0.5
+    assert (found["arbiter_got_cpus", "a"], found["arbiter_throttled_ratio", "a"]) == (0.25, 0.25)
+    assert round(found["arbiter_off_cpus", "a"], 9) == -0.1
+    assert ("arbiter_got_cpus", "b") not in found and found["arbiter_starved", "b"] == 0
+    assert found["arbiter_alert", "c"] == 1
+    assert {name for name, _ in found} == set(metrics.NAMES)
+    text = exposition.generate_latest(registry).decode()
+    parsed = list(parser.text_string_to_metric_families(text))
+    assert {each.name for each in parsed} == set(metrics.NAMES) and text.endswith("# EOF\n")
+
+
+def test_hostile_names_in_metrics(engine):
+    names = ["a\"b\\c", "x\x1b[31m", "\u202eb", "c\ufffdd", "{e=\"f\"} 7"]
+    figured = metrics.Figured()
+    figured.put(round_of(engine, *names).figures(), [])
+    text = generate_latest(metrics.registry_of(figured)).decode()
+    assert "\x1b" not in text and "\u202e" not in text
+    found = {group for name, group in families(text) if name == "arbiter_starved"}
+    assert found == {".", "a\"b\\c", "x\\x1b[31m", "\\u202eb", "c\ufffdd", "{e=\"f\"} 7"}
+
+
+@pytest.fixture
+def served(ctl, folder):
+    """A watch that listens at a free port: its process, its address, and the lines it prints."""
+    (folder / "s.script").write_bytes(STARVES)
+    words = [sys.executable, PACKAGE / "arbiterctl", "watch", folder / "s.script", "--listen",
+             "127.0.0.1:0", "--interval", "200ms", "--alert", "starved", "--for", "60s"]
+    process = subprocess.Popen(list(map(str, words)), env=ctl.environment, stdout=subprocess.PIPE,
+                               stderr=subprocess.PIPE, text=True)
+    told = process.stderr.readline()
+    where = re.fullmatch(r"arbiterctl: http://(127\.0\.0\.1:([0-9]+))/metrics\n", told)
+    assert where, told
+    assert json.loads(process.stdout.readline())["round"] == 1
+    yield process, where.group(1)
+    process.kill()
+    process.communicate()
+
+
+def asked(address, path="/metrics", method="GET", **headers):
+    """Status and text of an answer."""
+    request = urllib.request.Request(f"http://{address}{path}", headers=headers, method=method)
+    try:
+        with urllib.request.urlopen(request, timeout=20) as answer:
+            return answer.status, answer.read().decode()
+    except urllib.error.HTTPError as error:
+        return error.code, error.read().decode()
+
+
+def test_listens_at_loopback_alone(served):
+    """One socket, of 127.0.0.1. It answers GET /metrics of a loopback name, and nothing else."""
+    process, address = served
+    port = address.partition(":")[2]
+    assert sockets.listening(process.pid) == [f"tcp 0100007F:{port}"]
+    status, text = asked(address)
+    assert status == 200 and families(text)["arbiter_alert", "b"] == 1
+    status, text = asked(address, Accept="application/openmetrics-text; version=1.0.0")
+    assert status == 200 and text.endswith("# EOF\n")
+    assert asked(address, Host=f"localhost:{port}")[0] == 200
+    assert asked(address, Host="evil.example")[0] == 403
+    assert asked(address, Host=f"evil.example:{port}")[0] == 403
+    assert asked(address, "/")[0] == 404 and asked(address, method="POST")[0] == 404
+
+
+def test_a_reader_that_says_nothing_holds_nobody_up_for_long(served):
+    _, address = served
+    host, _, port = address.partition(":")
+    with socket.create_connection((host, int(port)), timeout=20):
+        begun = time.monotonic()
+        assert asked(address)[0] == 200
+        assert time.monotonic() - begun < 3 * metrics.SECONDS
+
+
+def test_interrupt_ends_it(served):
+    process, _ = served
+    process.send_signal(signal.SIGINT)
+    assert process.wait(timeout=20) == -signal.SIGINT
+
+
+@pytest.mark.parametrize("text", [
+    "0.0.0.0:9101", ":9101", "9101", "[::]:9101", "192.168.0.1:9101", "example.com:80",
+    "127.0.0.1:65536", "127.0.0.1:-1", "127.0.0.1:", "127.0.0.1.evil.com:1", "127.0.0.1:1\n",
+    "[::1%lo]:1x",
+])
+def test_addresses_that_are_refused(text):
+    with pytest.raises(UsageFault):
+        metrics.address_of(text)
+
+
+@pytest.mark.parametrize("text, found", [
+    ("127.0.0.1:9101", ("127.0.0.1", 9101)), ("localhost:1", ("127.0.0.1", 1)),
+    ("[::1]:0", ("::1", 0)), ("127.9.9.9:65535", ("127.9.9.9", 65535)),
+])
+def test_addresses(text, found):
+    assert metrics.address_of(text) == found
+
+
+def test_a_port_that_is_taken(ctl, folder):
+    (folder / "s.script").write_bytes(STARVES)
+    with socket.socket() as other:
+        other.bind(("127.0.0.1", 0))
+        other.listen()
+        where = f"127.0.0.1:{other.getsockname()[1]}"
+        _, err = ctl.run("watch", folder / "s.script", "--once", "--listen", where, status=1)
+    assert f"--listen {where}: Address already in use" in err
+
+
+def test_textfile(ctl, folder, engine, monkeypatch):
+    """Whole or not at all; neither a link nor a file of another is replaced."""
+    os.mkdir(folder / "d", 0o755)
+    (folder / "s.script").write_bytes(STARVES)
+    (folder / "mine").write_text("mine")
+    path = folder / "d/arbiter.prom"
+    words = ["watch", folder / "s.script", "--once", "--textfile", path]
+    for make in (lambda: path.symlink_to(folder / "mine"), lambda: path.write_text("mine")):
+        make()
+        ctl.run(*words, status=1)
+        assert (folder / "mine").read_text() == "mine" == path.read_text()
+        path.unlink()
+    for _ in range(2):
+        ctl.run(*words)
+        assert families(path.read_text())["arbiter_starved", "b"] == 1
+    assert os.listdir(folder / "d") == ["arbiter.prom"]
+    before = path.read_bytes()
+    figured = metrics.Figured()
+    figured.put(round_of(engine, "other").figures(), [])
+
+    def full(*_, **__):
+        raise OSError(28, "No space left on device")
+
+    monkeypatch.setattr(os, "rename", full)
+    with pytest.raises(HostFault, match="No space left"):
+        metrics.put_file(str(path), metrics.registry_of(figured))
+    assert path.read_bytes() == before and os.listdir(folder / "d") == ["arbiter.prom"]
+    os.chmod(folder / "d", 0o777)
+    _, err = ctl.run(*words, status=1)
+    assert "other users may change this folder" in err
+
+
+def test_dashboard():
+    """Its queries name metrics that watch has, and all of them."""
+    board = json.loads(BOARD.read_text())
+    queries = [each["expr"] for panel in board["panels"] for each in panel["targets"]]
+    named = {name for query in queries for name in re.findall(r"arbiter_\w+", query)}
+    assert named == set(metrics.NAMES)
+    assert len({panel["id"] for panel in board["panels"]}) == len(board["panels"]) == 6
+    assert [each["name"] for each in board["templating"]["list"]] == ["datasource", "group"]
+    places = [panel["gridPos"] for panel in board["panels"]]
+    for at, one in enumerate(places):
+        for two in places[:at]:
+            assert not (one["x"] < two["x"] + two["w"] and two["x"] < one["x"] + one["w"]
+                        and one["y"] < two["y"] + two["h"] and two["y"] < one["y"] + one["h"])
