@@ -62,9 +62,8 @@ def short(text: str) -> str:
 
 def letter_width(letter: str) -> int:
     """Cells of a terminal that a letter takes: 0 to 2."""
-    if unicodedata.combining(letter):
-        return 0
-    return 2 if unicodedata.east_asian_width(letter) in "WF" else 1
+    from rich.cells import get_character_cell_size  # (few names have such letters)
+    return get_character_cell_size(letter)
 
 
 def width(text: str) -> int:

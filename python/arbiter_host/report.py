@@ -2,11 +2,12 @@
 from __future__ import annotations
 
 from collections.abc import Iterator
+from fractions import Fraction
 from typing import Any
 
-from arbiter_host import compare, explain, text
+from arbiter_host import compare, explain, text, units
 from arbiter_host.html import rendered
-from arbiter_host.names import last_name, short, shown
+from arbiter_host.names import last_name, parent_path, short, shown
 from arbiter_host.plan import Plan, Planned
 
 # Trees of at most so many groups are open when the page is.
@@ -17,22 +18,35 @@ KINDS = {"green": "up", "red": "down"}
 
 
 def title_of(group: Planned) -> str:
-    """The name for people, where it tells more than the group's own name."""
-    title = shown(group.group.title) if group.group else ""
-    told = last_name(group.path).replace(":", "/")
-    return "" if title.replace(":", "/") == told else title
+    """The name for people, where it tells more than the group's own name and those above it."""
+    title = group.group.title if group.group else ""
+    name = last_name(group.path).replace(":", "/")
+    return "" if f"/{title}".replace(":", "/").endswith(f"/{name}") else shown(title)
+
+
+def request_of(plan: Plan, group: Planned, unit: str) -> str:
+    """What a group requests; empty where the source has no requests."""
+    asked, host = group.group.request if group.group else None, plan.model.host
+    if asked is None:
+        return ""
+    scale = {"cpu": Fraction(1, 1000), "m": Fraction(1), "%": Fraction(1, 10),
+             "us": Fraction(host.period_us, 1000),
+             "slices": Fraction(host.period_us, 1000 * host.slice_us)}[unit]
+    return units.decimal(asked * scale)
 
 
 def row(plan: Plan, group: Planned, unit: str, is_open: bool) -> dict[str, Any]:
-    """The cells of a group, and what the search reads."""
-    title = title_of(group)
+    """The cells of a group, and what the search reads. `within` tells it apart in a flat list."""
     is_root = group.parent is None
     part = 100 * group.gets / group.want if group.want else 0
+    title = shown(group.group.title) if group.group else ""
     return {
-        "name": "the host" if is_root else short(shown(last_name(group.path))), "title": title,
+        "name": "the host" if is_root else short(shown(last_name(group.path))),
+        "title": title_of(group),
+        "within": short(shown(parent_path(group.path))) if group.depth > 1 else "",
         "path": shown(f"{group.path} {title}"), "above": group.parent, "depth": group.depth,
         "has_children": bool(group.children), "is_open": is_open or is_root,
-        "weight": "" if is_root else group.weight,
+        "weight": "" if is_root else group.weight, "request": request_of(plan, group, unit),
         "limit": text.amount(plan, group.limit, unit), "wants": text.amount(plan, group.want, unit),
         "gets": text.amount(plan, group.gets, unit), "percent": f"{min(part, 100):.2f}",
         "why": explain.why(plan, group, True), "is_idle": group.want == 0,
@@ -78,6 +92,8 @@ def changes(before: Plan, plan: Plan, unit: str) -> dict[str, Any]:
 def page(plan: Plan, unit: str = "cpu", title: str = "Plan", before: Plan | None = None) -> str:
     """The whole page."""
     notes = [shown(each) for each in (*plan.model.refused, *plan.model.notes)]
+    found = rows(plan, unit)
     return rendered("plan.html", title, explain.head(plan, explain.View(unit=unit)),
-                    rows=rows(plan, unit), notes=notes, open_changes=OPEN_CHANGES,
+                    rows=found, has_requests=any(each["request"] for each in found), notes=notes,
+                    open_changes=OPEN_CHANGES,
                     changes=None if before is None else changes(before, plan, unit))

@@ -8,6 +8,7 @@ import re
 import shutil
 import subprocess
 import threading
+import time
 import xml.etree.ElementTree
 from fractions import Fraction
 
@@ -185,19 +186,66 @@ return {wrong,width:innerWidth,isDark:ground<.2,heads}
 """
 
 
+PODS = [PACKAGE / "tests/fixtures/pods.json", PACKAGE / "tests/fixtures/node.json"]
+
+
 @pytest.mark.parametrize("mode", ["light", "dark"])
 @pytest.mark.parametrize("width", [400, 800, 1280])
-def test_page_is_legible_in_a_browser(ctl, folder, width, mode):
+@pytest.mark.parametrize("source", [[ROOT / "examples/node.script"], PODS], ids=["script", "pods"])
+def test_page_is_legible_in_a_browser(ctl, folder, source, width, mode):
     """Nothing overlaps, is cut or too faint, on a phone and a screen, by day and by night."""
     chromium = shutil.which("chromium")
     if chromium is None:
         pytest.skip("no chromium here")
     change = ["--set", "kubepods/burstable.weight=900", "--set", "kubepods/burstable.max=1cpu"]
-    ctl.run("report", ROOT / "examples/node.script", *change, "-o", folder / "p.html")
+    ctl.run("report", *source, *change, "-o", folder / "p.html")
     page = (folder / "p.html").read_text()
     prefers = ["--blink-settings=preferredColorScheme=0"] if mode == "dark" else []
     found = seen_in(chromium, folder, page, LOOK, width, *prefers)
     assert found == {"wrong": [], "width": width, "isDark": mode == "dark", "heads": 0}
+
+
+def cells_of(page):
+    """The cells of each group of a page by its name, by their columns."""
+    rows = re.findall(r"<tr data-path.*?</tr>", page, re.S)
+    return {re.search(r'class="name">(.*?)<', row).group(1):
+            dict(re.findall(r'<td data-head="(\w+)"[^>]*>(.*?)</td>', row)) for row in rows}
+
+
+def test_page_has_requests_and_names_once(ctl, folder):
+    """web's containers request 250m and 100m; a name stands once, where its title repeats it."""
+    ctl.run("report", *PODS, "-o", folder / "p.html")
+    page = (folder / "p.html").read_text()
+    found = cells_of(page)
+    assert (found["nginx"]["request"], found["nginx"]["limit"]) == ("0.25", "1.00")
+    assert found["metrics"]["request"] == "0.1" and found["prod:web-7c9f"]["request"] == ""
+    row = re.search(r"<tr data-path[^>]*>\s*<th(?:(?!</tr>).)*>nginx<.*?</th>", page, re.S).group()
+    assert re.sub(r"<[^>]+>", " ", row).split() == ["nginx", "in",
+                                                    "kubepods/burstable/prod:web-7c9f"]
+    ctl.run("report", ROOT / "examples/node.script", "-o", folder / "s.html")
+    assert 'data-head="request"' not in (folder / "s.html").read_text()
+
+
+def test_keys_of_the_page(ctl, folder):
+    """Arrows go from group to group, open and fold; one row alone is reached by Tab."""
+    chromium = shutil.which("chromium")
+    if chromium is None:
+        pytest.skip("no chromium here")
+    ctl.run("report", ROOT / "examples/node.script", "-o", folder / "p.html")
+    page = (folder / "p.html").read_text()
+    script = ("const at=()=>document.activeElement.querySelector?.('.name')?.textContent,seen=[];"
+              "const press=key=>document.activeElement.dispatchEvent(new KeyboardEvent('keydown',"
+              "{key,bubbles:true,cancelable:true}));inTree[0].focus();"
+              "for(const key of %s){press(key);seen.push(at()??document.activeElement.id);}"
+              "return [seen,inTree.filter(each=>each.tabIndex===0).length,"
+              "inTree.filter(each=>!each.hidden).length]")
+    keys = ["ArrowDown", "ArrowRight", "ArrowLeft", "ArrowDown", "ArrowUp", "ArrowLeft", "Home",
+            "End", "/"]
+    seen, reached, rows = seen_in(chromium, folder, page, script % json.dumps(keys))
+    # The last ArrowLeft folds system.slice, so that its four services are hidden.
+    assert seen == ["system.slice", "kubelet.service", "system.slice", "kubelet.service",
+                    "system.slice", "system.slice", "the host", "scanner", "find"]
+    assert (reached, rows) == (1, page.count("data-path=") - 4)
 
 
 # series
@@ -429,3 +477,97 @@ def test_top_on_a_terminal(ctl, folder, columns, lines):
     plain = re.sub(r"\x1b\[[0-9;?]*[A-Za-z]", "", plain)
     assert max(map(len, plain.replace("\r", "").split("\n"))) <= columns
     assert "lines that have no room here" in plain
+
+
+def test_history_of_top(engine):
+    """The bars of what a group got, as parts of its most; the rows stay those of their groups."""
+    history = top.History()
+    for demand in (0, 100, 250, 1000):
+        model = Model(Host(1, 100000, 5000))
+        model.add(Group("web", demand=Fraction(demand)))
+        model.add(Group("pod"))
+        model.add(Group("pod/a", demand=Fraction(50)))
+        found = plan(engine, model)
+        history.take(found)
+    # 0, 2, 5 and 19 of 20 slices are 0, 1, 3 and 8 eighths of 19, rounded up.
+    assert history.line("web") == "       \u2581\u2583\u2588" and history.line("gone") == " " * 10
+    for view in (explain.View(), explain.View(sort="name"), explain.View(only=("asking",)),
+                 explain.View(depth=1), explain.View(everything=True)):
+        lines = [line for line, _ in history.table(found, view)]
+        row = next(line for line in lines if line.endswith("web"))
+        assert row.startswith("       \u2581\u2583\u2588 ") and max(map(len, lines)) <= 120
+
+
+@pytest.mark.parametrize("letters, view", [
+    ("", {}), ("s", {"sort": "lack"}), ("s" * 6, {}), ("f", {"only": ("starved",)}),
+    ("-", {"depth": 2}), ("---+", {"depth": 1}), ("-" * 9, {"depth": 0}),
+    ("a", {"everything": True}), ("xsz", {"sort": "lack"}),
+])
+def test_keys_of_top(letters, view):
+    keys = top.Keys()
+    for letter in letters:
+        keys.take(letter, 3)
+    assert keys.view(explain.View()) == explain.View()._replace(**view)
+    assert not keys.is_ended
+    keys.take("q", 3)
+    assert keys.is_ended
+
+
+def test_top_once_as_json(ctl, folder):
+    trees.root2(folder)
+    trees.group2(folder / "web", usage=5)
+    words = ["top", folder, "--once", "--interval", "10ms", "--cpus", "2", "--want", "busy"]
+    found = json.loads(ctl.run(*words, "--json")[0])
+    assert [(each["group"], each["gets"]["slices"]) for each in found["groups"]] == [
+        (".", 100), ("web", 100)]
+    assert ctl.run(*words)[0].count("2 CPUs, period 100 ms") == 1
+
+
+class Tmux:
+    """A server of tmux of its own, with one window of 100 columns and 30 rows."""
+
+    def __init__(self, folder, environment):
+        self.words = ["tmux", "-S", str(folder / "tmux"), "-f", "/dev/null"]
+        self.environment = {**environment, "TERM": "xterm-256color", "LC_ALL": "C.UTF-8"}
+
+    def run(self, *words):
+        ended = subprocess.run([*self.words, *map(str, words)], capture_output=True, timeout=60,
+                               env=self.environment, check=True)
+        return ended.stdout.decode()
+
+    def seen(self, *words):
+        """The window once it has all of these words; what it has after a while."""
+        for _ in range(300):
+            text = self.run("capture-pane", "-p", "-t", "top")
+            if all(word in text for word in words):
+                return text
+            time.sleep(0.1)
+        raise AssertionError(f"{words} not in:\n{text}")
+
+
+def test_top_in_tmux(ctl, folder):
+    """Keys fold, sort and filter; the history grows; q ends it, and the shell goes on."""
+    if shutil.which("tmux") is None:
+        pytest.skip("no tmux")
+    trees.root2(folder / "t")
+    for name, weight in (("web", 300), ("batch", 100), ("batch/x", 100)):
+        trees.group2(folder / "t" / name, weight)
+    ctl.environment.pop("COLUMNS")
+    tmux = Tmux(folder, ctl.environment)
+    command = (f"/usr/bin/python3 {PACKAGE}/arbiterctl top {folder}/t --want busy --cpus 2"
+               " --interval 100ms; echo ended $?; cat")
+    tmux.run("new-session", "-d", "-s", "top", "-x", "100", "-y", "30", command)
+    try:
+        text = tmux.seen("q quit", "\u2588" * 10, "batch", "x")
+        rows = [line.split()[-1] for line in text.split("\n") if "\u2588" in line]
+        assert rows == ["(.)", "batch", "x", "web"]
+        tmux.run("send-keys", "-t", "top", "-")
+        assert "(+1 below)" in tmux.seen("(+1 below)")
+        tmux.run("send-keys", "-t", "top", "+", "s")
+        text = tmux.seen("sort: lack")
+        tmux.run("send-keys", "-t", "top", "f")
+        assert "no group is starved" in tmux.seen("only: starved")
+        tmux.run("send-keys", "-t", "top", "q")
+        assert "ended 0" in tmux.seen("ended 0")
+    finally:
+        tmux.run("kill-server")

@@ -74,6 +74,29 @@ function showRows() {
     row.hidden = !row.textContent.toLowerCase().includes(word);
 }
 
+// Opens or folds a group.
+function setFold(row, isOpenNow) {
+  row.querySelector(".fold")?.setAttribute("aria-expanded", String(isOpenNow));
+  show();
+}
+
+// The row that a key leads to. A row alone is reached by Tab, the others by arrows.
+function rowOf(key, row) {
+  const rows = [...groups.tBodies[0].rows].filter(each => !each.hidden), at = rows.indexOf(row);
+  const isFlat = groups.classList.contains("flat"), fold = row.querySelector(".fold");
+  const canOpen = fold && !isFlat;
+  if (key === "ArrowRight" && canOpen && !isOpen(row)) return setFold(row, true), row;
+  if (key === "ArrowLeft" && canOpen && isOpen(row)) return setFold(row, false), row;
+  if (key === "ArrowLeft" && !isFlat) return inTree[above[inTree.indexOf(row)]];
+  return { ArrowDown: rows[at + 1], ArrowRight: canOpen ? rows[at + 1] : undefined,
+           ArrowUp: rows[at - 1], Home: rows[0], End: rows[rows.length - 1] }[key];
+}
+
+function goTo(row) {
+  for (const each of inTree) each.tabIndex = each === row ? 0 : -1;
+  row.focus();
+}
+
 for (const button of document.querySelectorAll("thead button"))
   button.addEventListener("click", () => sortBy(button.closest("th")));
 find.addEventListener("input", groups ? show : showRows);
@@ -83,9 +106,20 @@ if (groups) {
   document.getElementById("shut").addEventListener("click", () => foldAll(true));
   groups.addEventListener("click", event => {
     const fold = event.target.closest(".fold");
-    if (!fold) return;
-    fold.setAttribute("aria-expanded", String(fold.getAttribute("aria-expanded") === "false"));
-    show();
+    if (fold) setFold(fold.closest("tr"), fold.getAttribute("aria-expanded") === "false");
   });
+  groups.addEventListener("keydown", event => {
+    const row = event.target.closest("tbody tr");
+    const next = row && !event.ctrlKey && !event.altKey && rowOf(event.key, row);
+    if (!next) return;
+    event.preventDefault();
+    goTo(next);
+  });
+  document.addEventListener("keydown", event => {
+    if (event.key !== "/" || event.target === find) return;
+    event.preventDefault();
+    find.focus();
+  });
+  if (inTree.length) inTree[0].tabIndex = 0;
   show();
 }
