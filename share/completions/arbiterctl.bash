@@ -15,7 +15,7 @@ _arbiterctl() {
         given=$before
     fi
     if ((COMP_CWORD == 1)); then
-        mapfile -t COMPREPLY < <(compgen -W "explain compare need recommend guarantee picture report series top fleet apply undo hold import from-cgroup -h --help -V --version" -- "$word")
+        mapfile -t COMPREPLY < <(compgen -W "explain compare need guarantee picture report series top watch fleet apply undo hold import from-cgroup -h --help -V --version" -- "$word")
         return
     fi
     case ${COMP_WORDS[1]} in
@@ -30,22 +30,20 @@ _arbiterctl() {
                 --period) ;;
                 --slice) ;;
                 --library) ;;
-                --from) mapfile -t COMPREPLY < <(compgen -W "script toml yaml json cgroup kubernetes systemd docker" -- "$word") ;;
+                --from) mapfile -t COMPREPLY < <(compgen -W "script toml yaml json cgroup kubernetes systemd docker slurm" -- "$word") ;;
                 --want) mapfile -t COMPREPLY < <(compgen -W "usage peak p95 psi limit request busy" -- "$word") ;;
                 --scale) ;;
                 --interval) ;;
                 --samples) ;;
                 --later) ;;
                 --depth-read) ;;
-                --usage) ;;
-                --cgroup) ;;
                 --node) ;;
                 --conversion) mapfile -t COMPREPLY < <(compgen -W "linear log" -- "$word") ;;
                 --kubelet) mapfile -t COMPREPLY < <(compgen -W "linear log" -- "$word") ;;
                 --runtime) mapfile -t COMPREPLY < <(compgen -W "linear log" -- "$word") ;;
                 --driver) mapfile -t COMPREPLY < <(compgen -W "systemd cgroupfs" -- "$word") ;;
                 *)
-                    [[ $word == -* ]] && mapfile -t COMPREPLY < <(compgen -W "--only --sort --depth --unit --width --all --full-names --json --cpus --processors --period --slice --library --from --want --scale --interval --samples --later --own --depth-read --usage --cgroup --node --conversion --kubelet --runtime --driver --strict -h --help" -- "$word")
+                    [[ $word == -* ]] && mapfile -t COMPREPLY < <(compgen -W "--only --sort --depth --unit --width --all --full-names --json --cpus --processors --period --slice --library --from --want --scale --interval --samples --later --own --depth-read --node --conversion --kubelet --runtime --driver --strict -h --help" -- "$word")
                     ;;
             esac
             ;;
@@ -61,22 +59,20 @@ _arbiterctl() {
                 --period) ;;
                 --slice) ;;
                 --library) ;;
-                --from) mapfile -t COMPREPLY < <(compgen -W "script toml yaml json cgroup kubernetes systemd docker" -- "$word") ;;
+                --from) mapfile -t COMPREPLY < <(compgen -W "script toml yaml json cgroup kubernetes systemd docker slurm" -- "$word") ;;
                 --want) mapfile -t COMPREPLY < <(compgen -W "usage peak p95 psi limit request busy" -- "$word") ;;
                 --scale) ;;
                 --interval) ;;
                 --samples) ;;
                 --later) ;;
                 --depth-read) ;;
-                --usage) ;;
-                --cgroup) ;;
                 --node) ;;
                 --conversion) mapfile -t COMPREPLY < <(compgen -W "linear log" -- "$word") ;;
                 --kubelet) mapfile -t COMPREPLY < <(compgen -W "linear log" -- "$word") ;;
                 --runtime) mapfile -t COMPREPLY < <(compgen -W "linear log" -- "$word") ;;
                 --driver) mapfile -t COMPREPLY < <(compgen -W "systemd cgroupfs" -- "$word") ;;
                 *)
-                    [[ $word == -* ]] && mapfile -t COMPREPLY < <(compgen -W "--set --only --sort --depth --unit --width --all --full-names --json --cpus --processors --period --slice --library --from --want --scale --interval --samples --later --own --depth-read --usage --cgroup --node --conversion --kubelet --runtime --driver --strict -h --help" -- "$word")
+                    [[ $word == -* ]] && mapfile -t COMPREPLY < <(compgen -W "--set --only --sort --depth --unit --width --all --full-names --json --cpus --processors --period --slice --library --from --want --scale --interval --samples --later --own --depth-read --node --conversion --kubelet --runtime --driver --strict -h --help" -- "$word")
                     ;;
             esac
             ;;
@@ -87,58 +83,20 @@ _arbiterctl() {
                 --period) ;;
                 --slice) ;;
                 --library) ;;
-                --from) mapfile -t COMPREPLY < <(compgen -W "script toml yaml json cgroup kubernetes systemd docker" -- "$word") ;;
+                --from) mapfile -t COMPREPLY < <(compgen -W "script toml yaml json cgroup kubernetes systemd docker slurm" -- "$word") ;;
                 --want) mapfile -t COMPREPLY < <(compgen -W "usage peak p95 psi limit request busy" -- "$word") ;;
                 --scale) ;;
                 --interval) ;;
                 --samples) ;;
                 --later) ;;
                 --depth-read) ;;
-                --usage) ;;
-                --cgroup) ;;
                 --node) ;;
                 --conversion) mapfile -t COMPREPLY < <(compgen -W "linear log" -- "$word") ;;
                 --kubelet) mapfile -t COMPREPLY < <(compgen -W "linear log" -- "$word") ;;
                 --runtime) mapfile -t COMPREPLY < <(compgen -W "linear log" -- "$word") ;;
                 --driver) mapfile -t COMPREPLY < <(compgen -W "systemd cgroupfs" -- "$word") ;;
                 *)
-                    [[ $word == -* ]] && mapfile -t COMPREPLY < <(compgen -W "--unit --json --cpus --processors --period --slice --library --from --want --scale --interval --samples --later --own --depth-read --usage --cgroup --node --conversion --kubelet --runtime --driver --strict -h --help" -- "$word")
-                    ;;
-            esac
-            ;;
-        recommend)
-            case $given in
-                --target) ;;
-                --headroom) ;;
-                --history) ;;
-                --unit) mapfile -t COMPREPLY < <(compgen -W "cpu m % slices us" -- "$word") ;;
-                --map) ;;
-                --prometheus) ;;
-                --query) ;;
-                --start) ;;
-                --end) ;;
-                --step) ;;
-                --label) ;;
-                --cpus|--processors) ;;
-                --period) ;;
-                --slice) ;;
-                --library) ;;
-                --from) mapfile -t COMPREPLY < <(compgen -W "script toml yaml json cgroup kubernetes systemd docker" -- "$word") ;;
-                --want) mapfile -t COMPREPLY < <(compgen -W "usage peak p95 psi limit request busy" -- "$word") ;;
-                --scale) ;;
-                --interval) ;;
-                --samples) ;;
-                --later) ;;
-                --depth-read) ;;
-                --usage) ;;
-                --cgroup) ;;
-                --node) ;;
-                --conversion) mapfile -t COMPREPLY < <(compgen -W "linear log" -- "$word") ;;
-                --kubelet) mapfile -t COMPREPLY < <(compgen -W "linear log" -- "$word") ;;
-                --runtime) mapfile -t COMPREPLY < <(compgen -W "linear log" -- "$word") ;;
-                --driver) mapfile -t COMPREPLY < <(compgen -W "systemd cgroupfs" -- "$word") ;;
-                *)
-                    [[ $word == -* ]] && mapfile -t COMPREPLY < <(compgen -W "--target --headroom --history --csv --unit --map --json --prometheus --query --start --end --step --label --cpus --processors --period --slice --library --from --want --scale --interval --samples --later --own --depth-read --usage --cgroup --node --conversion --kubelet --runtime --driver --strict -h --help" -- "$word")
+                    [[ $word == -* ]] && mapfile -t COMPREPLY < <(compgen -W "--unit --json --cpus --processors --period --slice --library --from --want --scale --interval --samples --later --own --depth-read --node --conversion --kubelet --runtime --driver --strict -h --help" -- "$word")
                     ;;
             esac
             ;;
@@ -150,22 +108,20 @@ _arbiterctl() {
                 --period) ;;
                 --slice) ;;
                 --library) ;;
-                --from) mapfile -t COMPREPLY < <(compgen -W "script toml yaml json cgroup kubernetes systemd docker" -- "$word") ;;
+                --from) mapfile -t COMPREPLY < <(compgen -W "script toml yaml json cgroup kubernetes systemd docker slurm" -- "$word") ;;
                 --want) mapfile -t COMPREPLY < <(compgen -W "usage peak p95 psi limit request busy" -- "$word") ;;
                 --scale) ;;
                 --interval) ;;
                 --samples) ;;
                 --later) ;;
                 --depth-read) ;;
-                --usage) ;;
-                --cgroup) ;;
                 --node) ;;
                 --conversion) mapfile -t COMPREPLY < <(compgen -W "linear log" -- "$word") ;;
                 --kubelet) mapfile -t COMPREPLY < <(compgen -W "linear log" -- "$word") ;;
                 --runtime) mapfile -t COMPREPLY < <(compgen -W "linear log" -- "$word") ;;
                 --driver) mapfile -t COMPREPLY < <(compgen -W "systemd cgroupfs" -- "$word") ;;
                 *)
-                    [[ $word == -* ]] && mapfile -t COMPREPLY < <(compgen -W "--group --unit --json --cpus --processors --period --slice --library --from --want --scale --interval --samples --later --own --depth-read --usage --cgroup --node --conversion --kubelet --runtime --driver --strict -h --help" -- "$word")
+                    [[ $word == -* ]] && mapfile -t COMPREPLY < <(compgen -W "--group --unit --json --cpus --processors --period --slice --library --from --want --scale --interval --samples --later --own --depth-read --node --conversion --kubelet --runtime --driver --strict -h --help" -- "$word")
                     ;;
             esac
             ;;
@@ -179,22 +135,20 @@ _arbiterctl() {
                 --period) ;;
                 --slice) ;;
                 --library) ;;
-                --from) mapfile -t COMPREPLY < <(compgen -W "script toml yaml json cgroup kubernetes systemd docker" -- "$word") ;;
+                --from) mapfile -t COMPREPLY < <(compgen -W "script toml yaml json cgroup kubernetes systemd docker slurm" -- "$word") ;;
                 --want) mapfile -t COMPREPLY < <(compgen -W "usage peak p95 psi limit request busy" -- "$word") ;;
                 --scale) ;;
                 --interval) ;;
                 --samples) ;;
                 --later) ;;
                 --depth-read) ;;
-                --usage) ;;
-                --cgroup) ;;
                 --node) ;;
                 --conversion) mapfile -t COMPREPLY < <(compgen -W "linear log" -- "$word") ;;
                 --kubelet) mapfile -t COMPREPLY < <(compgen -W "linear log" -- "$word") ;;
                 --runtime) mapfile -t COMPREPLY < <(compgen -W "linear log" -- "$word") ;;
                 --driver) mapfile -t COMPREPLY < <(compgen -W "systemd cgroupfs" -- "$word") ;;
                 *)
-                    [[ $word == -* ]] && mapfile -t COMPREPLY < <(compgen -W "-o --output --unit --depth --rows --cpus --processors --period --slice --library --from --want --scale --interval --samples --later --own --depth-read --usage --cgroup --node --conversion --kubelet --runtime --driver --strict -h --help" -- "$word")
+                    [[ $word == -* ]] && mapfile -t COMPREPLY < <(compgen -W "-o --output --unit --depth --rows --cpus --processors --period --slice --library --from --want --scale --interval --samples --later --own --depth-read --node --conversion --kubelet --runtime --driver --strict -h --help" -- "$word")
                     ;;
             esac
             ;;
@@ -209,22 +163,20 @@ _arbiterctl() {
                 --period) ;;
                 --slice) ;;
                 --library) ;;
-                --from) mapfile -t COMPREPLY < <(compgen -W "script toml yaml json cgroup kubernetes systemd docker" -- "$word") ;;
+                --from) mapfile -t COMPREPLY < <(compgen -W "script toml yaml json cgroup kubernetes systemd docker slurm" -- "$word") ;;
                 --want) mapfile -t COMPREPLY < <(compgen -W "usage peak p95 psi limit request busy" -- "$word") ;;
                 --scale) ;;
                 --interval) ;;
                 --samples) ;;
                 --later) ;;
                 --depth-read) ;;
-                --usage) ;;
-                --cgroup) ;;
                 --node) ;;
                 --conversion) mapfile -t COMPREPLY < <(compgen -W "linear log" -- "$word") ;;
                 --kubelet) mapfile -t COMPREPLY < <(compgen -W "linear log" -- "$word") ;;
                 --runtime) mapfile -t COMPREPLY < <(compgen -W "linear log" -- "$word") ;;
                 --driver) mapfile -t COMPREPLY < <(compgen -W "systemd cgroupfs" -- "$word") ;;
                 *)
-                    [[ $word == -* ]] && mapfile -t COMPREPLY < <(compgen -W "-o --output --unit --before --set --title --cpus --processors --period --slice --library --from --want --scale --interval --samples --later --own --depth-read --usage --cgroup --node --conversion --kubelet --runtime --driver --strict -h --help" -- "$word")
+                    [[ $word == -* ]] && mapfile -t COMPREPLY < <(compgen -W "-o --output --unit --before --set --title --cpus --processors --period --slice --library --from --want --scale --interval --samples --later --own --depth-read --node --conversion --kubelet --runtime --driver --strict -h --help" -- "$word")
                     ;;
             esac
             ;;
@@ -247,22 +199,20 @@ _arbiterctl() {
                 --period) ;;
                 --slice) ;;
                 --library) ;;
-                --from) mapfile -t COMPREPLY < <(compgen -W "script toml yaml json cgroup kubernetes systemd docker" -- "$word") ;;
+                --from) mapfile -t COMPREPLY < <(compgen -W "script toml yaml json cgroup kubernetes systemd docker slurm" -- "$word") ;;
                 --want) mapfile -t COMPREPLY < <(compgen -W "usage peak p95 psi limit request busy" -- "$word") ;;
                 --scale) ;;
                 --interval) ;;
                 --samples) ;;
                 --later) ;;
                 --depth-read) ;;
-                --usage) ;;
-                --cgroup) ;;
                 --node) ;;
                 --conversion) mapfile -t COMPREPLY < <(compgen -W "linear log" -- "$word") ;;
                 --kubelet) mapfile -t COMPREPLY < <(compgen -W "linear log" -- "$word") ;;
                 --runtime) mapfile -t COMPREPLY < <(compgen -W "linear log" -- "$word") ;;
                 --driver) mapfile -t COMPREPLY < <(compgen -W "systemd cgroupfs" -- "$word") ;;
                 *)
-                    [[ $word == -* ]] && mapfile -t COMPREPLY < <(compgen -W "--csv --unit --sample --groups --map --holes --summary --to -o --output --prometheus --query --start --end --step --label --cpus --processors --period --slice --library --from --want --scale --interval --samples --later --own --depth-read --usage --cgroup --node --conversion --kubelet --runtime --driver --strict -h --help" -- "$word")
+                    [[ $word == -* ]] && mapfile -t COMPREPLY < <(compgen -W "--csv --unit --sample --groups --map --holes --summary --to -o --output --prometheus --query --start --end --step --label --cpus --processors --period --slice --library --from --want --scale --interval --samples --later --own --depth-read --node --conversion --kubelet --runtime --driver --strict -h --help" -- "$word")
                     ;;
             esac
             ;;
@@ -278,22 +228,49 @@ _arbiterctl() {
                 --period) ;;
                 --slice) ;;
                 --library) ;;
-                --from) mapfile -t COMPREPLY < <(compgen -W "script toml yaml json cgroup kubernetes systemd docker" -- "$word") ;;
+                --from) mapfile -t COMPREPLY < <(compgen -W "script toml yaml json cgroup kubernetes systemd docker slurm" -- "$word") ;;
                 --want) mapfile -t COMPREPLY < <(compgen -W "usage peak p95 psi limit request busy" -- "$word") ;;
                 --scale) ;;
                 --interval) ;;
                 --samples) ;;
                 --later) ;;
                 --depth-read) ;;
-                --usage) ;;
-                --cgroup) ;;
                 --node) ;;
                 --conversion) mapfile -t COMPREPLY < <(compgen -W "linear log" -- "$word") ;;
                 --kubelet) mapfile -t COMPREPLY < <(compgen -W "linear log" -- "$word") ;;
                 --runtime) mapfile -t COMPREPLY < <(compgen -W "linear log" -- "$word") ;;
                 --driver) mapfile -t COMPREPLY < <(compgen -W "systemd cgroupfs" -- "$word") ;;
                 *)
-                    [[ $word == -* ]] && mapfile -t COMPREPLY < <(compgen -W "--count --only --sort --depth --unit --width --all --full-names --json --cpus --processors --period --slice --library --from --want --scale --interval --samples --later --own --depth-read --usage --cgroup --node --conversion --kubelet --runtime --driver --strict -h --help" -- "$word")
+                    [[ $word == -* ]] && mapfile -t COMPREPLY < <(compgen -W "--count --once --only --sort --depth --unit --width --all --full-names --json --cpus --processors --period --slice --library --from --want --scale --interval --samples --later --own --depth-read --node --conversion --kubelet --runtime --driver --strict -h --help" -- "$word")
+                    ;;
+            esac
+            ;;
+        watch)
+            case $given in
+                --alert) ;;
+                --after) ;;
+                --command) ;;
+                --listen) ;;
+                --textfile) ;;
+                --for) ;;
+                --cpus|--processors) ;;
+                --period) ;;
+                --slice) ;;
+                --library) ;;
+                --from) mapfile -t COMPREPLY < <(compgen -W "script toml yaml json cgroup kubernetes systemd docker slurm" -- "$word") ;;
+                --want) mapfile -t COMPREPLY < <(compgen -W "usage peak p95 psi limit request busy" -- "$word") ;;
+                --scale) ;;
+                --interval) ;;
+                --samples) ;;
+                --later) ;;
+                --depth-read) ;;
+                --node) ;;
+                --conversion) mapfile -t COMPREPLY < <(compgen -W "linear log" -- "$word") ;;
+                --kubelet) mapfile -t COMPREPLY < <(compgen -W "linear log" -- "$word") ;;
+                --runtime) mapfile -t COMPREPLY < <(compgen -W "linear log" -- "$word") ;;
+                --driver) mapfile -t COMPREPLY < <(compgen -W "systemd cgroupfs" -- "$word") ;;
+                *)
+                    [[ $word == -* ]] && mapfile -t COMPREPLY < <(compgen -W "--alert --after --command --listen --textfile --for --once --cpus --processors --period --slice --library --from --want --scale --interval --samples --later --own --depth-read --node --conversion --kubelet --runtime --driver --strict -h --help" -- "$word")
                     ;;
             esac
             ;;
@@ -323,22 +300,20 @@ _arbiterctl() {
                 --period) ;;
                 --slice) ;;
                 --library) ;;
-                --from) mapfile -t COMPREPLY < <(compgen -W "script toml yaml json cgroup kubernetes systemd docker" -- "$word") ;;
+                --from) mapfile -t COMPREPLY < <(compgen -W "script toml yaml json cgroup kubernetes systemd docker slurm" -- "$word") ;;
                 --want) mapfile -t COMPREPLY < <(compgen -W "usage peak p95 psi limit request busy" -- "$word") ;;
                 --scale) ;;
                 --interval) ;;
                 --samples) ;;
                 --later) ;;
                 --depth-read) ;;
-                --usage) ;;
-                --cgroup) ;;
                 --node) ;;
                 --conversion) mapfile -t COMPREPLY < <(compgen -W "linear log" -- "$word") ;;
                 --kubelet) mapfile -t COMPREPLY < <(compgen -W "linear log" -- "$word") ;;
                 --runtime) mapfile -t COMPREPLY < <(compgen -W "linear log" -- "$word") ;;
                 --driver) mapfile -t COMPREPLY < <(compgen -W "systemd cgroupfs" -- "$word") ;;
                 *)
-                    [[ $word == -* ]] && mapfile -t COMPREPLY < <(compgen -W "--hosts --by --set --json --html --db --rows --unit --sample --map --host-label --prometheus --query --start --end --step --label --workers --scheduler --recheck --deadline --cpus --processors --period --slice --library --from --want --scale --interval --samples --later --own --depth-read --usage --cgroup --node --conversion --kubelet --runtime --driver --strict -h --help" -- "$word")
+                    [[ $word == -* ]] && mapfile -t COMPREPLY < <(compgen -W "--hosts --by --set --json --html --db --rows --unit --sample --map --host-label --prometheus --query --start --end --step --label --workers --scheduler --recheck --deadline --cpus --processors --period --slice --library --from --want --scale --interval --samples --later --own --depth-read --node --conversion --kubelet --runtime --driver --strict -h --help" -- "$word")
                     ((COMP_CWORD == 2)) && [[ $word != -* ]] && mapfile -t COMPREPLY < <(compgen -W "plan series place what-if" -- "$word")
                     ;;
             esac
@@ -348,27 +323,27 @@ _arbiterctl() {
                 --set) ;;
                 --root) ;;
                 --by) mapfile -t COMPREPLY < <(compgen -W "systemd files" -- "$word") ;;
+                --as) mapfile -t COMPREPLY < <(compgen -W "dropin kubectl-patch compose ansible slurm shell" -- "$word") ;;
+                --to) ;;
                 --undo) ;;
                 --cpus|--processors) ;;
                 --period) ;;
                 --slice) ;;
                 --library) ;;
-                --from) mapfile -t COMPREPLY < <(compgen -W "script toml yaml json cgroup kubernetes systemd docker" -- "$word") ;;
+                --from) mapfile -t COMPREPLY < <(compgen -W "script toml yaml json cgroup kubernetes systemd docker slurm" -- "$word") ;;
                 --want) mapfile -t COMPREPLY < <(compgen -W "usage peak p95 psi limit request busy" -- "$word") ;;
                 --scale) ;;
                 --interval) ;;
                 --samples) ;;
                 --later) ;;
                 --depth-read) ;;
-                --usage) ;;
-                --cgroup) ;;
                 --node) ;;
                 --conversion) mapfile -t COMPREPLY < <(compgen -W "linear log" -- "$word") ;;
                 --kubelet) mapfile -t COMPREPLY < <(compgen -W "linear log" -- "$word") ;;
                 --runtime) mapfile -t COMPREPLY < <(compgen -W "linear log" -- "$word") ;;
                 --driver) mapfile -t COMPREPLY < <(compgen -W "systemd cgroupfs" -- "$word") ;;
                 *)
-                    [[ $word == -* ]] && mapfile -t COMPREPLY < <(compgen -W "--set --root --by --persistent --undo --yes --cpus --processors --period --slice --library --from --want --scale --interval --samples --later --own --depth-read --usage --cgroup --node --conversion --kubelet --runtime --driver --strict -h --help" -- "$word")
+                    [[ $word == -* ]] && mapfile -t COMPREPLY < <(compgen -W "--set --root --by --persistent --as --to --undo --yes --cpus --processors --period --slice --library --from --want --scale --interval --samples --later --own --depth-read --node --conversion --kubelet --runtime --driver --strict -h --help" -- "$word")
                     ;;
             esac
             ;;
@@ -385,14 +360,12 @@ _arbiterctl() {
                 --interval) ;;
                 --for) ;;
                 --undo) ;;
-                --openmetrics) ;;
-                --depth-read) ;;
                 --cpus|--processors) ;;
                 --period) ;;
                 --slice) ;;
                 --library) ;;
                 *)
-                    [[ $word == -* ]] && mapfile -t COMPREPLY < <(compgen -W "--root --interval --for --once --dry-run --undo --weights --burst --openmetrics --depth-read --force --cpus --processors --period --slice --library -h --help" -- "$word")
+                    [[ $word == -* ]] && mapfile -t COMPREPLY < <(compgen -W "--root --interval --for --once --dry-run --undo --force --cpus --processors --period --slice --library -h --help" -- "$word")
                     ;;
             esac
             ;;
@@ -405,23 +378,21 @@ _arbiterctl() {
                 --period) ;;
                 --slice) ;;
                 --library) ;;
-                --from) mapfile -t COMPREPLY < <(compgen -W "script toml yaml json cgroup kubernetes systemd docker" -- "$word") ;;
+                --from) mapfile -t COMPREPLY < <(compgen -W "script toml yaml json cgroup kubernetes systemd docker slurm" -- "$word") ;;
                 --want) mapfile -t COMPREPLY < <(compgen -W "usage peak p95 psi limit request busy" -- "$word") ;;
                 --scale) ;;
                 --interval) ;;
                 --samples) ;;
                 --later) ;;
                 --depth-read) ;;
-                --usage) ;;
-                --cgroup) ;;
                 --node) ;;
                 --conversion) mapfile -t COMPREPLY < <(compgen -W "linear log" -- "$word") ;;
                 --kubelet) mapfile -t COMPREPLY < <(compgen -W "linear log" -- "$word") ;;
                 --runtime) mapfile -t COMPREPLY < <(compgen -W "linear log" -- "$word") ;;
                 --driver) mapfile -t COMPREPLY < <(compgen -W "systemd cgroupfs" -- "$word") ;;
                 *)
-                    [[ $word == -* ]] && mapfile -t COMPREPLY < <(compgen -W "--to -o --output --set --cpus --processors --period --slice --library --from --want --scale --interval --samples --later --own --depth-read --usage --cgroup --node --conversion --kubelet --runtime --driver --strict -h --help" -- "$word")
-                    ((COMP_CWORD == 2)) && [[ $word != -* ]] && mapfile -t COMPREPLY < <(compgen -W "script toml yaml json cgroup kubernetes systemd docker any" -- "$word")
+                    [[ $word == -* ]] && mapfile -t COMPREPLY < <(compgen -W "--to -o --output --set --cpus --processors --period --slice --library --from --want --scale --interval --samples --later --own --depth-read --node --conversion --kubelet --runtime --driver --strict -h --help" -- "$word")
+                    ((COMP_CWORD == 2)) && [[ $word != -* ]] && mapfile -t COMPREPLY < <(compgen -W "script toml yaml json cgroup kubernetes systemd docker slurm any" -- "$word")
                     ;;
             esac
             ;;
@@ -434,22 +405,20 @@ _arbiterctl() {
                 --period) ;;
                 --slice) ;;
                 --library) ;;
-                --from) mapfile -t COMPREPLY < <(compgen -W "script toml yaml json cgroup kubernetes systemd docker" -- "$word") ;;
+                --from) mapfile -t COMPREPLY < <(compgen -W "script toml yaml json cgroup kubernetes systemd docker slurm" -- "$word") ;;
                 --want) mapfile -t COMPREPLY < <(compgen -W "usage peak p95 psi limit request busy" -- "$word") ;;
                 --scale) ;;
                 --interval) ;;
                 --samples) ;;
                 --later) ;;
                 --depth-read) ;;
-                --usage) ;;
-                --cgroup) ;;
                 --node) ;;
                 --conversion) mapfile -t COMPREPLY < <(compgen -W "linear log" -- "$word") ;;
                 --kubelet) mapfile -t COMPREPLY < <(compgen -W "linear log" -- "$word") ;;
                 --runtime) mapfile -t COMPREPLY < <(compgen -W "linear log" -- "$word") ;;
                 --driver) mapfile -t COMPREPLY < <(compgen -W "systemd cgroupfs" -- "$word") ;;
                 *)
-                    [[ $word == -* ]] && mapfile -t COMPREPLY < <(compgen -W "--to -o --output --set --cpus --processors --period --slice --library --from --want --scale --interval --samples --later --own --depth-read --usage --cgroup --node --conversion --kubelet --runtime --driver --strict -h --help" -- "$word")
+                    [[ $word == -* ]] && mapfile -t COMPREPLY < <(compgen -W "--to -o --output --set --cpus --processors --period --slice --library --from --want --scale --interval --samples --later --own --depth-read --node --conversion --kubelet --runtime --driver --strict -h --help" -- "$word")
                     ;;
             esac
             ;;
