@@ -302,6 +302,29 @@ def test_another_class_is_refused(ctl, folder):
             " class of its pod would be another") in err
 
 
+def test_a_request_that_changes_no_weight_of_its_container(ctl, folder):
+    """255m has weight 10 as 250m has, but it is written: it was asked for."""
+    pods = cluster(folder)
+    resources(pods, "web-7c9f", "nginx")["requests"]["cpu"] = "255m"
+    found, _ = patched(ctl, folder, pods)
+    data = yaml.safe_load(found["prod.deployment.web.yaml"])
+    assert data["spec"]["template"]["spec"]["containers"] == [
+        {"name": "nginx", "resources": {"requests": {"cpu": "255m"}}}]
+
+
+def test_a_limit_alone_is_no_request(ctl, folder):
+    """A container with a limit alone requests that much: it goes on to, whatever the new limit."""
+    pods = cluster(folder)
+    del resources(pods, "web-7c9f", "metrics")["requests"]
+    (folder / "pods.json").write_text(json.dumps(pods))
+    resources(pods, "web-7c9f", "metrics")["limits"]["cpu"] = "500m"
+    resources(pods, "web-7c9f", "metrics")["requests"] = {"cpu": "200m"}
+    found, _ = patched(ctl, folder, pods)
+    data = yaml.safe_load(found["prod.deployment.web.yaml"])
+    assert data["spec"]["template"]["spec"]["containers"] == [
+        {"name": "metrics", "resources": {"requests": {"cpu": "200m"}, "limits": {"cpu": "500m"}}}]
+
+
 def test_all_pods_of_an_owner(ctl, folder):
     """A patch reaches both of web's pods, so a change of one alone is refused by the other."""
     pods = cluster(folder)

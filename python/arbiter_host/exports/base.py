@@ -49,6 +49,11 @@ class Differing(NamedTuple):
                 != (self.after.quota, self.after.period))
 
     @property
+    def has_request(self) -> bool:
+        """Whether the request changes."""
+        return self.after.request is not None and self.before.request != self.after.request
+
+    @property
     def has_burst(self) -> bool:
         """Whether the burst changes."""
         return self.before.burst != self.after.burst
@@ -56,13 +61,11 @@ class Differing(NamedTuple):
 
 @dataclass
 class Asked:
-    """A change that is to be written: both models, the files that each was read from, the way."""
+    """A change that is to be written: both models, the files of BEFORE, and the way."""
 
     before: Model
     after: Model
     files: Sequence[load.File]
-    # The files of AFTER, if it is a source of its own.
-    after_files: Sequence[load.File]
     root: Root
     by: apply.By
     library: Library
@@ -74,13 +77,17 @@ class Asked:
     refused: list[str] = field(default_factory=list)
     told: list[str] = field(default_factory=list)
 
+    def common(self) -> Iterator[Differing]:
+        """The groups that are in both models."""
+        for path, one in self.before.groups.items():
+            if path in self.after.groups:
+                check_settings(self.after.groups[path])
+                yield Differing(path, one, self.after.groups[path])
+
     def groups(self) -> Iterator[Differing]:
         """The groups whose settings differ."""
-        for path, one in self.before.groups.items():
-            two = self.after.groups.get(path)
-            if two is not None and apply.settings_of(one) != apply.settings_of(two):
-                check_settings(two)
-                yield Differing(path, one, two)
+        return (each for each in self.common()
+                if apply.settings_of(each.before) != apply.settings_of(each.after))
 
     def refuse(self, path: str, why: str) -> None:
         """Refuses a part of the change."""

@@ -21,7 +21,7 @@ from arbiter_host.exports.compose import shares_of
 from arbiter_host.faults import HostFault
 from arbiter_host.names import shown
 from arbiter_host.sources.data import loads, table, tables, text
-from arbiter_host.sources.kubernetes import is_pod, items_of, thousandths
+from arbiter_host.sources.kubernetes import is_pod, items_of
 
 # What a name of an object may be, so that it can be a part of a file's name and of a command.
 NAME = re.compile(r"[a-z0-9]([-a-z0-9.]{0,251}[a-z0-9])?")
@@ -100,22 +100,15 @@ class Pods:
         return [(name, json.dumps(found).encode()) for name, found in self.files]
 
 
-def cpu_of(container: dict[str, Any], key: str) -> int | None:
-    """A container's amount of CPU in thousandths."""
-    return thousandths(table(container, "resources", key).get("cpu"), "", [])
-
-
 def amount(many: int | None) -> str | None:
     """An amount of CPU as Kubernetes has it; None takes one away."""
     return None if many is None else f"{many}m"
 
 
-def request_of(asked: Asked, group: Differing, later: Pods | None) -> int | None:
+def request_of(asked: Asked, group: Differing) -> int | None:
     """The request of a container in thousandths: AFTER's, else the least of its weight."""
-    if later is not None and group.before.title in later.containers:
-        return cpu_of(later.containers[group.before.title][1], "requests")
-    if group.after.request is not None and group.after.request != group.before.request:
-        return int(group.after.request)
+    if group.has_request:
+        return int(group.after.request or 0)
     shares = shares_of(asked.library, group.after.weight, asked.runtime)
     if shares is None:
         asked.refuse(group.path, f"no request gives weight {group.after.weight}")
@@ -132,19 +125,16 @@ def limit_of(asked: Asked, group: Differing) -> int | None:
     return int(exact)
 
 
-def changes(asked: Asked, group: Differing, raw: dict[str, Any],
-            later: Pods | None) -> dict[str, dict[str, str | None]]:
+def changes(asked: Asked, group: Differing,
+            raw: dict[str, Any]) -> dict[str, dict[str, str | None]]:
     """The resources of a container that change. A limit alone must not become the request."""
     found: dict[str, dict[str, str | None]] = {}
-    request = cpu_of(raw, "requests")
-    if group.has_weight:
-        request = request_of(asked, group, later)
-        found["requests"] = {"cpu": amount(request)}
+    if group.has_weight or group.has_request:
+        found["requests"] = {"cpu": amount(request_of(asked, group))}
+    elif group.has_limit and "cpu" not in table(raw, "resources", "requests"):
+        found["requests"] = {"cpu": amount(int(group.before.request or 0))}
     if group.has_limit:
         found["limits"] = {"cpu": amount(limit_of(asked, group))}
-        if request is None:
-            kept = cpu_of(raw, "limits")
-            found["requests"] = {"cpu": amount(0 if kept is None else kept)}
     return found
 
 
@@ -246,20 +236,21 @@ def documents(asked: Asked) -> list[Document]:
     """A patch of each owner, or of a pod without one."""
     try:
         pods = Pods(copy.deepcopy(list(asked.files)))
-        later = Pods(asked.after_files) if asked.after_files else None
     except HostFault as fault:
         raise HostFault(f"--as kubectl-patch is for pods: {fault.message}") from fault
     found: dict[Target, dict[str, Any]] = {}
     words: dict[Target, list[str]] = {}
-    for group in asked.groups():
+    for group in asked.common():
         if group.before.title not in pods.containers:
+            continue
+        if not (group.has_weight or group.has_limit or group.has_request):
             continue
         pod, container = pods.containers[group.before.title]
         target, name = target_of(pod, pods.items), text(container, "name")
         if not (NAME.fullmatch(target.namespace) and NAME.fullmatch(target.name)):
             asked.refuse(group.path, f"{target.words} is no name that Kubernetes takes")
             continue
-        resources = changes(asked, group, container, later)
+        resources = changes(asked, group, container)
         add(asked, found, target, (key_of(pod, name), name, resources))
         words.setdefault(target, []).append(group.words)
     for target, rows in found.items():

@@ -82,8 +82,8 @@ def run_apply(options: argparse.Namespace) -> None:
     root, way = beneath.Root(options.root), way_of(options)
     if options.form:
         write_form(options, exports.Asked(
-            models[0], after, sources[0], sources[1] if len(sources) > 1 else (), root, way,
-            by.library, options.runtime or options.conversion,
+            models[0], after, sources[0], root, way, by.library,
+            options.runtime or options.conversion,
             lambda found: load.of_files(options, found, by)))
         warn(apply.only_in_one(models[0], after))
         return
