@@ -36,13 +36,14 @@ MAX_SECONDS = 86400
 File = tuple[str, bytes | None]
 
 
-def add_host_options(parser: argparse.ArgumentParser) -> None:
-    """The options that name the host and the engine."""
+def add_host_options(parser: argparse.ArgumentParser,
+                     period: str = "period, such as 100ms (default 100ms)") -> None:
+    """The options that name the host and the engine. `period` is the help of --period."""
     group = parser.add_argument_group("host")
     group.add_argument("--cpus", "--processors", type=int, metavar="N", dest="cpus",
                        help="CPUs of the host (default: what the source says, else this machine's"
                        " for cgroups, systemd and containers, else 1)")
-    group.add_argument("--period", metavar="TIME", help="period, such as 100ms (default 100ms)")
+    group.add_argument("--period", metavar="TIME", help=period)
     group.add_argument("--slice", metavar="TIME", help="slice, such as 1ms (default: what the"
                        " source says, else 1ms for imports and 5ms for scripts)")
     group = parser.add_argument_group("engine")

@@ -363,7 +363,8 @@ def started(ctl, world, undo, *words):
     """A loop that runs, after it has told its first round."""
     found = subprocess.Popen(
         [sys.executable, str(PACKAGE / "arbiterctl"), "hold", str(world.tree), "--root",
-         str(world.tree), "--cpus", "2", "--interval", "100ms", "--undo", str(undo), *words],
+         str(world.tree), "--cpus", "2", "--interval", "100ms", "--period", "100ms", "--undo",
+         str(undo), *words],
         env=ctl.environment, stdout=subprocess.PIPE, stderr=subprocess.PIPE)
     assert json.loads(found.stdout.readline())["round"] == 1
     return found
@@ -412,12 +413,14 @@ def test_other_ends_put_back(ctl, world, folder):
 
 def test_dry_run_writes_nothing(ctl, world, folder):
     before = content(folder)
-    out, _ = ctl.run("hold", world.tree, "--root", world.tree, "--cpus", "2", "--interval",
-                     "100ms", "--once", "--dry-run", "--undo", folder / "u")
-    line = json.loads(out)
-    assert {path: each["limit"] for path, each in line["groups"].items()} == {
-        "a": 50, "b": 50, "c": 100}
-    assert (line["written"], content(folder)) == (0, before)
+    for more, limits in ((["--interval", "100ms", "--period", "100ms"], [50, 50, 100]),
+                         ([], [500, 500, 1000]), (["--slice", "10ms"], [50, 50, 100])):
+        out, _ = ctl.run("hold", world.tree, "--root", world.tree, "--cpus", "2", "--once",
+                         "--dry-run", "--undo", folder / "u", *more)
+        line = json.loads(out)
+        assert [each["limit"] for each in line["groups"].values()] == limits
+        assert (line["written"], content(folder)) == (0, before)
+    ctl.run("hold", world.tree, "--root", world.tree, "--cpus", "96", "--once", "--dry-run")
 
 
 def test_killed_at_random_points_and_undone(library, folder):

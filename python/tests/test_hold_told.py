@@ -395,7 +395,7 @@ def test_watchdog_in_a_long_wait(folder):
 
 def test_more_cpus_than_there_are(ctl, folder):
     """The real tree is not held for more CPUs than the machine has."""
-    _, err = ctl.run("hold", "/sys/fs/cgroup", "--cpus", "60000", "--slice", "100ms", "--undo",
+    _, err = ctl.run("hold", "/sys/fs/cgroup", "--cpus", "60000", "--slice", "1s", "--undo",
                      folder / "u", "--once", status=2)
     assert f"this machine has {os.cpu_count()}" in err and not (folder / "u").exists()
 

@@ -343,7 +343,7 @@ complete -c arbiterctl -n '__fish_seen_subcommand_from hold' -l dry-run -d 'prin
 complete -c arbiterctl -n '__fish_seen_subcommand_from hold' -l undo -r -F -d 'the undo file, which must be new, in a folder that only this user may change (default /run/arbiter/hold-undo.json)'
 complete -c arbiterctl -n '__fish_seen_subcommand_from hold' -l force -d 'also groups of kubelet (kubepods)'
 complete -c arbiterctl -n '__fish_seen_subcommand_from hold' -l cpus -l processors -x -d 'CPUs of the host (default: what the source says, else this machine\'s for cgroups, systemd and containers, else 1)'
-complete -c arbiterctl -n '__fish_seen_subcommand_from hold' -l period -x -d 'period, such as 100ms (default 100ms)'
+complete -c arbiterctl -n '__fish_seen_subcommand_from hold' -l period -x -d 'period of the limits, 100ms or 1s (default 1s)'
 complete -c arbiterctl -n '__fish_seen_subcommand_from hold' -l slice -x -d 'slice, such as 1ms (default: what the source says, else 1ms for imports and 5ms for scripts)'
 complete -c arbiterctl -n '__fish_seen_subcommand_from hold' -l library -r -F -d 'the C library (default: the first that is found)'
 complete -c arbiterctl -n '__fish_seen_subcommand_from hold' -s h -l help -d 'print help'

@@ -32,7 +32,7 @@ LOAD = (f"(echo 0 > {layout.HOME}/a/cgroup.procs;"
 def held(undo: str, *words: str) -> list[str]:
     """The words of `hold`."""
     return ["hold", layout.HOME, "--root", layout.HOME, "--undo", f"/tmp/{undo}", "--interval",
-            "2s", *words]
+            "2s", "--period", "100ms", *words]
 
 
 def undone(undo: str) -> list[str]:

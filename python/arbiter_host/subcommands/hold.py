@@ -8,17 +8,19 @@ import signal
 import sys
 import time
 from contextlib import ExitStack
+from dataclasses import replace
 
 from arbiter import Host
 from arbiter_host import beneath, gauges, hold, load, output, record
 from arbiter_host.faults import HostFault, UsageFault
-from arbiter_host.model import MAX_DEPTH
+from arbiter_host.model import MAX_DEPTH, MAX_PROCESSORS
 from arbiter_host.names import shown
 from arbiter_host.notify import Notifier
 from arbiter_host.subcommands.base import Subcommand, found_engine
 
 SIGNALS = (signal.SIGTERM, signal.SIGINT, signal.SIGHUP)
-PERIODS = (100000, 1000000)
+PERIOD, SLICE = 1000000, 1000
+PERIODS = (100000, PERIOD)
 
 
 class Waits:
@@ -94,8 +96,15 @@ def depth_of(options: argparse.Namespace) -> int:
 
 
 def machine(options: argparse.Namespace, root: beneath.Root) -> Host:
-    """The host. That of a real tree has no more CPUs than this machine."""
-    host, there = load.machine(options), os.cpu_count()
+    """The host. That of a real tree has no more CPUs than this machine.
+
+    Without --slice a host that has too many slices of 1 ms for the planner has slices of 10 ms.
+    """
+    there = os.cpu_count()
+    told = Host(there or 1, PERIOD, SLICE)
+    if (options.cpus or told.processors) > MAX_PROCESSORS:
+        told = replace(told, slice_us=10 * SLICE)
+    host = load.chosen_host(options, told)
     if is_real(root) and there is not None and host.processors > there:
         raise UsageFault(f"--cpus {host.processors}: this machine has {there}")
     return host
@@ -160,7 +169,7 @@ def add_words(parser: argparse.ArgumentParser) -> None:
                         help="hold groups N below DIR as one, 1 to 64 (default 64): who owns the"
                         " groups below can set their limits")
     parser.add_argument("--force", action="store_true", help="also groups of kubelet (kubepods)")
-    load.add_host_options(parser)
+    load.add_host_options(parser, "period of the limits, 100ms or 1s (default 1s)")
 
 
 DETAILS = (
@@ -168,7 +177,8 @@ DETAILS = (
     " hungry if it was throttled in the round, or if a task of it never slept and waited (schedstat,"
     " read where cpu.pressure rose). Where its tasks are new it is a guess: whether they waited for"
     " half of the round. The library's rule gives the limits, and its check accepts the plan. Then"
-    " cpu.max is written. The period is 100ms or 1s.",
+    " cpu.max is written. With --period 100ms a group is stopped for a tenth of a second at most,"
+    " and with few tasks in each group more is lost.",
     "With --weights it writes cpu.weight too: 100 d / (1.01 - d) where the limit lets each task of"
     " a group use the part d of a CPU. A group with children has the sum of theirs. The plan is"
     " that of the operator's own weights. A weight that somebody sets meanwhile is such a one.",
