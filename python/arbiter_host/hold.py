@@ -228,8 +228,10 @@ class Loop:
                 self.root.let_go(folder)
             self.tell([f"{path}: left alone: {fault.message}"])
             return
-        self.groups[path] = Kept(folder, node.group.identity or (0, 0), not node.children, stands,
-                                 stands, stands, reading, at)
+        kept = Kept(folder, node.group.identity or (0, 0), not node.children, stands, stands,
+                    stands, reading, at)
+        kept.tasks = self.tasks_of(kept)
+        self.groups[path] = kept
 
     def drop(self, path: str, model: Model) -> None:
         """Closes a group that went, or that has children now or none any more. What stood is put
@@ -300,15 +302,16 @@ class Loop:
         kept = self.groups[path]
         self.look(kept, path)
         reading, at = self.counters(kept.folder)
-        tasks = self.tasks_of(kept, reading)
+        has_waited = demands.rise(kept.reading.pressure, reading.pressure)
+        tasks = self.tasks_of(kept) if has_waited else {}
         try:
             return used_between(kept, reading, at, tasks)
         finally:
             kept.reading, kept.at, kept.tasks = reading, at, tasks
 
-    def tasks_of(self, kept: Kept, now: Reading) -> Tasks:
-        """What the tasks of a leaf did, if they waited at all."""
-        if not kept.is_leaf or not demands.rise(kept.reading.pressure, now.pressure):
+    def tasks_of(self, kept: Kept) -> Tasks:
+        """What the tasks of a leaf did."""
+        if not kept.is_leaf:
             return {}
         try:
             return awake.tasks(self.root.read(kept.folder, "cgroup.threads", awake.MOST_TEXT))

@@ -186,22 +186,24 @@ def test_tasks_are_read(folder, monkeypatch):
 
 
 def test_a_group_below_its_limit_is_hungry(world, engine, folder):
-    """Linux gives c less than its limit: its task was awake, so it asks for everything."""
+    """Linux gives c less than its limit: its task was awake, so it asks for everything. It waited
+    for less than half of the time."""
     (folder / "proc/100").mkdir(parents=True)
     times = [0, 0]
 
     def step():
-        for place, rise in enumerate((40, 59)):
+        for place, rise in enumerate((55, 44)):
             times[place] += rise * 10**7
         (folder / "proc/100/schedstat").write_text(f"{times[0]} {times[1]} 1\n")
-        world.uses("c", 40, waited=590000)
+        world.uses("c", 55, waited=440000)
         world.uses("a", 20)
         world.uses("b", 20)
 
+    (folder / "proc/100/schedstat").write_text("0 0 0\n")
     lines = world.run(world.loop(engine, folder / "undo"), step, step, step)
     assert [line["groups"]["c"]["hungry"] for line, _ in lines] == [True] * 3
-    # planned all that the others leave, of which it was not given 120
-    assert lines[-1][0]["groups"]["c"]["unserved"] == 160 - 40
+    # planned all that the others leave, of which it was not given 105
+    assert lines[-1][0]["groups"]["c"]["unserved"] == 160 - 55
 
 
 def test_many_tasks_are_read_whole(folder):

@@ -20,6 +20,8 @@ from kernel.page import kernel_of, off
 Saved = dict[str, Any]
 # The scenario whose demands change, which has a table of its own.
 STEP = "two-step"
+# The ways that have columns in docs/HOLD.md.
+PAGE_WAYS = ["weights", "limits-1s", "loop", "loop-1s", "loop-weights-1s"]
 
 
 def read(paths: Iterable[str]) -> list[Saved]:
@@ -110,8 +112,15 @@ def rounds(saved: Saved) -> Iterator[str]:
         yield f"| {number} | " + " | ".join(cells) + " |"
 
 
+def of_page(found: list[Saved]) -> list[str]:
+    """The two tables of docs/HOLD.md: scenarios, and all ways."""
+    steady = [each for each in found if each["scenario"] != STEP]
+    return [*rows(steady, "Scenario", PAGE_WAYS), "", *sums(steady, "Way", list(WAYS))]
+
+
 def tables(found: list[Saved]) -> Iterator[str]:
-    """All tables: of both kernels, of each, and the rounds of the step."""
+    """All tables: those of the page, of both kernels, of each, and the rounds of the step."""
+    yield from [*of_page(found), ""]
     steady = [each for each in found if each["scenario"] != STEP]
     ways = [way for way in WAYS if any(each["way"] == way for each in steady)]
     yield f"{len(found)} runs; others at most {max(each['others'] for each in found):.1%}"

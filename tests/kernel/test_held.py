@@ -9,6 +9,7 @@ import pytest
 from arbiter import Library
 from kernel import __main__, held, held_page, held_rule, machine, packages, planned, scenario
 from kernel.real_files import effective
+from support import ROOT
 
 PODS = scenario.read(__main__.SCENARIOS / "four-pods.script")
 # Weights 200 and 100 and 100 of 400 slices; x and y of p have a task each, those of q share 1 to 3.
@@ -92,6 +93,14 @@ def test_table_by_hand(tmp_path):
     assert list(held_page.sums(found, "6.1", ["weights", "limits"]))[2:] == [
         "| weights | 1 | 0 | 0 | 10.0 | 20 % | 100.0 % |",
         "| limits | 1 | 1 | 0 | 3.0 | 6 % | 99.0 % |"]
+
+
+def test_page_has_the_tables_of_the_runs():
+    """docs/HOLD.md has both tables, and says how many runs there are."""
+    found = held_page.read([str(RUNS)])
+    text = (ROOT / "docs/HOLD.md").read_text(encoding="utf-8")
+    assert "\n".join(held_page.of_page(found)) in text
+    assert f"{len(found)} runs" in text
 
 
 def test_rounds_of_the_runs_are_by_the_rule(library):
