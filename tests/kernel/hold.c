@@ -301,6 +301,7 @@ int main(int words, char **word) {
     period = atoll(word[4]);
     processors = atoll(word[5]);
     top = word[7];
+    parents[0] = ARBITER_NO_PARENT;
     weights[0] = 100;
     limits[0] = ARBITER_NO_LIMIT;
     for (int at = 8; at < words; at++)
