@@ -15,7 +15,7 @@ _arbiterctl() {
         given=$before
     fi
     if ((COMP_CWORD == 1)); then
-        mapfile -t COMPREPLY < <(compgen -W "explain compare need guarantee picture report series top watch fleet apply undo hold import from-cgroup -h --help -V --version" -- "$word")
+        mapfile -t COMPREPLY < <(compgen -W "explain compare need recommend guarantee picture report series top watch fleet apply undo hold import from-cgroup -h --help -V --version" -- "$word")
         return
     fi
     case ${COMP_WORDS[1]} in
@@ -37,13 +37,15 @@ _arbiterctl() {
                 --samples) ;;
                 --later) ;;
                 --depth-read) ;;
+                --usage) ;;
+                --cgroup) ;;
                 --node) ;;
                 --conversion) mapfile -t COMPREPLY < <(compgen -W "linear log" -- "$word") ;;
                 --kubelet) mapfile -t COMPREPLY < <(compgen -W "linear log" -- "$word") ;;
                 --runtime) mapfile -t COMPREPLY < <(compgen -W "linear log" -- "$word") ;;
                 --driver) mapfile -t COMPREPLY < <(compgen -W "systemd cgroupfs" -- "$word") ;;
                 *)
-                    [[ $word == -* ]] && mapfile -t COMPREPLY < <(compgen -W "--only --sort --depth --unit --width --all --full-names --json --cpus --processors --period --slice --library --from --want --scale --interval --samples --later --own --depth-read --node --conversion --kubelet --runtime --driver --strict -h --help" -- "$word")
+                    [[ $word == -* ]] && mapfile -t COMPREPLY < <(compgen -W "--only --sort --depth --unit --width --all --full-names --json --cpus --processors --period --slice --library --from --want --scale --interval --samples --later --own --depth-read --usage --cgroup --node --conversion --kubelet --runtime --driver --strict -h --help" -- "$word")
                     ;;
             esac
             ;;
@@ -66,13 +68,15 @@ _arbiterctl() {
                 --samples) ;;
                 --later) ;;
                 --depth-read) ;;
+                --usage) ;;
+                --cgroup) ;;
                 --node) ;;
                 --conversion) mapfile -t COMPREPLY < <(compgen -W "linear log" -- "$word") ;;
                 --kubelet) mapfile -t COMPREPLY < <(compgen -W "linear log" -- "$word") ;;
                 --runtime) mapfile -t COMPREPLY < <(compgen -W "linear log" -- "$word") ;;
                 --driver) mapfile -t COMPREPLY < <(compgen -W "systemd cgroupfs" -- "$word") ;;
                 *)
-                    [[ $word == -* ]] && mapfile -t COMPREPLY < <(compgen -W "--set --only --sort --depth --unit --width --all --full-names --json --cpus --processors --period --slice --library --from --want --scale --interval --samples --later --own --depth-read --node --conversion --kubelet --runtime --driver --strict -h --help" -- "$word")
+                    [[ $word == -* ]] && mapfile -t COMPREPLY < <(compgen -W "--set --only --sort --depth --unit --width --all --full-names --json --cpus --processors --period --slice --library --from --want --scale --interval --samples --later --own --depth-read --usage --cgroup --node --conversion --kubelet --runtime --driver --strict -h --help" -- "$word")
                     ;;
             esac
             ;;
@@ -90,13 +94,51 @@ _arbiterctl() {
                 --samples) ;;
                 --later) ;;
                 --depth-read) ;;
+                --usage) ;;
+                --cgroup) ;;
                 --node) ;;
                 --conversion) mapfile -t COMPREPLY < <(compgen -W "linear log" -- "$word") ;;
                 --kubelet) mapfile -t COMPREPLY < <(compgen -W "linear log" -- "$word") ;;
                 --runtime) mapfile -t COMPREPLY < <(compgen -W "linear log" -- "$word") ;;
                 --driver) mapfile -t COMPREPLY < <(compgen -W "systemd cgroupfs" -- "$word") ;;
                 *)
-                    [[ $word == -* ]] && mapfile -t COMPREPLY < <(compgen -W "--unit --json --cpus --processors --period --slice --library --from --want --scale --interval --samples --later --own --depth-read --node --conversion --kubelet --runtime --driver --strict -h --help" -- "$word")
+                    [[ $word == -* ]] && mapfile -t COMPREPLY < <(compgen -W "--unit --json --cpus --processors --period --slice --library --from --want --scale --interval --samples --later --own --depth-read --usage --cgroup --node --conversion --kubelet --runtime --driver --strict -h --help" -- "$word")
+                    ;;
+            esac
+            ;;
+        recommend)
+            case $given in
+                --target) ;;
+                --headroom) ;;
+                --history) ;;
+                --unit) mapfile -t COMPREPLY < <(compgen -W "cpu m % slices us" -- "$word") ;;
+                --map) ;;
+                --prometheus) ;;
+                --query) ;;
+                --start) ;;
+                --end) ;;
+                --step) ;;
+                --label) ;;
+                --cpus|--processors) ;;
+                --period) ;;
+                --slice) ;;
+                --library) ;;
+                --from) mapfile -t COMPREPLY < <(compgen -W "script toml yaml json cgroup kubernetes systemd docker slurm" -- "$word") ;;
+                --want) mapfile -t COMPREPLY < <(compgen -W "usage peak p95 psi limit request busy" -- "$word") ;;
+                --scale) ;;
+                --interval) ;;
+                --samples) ;;
+                --later) ;;
+                --depth-read) ;;
+                --usage) ;;
+                --cgroup) ;;
+                --node) ;;
+                --conversion) mapfile -t COMPREPLY < <(compgen -W "linear log" -- "$word") ;;
+                --kubelet) mapfile -t COMPREPLY < <(compgen -W "linear log" -- "$word") ;;
+                --runtime) mapfile -t COMPREPLY < <(compgen -W "linear log" -- "$word") ;;
+                --driver) mapfile -t COMPREPLY < <(compgen -W "systemd cgroupfs" -- "$word") ;;
+                *)
+                    [[ $word == -* ]] && mapfile -t COMPREPLY < <(compgen -W "--target --headroom --history --csv --unit --map --json --prometheus --query --start --end --step --label --cpus --processors --period --slice --library --from --want --scale --interval --samples --later --own --depth-read --usage --cgroup --node --conversion --kubelet --runtime --driver --strict -h --help" -- "$word")
                     ;;
             esac
             ;;
@@ -115,13 +157,15 @@ _arbiterctl() {
                 --samples) ;;
                 --later) ;;
                 --depth-read) ;;
+                --usage) ;;
+                --cgroup) ;;
                 --node) ;;
                 --conversion) mapfile -t COMPREPLY < <(compgen -W "linear log" -- "$word") ;;
                 --kubelet) mapfile -t COMPREPLY < <(compgen -W "linear log" -- "$word") ;;
                 --runtime) mapfile -t COMPREPLY < <(compgen -W "linear log" -- "$word") ;;
                 --driver) mapfile -t COMPREPLY < <(compgen -W "systemd cgroupfs" -- "$word") ;;
                 *)
-                    [[ $word == -* ]] && mapfile -t COMPREPLY < <(compgen -W "--group --unit --json --cpus --processors --period --slice --library --from --want --scale --interval --samples --later --own --depth-read --node --conversion --kubelet --runtime --driver --strict -h --help" -- "$word")
+                    [[ $word == -* ]] && mapfile -t COMPREPLY < <(compgen -W "--group --unit --json --cpus --processors --period --slice --library --from --want --scale --interval --samples --later --own --depth-read --usage --cgroup --node --conversion --kubelet --runtime --driver --strict -h --help" -- "$word")
                     ;;
             esac
             ;;
@@ -142,13 +186,15 @@ _arbiterctl() {
                 --samples) ;;
                 --later) ;;
                 --depth-read) ;;
+                --usage) ;;
+                --cgroup) ;;
                 --node) ;;
                 --conversion) mapfile -t COMPREPLY < <(compgen -W "linear log" -- "$word") ;;
                 --kubelet) mapfile -t COMPREPLY < <(compgen -W "linear log" -- "$word") ;;
                 --runtime) mapfile -t COMPREPLY < <(compgen -W "linear log" -- "$word") ;;
                 --driver) mapfile -t COMPREPLY < <(compgen -W "systemd cgroupfs" -- "$word") ;;
                 *)
-                    [[ $word == -* ]] && mapfile -t COMPREPLY < <(compgen -W "-o --output --unit --depth --rows --cpus --processors --period --slice --library --from --want --scale --interval --samples --later --own --depth-read --node --conversion --kubelet --runtime --driver --strict -h --help" -- "$word")
+                    [[ $word == -* ]] && mapfile -t COMPREPLY < <(compgen -W "-o --output --unit --depth --rows --cpus --processors --period --slice --library --from --want --scale --interval --samples --later --own --depth-read --usage --cgroup --node --conversion --kubelet --runtime --driver --strict -h --help" -- "$word")
                     ;;
             esac
             ;;
@@ -170,13 +216,15 @@ _arbiterctl() {
                 --samples) ;;
                 --later) ;;
                 --depth-read) ;;
+                --usage) ;;
+                --cgroup) ;;
                 --node) ;;
                 --conversion) mapfile -t COMPREPLY < <(compgen -W "linear log" -- "$word") ;;
                 --kubelet) mapfile -t COMPREPLY < <(compgen -W "linear log" -- "$word") ;;
                 --runtime) mapfile -t COMPREPLY < <(compgen -W "linear log" -- "$word") ;;
                 --driver) mapfile -t COMPREPLY < <(compgen -W "systemd cgroupfs" -- "$word") ;;
                 *)
-                    [[ $word == -* ]] && mapfile -t COMPREPLY < <(compgen -W "-o --output --unit --before --set --title --cpus --processors --period --slice --library --from --want --scale --interval --samples --later --own --depth-read --node --conversion --kubelet --runtime --driver --strict -h --help" -- "$word")
+                    [[ $word == -* ]] && mapfile -t COMPREPLY < <(compgen -W "-o --output --unit --before --set --title --cpus --processors --period --slice --library --from --want --scale --interval --samples --later --own --depth-read --usage --cgroup --node --conversion --kubelet --runtime --driver --strict -h --help" -- "$word")
                     ;;
             esac
             ;;
@@ -206,13 +254,15 @@ _arbiterctl() {
                 --samples) ;;
                 --later) ;;
                 --depth-read) ;;
+                --usage) ;;
+                --cgroup) ;;
                 --node) ;;
                 --conversion) mapfile -t COMPREPLY < <(compgen -W "linear log" -- "$word") ;;
                 --kubelet) mapfile -t COMPREPLY < <(compgen -W "linear log" -- "$word") ;;
                 --runtime) mapfile -t COMPREPLY < <(compgen -W "linear log" -- "$word") ;;
                 --driver) mapfile -t COMPREPLY < <(compgen -W "systemd cgroupfs" -- "$word") ;;
                 *)
-                    [[ $word == -* ]] && mapfile -t COMPREPLY < <(compgen -W "--csv --unit --sample --groups --map --holes --summary --to -o --output --prometheus --query --start --end --step --label --cpus --processors --period --slice --library --from --want --scale --interval --samples --later --own --depth-read --node --conversion --kubelet --runtime --driver --strict -h --help" -- "$word")
+                    [[ $word == -* ]] && mapfile -t COMPREPLY < <(compgen -W "--csv --unit --sample --groups --map --holes --summary --to -o --output --prometheus --query --start --end --step --label --cpus --processors --period --slice --library --from --want --scale --interval --samples --later --own --depth-read --usage --cgroup --node --conversion --kubelet --runtime --driver --strict -h --help" -- "$word")
                     ;;
             esac
             ;;
@@ -235,13 +285,15 @@ _arbiterctl() {
                 --samples) ;;
                 --later) ;;
                 --depth-read) ;;
+                --usage) ;;
+                --cgroup) ;;
                 --node) ;;
                 --conversion) mapfile -t COMPREPLY < <(compgen -W "linear log" -- "$word") ;;
                 --kubelet) mapfile -t COMPREPLY < <(compgen -W "linear log" -- "$word") ;;
                 --runtime) mapfile -t COMPREPLY < <(compgen -W "linear log" -- "$word") ;;
                 --driver) mapfile -t COMPREPLY < <(compgen -W "systemd cgroupfs" -- "$word") ;;
                 *)
-                    [[ $word == -* ]] && mapfile -t COMPREPLY < <(compgen -W "--count --once --only --sort --depth --unit --width --all --full-names --json --cpus --processors --period --slice --library --from --want --scale --interval --samples --later --own --depth-read --node --conversion --kubelet --runtime --driver --strict -h --help" -- "$word")
+                    [[ $word == -* ]] && mapfile -t COMPREPLY < <(compgen -W "--count --once --only --sort --depth --unit --width --all --full-names --json --cpus --processors --period --slice --library --from --want --scale --interval --samples --later --own --depth-read --usage --cgroup --node --conversion --kubelet --runtime --driver --strict -h --help" -- "$word")
                     ;;
             esac
             ;;
@@ -264,13 +316,15 @@ _arbiterctl() {
                 --samples) ;;
                 --later) ;;
                 --depth-read) ;;
+                --usage) ;;
+                --cgroup) ;;
                 --node) ;;
                 --conversion) mapfile -t COMPREPLY < <(compgen -W "linear log" -- "$word") ;;
                 --kubelet) mapfile -t COMPREPLY < <(compgen -W "linear log" -- "$word") ;;
                 --runtime) mapfile -t COMPREPLY < <(compgen -W "linear log" -- "$word") ;;
                 --driver) mapfile -t COMPREPLY < <(compgen -W "systemd cgroupfs" -- "$word") ;;
                 *)
-                    [[ $word == -* ]] && mapfile -t COMPREPLY < <(compgen -W "--alert --after --command --listen --textfile --for --once --cpus --processors --period --slice --library --from --want --scale --interval --samples --later --own --depth-read --node --conversion --kubelet --runtime --driver --strict -h --help" -- "$word")
+                    [[ $word == -* ]] && mapfile -t COMPREPLY < <(compgen -W "--alert --after --command --listen --textfile --for --once --cpus --processors --period --slice --library --from --want --scale --interval --samples --later --own --depth-read --usage --cgroup --node --conversion --kubelet --runtime --driver --strict -h --help" -- "$word")
                     ;;
             esac
             ;;
@@ -307,13 +361,15 @@ _arbiterctl() {
                 --samples) ;;
                 --later) ;;
                 --depth-read) ;;
+                --usage) ;;
+                --cgroup) ;;
                 --node) ;;
                 --conversion) mapfile -t COMPREPLY < <(compgen -W "linear log" -- "$word") ;;
                 --kubelet) mapfile -t COMPREPLY < <(compgen -W "linear log" -- "$word") ;;
                 --runtime) mapfile -t COMPREPLY < <(compgen -W "linear log" -- "$word") ;;
                 --driver) mapfile -t COMPREPLY < <(compgen -W "systemd cgroupfs" -- "$word") ;;
                 *)
-                    [[ $word == -* ]] && mapfile -t COMPREPLY < <(compgen -W "--hosts --by --set --json --html --db --rows --unit --sample --map --host-label --prometheus --query --start --end --step --label --workers --scheduler --recheck --deadline --cpus --processors --period --slice --library --from --want --scale --interval --samples --later --own --depth-read --node --conversion --kubelet --runtime --driver --strict -h --help" -- "$word")
+                    [[ $word == -* ]] && mapfile -t COMPREPLY < <(compgen -W "--hosts --by --set --json --html --db --rows --unit --sample --map --host-label --prometheus --query --start --end --step --label --workers --scheduler --recheck --deadline --cpus --processors --period --slice --library --from --want --scale --interval --samples --later --own --depth-read --usage --cgroup --node --conversion --kubelet --runtime --driver --strict -h --help" -- "$word")
                     ((COMP_CWORD == 2)) && [[ $word != -* ]] && mapfile -t COMPREPLY < <(compgen -W "plan series place what-if" -- "$word")
                     ;;
             esac
@@ -337,13 +393,15 @@ _arbiterctl() {
                 --samples) ;;
                 --later) ;;
                 --depth-read) ;;
+                --usage) ;;
+                --cgroup) ;;
                 --node) ;;
                 --conversion) mapfile -t COMPREPLY < <(compgen -W "linear log" -- "$word") ;;
                 --kubelet) mapfile -t COMPREPLY < <(compgen -W "linear log" -- "$word") ;;
                 --runtime) mapfile -t COMPREPLY < <(compgen -W "linear log" -- "$word") ;;
                 --driver) mapfile -t COMPREPLY < <(compgen -W "systemd cgroupfs" -- "$word") ;;
                 *)
-                    [[ $word == -* ]] && mapfile -t COMPREPLY < <(compgen -W "--set --root --by --persistent --as --to --undo --yes --cpus --processors --period --slice --library --from --want --scale --interval --samples --later --own --depth-read --node --conversion --kubelet --runtime --driver --strict -h --help" -- "$word")
+                    [[ $word == -* ]] && mapfile -t COMPREPLY < <(compgen -W "--set --root --by --persistent --as --to --undo --yes --cpus --processors --period --slice --library --from --want --scale --interval --samples --later --own --depth-read --usage --cgroup --node --conversion --kubelet --runtime --driver --strict -h --help" -- "$word")
                     ;;
             esac
             ;;
@@ -360,12 +418,14 @@ _arbiterctl() {
                 --interval) ;;
                 --for) ;;
                 --undo) ;;
+                --openmetrics) ;;
+                --depth-read) ;;
                 --cpus|--processors) ;;
                 --period) ;;
                 --slice) ;;
                 --library) ;;
                 *)
-                    [[ $word == -* ]] && mapfile -t COMPREPLY < <(compgen -W "--root --interval --for --once --dry-run --undo --force --cpus --processors --period --slice --library -h --help" -- "$word")
+                    [[ $word == -* ]] && mapfile -t COMPREPLY < <(compgen -W "--root --interval --for --once --dry-run --undo --weights --burst --openmetrics --depth-read --force --cpus --processors --period --slice --library -h --help" -- "$word")
                     ;;
             esac
             ;;
@@ -385,13 +445,15 @@ _arbiterctl() {
                 --samples) ;;
                 --later) ;;
                 --depth-read) ;;
+                --usage) ;;
+                --cgroup) ;;
                 --node) ;;
                 --conversion) mapfile -t COMPREPLY < <(compgen -W "linear log" -- "$word") ;;
                 --kubelet) mapfile -t COMPREPLY < <(compgen -W "linear log" -- "$word") ;;
                 --runtime) mapfile -t COMPREPLY < <(compgen -W "linear log" -- "$word") ;;
                 --driver) mapfile -t COMPREPLY < <(compgen -W "systemd cgroupfs" -- "$word") ;;
                 *)
-                    [[ $word == -* ]] && mapfile -t COMPREPLY < <(compgen -W "--to -o --output --set --cpus --processors --period --slice --library --from --want --scale --interval --samples --later --own --depth-read --node --conversion --kubelet --runtime --driver --strict -h --help" -- "$word")
+                    [[ $word == -* ]] && mapfile -t COMPREPLY < <(compgen -W "--to -o --output --set --cpus --processors --period --slice --library --from --want --scale --interval --samples --later --own --depth-read --usage --cgroup --node --conversion --kubelet --runtime --driver --strict -h --help" -- "$word")
                     ((COMP_CWORD == 2)) && [[ $word != -* ]] && mapfile -t COMPREPLY < <(compgen -W "script toml yaml json cgroup kubernetes systemd docker slurm any" -- "$word")
                     ;;
             esac
@@ -412,13 +474,15 @@ _arbiterctl() {
                 --samples) ;;
                 --later) ;;
                 --depth-read) ;;
+                --usage) ;;
+                --cgroup) ;;
                 --node) ;;
                 --conversion) mapfile -t COMPREPLY < <(compgen -W "linear log" -- "$word") ;;
                 --kubelet) mapfile -t COMPREPLY < <(compgen -W "linear log" -- "$word") ;;
                 --runtime) mapfile -t COMPREPLY < <(compgen -W "linear log" -- "$word") ;;
                 --driver) mapfile -t COMPREPLY < <(compgen -W "systemd cgroupfs" -- "$word") ;;
                 *)
-                    [[ $word == -* ]] && mapfile -t COMPREPLY < <(compgen -W "--to -o --output --set --cpus --processors --period --slice --library --from --want --scale --interval --samples --later --own --depth-read --node --conversion --kubelet --runtime --driver --strict -h --help" -- "$word")
+                    [[ $word == -* ]] && mapfile -t COMPREPLY < <(compgen -W "--to -o --output --set --cpus --processors --period --slice --library --from --want --scale --interval --samples --later --own --depth-read --usage --cgroup --node --conversion --kubelet --runtime --driver --strict -h --help" -- "$word")
                     ;;
             esac
             ;;
