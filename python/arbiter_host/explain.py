@@ -203,15 +203,16 @@ def placed(plan: Plan, view: View, found: Outlook) -> Iterator[str]:
         return
     yield ""
     if found.why_not:
-        yield f"not known: how far Linux is from this by where tasks run ({found.why_not})"
+        yield "Linux may differ by where tasks run; how far is not known:"
+        yield f"  {found.why_not}"
         return
     ranged = [group for group in plan.groups[1:] if group.path in found.ranges
               and not found.ranges[group.path].is_firm]
     firm = len(found.ranges) - len(ranged) - 1
     if firm:
-        yield f"firm, wherever tasks run: {firm} of {len(found.ranges) - 1} groups that ask"
+        yield f"firm to 0.01 CPUs, wherever tasks run: {firm} of {len(found.ranges) - 1} groups"
     if ranged:
-        yield "by where its tasks run, Linux may give a group (a model of Linux)"
+        yield "what Linux may give a group by where tasks run (a model):"
         yield from range_lines(plan, view, found, ranged)
 
 
@@ -227,7 +228,8 @@ def range_lines(plan: Plan, view: View, found: Outlook, ranged: Sequence[Planned
     widths = [max(len(row[at]) for row in rows) for at in range(3)]
     for row in rows:
         numbers = "  ".join(each.rjust(most) for each, most in zip(row, widths))
-        yield f"  {numbers}  {row[3]}"
+        room = max(view.width - width(numbers) - 4, LEAST_NAME)
+        yield f"  {numbers}  {row[3] if view.full_names else tail(row[3], room)}"
     if len(ranged) > MOST_RANGES:
         yield f"  and {len(ranged) - MOST_RANGES} with narrower ranges; --json has all"
 

@@ -55,7 +55,7 @@ def unknown_of(model: Model) -> str:
     asking = [group for group in leaves(model) if group.usable > 0]
     unknown = sum(group.tasks is None for group in asking)
     if unknown:
-        return f"{unknown} groups that ask for something have no number of tasks"
+        return f"groups that ask and have no number of tasks: {unknown}"
     if not asking:
         return "nothing is asked for"
     count = sum(group.tasks or 0 for group in asking)
@@ -103,11 +103,11 @@ def grain(shape: Shape) -> float:
 
 
 def most_of(shape: Shape) -> dict[str, float]:
-    """The most that each group can have, in CPUs: its tasks' work, cut at the limits below."""
+    """The most that each group can have, in CPUs: its tasks' work, cut at limits."""
     found = {node.path: sum(task.work for task in node.tasks) / shape.period
              for node in shape.nodes}
     for node in reversed(shape.nodes):
-        found[node.path] = min(found[node.path], limit_of(node), shape.processors)
+        found[node.path] = min(found[node.path], shape.processors, *map(limit_of, chain(node)))
         if node.above is not None:
             found[node.above.path] += found[node.path]
     return found

@@ -97,6 +97,9 @@ def test_a_limit_that_binds_is_not_firm():
     model = host(2, ("a", 100, 2000, 2, 50000), ("b", 100, 2000, 2))
     found = placement.outlook(model).ranges
     assert found["a"].low < 0.48 and found["a"].high == 0.5 and not found["a"].is_firm
+    below = placement.outlook(host(2, ("a", 100, 0, None, 50000), ("a/x", 9, 2000, 2),
+                                   ("b", 100, 2000, 2))).ranges
+    assert below["a/x"].high == 0.5 and not below["a/x"].is_firm and below["b"].is_firm
     far = placement.outlook(host(2, ("a", 100, 2000, 2, 190000), ("b", 300, 2000, 2)))
     assert far.are_firm
 
@@ -105,7 +108,7 @@ def test_a_limit_that_binds_is_not_firm():
     (host(1, ("a", 100, 1000, 1)), "one CPU"),
     (host(2), "nothing is asked for"), (host(2, ("a", 100, 0, None)), "nothing is asked for"),
     (host(2, ("a", 100, 500, None), ("b", 100, 500, 1), ("c", 1, 0, None)),
-     "1 groups that ask for something have no number of tasks"),
+     "groups that ask and have no number of tasks: 1"),
     (host(2, ("a", 100, 2000, 10**9)), "more than 512 tasks or 64 CPUs"),
     (host(65, ("a", 100, 2000, 2)), "more than 512 tasks or 64 CPUs"),
 ])
@@ -136,17 +139,17 @@ def lines(engine, model, **view):
 def test_lines_of_explain(engine):
     """Firm groups are counted, and each other one has its range beside the plan."""
     assert lines(engine, host(2, ("a", 100, 2000, 2), ("b", 300, 2000, 2))) == [
-        "", "firm, wherever tasks run: 2 of 2 groups that ask"]
+        "", "firm to 0.01 CPUs, wherever tasks run: 2 of 2 groups"]
     ranged = lines(engine, host(2, *((each, 100, 1000, 1) for each in "abc")))
-    assert ranged[:3] == ["", "by where its tasks run, Linux may give a group (a model of Linux)",
+    assert ranged[:3] == ["", "what Linux may give a group by where tasks run (a model):",
                           "  from    to  gets  group"]
     assert [line.split()[3] for line in ranged[3:]] == ["a", "b", "c"]
     for line in ranged[3:]:
         low, high, gets = map(float, line.split()[:3])
         assert low < gets < high and low < 0.62 and high > 0.7
     assert lines(engine, host(2, ("a", 100, 2000, None), ("b", 1, 2000, 2))) == [
-        "", "not known: how far Linux is from this by where tasks run"
-            " (1 groups that ask for something have no number of tasks)"]
+        "", "Linux may differ by where tasks run; how far is not known:",
+        "  groups that ask and have no number of tasks: 1"]
 
 
 @pytest.mark.parametrize("model", [
@@ -161,7 +164,7 @@ def test_no_lines_where_weights_decide_nothing(engine, model):
 
 def test_many_ranges_are_cut(engine):
     """The widest ranges are told, and the number of the others."""
-    model = host(2, *((f"g{at}", 50 + at, 1000, 1) for at in range(25)))
+    model = host(8, *((f"g{at}", 50 + 8 * at, 1000, 1) for at in range(25)))
     found = lines(engine, model)
     assert len(found) == 3 + 20 + 1
     assert found[-1] == "  and 5 with narrower ranges; --json has all"
@@ -178,7 +181,7 @@ def test_data_of_explain(engine):
     assert group["from"]["slices"] <= data["groups"][1]["gets"]["slices"] < group["to"]["slices"]
     unknown = with_unknown(engine)
     assert unknown["groups"][1]["placement"] is None
-    assert unknown["placement"]["not_known"].endswith("no number of tasks")
+    assert unknown["placement"]["not_known"].endswith("no number of tasks: 1")
 
 
 def with_unknown(engine):
