@@ -24,3 +24,5 @@ mod name_cases;
 mod reason_cases;
 #[cfg(test)]
 mod split_cases;
+#[cfg(test)]
+mod tune_cases;
