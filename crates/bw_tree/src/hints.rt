@@ -14,6 +14,9 @@ const PROBES: u32 = 16;
 // An id below it fits beside a hash in one word. A group with another id has no hint.
 const HINTED_IDS: u64 = 4_294_967_296;
 
+// A path of fewer bytes has no hint: to walk it costs no more, and `mkdir` costs less.
+const HINTED_BYTES: u32 = 8;
+
 // One byte that waits.
 const ONE: u32 = 0x0100_0000;
 
@@ -26,6 +29,8 @@ struct PathHash {
     value: u64,
     // the bytes of the last word, at most three, and above them their number
     waiting: u32,
+    // number of all bytes
+    bytes: u32,
 }
 
 impl PathHash {
@@ -34,22 +39,26 @@ impl PathHash {
         PathHash {
             value: 1,
             waiting: 0,
+            bytes: 0,
         }
     }
 
     // Hash of a text and one byte.
     fn with_byte(self, seed: u64, byte: u8) -> PathHash {
-        let bytes = self.waiting.wrapping_mul(256).wrapping_add(u32::from(byte));
+        let last = self.waiting.wrapping_mul(256).wrapping_add(u32::from(byte));
         let count = self.waiting / ONE;
+        let bytes = self.bytes.wrapping_add(1);
         if count == 3 {
             return PathHash {
-                value: value_with(seed, self.value, bytes),
+                value: value_with(seed, self.value, last),
                 waiting: 0,
+                bytes,
             };
         }
         PathHash {
             value: self.value,
-            waiting: count.wrapping_add(1).wrapping_mul(ONE).wrapping_add(bytes),
+            waiting: count.wrapping_add(1).wrapping_mul(ONE).wrapping_add(last),
+            bytes,
         }
     }
 
@@ -58,6 +67,11 @@ impl PathHash {
         bytes
             .iter()
             .fold(self, |hash, byte| hash.with_byte(seed, *byte))
+    }
+
+    // Whether the path of this hash is too short for a hint.
+    fn is_short(self) -> bool {
+        self.bytes < HINTED_BYTES
     }
 
     // Number that stands for the whole text.
@@ -71,13 +85,26 @@ fn value_with(seed: u64, value: u64, word: u32) -> u64 {
     value.wrapping_mul(seed).wrapping_add(u64::from(word)) % PRIME
 }
 
+// Number of bytes of a path; 0 above 32 bits.
+fn length_of(path: &[u8]) -> u32 {
+    u32::try_from(path.len()).unwrap_or(0)
+}
+
 // Hash of a whole path.
 fn hash_of(seed: u64, path: &[u8]) -> PathHash {
     let (words, rest) = path.as_chunks::<4>();
     let value = words.iter().fold(1u64, |value, word| {
         value_with(seed, value, u32::from_be_bytes(*word))
     });
-    PathHash { value, waiting: 0 }.with_bytes(seed, rest)
+    let hash = PathHash {
+        value,
+        waiting: 0,
+        bytes: 0,
+    };
+    PathHash {
+        bytes: length_of(path),
+        ..hash.with_bytes(seed, rest)
+    }
 }
 
 // Hints of the groups of a tree. The seed is a secret of each tree, so nobody who names groups can
@@ -118,6 +145,9 @@ impl Hints {
 
     // Group that may have this path.
     pub(crate) fn likely(&self, path: &str) -> Option<GroupId> {
+        if length_of(path.as_bytes()) < HINTED_BYTES {
+            return None;
+        }
         let number = hash_of(self.seed, path.as_bytes()).number(self.seed);
         let mut at = first_place(number, self.table.len());
         for _ in 0..PROBES {
@@ -151,8 +181,7 @@ impl Hints {
         let mut taken: usize = 0;
         for place in 0..groups.len() {
             if let Some(hash) = self.hashes.as_slice().get(place) {
-                let number = hash.number(self.seed);
-                if put(&mut table, number, groups[place].0) {
+                if put(&mut table, *hash, self.seed, groups[place].0) {
                     taken = taken.wrapping_add(1);
                 }
             }
@@ -165,7 +194,7 @@ impl Hints {
     // Adds a hint of a new group, the child with this name of the group at the place above.
     pub(crate) fn add(&mut self, above: usize, name: &str, id: GroupId) {
         let hash = self.hash_below(above, name.as_bytes());
-        if put(&mut self.table, hash.number(self.seed), id) {
+        if put(&mut self.table, hash, self.seed, id) {
             self.taken = self.taken.wrapping_add(1);
         }
         // there is room for it
@@ -197,12 +226,13 @@ fn first_place(number: u64, places: usize) -> usize {
     (number.wrapping_mul(places as u64) / HINTED_IDS) as usize
 }
 
-// Writes a hint where the number's last hint is, or where nothing is. Returns whether it takes one
-// more place.
-fn put(table: &mut Vec<u64>, number: u64, id: GroupId) -> bool {
-    if id >= HINTED_IDS {
+// Writes a hint where the last one of this path is, or where nothing is. Returns whether it takes
+// one more place.
+fn put(table: &mut Vec<u64>, hash: PathHash, seed: u64, id: GroupId) -> bool {
+    if hash.is_short() || id >= HINTED_IDS {
         return false;
     }
+    let number = hash.number(seed);
     let mut at = first_place(number, table.len());
     for _ in 0..PROBES {
         if at >= table.len() {
