@@ -113,8 +113,8 @@ def examples(ctl, folder):
             folder / "host.script")
     (folder / "bin").mkdir()
     for name, text in (("arbiterctl", f'exec {sys.executable} {PACKAGE}/arbiterctl "$@"'),
-                       ("kubectl", f"case $1 in top) cat {fixtures}/top.txt;;"
-                        f" *) cat {fixtures}/cluster.json;; esac"),
+                       ("kubectl", f"case $1 in top) cat {fixtures}/top.txt; echo prod api-0 main 70m"
+                        f" 9Mi;; *) cat {fixtures}/cluster.json;; esac"),
                        ("systemctl",
                         "case \"$*\" in 'show --property=ControlGroup '*) echo /web.service;;"
                         f" show*) cat {fixtures}/units.show;;"
@@ -144,7 +144,7 @@ def test_examples_run(ctl, examples, command):
     ended = subprocess.run(["bash", "-c", example_command(command, examples)], cwd=examples,
                            capture_output=True, env=ctl.environment, timeout=60, check=False)
     assert (ended.returncode, b"Traceback" in ended.stderr) == (0, False), ended.stderr.decode()
-    made = re.search(r"(?: -o | --undo )(\S+)", command)
+    made = re.search(r"(?: -o | --undo )(\S+)", command.rpartition("|")[2])
     assert (examples / made.group(1)).stat().st_size if made else ended.stdout
 
 

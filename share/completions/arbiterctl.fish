@@ -105,7 +105,7 @@ complete -c arbiterctl -n '__fish_seen_subcommand_from need' -l strict -d 'refus
 complete -c arbiterctl -n '__fish_seen_subcommand_from need' -s h -l help -d 'print help'
 
 complete -c arbiterctl -n '__fish_seen_subcommand_from recommend' -l target -x -d 'the percentile of the use that is requested, p1 to p100 or max (default p95)'
-complete -c arbiterctl -n '__fish_seen_subcommand_from recommend' -l headroom -x -d 'what is put on top of it (default 15%%)'
+complete -c arbiterctl -n '__fish_seen_subcommand_from recommend' -l headroom -x -d 'what is put on top of it, in percent of it (default 15)'
 complete -c arbiterctl -n '__fish_seen_subcommand_from recommend' -l history -r -F -d 'what containers used over time, as the demands of series'
 complete -c arbiterctl -n '__fish_seen_subcommand_from recommend' -l csv -d 'the history is CSV'
 complete -c arbiterctl -n '__fish_seen_subcommand_from recommend' -l unit -x -a 'cpu m % slices us' -d 'unit of the history (default cpu)'

@@ -106,8 +106,8 @@ def add_words(parser: argparse.ArgumentParser) -> None:
                         " explain")
     parser.add_argument("--target", default="p95", metavar="pN", help="the percentile of the use"
                         " that is requested, p1 to p100 or max (default p95)")
-    parser.add_argument("--headroom", default="15%", metavar="PART", help="what is put on top of"
-                        " it (default 15%%)")
+    parser.add_argument("--headroom", default="15", metavar="PERCENT", help="what is put on top of"
+                        " it, in percent of it (default 15)")
     parser.add_argument("--history", action="append", default=[], metavar="FILE", help="what"
                         " containers used over time, as the demands of series")
     parser.add_argument("--csv", action="store_true", help="the history is CSV")
