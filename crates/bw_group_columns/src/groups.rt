@@ -29,7 +29,7 @@ pub struct GroupColumns {
     pub periods: Vec<u64>,
     /// Bursts in microseconds of each own period.
     pub bursts: Vec<u64>,
-    /// What was left of the limit of the last period, in slices.
+    /// Slices of each limit that the last period left.
     pub carries: Vec<u64>,
     /// The last name of each group, each with a newline behind it.
     pub names: Vec<u8>,
