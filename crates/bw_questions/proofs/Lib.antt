@@ -2,6 +2,7 @@
 mod Alike
 mod Blame
 mod BusyRows
+mod Demanding
 mod Halving
 mod Help
 mod Judged

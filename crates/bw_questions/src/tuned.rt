@@ -3,6 +3,7 @@ ghost use Rattle.std.specs.Prelude.{IfOk, IfErr, OnOk};
 ghost use Rattle.bw_questions.specs.Tune.{AreGoals, IsTuning};
 ghost use Rattle.bw_questions.specs.Fault.{IsTuneRefused};
 
+mod excess;
 mod fault;
 mod goal;
 mod goals;
@@ -13,6 +14,7 @@ mod raising;
 mod tuning;
 
 use bw_model::Instance;
+use excess::excess;
 pub use fault::TuneFault;
 pub use goal::Goal;
 use goals::refusal;
@@ -33,9 +35,10 @@ pub use tuning::{Conflict, Tuning};
 ///
 /// # Cost
 ///
-/// Each raise of a weight makes at most 14 plans, and one plan for each goal before the one that
-/// falls short. A weight is raised at most 9999 times from each of the two starts; it rises by a
-/// slice's worth or more each time.
+/// Goals that ask for more than the plan serves in all are found with one plan. Else each raise of a
+/// weight makes at most 14 plans, and one for each goal up to the one that falls short. Each raise is
+/// of 1 or more. Goals below one group that ask for a slice more than it gets can raise their weights
+/// one by one up to 10000.
 ///
 /// # Errors
 ///
@@ -56,6 +59,9 @@ pub fn tune(
     let _rows = instance.rows();
     if let Some(fault) = refusal(instance, goals) {
         return Err(fault);
+    }
+    if let Some(conflict) = excess(alloc, instance, goals)? {
+        return Ok(Tuning::Unmet(conflict));
     }
     match raised(alloc, measure, instance, goals)? {
         Tuning::Met(tuned) => Ok(Tuning::Met(tuned)),

@@ -1,6 +1,7 @@
 -- The goals of `tune` that are answered by hand.
 use Rattle.bw_questions.specs.Raising.{IsTooMuch}
-use Rattle.bw_questions.specs.Tune.{AreGoals}
+use Rattle.bw_questions.specs.declared.tuned.measure.Measure.{Measure}
+use Rattle.bw_questions.specs.Tune.{AreGoals, IsConflict}
 use Rattle.bw_questions.proofs.Raises.{no_value}
 use Rattle.bw_questions.proofs.TwoStarts.{good_light, light-IsTuning}
 use Rattle.bw_questions.proofs.tuned.tune.Goals as goal
@@ -23,3 +24,10 @@ returns-clause-ok c =
     c.rows-rows.ensures.valid good c.in_ok-light-in-Unmet.ensures.weights
     c.in_ok-light-in-Unmet.ensures.least c.args.measure c.in-Unmet.field-0 too_much
     c.in_ok-tuning-in-Unmet.tuning c.in_ok-tuning-in-Unmet.ensures
+
+pub returns-in-Some-2-clause-ok : goal.returns-in-Some-2-clause-ok
+returns-in-Some-2-clause-ok c =
+    let never : (measure : Measure)
+    → IsConflict measure c.args.instance.now c.args.goals.now c.in-Some-2.conflict =
+    rw c.in-Some-2.is at c.in_ok-conflict.ensures in
+    never c.args.measure

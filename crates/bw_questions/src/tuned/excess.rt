@@ -1,0 +1,47 @@
+//! Goals that ask for more than the host serves.
+ghost use Rattle.std.specs.Prelude.{IfOk, IfSome};
+ghost use Rattle.bw_questions.specs.declared.tuned.measure.Measure.{Measure};
+ghost use Rattle.bw_questions.specs.Tune.{AreGoals, IsConflict};
+
+use super::goal::Goal;
+use super::tuning::Conflict;
+use bw_model::Instance;
+use bw_plan::{plan, there_is_one_plan};
+use bw_plan_laws::raised_limits_serve_no_less;
+use std::alloc::{AllocError, Global};
+
+/// The first goals that ask for more than the plan serves in all, or None. No weights meet them all:
+/// weights do not change what is served, and no goal's group is above another's.
+///
+/// It makes one plan.
+///
+/// # Errors
+/// `AllocError` if memory was refused.
+pub(crate) fn excess(
+    alloc: Global,
+    instance: &Instance,
+    goals: &[Goal],
+) -> Result<Option<Conflict>, AllocError>
+    requires { AreGoals instance.now.rows goals.now }
+    ensures { IfOk result (λ found. IfSome found (λ conflict.
+        (measure : Measure) → IsConflict measure instance.now goals.now conflict)) }
+{
+    let _rows = instance.rows();
+    there_is_one_plan();
+    raised_limits_serve_no_less();
+    let planned = plan(alloc, instance)?;
+    let served = planned.amounts[0];
+    let mut together = vec![in alloc; false; goals.len()]?;
+    let mut asked: u64 = 0;
+    for (place, goal) in goals.iter().enumerate() {
+        together[place] = true;
+        asked = asked.saturating_add(goal.amount);
+        if asked > served {
+            return Ok(Some(Conflict {
+                goal: place,
+                together,
+            }));
+        }
+    }
+    Ok(None)
+}
