@@ -374,6 +374,14 @@ def test_broken_files_are_named(ctl, fleet):
     assert all(f"\n{name}: " in text for name in names)
 
 
+def test_a_file_that_is_no_host_is_named(ctl, fleet):
+    """A page of text below the folder is no host of no groups."""
+    (fleet / "README.md").write_text("# Hosts\n\nOne file each.\nNo more.\n")
+    out, _ = ctl.run("fleet", "plan", fleet, "--workers", "0", status=1)
+    assert "\nREADME: no host: 2 lines are none of a script, the first: " in out
+    assert "README.md:3: error 80 BadCommand: One file each." in out
+
+
 # The file
 
 

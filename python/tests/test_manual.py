@@ -113,8 +113,8 @@ def examples(ctl, folder):
             folder / "host.script")
     (folder / "bin").mkdir()
     for name, text in (("arbiterctl", f'exec {sys.executable} {PACKAGE}/arbiterctl "$@"'),
-                       ("kubectl", f"case $1 in top) cat {fixtures}/top.txt; echo prod api-0 main 70m"
-                        f" 9Mi;; *) cat {fixtures}/cluster.json;; esac"),
+                       ("kubectl", f"case $1 in top) cat {fixtures}/top.txt;"
+                        f" echo prod api-0 main 70m 9Mi;; *) cat {fixtures}/cluster.json;; esac"),
                        ("systemctl",
                         "case \"$*\" in 'show --property=ControlGroup '*) echo /web.service;;"
                         f" show*) cat {fixtures}/units.show;;"

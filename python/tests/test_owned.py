@@ -213,7 +213,7 @@ def test_the_least_request(ctl, folder):
     # The weight of the one container of a pod decides nothing.
     assert [each["least"] for each in found["knobs"] if each["name"] == "weight"] == [None]
     out, _ = ctl.run("need", "x/a/c", "1cpu", folder / "n.json", "--want", "busy")
-    assert "\nrequest  100m   285m  kubepods/burstable/x:b/c -0.50\n" in out
+    assert "\nrequest          100m   285m  kubepods/burstable/x:b/c -0.50\n" in out
 
 
 def test_a_request_that_the_node_has_not(ctl, folder):
@@ -264,6 +264,18 @@ def test_one_thousandth_less_does_not_reach(ctl, amount):
         assert least == "0m" or gets(int(least[:-1]) - 1) < asked
 
 
+def test_the_limit_of_a_container_is_that_of_its_pod_too(ctl):
+    """app needs a limit of 900m for 900m: its pod has none, since envoy has none.
+
+    nginx with 3000m and metrics with 200m are 3200m for their pod.
+    """
+    by, found = needed(ctl, "prod/proxy-1/app", "900m", PODS, NODE)
+    assert (by["limit"]["now"], by["limit"]["least"]) == ("500m", "900m")
+    out, _ = ctl.run("compare", PODS, NODE, "--set", "prod/web-7c9f/nginx.limit=3", "--json")
+    pod = [each for each in json.loads(out)["after"]["groups"] if each["group"] == WEB]
+    assert pod[0]["quota_usec"] == 320000 and found["gets_millicpu"] == 500
+
+
 AMOUNTS = st.none() | st.integers(0, 300)
 
 
@@ -288,23 +300,25 @@ def nodes(draw):
     return json.dumps({"kind": "List", "items": [*pods, node]}).encode()
 
 
-@settings(max_examples=25, deadline=None,
+@settings(max_examples=15, deadline=None,
           suppress_health_check=[HealthCheck.function_scoped_fixture])
 @given(data=nodes(), slices=st.integers(1, 60))
 def test_no_lesser_request_reaches(engine, data, slices):
-    """Of all requests that can be asked for, the least that reaches is found, over all classes."""
+    """Of all requests and limits that can be asked for the least that reaches is found, over all
+    classes."""
     model = kubernetes.read([("p", data)], None, engine.library, kubernetes.Wish(want="busy"))
     path = next(path for path in model.groups if model.owned.has(path))
-    (of,) = model.owned.ranges(path)
-    (knob,) = backwards.need(engine, model, path, Fraction(10 * slices)).owned
     row = list(model.groups).index(path) + 1
 
-    def gets(request):
-        setting = Setting(path, "request", f"{request}m")
+    def gets(key, value):
+        setting = Setting(path, key, f"{value}m")
         return plan(engine, backwards.with_setting(model, model.owned, setting)).groups[row].gets
 
-    reaching = [request for request in range(of.parts[-1][1] + 1) if gets(request) >= slices]
-    assert knob.least == (f"{reaching[0]}m" if reaching else None)
+    found = backwards.need(engine, model, path, Fraction(10 * slices)).owned
+    for of, knob in zip(model.owned.ranges(path), found, strict=True):
+        values = range(of.parts[0][0], of.parts[-1][1] + 1) if of.parts else ()
+        reaching = [value for value in values if gets(of.key, value) >= slices]
+        assert knob.least == (f"{reaching[0]}m" if reaching else None)
 
 
 # systemd and docker

@@ -162,6 +162,9 @@ def placed(job: Job, model: Model, engine: Engine) -> dict[str, Any]:
 def of_host(job: Job, name: str, data: bytes, engine: Engine) -> dict[str, Any]:
     """The answer of one host. A series is answered in pieces, by `pieces`."""
     model = load.of_bytes(job.namespace(), name, data, engine)
+    if model.refused and not model.groups:
+        raise HostFault(f"no host: {len(model.refused)} lines are none of a script, the first:"
+                        f" {model.refused[0]}")
     if job.action == "what-if":
         return changed(job, model, engine)
     return placed(job, model, engine) if job.action == "place" else planned(model, engine)

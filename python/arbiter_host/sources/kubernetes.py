@@ -31,6 +31,7 @@ from arbiter_host.sources.usage import Used, of_metrics, some
 ENDED = ("Succeeded", "Failed")
 # A request of so many thousandths has the greatest shares; no greater one weighs more.
 MOST_REQUEST = units.MAX_SHARES * 1000 // 1024
+MAX_REQUESTS = 10**18
 
 
 @dataclass(frozen=True)
@@ -192,6 +193,19 @@ def amount_of(setting: Setting) -> int | None:
         raise setting.fault(fault.message) from fault
 
 
+def hindrance_of(pod: Pod, container: Container, room: int | None) -> str:
+    """What is in the way of a greater request or limit of a container; empty for nothing."""
+    amounts = container.amounts
+    if amounts.limit is not None and (amounts.request or 0) > amounts.limit:
+        return "its limit"
+    if pod.own.request is not None and requested(pod.parts, "request") > pod.own.request:
+        return "all that its pod requests"
+    if pod.own.limit is not None and (amounts.limit or 0) > pod.own.limit:
+        return "the limit of its pod"
+    return "all that the node has left" if (pod.amounts.request or 0) > (
+        MAX_REQUESTS if room is None else room) else ""
+
+
 def check_amounts(pod: Pod, container: Container) -> None:
     """A fault where Kubernetes takes no such request or limit of a container."""
     request, limit = container.amounts.request or 0, container.amounts.limit
@@ -310,21 +324,38 @@ class Source:
         return found
 
     def ranges(self, path: str) -> list[Range]:
-        """The requests that can be asked for of a container, at most what the node has left."""
+        """The requests and limits that can be asked for of a container."""
         place, number = self.built[1][path]
         amounts = self.pods[place].parts[number].amounts
-        now, most, why = amounts.request or 0, MOST_REQUEST, "the most that counts"
-        if self.allocatable is not None:
-            room = self.allocatable - requested_by(self.pods) + self.request_with(path, now)
-            fits = bisect.bisect_right(range(most + 1), room,
-                                       key=lambda each: self.request_with(path, each))
-            if max(fits - 1, now) < most:
-                most, why = max(fits - 1, now), "all that the node has left"
-        if amounts.limit is not None and amounts.limit < most:
-            most, why = amounts.limit, "its limit"
-        parts = [(0, 0), (1, most - 1), (most, most)]
+        now, least = amounts.request or 0, max(amounts.request or 0, 1)
+        request, of_request = self.greatest(path, "request", 0, MOST_REQUEST)
+        limit, of_limit = self.greatest(path, "limit", least, 1000 * self.host.processors)
+        # A class changes where a request is none or is the limit.
+        parts = [(0, 0), (1, request - 1), (request, request)]
+        limits = [(least, least), (least + 1, limit)]
         return [Range("request", f"{now}m", [each for each in parts if each[0] <= each[1]],
-                      lambda each: f"{each}m", f"{most}m is {why}")]
+                      lambda each: f"{each}m", f"{request}m is {of_request}"),
+                Range("limit", "-" if amounts.limit is None else f"{amounts.limit}m",
+                      [each for each in limits if each[0] <= each[1] <= limit],
+                      lambda each: f"{each}m", f"{limit}m is {of_limit}")]
+
+    def greatest(self, path: str, key: str, least: int, most: int) -> tuple[int, str]:
+        """The greatest request or limit of a container from a least to a most, and what ends it."""
+        place, number = self.built[1][path]
+        pod = self.pods[place]
+        amounts = pod.parts[number].amounts
+        room = None if self.allocatable is None else (
+            self.allocatable - requested_by(self.pods) + (pod.amounts.request or 0))
+
+        def hindrance(value: int) -> str:
+            after = pod.with_amounts(number, replace(amounts, **{key: value}))
+            return hindrance_of(after, after.parts[number], room)
+
+        values = range(least, most + 1)
+        at = bisect.bisect_left(values, True, key=lambda each: bool(hindrance(each)))
+        if at == len(values):
+            return most, "the most that counts"
+        return max(values[at] - 1, getattr(amounts, key) or 0), hindrance(values[at])
 
     def joined(self, other: Owned) -> Source | None:
         """This node with the pods of another source. A fault where it has not the room."""
@@ -346,13 +377,6 @@ class Source:
                 told=Fraction(other.pods[place].parts[number].amounts.request or 0))
                 for place, number in other.folders_of(other.wish.driver)}
         return replace(self, pods=(*self.pods, *other.pods), known=known)
-
-    def request_with(self, path: str, request: int) -> int:
-        """The request of a container's pod where the container has another one."""
-        place, number = self.built[1][path]
-        pod = self.pods[place]
-        amounts = Amounts(request, pod.parts[number].amounts.limit)
-        return pod.with_amounts(number, amounts).amounts.request or 0
 
 
 def requested_by(pods: Sequence[Pod]) -> int:

@@ -15,6 +15,8 @@ from arbiter_host.subcommands.base import (Subcommand, add_reading_options, foun
 
 # The groups that pay which are named; the others are counted.
 NAMED = 3
+# The words of settings that people own, where those of their keys are taken.
+LABELS = {"limit": "container limit"}
 
 
 def aligned(rows: Sequence[Sequence[str]], left: int) -> list[str]:
@@ -71,7 +73,7 @@ def owned_row(found: Need, knob: OwnedKnob, unit: str) -> tuple[str, str, str, s
     """The row of a setting that people own, with what is told of it."""
     words = who_pays(found, knob, unit)
     told = f" ({shown(knob.told)})" if knob.told else ""
-    return knob.name, knob.now, knob.least or "-", f"{words}{told}"
+    return LABELS.get(knob.name, knob.name), knob.now, knob.least or "-", f"{words}{told}"
 
 
 def run_need(options: argparse.Namespace) -> None:
@@ -152,8 +154,9 @@ NEED_DETAILS = (
     " weight, or a host with more CPUs, takes nothing from the group. So no lesser value reaches"
     " AMOUNT.",
     "For a container of a pod it also prints the least request, with which the weights of the"
-    " container, its pod, its class and kubepods reach AMOUNT; for a unit CPUWeight and CPUQuota;"
-    " for a container of docker cpu-shares and cpus. What is asked for stays as it is.",
+    " container, its pod, its class and kubepods reach AMOUNT, and the least limit, with that of"
+    " its pod; for a unit CPUWeight and CPUQuota; for a container of docker cpu-shares and cpus."
+    " What is asked for stays as it is.",
 )
 NEED_EXAMPLES = (
     ("what web needs for one and a half CPUs", "arbiterctl need web 1.5cpu host.toml"),
