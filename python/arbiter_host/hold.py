@@ -44,9 +44,9 @@ MOST_MISSED = 5
 MOST_TOLD = 10000
 # Quota over burst, where a limit has a burst.
 BURST_PART = 10
-# A limit that falls by less than this part of it is not written: the kernel gives a new quota at
-# each writing, so a group could use two in a period.
-LEAST_FALL = 64
+# A quota stands that is up to this part of it above the limit of the rule; half as much is written
+# above it. The kernel gives a new quota at each writing, so a group could use two in a period.
+MOST_ABOVE = 64
 
 
 class Ways(NamedTuple):
@@ -160,13 +160,6 @@ def check_owner(top: str, nodes: Sequence[Node], is_forced: bool) -> None:
         if any(KUBELET.fullmatch(part) for part in folder.split("/")):
             raise HostFault(f"{shown(folder)}: kubelet owns the limits there, and would write over"
                             " these (--force)")
-
-
-def is_small_fall(one: Settings, two: Settings) -> bool:
-    """Whether a limit falls by so little that it is not written."""
-    if one.quota is None or two.quota is None or one.period != two.period:
-        return False
-    return 0 < (one.quota - two.quota) * LEAST_FALL < one.quota
 
 
 def entry(settings: Settings) -> dict[str, Any]:
@@ -361,28 +354,37 @@ class Loop:
             line["weight"] = found[path]
         return found
 
-    def limited(self, path: str, old: Settings, limit: int) -> Settings:
-        """What is written for a limit: what stood where that allows no more."""
-        quota = limit * self.host.slice_us
-        if old.quota is not None:
-            own = Fraction(old.quota * self.host.period_us, old.period)
-            if max(quota, units.MIN_QUOTA) >= own // self.host.slice_us * self.host.slice_us:
-                return old
+    def limited(self, path: str, kept: Kept, limit: int) -> Settings:
+        """What is written for a limit: what stood where that allows no more, and what stands where
+        that is little more."""
+        quota, old, period = limit * self.host.slice_us, kept.old, self.host.period_us
         if quota < units.MIN_QUOTA and not self.has_rounded:
             self.has_rounded = True
             self.tell([f"{path}: a limit below 1 ms is rounded up to it, and so is each other"])
         quota = max(quota, units.MIN_QUOTA)
-        burst = quota // BURST_PART if self.ways.has_burst else 0
-        return replace(old, quota=quota, period=self.host.period_us, burst=burst)
+        most = quota + quota // (2 * MOST_ABOVE)
+        if old.quota is not None:
+            own = int(Fraction(old.quota * period, old.period * self.host.slice_us))
+            if quota >= own * self.host.slice_us:
+                return old
+            most = min(most, own * self.host.slice_us)
+        stands = kept.stands
+        if (stands.quota is not None and (stands.period, stands.burst) == (period,
+                                                                           self.burst(stands.quota))
+                and quota <= stands.quota <= quota + quota // MOST_ABOVE):
+            return stands
+        return replace(old, quota=most, period=period, burst=self.burst(most))
+
+    def burst(self, quota: int) -> int:
+        """The burst of a limit."""
+        return quota // BURST_PART if self.ways.has_burst else 0
 
     def target_of(self, path: str, kept: Kept, found: Round) -> Settings:
         """What a group is to hold. A leaf without a limit of the rule holds what it holds."""
         if kept.is_left:
             return kept.old
         if path in found.limits:
-            target = self.limited(path, kept.old, found.limits[path])
-            if is_small_fall(kept.stands, target):
-                target = kept.stands
+            target = self.limited(path, kept, found.limits[path])
         elif kept.is_leaf:
             return kept.stands
         else:

@@ -20,6 +20,13 @@ from arbiter_host.faults import HostFault
 from places import PACKAGE
 
 TWO = Host(2, 100000, 1000)
+
+
+def limit(slices):
+    """The text of a limit that was written: a 128th above that of the rule."""
+    return f"{slices * 1000 + slices * 1000 // 128} 100000"
+
+
 SECOND = 10**9
 FREE = "max 100000"
 
@@ -108,11 +115,11 @@ def test_limits_of_worked_readings(world, engine, folder):
         "b": {"want": 1000000, "plan": 60, "used": 90, "limit": 60, "hungry": True, "unserved": 0},
         "c": {"want": 1000000, "plan": 120, "used": 90, "limit": 120, "hungry": True,
               "unserved": 0}}
-    assert stood == {"a": "50000 100000", "b": "60000 100000", "c": "120000 100000"}
+    assert stood == {"a": limit(50), "b": limit(60), "c": limit(120)}
     # a uses more than its plan of 50, so it is held at that.
     assert [(each["plan"], each["limit"]) for each in two["groups"].values()] == [
         (50, 50), (50, 50), (100, 100)]
-    assert then == {"a": "50000 100000", "b": "50000 100000", "c": "100000 100000"}
+    assert then == {"a": limit(50), "b": limit(50), "c": limit(100)}
     assert (one["round"], one["written"], two["round"], two["written"]) == (1, 3, 2, 2)
     assert [world.maximum(path) for path in "abc"] == [FREE] * 3
     assert not (folder / "undo").exists() and not (folder / "undo.part").exists()
@@ -134,15 +141,14 @@ def test_headroom_own_limits_and_a_burst(folder, engine):
     # than a tenth of the round. a: 112 + 14.
     assert {path: each["limit"] for path, each in line["groups"].items()} == {
         "a": 126, "b": 60, "c": 80}
-    assert stood == {"a": "126000 100000", "b": "60000 100000", "c": "80000 100000"}
+    assert stood == {"a": limit(126), "b": limit(60), "c": "80000 100000"}
     assert apply.current(loop.root, "b") == Settings(100, 150000, 100000, 60000)
 
 
 @pytest.mark.parametrize("first, second, stood", [
-    (64, 63, "63000 100000"), (128, 127, "128000 100000"), (130, 129, "130000 100000"),
-    (130, 127, "127000 100000"), (100, 101, "101000 100000")])
-def test_small_falls_are_not_written(folder, engine, first, second, stood):
-    """A limit that falls by less than a 64th stays; b has what a leaves of 200."""
+    (64, 63, 63), (130, 129, 130), (130, 127, 127), (100, 101, 101), (129, 130, 129)])
+def test_small_changes_are_not_written(folder, engine, first, second, stood):
+    """A limit stands while it is up to a 64th above the rule's; b has what a leaves of 200."""
     world, seen = World(folder, [("a", 10000, FREE), ("b", 1, FREE)]), []
 
     def step(slices):
@@ -151,7 +157,7 @@ def test_small_falls_are_not_written(folder, engine, first, second, stood):
 
     world.run(world.loop(engine, folder / "undo"), lambda: step(200 - first),
               lambda: step(200 - second), lambda: seen.append(world.maximum("b")))
-    assert seen == [stood]
+    assert seen == [limit(stood)]
 
 
 def test_inner_limits_and_rounding_up(folder, engine, capsys):
@@ -167,7 +173,7 @@ def test_inner_limits_and_rounding_up(folder, engine, capsys):
     assert [line["groups"]["in/x"]["limit"] for line, _ in lines] == [40, 45]
     assert lines[0][1]["in"] == "40000 100000"
     # z is guaranteed the 160 slices that `in` may not use.
-    assert lines[0][1]["z"] == "160000 100000"
+    assert lines[0][1]["z"] == limit(160)
     world = World(folder / "two", [("y", 10000, FREE), ("z", 1, FREE)])
 
     def starved():
@@ -175,7 +181,7 @@ def test_inner_limits_and_rounding_up(folder, engine, capsys):
         world.uses("z", 0, waited=10**6)
 
     loop = world.loop(engine, folder / "undo2")
-    assert world.run(loop, starved, starved)[1][1]["z"] == "1000 100000"
+    assert world.run(loop, starved, starved)[1][1]["z"] == limit(1)
     assert capsys.readouterr().err.count("z: a limit below 1 ms is rounded up to it") == 1
 
 
@@ -207,8 +213,8 @@ def test_groups_come_and_go(world, engine, folder):
     assert [sorted(line["groups"]) for line, _ in lines] == [
         list("abc"), list("abc"), list("abcd"), list("abd"), list("ab"), list("abd"), list("abd")]
     # Weights 100, 100, 200 and 100 on 200 slices guarantee d 40, and 66 or 67 without c.
-    assert lines[2][1]["d"] == "40000 100000"
-    assert lines[3][1]["d"] in ("66000 100000", "67000 100000")
+    assert lines[2][1]["d"] == limit(40)
+    assert lines[3][1]["d"] in (limit(66), limit(67))
     assert lines[4][1]["d"] == "170000 100000" and lines[5][1]["d"] != "170000 100000"
     assert {each["folder"]: each["quota"] for each in seen[1]["groups"]} == {
         "a": None, "b": None, "d": 170000}
@@ -221,7 +227,7 @@ def test_units_are_written_by_their_files(world, engine, folder, monkeypatch):
     monkeypatch.setattr(apply, "systemctl", None)
     world.add("web.service")
     (_, stood), = world.run(world.loop(engine, folder / "undo"), lambda: None)
-    assert stood["web.service"] == "40000 100000" and world.maximum("web.service") == FREE
+    assert stood["web.service"] == limit(40) and world.maximum("web.service") == FREE
 
 
 def test_a_leaf_that_gets_children_has_its_own_limit_again(world, engine, folder):
@@ -229,7 +235,7 @@ def test_a_leaf_that_gets_children_has_its_own_limit_again(world, engine, folder
     world.run(world.loop(engine, folder / "undo"), lambda: None,
               lambda: world.add("a/in"), lambda: None,
               lambda: stood.append((world.maximum("a"), world.maximum("a/in"))))
-    assert stood == [(FREE, "50000 100000")]
+    assert stood == [(FREE, limit(50))]
     assert world.maximum("a/in") == FREE
 
 
@@ -239,7 +245,7 @@ def test_somebody_sets_a_limit(world, engine, folder, capsys):
         (world.tree / "a/cpu.max").write_text("70000 100000\n")
 
     lines = world.run(world.loop(engine, folder / "undo"), lambda: None, other, lambda: None)
-    assert [stood["a"] for _, stood in lines] == ["50000 100000"] + ["70000 100000"] * 2
+    assert [stood["a"] for _, stood in lines] == [limit(50)] + ["70000 100000"] * 2
     assert [world.maximum(path) for path in "abc"] == ["70000 100000", FREE, FREE]
     assert capsys.readouterr().err.count("a: somebody set") == 1
 
@@ -258,7 +264,7 @@ def test_an_older_reading_and_two_failed_ones(world, engine, folder, capsys):
     held = []
     with pytest.raises(HostFault, match="older than the last"):
         world.run(loop, lambda: None, older, lambda: held.append(world.maximum("a")) or older())
-    assert held == ["50000 100000"] and world.maximum("a") == FREE
+    assert held == [limit(50)] and world.maximum("a") == FREE
 
 
 def test_a_clock_that_stands_and_missed_rounds(world, engine, folder, capsys):
@@ -283,7 +289,7 @@ def test_a_clock_that_jumps(world, engine, folder, capsys):
     loop, stood = world.loop(engine, folder / "undo"), []
     lines = world.run(loop, lambda: None, jump, lambda: stood.append(world.maximum("b")))
     assert [(line["round"], line["missed"]) for line, _ in lines] == [(1, 0), (2, 0)]
-    assert stood == ["50000 100000"]
+    assert stood == [limit(50)]
     assert "20 rounds missed at once: nothing is written" in capsys.readouterr().err
     with pytest.raises(HostFault, match="20 rounds missed at once"):
         world.run(world.loop(engine, folder / "undo"), lambda: None, jump, jump)
@@ -380,7 +386,7 @@ def said(loop):
 def test_signals_put_back(ctl, world, folder, number):
     before = content(world.tree)
     loop = started(ctl, world, folder / "u")
-    assert world.maximum("a") == "50000 100000" and (folder / "u").exists()
+    assert world.maximum("a") == limit(50) and (folder / "u").exists()
     loop.send_signal(number)
     assert (said(loop), loop.returncode) == ([], 0)
     assert content(world.tree) == before and not (folder / "u").exists()

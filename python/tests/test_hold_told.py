@@ -20,7 +20,7 @@ from arbiter_host.faults import HostFault
 from arbiter_host.model import Group, Model
 from arbiter_host.subcommands.hold import Waits
 from places import PACKAGE
-from test_hold import FREE, World, content, said, started
+from test_hold import FREE, World, content, limit, said, started
 
 UNIT = PACKAGE.parent / "share/systemd/arbiter-hold.service"
 WEIGHTS = hold.Ways(has_weights=True)
@@ -222,7 +222,7 @@ def test_depth(folder, engine):
     (line, stood), = world.run(loop, lambda: (world.uses("in", 90, waited=10**6),
                                               busy(world, "b")))
     assert sorted(line["groups"]) == ["b", "in"]
-    assert stood == {"in": "100000 100000", "in/a": "30000 100000", "b": "100000 100000"}
+    assert stood == {"in": limit(100), "in/a": "30000 100000", "b": limit(100)}
 
 
 @pytest.mark.parametrize("ways", [hold.Ways(), WEIGHTS])
@@ -242,7 +242,7 @@ def test_a_group_that_becomes_idle(world, engine, folder, ways):
     assert [weight(world, path) for path in "abc"] == ["0", "100", "200"]
     assert [world.maximum(path) for path in "abc"] == [FREE] * 3
     for path in "abc":
-        (world.tree / path / "cpu.max").write_text("1000 100000\n" if path == "a" else "max 100000")
+        (world.tree / path / "cpu.max").write_text(limit(1) if path == "a" else FREE)
     back = apply.read_undo(undo[0], "F")
     apply.undo(back, [])
     assert world.maximum("a") == FREE and weight(world, "a") == "0"
@@ -256,8 +256,9 @@ def test_bursts(world, engine, folder):
     loop, seen = world.loop(engine, folder / "undo", ways=BURST), []
     world.run(loop, lambda: None, lambda: seen.append([apply.current(loop.root, path)
                                                        for path in "abc"]))
-    assert seen == [[Settings(100, 50000, 100000, 5000), Settings(100, 50000, 100000, 5000),
-                     Settings(200, 100000, 100000, 10000)]]
+    # a 128th above 50, 50 and 100
+    assert seen == [[Settings(100, 50390, 100000, 5039), Settings(100, 50390, 100000, 5039),
+                     Settings(200, 100781, 100000, 10078)]]
     assert apply.current(loop.root, "a") == Settings(100, 190000, 100000, 30000)
 
 

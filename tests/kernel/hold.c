@@ -26,14 +26,13 @@
 #define SLICE 1000
 #define LEAST_QUOTA 1000
 #define MOST_WEIGHT 10000
-/* A limit that falls by less than this part of it is not written. */
-#define LEAST_FALL 64
+/* A quota stands that is up to this part of it above the limit of the rule. */
+#define MOST_ABOVE 64
 
 struct group {
     const char *path;
     char own[64];        /* the text of its cpu.max at the beginning */
-    char stands[64];     /* what was written last */
-    uint64_t quota;      /* its quota, 0 for what it was at the beginning */
+    uint64_t quota;      /* the quota that was written last, 0 while its own stands */
     long weight;         /* the weight that was written last */
     int is_leaf, is_limited;
     long long usage, throttled, waited;
@@ -123,7 +122,6 @@ static void add(const char *path) {
     group->weight = weights[count] = atol(get(path, "cpu.weight"));
     snprintf(group->own, sizeof group->own, "%.63s", get(path, "cpu.max"));
     group->own[strcspn(group->own, "\n")] = 0;
-    memcpy(group->stands, group->own, sizeof group->stands);
     limits[count] = ARBITER_NO_LIMIT;
     group->is_limited = sscanf(group->own, "%lu %lu", &quota, &own_period) == 2;
     if (group->is_limited
@@ -218,28 +216,27 @@ static void ask(void) {
     }
 }
 
+/* Each writing gives a new quota, so one that is a little above the limit of the rule stands. */
 static void write_limit(struct group *group, size_t row, int has_burst) {
     uint64_t quota = held[row] * SLICE;
     char line[64] = "", burst[32];
     if (quota < LEAST_QUOTA)
         quota = LEAST_QUOTA;
-    if (limits[row] != ARBITER_NO_LIMIT && quota >= limits[row] * SLICE)
-        memcpy(line, group->own, sizeof line);
-    else
-        snprintf(line, sizeof line, "%lu %lu", quota, period);
-    if (strcmp(line, group->stands) == 0)
+    int is_own = limits[row] != ARBITER_NO_LIMIT && quota >= limits[row] * SLICE;
+    if (is_own ? group->quota == 0
+               : group->quota >= quota && group->quota <= quota + quota / MOST_ABOVE)
         return;
-    int is_own = strcmp(line, group->own) == 0;
-    if (!is_own && quota < group->quota && (group->quota - quota) * LEAST_FALL < group->quota)
-        return;
-    group->quota = is_own ? 0 : quota;
+    quota += quota / (2 * MOST_ABOVE);
+    if (!is_own && limits[row] != ARBITER_NO_LIMIT && quota > limits[row] * SLICE)
+        quota = limits[row] * SLICE;
+    snprintf(line, sizeof line, "%lu %lu", quota, period);
+    snprintf(burst, sizeof burst, "%lu", quota / 10);
     if (has_burst)
         put(group->path, "cpu.max.burst", "0");
-    put(group->path, "cpu.max", line);
-    snprintf(burst, sizeof burst, "%lu", quota / 10);
+    put(group->path, "cpu.max", is_own ? group->own : line);
     if (has_burst && !is_own)
         put(group->path, "cpu.max.burst", burst);
-    memcpy(group->stands, line, sizeof group->stands);
+    group->quota = is_own ? 0 : quota;
     group->is_limited = 1;
 }
 

@@ -45,7 +45,8 @@ def steps() -> Iterator[dict[str, Any]]:
     yield {"name": "dry run", "words": held("none", "--once", "--dry-run")}
     yield {"name": "hold", "words": held("one", "--for", "9s")}
     for name, group, more in (("first", "b", []), ("last", "pod/y", ["--weights", "--burst"])):
-        text = f"{GUARANTEES[group]}000 100000"
+        # (the loop writes a 128th above the limit of the rule)
+        text = f"{GUARANTEES[group] * 1000 * 129 // 128} 100000"
         yield {"name": f"killed {name}", "words": held(name, *more),
                "kill": [layout.place(group, "cpu.max"), text]}
         yield {"name": f"undone {name}", "words": undone(name)}

@@ -174,11 +174,12 @@ def add_words(parser: argparse.ArgumentParser) -> None:
 
 DETAILS = (
     "Each round reads cpu.stat of each group without children, in slices of one period. A group is"
-    " hungry if it was throttled in the round, or if a task of it never slept and waited (schedstat,"
-    " read where cpu.pressure rose). Where its tasks are new it is a guess: whether they waited for"
-    " half of the round. The library's rule gives the limits, and its check accepts the plan. Then"
-    " cpu.max is written. With --period 100ms a group is stopped for a tenth of a second at most,"
-    " and with few tasks in each group more is lost.",
+    " hungry if it was throttled in the round, or if a task of it never slept and waited"
+    " (schedstat, read where cpu.pressure rose). Where its tasks are new it is a guess: whether"
+    " they waited for half of the round. The library's rule gives the limits, and its check accepts"
+    " the plan. Then cpu.max is written, where it is not 0 to 1/64 above the limit. With --period"
+    " 100ms a group is stopped for a tenth of a second at most, and with few tasks in each group"
+    " more is lost.",
     "With --weights it writes cpu.weight too: 100 d / (1.01 - d) where the limit lets each task of"
     " a group use the part d of a CPU. A group with children has the sum of theirs. The plan is"
     " that of the operator's own weights. A weight that somebody sets meanwhile is such a one.",
@@ -200,9 +201,8 @@ DETAILS = (
 EXAMPLES = (
     ("one round of a part of the tree, nothing written",
      "arbiterctl hold /sys/fs/cgroup/system.slice --once --dry-run"),
-    ("ten minutes with weights, and gauges for a textfile collector",
-     "arbiterctl hold /sys/fs/cgroup/system.slice --weights --for 10m --openmetrics"
-     " /var/lib/prometheus/node-exporter/hold.prom"),
+    ("the same with weights, and limits of a tenth of a second",
+     "arbiterctl hold /sys/fs/cgroup/system.slice --once --dry-run --weights --period 100ms"),
 )
 HOLD = Subcommand("hold",
                   "Holds the plan on a host with cgroup v2: each round it reads what each group"
