@@ -48,7 +48,7 @@ dens_pos : (n : ℕ) (f : ℕ → Fraction) → ((p : ℕ) → 0 < (f p).den)
 dens_pos zero f pos = omega arith
 dens_pos (suc n) f pos = mul-pos (pos n) (dens_pos n f pos)
 
--- What bounds each term bounds the sum. `whole` and `factor` are numerators, `own` and `own_den`
+-- A bound of each term bounds the sum. `whole` and `factor` are numerators, `own` and `own_den`
 -- the shares on each processor.
 sums_low : (n : ℕ) (f : ℕ → Fraction) (own : ℕ → ℕ) (factor whole scale factor_den : ℕ)
     → ((p : ℕ) → p < n → factor * (f p).num * whole ≤ scale * own p * (factor_den * (f p).den))

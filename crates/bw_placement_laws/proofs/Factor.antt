@@ -1,4 +1,4 @@
--- What each group has of a processor is its planned share there over the processor's load, level by
+-- Each group's part of a processor is its planned share there over the processor's load, level by
 -- level. So all tasks of a processor are off by one factor.
 use Rattle.std.proofs.Common.{◌≡◌, ℕ, zero, suc, ◌+◌, ◌*◌, ◌==◌, ◌<◌, List, [], ◌∷◌, ◌++◌}
 use Rattle.std.proofs.Common.{length, get_or, cond, ne_eqb, refl, ap, sym, subst, arith}
@@ -31,7 +31,7 @@ by_zero (suc n) P a b at_zero above =
     subst (λ t. P (cond t a b)) (sym (ne_eqb (suc n) 0 (λ e. omega (arith, e))))
     (above (omega arith))
 
--- What a group has of one processor, `had`, is its planned share there over the processor's load:
+-- A group's part of one processor, `had`, is its planned share there over the processor's load:
 -- `had * (load / load_unit) ≡ share * part / whole`.
 pub record IsPart (had : Fraction) (load load_unit num den part whole : ℕ) : Type 0 where
   pub den_pos : 0 < had.den

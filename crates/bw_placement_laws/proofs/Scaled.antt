@@ -91,7 +91,7 @@ leaf_scaled processors num den weight tasks den_pos some all = record {
       );
 }
 
--- What is scaled to the load of an inner group's own queues is scaled to its weights too.
+-- A load that is scaled to that of an inner group's own queues is scaled to its weights too.
 inner_scaled : (processors num den weight total : ℕ) (one load : Loads)
     → IsScaled one (num * weight) (den * total) load → IsLoad processors load total
     → IsScaled one num den (queue_weights processors weight load)

@@ -31,7 +31,7 @@ pub sum_plus : (n : ℕ) (f g : ℕ → ℕ)
 sum_plus zero f g = omega arith
 sum_plus (suc n) f g = omega (arith, sum_plus n f g)
 
--- What holds of each term, up to factors, holds of the sums.
+-- Terms that are equal up to factors have sums that are so.
 pub sum_scaled : (n a b c : ℕ) (f g : ℕ → ℕ) → ((p : ℕ) → f p * a ≡ b * g p * c)
     → sum_below n f * a ≡ b * sum_below n g * c
 sum_scaled zero a b c f g each = omega arith

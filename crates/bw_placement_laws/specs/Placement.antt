@@ -1,5 +1,5 @@
--- What each group and task has by the weights on the queues, level by level, and laws of it beside
--- the plan's fractional shares.
+-- The time that each group and task has by the weights on the queues, level by level, and its laws
+-- beside the plan's fractional shares.
 use Rattle.std.specs.Prelude.{ℕ, ◌+◌, ◌-◌, ◌*◌, ◌==◌, ◌<◌, List, [], ◌∷◌, ◌++◌, length, cond, All}
 use Rattle.bw_placement_laws.specs.Fractions.{Fraction, plus, times, AreSame, IsAtMost, sum_below}
 use Rattle.bw_placement_laws.specs.Fractions.{fractions_below}
@@ -26,8 +26,8 @@ root = record {
 abbrev pub share_of : Fraction → Siblings → ℕ → Fraction
 share_of parent siblings weight = times parent (record { num = weight; den = weights siblings })
 
--- What a group has of a processor: what its parent has there, times its weight on the queue over
--- the queue's load. A group that is not on the queue has nothing.
+-- A group's part of a processor: its parent's part there, times its weight on the queue over the
+-- queue's load. A group that is not on the queue has nothing.
 abbrev pub had_on : Fraction → Loads → Loads → ℕ → Fraction
 had_on parent weight load p = cond (weight.parts p == 0) (record { num = 0; den = 1 })
     (times parent (record {
@@ -113,7 +113,7 @@ pub record IsHost (processors : ℕ) (host : Siblings) : Type 0 where
   pub has_group : 0 < weights host
   pub placed : ArePlaced processors host
 
--- What a task has over its plan is the mean load over the load of its processor. Crosswise: had
+-- Law: a task's time over its plan is the mean load over the load of its processor. Crosswise: had
 -- times load is plan times mean.
 abbrev pub PlacementIsOneFactor : Type 0
 PlacementIsOneFactor = (processors : ℕ) (host : Siblings) → IsHost processors host
