@@ -3,8 +3,9 @@ use Rattle.std.proofs.Common.{◌≡◌, ℕ, ◌<◌, ◌≤◌, ◌⊎◌, Lis
 use Rattle.std.proofs.Common.{get_or, refl, ap, sym, ◌∙◌, arith, inl, inr, eqb}
 use Rattle.std.specs.Prelude.{map, min, sum, slice_index}
 use Rattle.std.proofs.lemmas.Bool.{cases_lt, or_right}
+use Rattle.std.proofs.lemmas.List.{length-map}
 use Rattle.std.proofs.lemmas.List.Sums.{sum-map}
-use Rattle.bw_model.specs.Groups.{Groups, IsInstance, parent_of, children_of, is_leaf}
+use Rattle.bw_model.specs.Groups.{Groups, IsInstance, parent_of, children_of, is_leaf, weight_of}
 use Rattle.bw_model.specs.Groups.{limit_of, demand_of, is_under, sum_of_children}
 use Rattle.bw_model.specs.Demand.{want_of}
 use Rattle.bw_model.specs.Plan.{IsPlan, child_weights}

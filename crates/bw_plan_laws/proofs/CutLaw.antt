@@ -1,16 +1,17 @@
 -- A limit only cuts: with it a group has what it has without, or the limit if that is less.
-use Rattle.std.proofs.Common.{◌≡◌, ℕ, ◌<◌, ◌≤◌, List, true, false, None, Some, length}
-use Rattle.std.proofs.Common.{get_or, ap, sym, ◌∙◌, arith, inl, inr}
+use Rattle.std.proofs.Common.{◌≡◌, ◌≢◌, ℕ, ◌<◌, ◌≤◌, List, true, false, None, Some, length}
+use Rattle.std.proofs.Common.{get_or, refl, ap, sym, ◌∙◌, arith, inl, inr}
 use Rattle.std.specs.Prelude.{map, min, sum, slice_index}
 use Rattle.std.proofs.lemmas.Bool.{cases_eq, cases_lt}
 use Rattle.std.proofs.lemmas.List.{length-map}
+use Rattle.std.proofs.lemmas.List.Sums.{sum-map}
 use Rattle.bw_model.specs.Groups.{Groups, IsInstance, parent_of, children_of, is_leaf, weight_of}
-use Rattle.bw_model.specs.Groups.{demand_of, limit_of, is_under}
+use Rattle.bw_model.specs.Groups.{demand_of, limit_of, is_under, sum_of_children}
 use Rattle.bw_model.specs.Demand.{want_of}
-use Rattle.bw_model.specs.Plan.{IsPlan}
+use Rattle.bw_model.specs.Plan.{IsPlan, child_weights}
 use Rattle.bw_model.specs.Split.{IsBestSplit}
 use Rattle.bw_model.proofs.CallerLemmas.{capped, mosts, mosts-capped}
-use Rattle.bw_model.proofs.CallerLemmas.{parent_lt, parent_not_leaf, child_at}
+use Rattle.bw_model.proofs.CallerLemmas.{parent_lt, parent_not_leaf, listed_child, child_at}
 use Rattle.bw_model.proofs.CallerLemmas.{get_or-map, is_under-self}
 use Rattle.bw_split_laws.proofs.CallerLemmas.{find_greater}
 use Rattle.bw_plan_laws.specs.Cut.{LimitOnlyCuts}
@@ -20,7 +21,7 @@ use Rattle.bw_plan_laws.proofs.BusyLaw.{uncut_most, child_full}
 use Rattle.bw_plan_laws.proofs.HostLaws.{mosts_less}
 use Rattle.bw_plan_laws.proofs.Lacking.{within_most, no_more_below}
 use Rattle.bw_plan_laws.proofs.RoomLaw.{more_room_takes, most_same}
-use Rattle.bw_plan_laws.proofs.Trees.{from_the_root, planned, want_same, split_beside, under_le}
+use Rattle.bw_plan_laws.proofs.Trees.{from_the_root, planned, want_same, split_beside, at_place, under_le}
 
 module _ (a b : Groups) (group : ℕ) (xs ys : List ℕ) (va : IsInstance a) (vb : IsInstance b)
     (more : IsRoomierAt a b group) (group_in : group < length a.rows) (is_plan : IsPlan a xs)

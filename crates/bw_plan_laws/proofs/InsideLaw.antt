@@ -1,8 +1,8 @@
 -- A change below a group that leaves its most changes nothing that is not below it.
-use Rattle.std.proofs.Common.{◌≡◌, ℕ, ◌<◌, List, true, length, get_or, ap}
+use Rattle.std.proofs.Common.{◌≡◌, ℕ, ◌<◌, List, true, Some, length, get_or, ap}
 use Rattle.std.proofs.Common.{sym, ◌∙◌, arith, inl, inr}
 use Rattle.std.proofs.lemmas.Bool.{cases_eq}
-use Rattle.bw_model.specs.Groups.{Groups, IsInstance, limit_of, is_under}
+use Rattle.bw_model.specs.Groups.{Groups, IsInstance, parent_of, limit_of, is_under}
 use Rattle.bw_model.specs.Demand.{want_of}
 use Rattle.bw_model.specs.Plan.{IsPlan}
 use Rattle.bw_model.proofs.CallerLemmas.{from_the_last, capped, AreMaxTotals-capped}

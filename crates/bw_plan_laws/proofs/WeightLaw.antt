@@ -1,6 +1,6 @@
 -- A group of a greater weight alone gains.
 use Rattle.std.proofs.Common.{◌≡◌, ◌≢◌, ℕ, ◌<◌, ◌≤◌, List, true, false, Some, length, get_or}
-use Rattle.std.proofs.Common.{refl, ap, sym, ◌∙◌, arith, eqb}
+use Rattle.std.proofs.Common.{refl, ap, sym, ◌∙◌, arith, inl, inr, eqb}
 use Rattle.std.specs.Prelude.{map, slice_index}
 use Rattle.std.proofs.lemmas.Bool.{or_right}
 use Rattle.bw_model.specs.Groups.{Groups, IsInstance, parent_of, children_of, is_leaf, weight_of}
