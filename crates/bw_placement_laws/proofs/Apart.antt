@@ -95,20 +95,21 @@ near_mean processors host grain is apart p below = (
     left_den = mul-pos grain_pos (mul-pos unit_pos is.has_processor);
     right_den = unit_pos;
     crosswise =
-        low_load ((loads host).parts p) (loads host).unit grain.den grain.num processors (sum_below processors (loads host).parts)
-        is.has_processor sum_is
+        low_load ((loads host).parts p) (loads host).unit grain.den grain.num processors
+        (sum_below processors (loads host).parts) is.has_processor sum_is
         (sum_at_most processors (grain.den * processors)
-        ((loads host).parts p * (grain.den * processors) + grain.num * (loads host).unit) (loads host).parts
-        (λ q q_below. two q p q_below below));
+        ((loads host).parts p * (grain.den * processors) + grain.num * (loads host).unit)
+        (loads host).parts (λ q q_below. two q p q_below below));
   },
   record {
     left_den = unit_pos;
     right_den = mul-pos grain_pos (mul-pos unit_pos is.has_processor);
     crosswise =
-        high_load ((loads host).parts p) (loads host).unit grain.den grain.num processors (sum_below processors (loads host).parts)
-        is.has_processor sum_is
+        high_load ((loads host).parts p) (loads host).unit grain.den grain.num processors
+        (sum_below processors (loads host).parts) is.has_processor sum_is
         (sum_at_least processors (grain.den * processors) (grain.num * (loads host).unit)
-        ((loads host).parts p * (grain.den * processors)) (loads host).parts (λ q q_below. two p q below q_below));
+        ((loads host).parts p * (grain.den * processors)) (loads host).parts
+        (λ q q_below. two p q below q_below));
   },
 )
   where

@@ -94,7 +94,7 @@ abbrev pub planned : ℕ → Outcome → Fraction
 planned processors group =
     record { num = processors * group.share.num; den = group.share.den }
 
--- what a group has of all processors
+-- the sum of a group's parts of all processors
 abbrev pub had_in_all : ℕ → Outcome → Fraction
 had_in_all processors group = fractions_below processors group.had
 
@@ -103,7 +103,7 @@ abbrev pub task_planned : ℕ → Outcome → Fraction
 task_planned processors leaf =
     times (planned processors leaf) (record { num = 1; den = length leaf.tasks })
 
--- what one task of a leaf has: an equal part of what the leaf has of the task's processor
+-- one task's part of its processor: an equal part of its leaf's part there
 abbrev pub task_had : Outcome → ℕ → Fraction
 task_had leaf p = times (leaf.had p) (record { num = 1; den = tasks_on p leaf.tasks })
 
