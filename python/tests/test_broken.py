@@ -6,7 +6,9 @@ import trees
 from arbiter import Host
 from arbiter_host import names, samples
 from arbiter_host.faults import HostFault
+from arbiter_host.fleet import hosts
 from arbiter_host.model import Model
+from arbiter_host.owned import Setting
 from arbiter_host.plan import plan
 from arbiter_host.sources import (cgroup2, cgroups, containers, hostfile, kubernetes, script,
                                   systemd)
@@ -16,6 +18,7 @@ from hypothesis import strategies as st
 FIXTURES = Path(__file__).parent / "fixtures"
 HOST = Host(4, 100000, 1000)
 KUBERNETES = (FIXTURES / "pods.json").read_bytes() + b"\n"
+CLUSTER = (FIXTURES / "cluster.json").read_bytes()
 DOCKER = (FIXTURES / "docker.json").read_bytes()
 UNITS = (FIXTURES / "units.show").read_bytes()
 TOML = (b'[host]\ncpus = 16\nperiod = "100ms"\n[groups."a/b"]\nweight = 200\nmax = "2cpu"\n'
@@ -50,7 +53,7 @@ def holds(engine, take):
             assert script.read(written, "F", engine).refused == []
             hostfile.write_toml(model)
             hostfile.write_yaml(model)
-            return model
+        return model
     except HostFault as fault:
         assert fault.message and "\n" not in fault.message.strip()
         assert names.shown(fault.message).isprintable()
@@ -64,6 +67,18 @@ def planned(engine, model):
             plan(engine, model)
         except HostFault as fault:
             assert fault.message
+
+
+def changed(engine, model):
+    """Each setting that can be asked for of a group that people own is one that its source takes."""
+    owned = None if model is None else model.owned
+    for path in [each for each in model.groups if owned.has(each)][:3] if owned else ():
+        for of in owned.ranges(path):
+            for value in {value for part in of.parts for value in part}:
+                setting = Setting(path, of.key, of.written(value))
+                after = holds(engine, lambda: owned.changed([setting]).model())
+                assert after is not None and len(after.groups) == len(model.groups)
+                planned(engine, after)
 
 
 @MANY
@@ -114,13 +129,30 @@ JSON_VALUES = st.recursive(
 @given(data=st.one_of(broken(KUBERNETES), st.binary(max_size=200)))
 @example(data=b"[" * 100000)
 def test_kubernetes(engine, data):
-    planned(engine, holds(engine, lambda: kubernetes.read([("F", data)], HOST, engine.library)))
+    model = holds(engine, lambda: kubernetes.read([("F", data)], HOST, engine.library))
+    planned(engine, model)
+    changed(engine, model)
+
+
+@MANY
+@given(data=st.one_of(broken(CLUSTER), st.binary(max_size=200)))
+def test_cluster(engine, data):
+    """Each node of a cluster is one host, whatever its pods say; pods that wait have a shape."""
+    whole = holds(engine, lambda: hosts.document("F", data))
+    fleet = None if whole is None else holds(engine, lambda: hosts.of_cluster("F", whole))
+    for host in fleet.hosts if fleet else ():
+        planned(engine, holds(engine, lambda: kubernetes.read([("F", host.data)], HOST,
+                                                              engine.library)))
+    for pod in fleet.pending if fleet else ():
+        assert pod.shape in fleet.shapes() and pod.title.isprintable()
 
 
 @MANY
 @given(data=st.one_of(broken(DOCKER), st.binary(max_size=200)))
 def test_containers(engine, data):
-    planned(engine, holds(engine, lambda: containers.read([("F", data)], HOST, engine.library)))
+    model = holds(engine, lambda: containers.read([("F", data)], HOST, engine.library))
+    planned(engine, model)
+    changed(engine, model)
 
 
 @MANY
@@ -137,7 +169,9 @@ def test_json_of_any_form(engine, value):
 @MANY
 @given(data=st.one_of(broken(UNITS), st.binary(max_size=200)))
 def test_units(engine, data):
-    planned(engine, holds(engine, lambda: systemd.read([("F", data)], HOST)))
+    model = holds(engine, lambda: systemd.read([("F", data)], HOST))
+    planned(engine, model)
+    changed(engine, model)
 
 
 @MANY
