@@ -52,7 +52,8 @@ def word_of(action: argparse.Action) -> Word:
         (LISTS[name] for name in names if name in LISTS), ())
     metavar = action.metavar if isinstance(action.metavar, str) else ""
     value = "" if action.nargs == 0 else metavar or (action.dest.upper() if not values else "")
-    return Word(names, value, values, action.help or "", action.nargs == "+" or bool(
+    text = (action.help or "").replace("%%", "%")
+    return Word(names, value, values, text, action.nargs == "+" or bool(
         names and isinstance(action.default, list)), action.nargs not in ("?", 0) and not names)
 
 

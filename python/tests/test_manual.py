@@ -128,8 +128,11 @@ def examples(ctl, folder):
 def example_command(command, folder):
     """An example that reads a small tree for a moment, in place of this machine for seconds."""
     command = command.replace("/sys/fs/cgroup", f"{folder}/cgroup").replace("10s", "10ms")
-    if command.startswith("arbiterctl top") and "--count" not in command:
-        command += f" --count 1 {folder}/cgroup"
+    if command.startswith("arbiterctl top"):
+        command += " --once" if "--once" not in command else ""
+        command += f" {folder}/cgroup" if "cgroup" not in command else ""
+    if command.startswith("arbiterctl watch"):
+        command = command.replace(":9101", ":0") + " --once --interval 10ms"
     if "fleet" in command:
         command += " --workers 0"
     if "apply" in command or "hold" in command:
@@ -144,7 +147,7 @@ def test_examples_run(ctl, examples, command):
     ended = subprocess.run(["bash", "-c", example_command(command, examples)], cwd=examples,
                            capture_output=True, env=ctl.environment, timeout=60, check=False)
     assert (ended.returncode, b"Traceback" in ended.stderr) == (0, False), ended.stderr.decode()
-    made = re.search(r"(?: -o | --undo )(\S+)", command.rpartition("|")[2])
+    made = re.search(r"(?: -o | --undo | --to )(\S+)", command.rpartition("|")[2])
     assert (examples / made.group(1)).stat().st_size if made else ended.stdout
 
 

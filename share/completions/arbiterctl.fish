@@ -286,7 +286,7 @@ complete -c arbiterctl -n '__fish_seen_subcommand_from top' -l driver -x -a 'sys
 complete -c arbiterctl -n '__fish_seen_subcommand_from top' -l strict -d 'refused lines of a script end the command with status 4'
 complete -c arbiterctl -n '__fish_seen_subcommand_from top' -s h -l help -d 'print help'
 
-complete -c arbiterctl -n '__fish_seen_subcommand_from watch' -l alert -x -d '[GROUP:]starved, throttled>5%% (of its periods), lack>250m (wanted above the plan), off>250m (used above or below the plan)'
+complete -c arbiterctl -n '__fish_seen_subcommand_from watch' -l alert -x -d '[GROUP:]starved, throttled>5% (of its periods), lack>250m (wanted above the plan), off>250m (used above or below the plan)'
 complete -c arbiterctl -n '__fish_seen_subcommand_from watch' -l after -x -d 'an alert holds for N rounds before it is raised (default 1)'
 complete -c arbiterctl -n '__fish_seen_subcommand_from watch' -l command -x -d 'run this at an alert, without a shell, with the alerts as JSON on its standard input; the watch goes on'
 complete -c arbiterctl -n '__fish_seen_subcommand_from watch' -l listen -x -d 'answer with OpenMetrics at a loopback address, such as 127.0.0.1:9101; port 0 takes a free one'
