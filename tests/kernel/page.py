@@ -1,4 +1,4 @@
-"""Tables of docs/kernel/RUNS.md from the files of `--save`.
+"""Tables of docs/kernel/runs.txt from the files of `--save`.
 
     PYTHONPATH=tests /usr/bin/python3 -m kernel.page FILE..
 """

@@ -228,8 +228,8 @@ def test_page_of_counters_and_offsets():
 
 
 def test_runs_are_of_scenarios():
-    """docs/kernel/RUNS.md names each scenario, and none that is not there."""
-    text = (ROOT / "docs/kernel/RUNS.md").read_text(encoding="utf-8")
+    """docs/kernel/runs.txt names each scenario, and none that is not there."""
+    text = (ROOT / "docs/kernel/runs.txt").read_text(encoding="utf-8")
     named = set(re.findall(r"`((?:one|two|four|limit|series)-[a-z-]+)`", text))
     assert sorted(named) == ALL
 
