@@ -1,10 +1,10 @@
 //! A goal of one group.
 
-/// What a group is to get: at least so many slices of one period.
+/// The least amount that a group is to get.
 #[derive(Clone, Copy, Debug, PartialEq, Eq)]
 pub struct Goal {
     /// The group, by its row.
     pub group: u32,
-    /// The least amount, in slices.
+    /// Slices of one period.
     pub amount: u64,
 }

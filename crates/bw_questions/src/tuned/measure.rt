@@ -1,6 +1,6 @@
-//! What a goal is measured by.
+//! The measure of a goal.
 
-/// What a goal is measured by: the amount of the plan, or the guarantee.
+/// The measure of a goal: the amount of the plan, or the guarantee.
 #[derive(Clone, Copy, Debug, PartialEq, Eq)]
 pub enum Measure {
     /// The amount that the plan gives the group, by the demands as they are.
