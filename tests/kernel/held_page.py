@@ -21,7 +21,7 @@ Saved = dict[str, Any]
 # The scenario whose demands change, which has a table of its own.
 STEP = "two-step"
 # The ways that have columns in docs/HOLD.md.
-PAGE_WAYS = ["weights", "limits-1s", "loop", "loop-1s", "loop-weights-1s"]
+PAGE_WAYS = ["weights", "limits-1s", "loop", "loop-1s"]
 
 
 def read(paths: Iterable[str]) -> list[Saved]:

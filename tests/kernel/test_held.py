@@ -117,7 +117,7 @@ def test_rounds_of_the_runs_are_by_the_rule(library):
                 assert plan == line["plan"], (run["key"], line)
                 assert 0 <= limit - line["limit"] <= (not line["hungry"]), (run["key"], line)
             count += 1
-    assert count > 500
+    assert count > 300
 
 
 def kernel_of_guests():
