@@ -429,6 +429,8 @@ def test_unit_says_how_it_runs():
     assert option("Type") == ["notify"] and int(option("WatchdogSec")[0]) >= 10
     assert option("ExecStart") == ["/usr/bin/arbiterctl hold --undo /run/arbiter/hold-undo.json"
                                    " $OPTIONS ${TREE}"]
+    assert option("EnvironmentFile") == ["/etc/default/arbiter-hold"]
+    assert "/etc/default/arbiter-hold" in option("ConditionPathExists")
     rules = (UNIT.parents[1] / "debian/rules").read_text()
     assert "dh_installsystemd --no-enable --no-start" in rules
 
