@@ -426,7 +426,11 @@ def test_dry_run_writes_nothing(ctl, world, folder):
         line = json.loads(out)
         assert [each["limit"] for each in line["groups"].values()] == limits
         assert (line["written"], content(folder)) == (0, before)
-    ctl.run("hold", world.tree, "--root", world.tree, "--cpus", "96", "--once", "--dry-run")
+    # 96 CPUs by weights 100, 100 and 200: in slices of 10 ms of 1 s, and of 1 ms of 100 ms
+    for more in ([], ["--period", "100ms"]):
+        out, _ = ctl.run("hold", world.tree, "--root", world.tree, "--cpus", "96", "--once",
+                         "--dry-run", *more)
+        assert [each["limit"] for each in json.loads(out)["groups"].values()] == [2400, 2400, 4800]
 
 
 def test_killed_at_random_points_and_undone(library, folder):

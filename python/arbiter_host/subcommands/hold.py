@@ -13,7 +13,7 @@ from dataclasses import replace
 from arbiter import Host
 from arbiter_host import beneath, gauges, hold, load, output, record
 from arbiter_host.faults import HostFault, UsageFault
-from arbiter_host.model import MAX_DEPTH, MAX_PROCESSORS
+from arbiter_host.model import MAX_CAPACITY, MAX_DEPTH
 from arbiter_host.names import shown
 from arbiter_host.notify import Notifier
 from arbiter_host.subcommands.base import Subcommand, found_engine
@@ -101,8 +101,9 @@ def machine(options: argparse.Namespace, root: beneath.Root) -> Host:
     Without --slice a host that has too many slices of 1 ms for the planner has slices of 10 ms.
     """
     there = os.cpu_count()
+    period = PERIOD if options.period is None else load.time_option(options.period, "--period")
     told = Host(there or 1, PERIOD, SLICE)
-    if (options.cpus or told.processors) > MAX_PROCESSORS:
+    if (options.cpus or told.processors) * period > MAX_CAPACITY * SLICE:
         told = replace(told, slice_us=10 * SLICE)
     host = load.chosen_host(options, told)
     if is_real(root) and there is not None and host.processors > there:
