@@ -5,7 +5,7 @@ from collections.abc import Iterator
 from fractions import Fraction
 from typing import Any
 
-from arbiter_host import compare, explain, text, units
+from arbiter_host import compare, explain, text
 from arbiter_host.html import rendered
 from arbiter_host.names import last_name, parent_path, short, shown
 from arbiter_host.plan import Plan, Planned
@@ -32,7 +32,7 @@ def request_of(plan: Plan, group: Planned, unit: str) -> str:
     scale = {"cpu": Fraction(1, 1000), "m": Fraction(1), "%": Fraction(1, 10),
              "us": Fraction(host.period_us, 1000),
              "slices": Fraction(host.period_us, 1000 * host.slice_us)}[unit]
-    return units.decimal(asked * scale)
+    return f"{float(asked * scale):.{3 if unit == 'cpu' else 1}f}"
 
 
 def row(plan: Plan, group: Planned, unit: str, is_open: bool) -> dict[str, Any]:

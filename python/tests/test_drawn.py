@@ -217,8 +217,8 @@ def test_page_has_requests_and_names_once(ctl, folder):
     ctl.run("report", *PODS, "-o", folder / "p.html")
     page = (folder / "p.html").read_text()
     found = cells_of(page)
-    assert (found["nginx"]["request"], found["nginx"]["limit"]) == ("0.25", "1.00")
-    assert found["metrics"]["request"] == "0.1" and found["prod:web-7c9f"]["request"] == ""
+    assert (found["nginx"]["request"], found["nginx"]["limit"]) == ("0.250", "1.00")
+    assert found["metrics"]["request"] == "0.100" and found["prod:web-7c9f"]["request"] == ""
     row = re.search(r"<tr data-path[^>]*>\s*<th(?:(?!</tr>).)*>nginx<.*?</th>", page, re.S).group()
     assert re.sub(r"<[^>]+>", " ", row).split() == ["nginx", "in",
                                                     "kubepods/burstable/prod:web-7c9f"]

@@ -3,6 +3,7 @@ import json
 import os
 import re
 import shlex
+import shutil
 import signal
 import socket
 import subprocess
@@ -209,6 +210,20 @@ def test_metrics_by_hand(engine):
     text = exposition.generate_latest(registry).decode()
     parsed = list(parser.text_string_to_metric_families(text))
     assert {each.name for each in parsed} == set(metrics.NAMES) and text.endswith("# EOF\n")
+
+
+def test_metrics_have_no_fault_by_promtool(engine):
+    if shutil.which("promtool") is None:
+        pytest.skip("no promtool (package prometheus)")
+    figured = metrics.Figured()
+    figured.put(round_of(engine, "a", "x\x1b\\\"{").figures(), [watch.Alert("starved", "a")])
+    text = generate_latest(metrics.registry_of(figured))
+    ended = subprocess.run(["promtool", "check", "metrics"], input=text, capture_output=True,
+                           timeout=60, check=False)
+    assert (ended.returncode, ended.stdout, ended.stderr) == (0, b"", b"")
+    ended = subprocess.run(["promtool", "check", "metrics"], input=text + b"a{b=} 1\n",
+                           capture_output=True, timeout=60, check=False)
+    assert ended.returncode != 0
 
 
 def test_hostile_names_in_metrics(engine):
