@@ -391,13 +391,13 @@ def test_hostile_owners(ctl, folder, name):
 def test_slurm(ctl, folder):
     """A limit of whole CPUs is one of a user's later jobs; weights and parts are refused."""
     words = [FIXTURES / "slurm-jobs.json", FIXTURES / "slurm-nodes.json", "--set"]
-    found, err = applied(ctl, folder, "slurm", *words, "job_124.max=3cpu")
+    found, err = applied(ctl, folder, "slurm", *words, "bob/sim/124.max=3cpu")
     assert found["slurm.sh"].endswith(
         "sacctmgr -i modify user where name=bob set MaxTRESPerJob=cpu=3\n")
     assert subprocess.run(["bash", "-n", folder / "out/slurm.sh"], check=False).returncode == 0
     assert "holds for jobs of bob that are submitted later" in err
-    for change, why in (("job_124.weight=7", "a weight: Slurm has none"),
-                        ("job_124.max=150%", "no whole number of CPUs")):
+    for change, why in (("bob/sim/124.weight=7", "a weight: Slurm has none"),
+                        ("bob/sim/124.max=150%", "no whole number of CPUs")):
         assert why in applied(ctl, folder, "slurm", *words, change, status=1)[1]
     assert "no job of a user" in applied(ctl, folder, "slurm", UNITS, "--cpus", "4", *SSH_CHANGE,
                                          status=1)[1]

@@ -12,6 +12,7 @@ from places import PACKAGE
 FIXTURES = PACKAGE / "tests/fixtures"
 JOBS, NODES, SACCT = (FIXTURES / name for name in ("slurm-jobs.json", "slurm-nodes.json",
                                                    "sacct.txt"))
+TRAIN, SIM = "alice:train:123", "bob:sim:124"
 HEAD = "JobID|JobName|User|State|AllocCPUS|Elapsed|TotalCPU|NodeList\n"
 
 
@@ -33,35 +34,36 @@ def test_usage_by_hand():
     assert model.host == Host(8, 100000, 1000)
     top = slurm.TOP
     assert rows(model) == {
-        "job_123": ("alice/train", 0, None, f"{top}/job_123"),
-        "job_123/step_batch": ("alice/train/batch", 0, None, f"{top}/job_123/step_batch"),
-        "job_123/step_0": ("alice/train/0", Fraction(3000277, 1000), 4, f"{top}/job_123/step_0"),
-        "job_124": ("bob/sim", 500, 2, f"{top}/job_124")}
+        TRAIN: ("alice/train/123", 0, None, f"{top}/job_123"),
+        f"{TRAIN}/step_batch": ("alice/train/123/batch", 0, None, f"{top}/job_123/step_batch"),
+        f"{TRAIN}/step_0": ("alice/train/123/0", Fraction(3000277, 1000), 4,
+                            f"{top}/job_123/step_0"),
+        SIM: ("bob/sim/124", 500, 2, f"{top}/job_124")}
     assert model.notes == [
         "jobs and steps that do not run, left out: 2",
-        "bound to cores: job_123: each keeps to its own CPUs, so what others leave idle does not"
+        "bound to cores: alice/train/123: each keeps to its own CPUs, so what others leave idle does not"
         " reach it",
-        "on several nodes: job_124: CPUs that are not told by node are shared out equally, and"
+        "on several nodes: bob/sim/124: CPUs that are not told by node are shared out equally, and"
         " usage is that of all nodes",
-        "job_123/step_batch: nothing read for --want usage: no demand"]
+        "alice:train:123/step_batch: nothing read for --want usage: no demand"]
 
 
 def test_allotted_without_usage():
     """Without sacct each job asks for the CPUs that it was allotted: 4, and 2 of 4 on two nodes."""
     model = read(JOBS.read_bytes(), NODES.read_bytes())
     assert {path: (each.demand, each.tasks) for path, each in model.groups.items()} == {
-        "job_123": (4000, 4), "job_124": (2000, 2)}
+        TRAIN: (4000, 4), SIM: (2000, 2)}
 
 
 def test_plan_of_jobs(ctl):
     """Two CPUs for 3.01 and 0.5: the weights are equal, so the small one gets all it wants."""
     out, err = ctl.run("explain", JOBS, NODES, SACCT, "--cpus", "2", "--json")
     found = {each["group"]: each["gets"]["slices"] for each in json.loads(out)["groups"]}
-    assert found == {".": 200, "job_123": 150, "job_123/step_batch": 0, "job_123/step_0": 150,
-                     "job_124": 50}
-    assert "bound to cores: job_123" in err
-    named, _ = ctl.run("need", "alice/train/0", "2cpu", JOBS, NODES, SACCT, "--cpus", "2")
-    assert "job_123/step_0 gets 1.50 of 3.01" in named
+    assert found == {".": 200, TRAIN: 150, f"{TRAIN}/step_batch": 0, f"{TRAIN}/step_0": 150,
+                     SIM: 50}
+    assert "bound to cores: alice/train/123" in err
+    named, _ = ctl.run("need", "alice/train/123/0", "2cpu", JOBS, NODES, SACCT, "--cpus", "2")
+    assert f"{TRAIN}/step_0 gets 1.50 of 3.01" in named
 
 
 def test_files_are_known_by_their_bytes(ctl, folder):
@@ -69,17 +71,17 @@ def test_files_are_known_by_their_bytes(ctl, folder):
     assert [load.kind_of("-", path.read_bytes()) for path in (JOBS, NODES, SACCT)] == ["slurm"] * 3
     out, _ = ctl.run("import", "slurm", JOBS, NODES, SACCT)
     assert out.startswith("# arbiter run --processors 8 --period 100000 --slice 1000\n")
-    assert ("# job_124 is bob/sim\n# at system.slice/slurmstepd.scope/job_124\n"
-            "mkdir job_124\n") in out
-    assert "# tasks 4\ndemand job_123/step_0 301\n" in out
+    assert (f"# {SIM} is bob/sim/124\n# at system.slice/slurmstepd.scope/job_124\n"
+            f"mkdir {SIM}\n") in out
+    assert f"# tasks 4\ndemand {TRAIN}/step_0 301\n" in out
     (folder / "f.script").write_text(out)
     again, _ = ctl.run("import", "script", folder / "f.script")
     assert [line for line in again.split("\n") if line[:1] != "#"] == [
         line for line in out.split("\n") if line[:1] != "#"]
-    words = ["compare", JOBS, NODES, "--set", "job_124.demand=3cpu", "--width", "100"]
-    assert "job_124" in ctl.run(*words)[0]
+    words = ["compare", JOBS, NODES, "--set", "bob/sim/124.demand=3cpu", "--width", "100"]
+    assert SIM in ctl.run(*words)[0]
     piped = ctl.run("explain", "-", "--cpus", "4", "--node", "n1", given=SACCT.read_bytes())[0]
-    assert "job_124" in piped
+    assert SIM in piped
 
 
 @pytest.mark.parametrize("text, hosts", [
@@ -123,7 +125,7 @@ def test_host_and_node_must_be_told():
     with pytest.raises(HostFault, match=r"2 nodes \(n1, n2\): choose one by --node"):
         read(JOBS.read_bytes(), host=Host(8, 100000, 1000))
     found = read(JOBS.read_bytes(), host=Host(8, 100000, 1000), node="n2")
-    assert list(found.groups) == ["job_124", "job_126"]
+    assert list(found.groups) == [SIM, "carol:far:126"]
     with pytest.raises(HostFault, match="jobs have usage, request and busy"):
         read(JOBS.read_bytes(), NODES.read_bytes(), want="psi")
 
@@ -152,4 +154,4 @@ def test_hostile_names(ctl):
     for command in (["explain"], ["import", "slurm"], ["import", "slurm", "--to", "toml"]):
         out, err = ctl.run(*command, "-", "--cpus", "2", given=text.encode())
         assert "\x1b" not in out + err and "\u202e" not in out + err
-        assert "\n# at /etc" not in out and "job_1" in out
+        assert "\n# at /etc" not in out and "root:..%2F..%2Fx%1B[31m%0A#%20at%20%2Fetc:1" in out

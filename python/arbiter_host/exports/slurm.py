@@ -4,6 +4,7 @@ from __future__ import annotations
 import re
 
 from arbiter_host.exports.base import Asked, Differing, Document, head
+from arbiter_host.names import last_name
 from arbiter_host.sources import slurm
 
 USER = re.compile(r"[a-z_][a-z0-9_.-]{0,30}\$?")
@@ -12,7 +13,7 @@ USER = re.compile(r"[a-z_][a-z0-9_.-]{0,30}\$?")
 def user_of(group: Differing) -> str:
     """The user of a job's group; empty where it is no job's."""
     user, slash, _ = group.before.title.partition("/")
-    is_job = slurm.JOB.fullmatch(group.path.rpartition("/")[2])
+    is_job = slurm.JOB.fullmatch(last_name(group.before.place))
     return user if slash and is_job and USER.fullmatch(user) else ""
 
 

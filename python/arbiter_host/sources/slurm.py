@@ -1,8 +1,8 @@
 """Jobs of one node of Slurm: `scontrol show job --json`, `sacct --parsable2` and
 `scontrol show node --json`, any of them side by side.
 
-A job is a group, and its steps are the groups below it. The title of a job is `user/name`. The
-CPUs that it was allotted are its tasks. Slurm writes no weights and no limits.
+A job is a group `user:name:number`, and its steps are the groups below it. The CPUs that it was
+allotted are its tasks. Slurm writes no weights and no limits.
 """
 from __future__ import annotations
 
@@ -21,7 +21,8 @@ from arbiter_host.model import Group, Model, check_count, checked
 from arbiter_host.names import NOWHERE, shown
 from arbiter_host.sources.data import MAX_BYTES, loads, number, table, tables, text
 
-JOB = re.compile(r"job_[0-9]+(_[0-9]+)?(\+[0-9]+)?")
+# The folder of a job.
+JOB = re.compile(r"job_[0-9]+")
 # The folder of all jobs with cgroup v2.
 TOP = "system.slice/slurmstepd.scope"
 RUNNING = ("RUNNING", "COMPLETING", "SUSPENDED")
@@ -58,9 +59,14 @@ class Job:
     is_raw: bool = True
 
     @property
+    def parts(self) -> tuple[str, str, str]:
+        """User, name and number."""
+        return self.user or "unknown", self.name or "unnamed", self.identifier
+
+    @property
     def title(self) -> str:
-        """User and name, without letters that a terminal could take as a command."""
-        return shown(f"{self.user or 'unknown'}/{self.name or 'unnamed'}")
+        """The parts, without letters that a terminal could take as a command."""
+        return shown("/".join(each.replace("/", "%2F") for each in self.parts))
 
 
 def part_of(data: bytes) -> str:
@@ -258,8 +264,8 @@ class Builder:
 
     def job(self, job: Job) -> None:
         """Makes a job and its steps."""
-        path = f"job_{job.identifier}"
-        place = f"{TOP}/{path}" if job.is_raw else NOWHERE
+        path = names.path_name(":".join(job.parts), self.model.groups)
+        place = f"{TOP}/job_{job.identifier}" if job.is_raw else NOWHERE
         self.group(path, job.title, place, job.whole)
         for name, step in job.steps.items():
             below = f"{place}/step_{name}" if job.is_raw else NOWHERE
@@ -271,12 +277,12 @@ def tell(model: Model, jobs: Sequence[Job], left: int) -> None:
     """Tells what is left out, and which jobs keep to cores of their own."""
     if left:
         model.notes.append(f"jobs and steps that do not run, left out: {left}")
-    bound = [f"job_{each.identifier}" for each in jobs if each.is_bound]
+    bound = [each.title for each in jobs if each.is_bound]
     if bound:
         more = f" and {len(bound) - 5} more" if len(bound) > 5 else ""
         model.notes.append(f"bound to cores: {', '.join(bound[:5])}{more}: each keeps to its own"
                            " CPUs, so what others leave idle does not reach it")
-    wide = [f"job_{each.identifier}" for each in jobs if len(each.nodes) > 1]
+    wide = [each.title for each in jobs if len(each.nodes) > 1]
     if wide:
         model.notes.append(f"on several nodes: {', '.join(wide[:5])}: CPUs that are not told by"
                            " node are shared out equally, and usage is that of all nodes")
