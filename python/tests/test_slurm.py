@@ -41,8 +41,8 @@ def test_usage_by_hand():
         SIM: ("bob/sim/124", 500, 2, f"{top}/job_124")}
     assert model.notes == [
         "jobs and steps that do not run, left out: 2",
-        "bound to cores: alice/train/123: each keeps to its own CPUs, so what others leave idle does not"
-        " reach it",
+        "bound to cores: alice/train/123: each keeps to its own CPUs, so what others leave idle"
+        " does not reach it",
         "on several nodes: bob/sim/124: CPUs that are not told by node are shared out equally, and"
         " usage is that of all nodes",
         "alice:train:123/step_batch: nothing read for --want usage: no demand"]
@@ -53,6 +53,19 @@ def test_allotted_without_usage():
     model = read(JOBS.read_bytes(), NODES.read_bytes())
     assert {path: (each.demand, each.tasks) for path, each in model.groups.items()} == {
         TRAIN: (4000, 4), SIM: (2000, 2)}
+
+
+def test_jobs_that_are_not_accounted_yet():
+    """A job that runs has no TotalCPU: it asks for its CPUs, not for those of each of its steps."""
+    text = HEAD + "".join(f"9{step}|train|alice|RUNNING|4|00:10|00:00:00|n1\n"
+                          for step in ("", ".batch", ".extern", ".0"))
+    model = read(text, host=Host(8, 100000, 1000))
+    assert {path: (each.demand, each.tasks) for path, each in model.groups.items()} == {
+        "alice:train:9": (4000, 4)}
+    assert model.notes == ["jobs whose use is not accounted yet: 1: the CPUs that they were"
+                           " allotted are taken"]
+    asked = read(text, host=Host(8, 100000, 1000), want="usage")
+    assert len(asked.groups) == 4 and not any(each.demand for each in asked.groups.values())
 
 
 def test_plan_of_jobs(ctl):

@@ -273,6 +273,21 @@ class Builder:
                        below, Step(step.cpus or job.whole.cpus, step.used, step.passed))
 
 
+def take_allotted(jobs: Sequence[Job], model: Model) -> None:
+    """Takes the CPUs that a job was allotted where none of its use is accounted yet.
+
+    Slurm accounts for a step when it ends.
+    """
+    found = [job for job in jobs
+             if all(step.used is None for step in (job.whole, *job.steps.values()))]
+    for job in found:
+        job.steps.clear()
+        job.whole.used, job.whole.passed = job.whole.cpus * 10**6, 10**6
+    if found:
+        model.notes.append(f"jobs whose use is not accounted yet: {len(found)}: the CPUs that they"
+                           " were allotted are taken")
+
+
 def tell(model: Model, jobs: Sequence[Job], left: int) -> None:
     """Tells what is left out, and which jobs keep to cores of their own."""
     if left:
@@ -306,12 +321,14 @@ def read(files: Sequence[tuple[str, bytes]], host: Host | None, node: str = "",
     model = Model(checked(host or host_of(nodes, name)), names_host=host is None)
     here = [each for each in jobs.values() if not each.nodes or name in each.nodes or not name]
     check_count(sum(1 + len(each.steps) for each in here), f"{len(here)} jobs")
+    has_usage = any(part == "sacct" for part, _, _ in parts)
+    chosen = want or ("usage" if has_usage else "request")
+    if has_usage and not want:
+        take_allotted(here, model)
     builder = Builder(model)
     for job in here:
         builder.job(job)
     tell(model, here, left)
-    has_usage = any(part == "sacct" for part, _, _ in parts)
-    chosen = want or ("usage" if has_usage else "request")
     if chosen not in ("usage", "request", "busy"):
         raise HostFault(f"--want {chosen} needs readings: jobs have usage, request and busy", 2)
     demands.set_demands(model, builder.measured, chosen, Fraction(1))
