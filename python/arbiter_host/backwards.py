@@ -168,9 +168,9 @@ def least_of(parts: Sequence[tuple[int, int]], reaches: Callable[[int], bool]) -
     return None
 
 
-def owned_knob(asked: Asked, source: Owned, of: Range) -> OwnedKnob:
-    """The least of a setting that people own."""
-    model, path, row = asked.before.model, asked.group.path, asked.group.row
+def owned_knob(asked: Asked, source: Owned, path: str, of: Range) -> OwnedKnob:
+    """The least of a setting that people own of a group, which is asked or below what is asked."""
+    model, row = asked.before.model, asked.group.row
 
     def planned_with(value: int) -> Plan:
         setting = Setting(path, of.key, of.written(value))
@@ -187,10 +187,11 @@ def owned_knob(asked: Asked, source: Owned, of: Range) -> OwnedKnob:
 def owned_knobs(asked: Asked) -> list[Callable[[], OwnedKnob]]:
     """What finds the least of each setting of the group that people own."""
     source = asked.before.model.owned
-    if source is None or not source.has(asked.group.path):
+    found = source.meant(asked.group.path) if source else []
+    if source is None or len(found) != 1:
         return []
-    return [functools.partial(owned_knob, asked, source, of)
-            for of in source.ranges(asked.group.path)]
+    return [functools.partial(owned_knob, asked, source, found[0], of)
+            for of in source.ranges(found[0])]
 
 
 def need(engine: Engine, model: Model, word: str, thousandths: Fraction) -> Need:

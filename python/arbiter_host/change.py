@@ -59,10 +59,17 @@ def settings_of(model: Model, source: Owned, word: str) -> list[Setting]:
     if key not in source.keys:
         raise HostFault(f"{key} is a setting of {owned.KEYS[key]}; this source has"
                         f" {', '.join(source.keys)}")
-    found = [group for group in demands.matching(model, pattern) if source.has(group.path)]
+    groups = [group.path for group in demands.matching(model, pattern)]
+    found = [path for path in groups if source.has(path)]
+    if not found and len(groups) == 1:
+        found = source.meant(groups[0])
+        if len(found) > 1:
+            some = ", ".join(names.shown(names.last_name(path)) for path in found[:3])
+            raise HostFault(f"{names.shown(pattern)} has {len(found)} containers: name one of"
+                            f" {some}")
     if not found:
         raise HostFault(f"{names.shown(pattern)} has no {key} in this source")
-    return [Setting(group.path, key, value) for group in found]
+    return [Setting(path, key, value) for path in found]
 
 
 def made_again(model: Model, words: Sequence[str]) -> Model:

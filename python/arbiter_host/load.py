@@ -446,6 +446,10 @@ class Loaded:
         """Whether a group of the model has such settings."""
         return self.source.has(path)
 
+    def meant(self, path: str) -> list[str]:
+        """The groups whose settings a path means."""
+        return self.source.meant(path)
+
     def changed(self, settings: Sequence[Setting]) -> Loaded:
         """The same with other settings."""
         return replace(self, source=self.source.changed(settings))

@@ -59,6 +59,9 @@ class Owned(Protocol):
     def has(self, path: str) -> bool:
         """Whether a group of the model has such settings."""
 
+    def meant(self, path: str) -> list[str]:
+        """The groups whose settings a path means: itself, or of a pod its containers."""
+
     def changed(self, settings: Sequence[Setting]) -> Owned:
         """The same with other settings. Paths are those of the model as it is."""
 

@@ -70,7 +70,7 @@ def planned(engine, model):
 
 
 def changed(engine, model):
-    """Each setting that can be asked for of a group that people own is one that its source takes."""
+    """Each setting that can be asked for of what people own is one that its source takes."""
     owned = None if model is None else model.owned
     for path in [each for each in model.groups if owned.has(each)][:3] if owned else ():
         for of in owned.ranges(path):

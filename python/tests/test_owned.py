@@ -140,7 +140,7 @@ def test_report_and_apply_take_requests(ctl, folder):
     ("prod/web-7c9f/nginx.request=-1", "'-1' is no amount of CPU"),
     ("prod/web-7c9f/nginx.request=1.5cpu", "its request 1500m is above its limit 1000m"),
     ("prod/web-7c9f/nginx.limit=200m", "its request 250m is above its limit 200m"),
-    ("prod/web-7c9f.request=1", "prod/web-7c9f has no request in this source"),
+    ("prod/web-7c9f.request=1", "prod/web-7c9f has 2 containers: name one of nginx, metrics"),
     ("prod/web-7c9f/pause.limit=1", "has no limit in this source"),
     ("kubepods.request=1", "has no request"), ("prod/none/x.request=1", "no group prod/none/x"),
     ("prod/web-7c9f/nginx.cpus=1", "cpus is a setting of containers; this source has request,"),
@@ -176,6 +176,15 @@ def test_a_source_without_such_settings(ctl, folder):
     (folder / "s").write_text("# arbiter run --processors 1\nmkdir a\n")
     _, err = ctl.run("compare", folder / "s", "--set", "a.request=1", status=2)
     assert "request is a setting of pods, which this source has none of" in err
+
+
+def test_the_one_container_of_a_pod(ctl):
+    """A pod of one container stands for it."""
+    found = groups_of(ctl, PODS, NODE, "--set", "prod/db-0.limit=1500m", "--set",
+                      "prod/db-0.request=1500m")
+    assert found["kubepods/prod:db-0/postgres"]["max"] == "150000 100000"
+    by, _ = needed(ctl, "batch/report-x", "500m", PODS, NODE)
+    assert by["request"]["least"] == "233m"
 
 
 # need

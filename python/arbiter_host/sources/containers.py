@@ -230,6 +230,10 @@ class Source:
         """Whether a group is a container."""
         return path in self.built[1]
 
+    def meant(self, path: str) -> list[str]:
+        """The group itself, if it has settings."""
+        return [path] if self.has(path) else []
+
     def changed(self, settings: Sequence[Setting]) -> Source:
         """The same with other CPUs and shares."""
         running = list(self.running)

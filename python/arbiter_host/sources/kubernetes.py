@@ -297,6 +297,12 @@ class Source:
         """Whether a group is a container that the JSON has."""
         return path in self.built[1]
 
+    def meant(self, path: str) -> list[str]:
+        """The container, or those of a pod."""
+        found = self.built[1]
+        return [path] if path in found else [each for each in found
+                                             if names.parent_path(each) == path]
+
     def changed(self, settings: Sequence[Setting]) -> Source:
         """The same with other requests and limits. All are made before they are checked."""
         pods, changed = list(self.pods), set()

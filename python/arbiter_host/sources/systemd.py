@@ -196,6 +196,10 @@ class Source:
         """Whether a group is a unit that was printed."""
         return path in self.found
 
+    def meant(self, path: str) -> list[str]:
+        """The group itself, if it has settings."""
+        return [path] if self.has(path) else []
+
     def changed(self, settings: Sequence[Setting]) -> Source:
         """The same with other weights and quotas."""
         found = dict(self.found)
