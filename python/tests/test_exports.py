@@ -56,6 +56,16 @@ def test_dropin(ctl, folder):
     assert modes == [0o600, 0o700, 0o700]
 
 
+def test_dropin_of_a_scope(ctl, folder):
+    """A container's unit is a scope: its drop-in is written, and told to pass with it."""
+    found, err = applied(ctl, folder, "dropin", FIXTURES / "docker.json", "--cpus", "4", "--set",
+                         "*/web.weight=7")
+    name, = found
+    assert name == f"docker-{'01' * 32}.scope.d/50-arbiter.conf"
+    assert unit_file(found[name]) == {"Scope": {"CPUWeight": "7"}}
+    assert "system.slice/web: its unit is a scope, which is gone" in err
+
+
 def test_dropin_is_taken_by_systemd(ctl, folder):
     """systemd-analyze reads the drop-in, and says nothing of it; it tells of one that is wrong."""
     if shutil.which("systemd-analyze") is None:

@@ -5,6 +5,7 @@ from collections.abc import Iterator
 
 from arbiter_host import apply
 from arbiter_host.exports.base import Asked, Differing, Document, head, of_kubelet
+from arbiter_host.names import shown
 from arbiter_host.sources.containers import slice_folder
 
 FILE = "50-arbiter.conf"
@@ -57,6 +58,9 @@ def texts(asked: Asked, form: str) -> Iterator[tuple[str, str]]:
             seen[unit] = group.path
             section = SECTIONS[unit.rpartition(".")[2]]
             lines = "".join(f"{line}\n" for line in settings(group))
+            if unit.endswith(".scope"):
+                asked.told.append(f"{shown(group.path)}: its unit is a scope, which is gone when its"
+                                  " last process ends")
             yield unit, f"{head(form)}# {group.words}\n[{section}]\n{lines}"
     asked.told += of_kubelet(asked)
 
