@@ -100,6 +100,8 @@ def source_of(model: Model) -> kubernetes.Source:
 def containers_of(model: Model, word: str) -> list[str]:
     """The containers that a column names: itself, or those of a pod."""
     source = source_of(model)
+    if word in source.named:
+        return source.named[word]
     try:
         paths = {group.path for group in demands.matching(model, word)}
     except HostFault:

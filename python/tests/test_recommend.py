@@ -1,12 +1,14 @@
 """Requests and limits that are proposed from use. Each expected number is worked by hand."""
 import json
+from argparse import Namespace
 from fractions import Fraction
 from pathlib import Path
 
 import pytest
 import trees
-from arbiter_host import recommend
+from arbiter_host import load, recommend, samples
 from arbiter_host.faults import UsageFault
+from arbiter_host.sources import kubernetes
 
 FIXTURES = Path(__file__).parent / "fixtures"
 PODS, NODE = FIXTURES / "pods.json", FIXTURES / "node.json"
@@ -109,6 +111,34 @@ def test_histories_are_one(ctl, folder):
         word for name in "123" for word in ("--history", folder / f"{name}.csv")))
     assert amounts(by["x/a/c"]) == (219, 230)
     assert "columns of no container here, 2: other, x/* (2 containers)" in err
+
+
+@pytest.mark.parametrize("name, wanted", [
+    ("db-0", "prod/db-0/postgres"), ("db-0/postgres", "prod/db-0/postgres"),
+    ("prod/web-7c9f/nginx", "prod/web-7c9f/nginx"), ("web-7c9f/metrics", "prod/web-7c9f/metrics"),
+    ("kubepods/burstable/prod:web-7c9f/nginx", "prod/web-7c9f/nginx"),
+])
+def test_names_of_measurements(ctl, folder, name, wanted):
+    """A pod's name is enough where it has one container, as the label `pod` of Prometheus says."""
+    (folder / "h.csv").write_text(f"time,{name}\n1,50m\n")
+    by, _, err = recommended(ctl, PODS, NODE, "--history", folder / "h.csv")
+    assert list(by) == [wanted] and "columns of no container" not in err
+
+
+def test_a_query_of_prometheus(engine, monkeypatch):
+    """Series by the label `pod`; one without a value at a time has no sample there."""
+    series = [{"metric": {"pod": "db-0"}, "values": [[0, "0.5"], [60, "NaN"], [120, "0.7"]]},
+              {"metric": {"pod": "web-7c9f"}, "values": [[0, "1"]]}]
+    monkeypatch.setattr(samples, "fetched", lambda _: {"data": {"result": series}})
+    files = [("p", PODS.read_bytes()), ("n", NODE.read_bytes())]
+    source = kubernetes.source_of(files, None, engine.library)
+    model = load.Loaded(Namespace(scale=[], cpus=None, period=None, slice=None, strict=False),
+                        source).model()
+    found = samples.read_prometheus("http://x", {"query": "q"}, "pod", "cpu", model.host, True)
+    uses, told = recommend.of_history(model, found, {})
+    assert {path: use.values for path, use in uses.items()} == {
+        "kubepods/prod:db-0/postgres": (500, 700)}
+    assert told == ["columns of no container here, 1: web-7c9f (2 containers)"]
 
 
 def test_use_below_the_least(ctl, folder):

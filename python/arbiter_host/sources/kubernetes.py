@@ -297,6 +297,16 @@ class Source:
         """Whether a group is a container that the JSON has."""
         return path in self.built[1]
 
+    @functools.cached_property
+    def named(self) -> dict[str, list[str]]:
+        """The containers by what measurements call them: a pod, and maybe the container."""
+        found: dict[str, list[str]] = {}
+        for path, (place, number) in self.built[1].items():
+            pod, name = self.pods[place], self.pods[place].parts[number].name
+            for word in {pod.name, pod.title, f"{pod.name}/{name}", f"{pod.title}/{name}"}:
+                found.setdefault(word, []).append(path)
+        return found
+
     def meant(self, path: str) -> list[str]:
         """The container, or those of a pod."""
         found = self.built[1]
