@@ -59,8 +59,8 @@ def texts(asked: Asked, form: str) -> Iterator[tuple[str, str]]:
             section = SECTIONS[unit.rpartition(".")[2]]
             lines = "".join(f"{line}\n" for line in settings(group))
             if unit.endswith(".scope"):
-                asked.told.append(f"{shown(group.path)}: its unit is a scope, which is gone when its"
-                                  " last process ends")
+                asked.told.append(f"{shown(group.path)}: its unit is a scope, which is gone when"
+                                  " its last process ends")
             yield unit, f"{head(form)}# {group.words}\n[{section}]\n{lines}"
     asked.told += of_kubelet(asked)
 
