@@ -17,13 +17,13 @@ use Rattle.bw_model.proofs.CallerLemmas.{sum_below, sum_below-ap, sum_below-le, 
 use Rattle.bw_model.proofs.CallerLemmas.{sum_by-filter_range}
 use Rattle.bw_plan.specs.Laws.{HasOnePlan, ThereIsOnePlan}
 use Rattle.bw_plan_laws.specs.Host.{RaisedLimitsServeNoLess}
+use Rattle.bw_plan_laws.proofs.CallerLemmas.{under_same}
 use Rattle.bw_questions.specs.declared.tuned.goal.Goal.{Goal}
 use Rattle.bw_questions.specs.declared.tuned.measure.Measure.{Measure}
 use Rattle.bw_questions.specs.declared.tuned.measure.Measure.TheVariants.{Planned, Guaranteed}
 use Rattle.bw_questions.specs.declared.tuned.tuning.Conflict.{Conflict}
 use Rattle.bw_questions.specs.Tune.{goal_at, AreFound, AreApart, AreGoals, IsMet, IsReweighted}
 use Rattle.bw_questions.specs.Tune.{AreMarkedMet, IsConflict}
-use Rattle.bw_questions.proofs.BusyRows.{under_same}
 use Rattle.bw_questions.proofs.Paths.{above_parent, one_line}
 
 -- the amounts of the first goals, in all
