@@ -38,8 +38,9 @@ HOST_TREE = "/sys/fs/cgroup"
 KUBELET = re.compile(r"kubepods([-.].*)?")
 # Failed readings in a row that end the loop.
 MOST_FAILED = 2
-# Rounds that may be missed before one. After more the clock has jumped, or nothing ran for long.
-MOST_MISSED = 5
+# Rounds, and their nanoseconds, that may be missed before one. After more of both the clock has
+# jumped, or nothing ran for long.
+MOST_MISSED, LONGEST_MISSED = 5, 5 * 10**9
 # Remarks that are remembered, so that each is told once.
 MOST_TOLD = 10000
 # Quota over burst, where a limit has a burst.
@@ -442,10 +443,10 @@ class Loop:
         if self.record is not None:
             apply.undo(back, [])
 
-    def round(self, missed: int = 0) -> Line:
+    def round(self, missed: int = 0, is_jump: bool = False) -> Line:
         """One round: reads, asks, writes. Returns the line that tells it."""
         model, used = self.read()
-        if missed > MOST_MISSED:
+        if is_jump:
             raise HostFault(f"{missed} rounds missed at once: nothing is written. The clock jumped,"
                             " or --interval is too short")
         found = self.planned(model, used)
@@ -473,11 +474,16 @@ class Times(NamedTuple):
     whole: int | None = None
     is_once: bool = False
 
+    def is_jump(self, missed: int) -> bool:
+        """Whether so many missed rounds are a jump of the clock."""
+        return missed > MOST_MISSED and missed * self.interval > LONGEST_MISSED
 
-def tried(loop: Loop, failed: int, missed: int, emit: Callable[[Line], None]) -> int:
-    """One round, whose line is written. Returns the failed readings in a row."""
+
+def tried(loop: Loop, times: Times, failed: int, missed: int,
+          emit: Callable[[Line], None]) -> int:
+    """One round, whose line is told. Returns the failed readings in a row."""
     try:
-        line = loop.round(missed)
+        line = loop.round(missed, times.is_jump(missed))
     except HostFault as fault:
         if failed + 1 >= MOST_FAILED or isinstance(fault, WriteFault):
             raise
@@ -504,7 +510,7 @@ def run(loop: Loop, times: Times, wait: Callable[[float], bool],
                 print(f"arbiterctl: warning: {missed} rounds missed", file=sys.stderr, flush=True)
             if times.whole is not None and passed >= times.whole or times.is_once and turn > 1:
                 return
-            failed = tried(loop, failed, missed, emit)
+            failed = tried(loop, times, failed, missed, emit)
             if times.is_once and loop.record is None:
                 return
             turn += 1 + missed

@@ -20,7 +20,7 @@ from arbiter_host.engine import Engine
 
 CALLS = ("open", "write", "fsync", "rename", "link", "unlink", "ftruncate")
 CHANGES = ("write", "rename", "link", "unlink", "ftruncate")
-ROUNDS = 6
+ROUNDS = 7
 LEFT = {"t", "u", "u.part"}
 
 
@@ -65,10 +65,10 @@ def world_of(folder):
     return world
 
 
-def run(folder, library, at):
+def run(folder, engine, at):
     """The loop, which uses and wants more and less from round to round."""
     world = world_of(folder)
-    loop = world.loop(Engine(Library(library)), folder / "u", ways=hold.Ways(False, True, True))
+    loop = world.loop(engine, folder / "u", ways=hold.Ways(False, True, True))
 
     def step(turn):
         world.uses("a", 5 + 60 * (turn % 2))
@@ -88,12 +88,12 @@ def settings(tree):
                                                                            "cpu.weight"))}
 
 
-def killed(folder, library, at):
+def killed(folder, engine, at):
     """Runs a loop in a fork that is killed."""
     child = os.fork()
     if not child:
         try:
-            run(folder, library, at)
+            run(folder, engine, at)
         finally:
             os._exit(1)
     return os.waitstatus_to_exitcode(os.waitpid(child, 0)[1])
@@ -112,14 +112,15 @@ def undone(folder):
 
 
 def main():
-    top, library, seed, many = Path(sys.argv[1]), sys.argv[2], int(sys.argv[3]), int(sys.argv[4])
+    top, seed, many = Path(sys.argv[1]), int(sys.argv[3]), int(sys.argv[4])
+    engine = Engine(Library(sys.argv[2]))
     (top / "before").mkdir()
     before = settings(world_of(top / "before").tree)
     whole = top / "whole"
     child = os.fork()
     if not child:
         whole.mkdir()
-        calls = run(whole, library, 0)
+        calls = run(whole, engine, 0)
         (whole / "calls").write_text(json.dumps([calls.made, calls.changes]))
         os._exit(0)
     assert os.waitstatus_to_exitcode(os.waitpid(child, 0)[1]) == 0
@@ -129,7 +130,7 @@ def main():
     for at in points:
         folder = top / str(at)
         folder.mkdir()
-        status = killed(folder, library, at)
+        status = killed(folder, engine, at)
         changed += settings(folder / "t") != before
         left = undone(folder)
         names = {path.name for path in folder.iterdir()}

@@ -440,7 +440,7 @@ def test_killed_at_random_points_and_undone(library, folder):
     environment = {**os.environ, "PYTHONPATH": os.pathsep.join(sys.path)}
     with tempfile.TemporaryDirectory(dir=memory) as name:
         words = [sys.executable, killed_loop.__file__, name, str(library), "67", "200"]
-        ended = subprocess.run(words, capture_output=True, check=False, timeout=120,
+        ended = subprocess.run(words, capture_output=True, check=False, timeout=900,
                                env=environment)
     assert ended.returncode == 0, ended.stderr.decode()
     found = json.loads(ended.stdout)

