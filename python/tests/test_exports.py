@@ -312,6 +312,25 @@ def test_another_class_is_refused(ctl, folder):
             " class of its pod would be another") in err
 
 
+def test_settings_that_people_own(ctl, folder):
+    """`--set` of a request, of docker's cpus and shares, and of a unit's quota, as it was asked."""
+    cluster(folder)
+    os.mkdir(folder / "out", 0o700)
+    found, _ = applied(ctl, folder, "kubectl-patch", folder / "pods.json", NODE, "--set",
+                       "prod/web-7c9f/nginx.request=1cpu", to="out/k/")
+    data = yaml.safe_load(found["k/prod.deployment.web.yaml"])
+    assert data["spec"]["template"]["spec"]["containers"] == [
+        {"name": "nginx", "resources": {"requests": {"cpu": "1000m"}}}]
+    found, _ = applied(ctl, folder, "compose", containers(folder), "--cpus", "4", "--set",
+                       "*/web*.cpus=2", "--set", "*/db.cpu-shares=512", to="out/c/")
+    assert yaml.safe_load(found["c/shop.override.yaml"])["services"] == {
+        "web": {"cpus": 2}, "db": {"cpu_shares": 512}}
+    found, _ = applied(ctl, folder, "dropin", UNITS, "--cpus", "4", "--set",
+                       f"{SSH}.CPUQuota=75%", to="out/d/")
+    assert unit_file(found["d/ssh.service.d/50-arbiter.conf"])["Service"] == {
+        "CPUQuota": "75%", "CPUQuotaPeriodSec": "100000us"}
+
+
 def test_a_request_that_changes_no_weight_of_its_container(ctl, folder):
     """255m has weight 10 as 250m has, but it is written: it was asked for."""
     pods = cluster(folder)

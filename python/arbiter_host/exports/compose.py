@@ -41,6 +41,15 @@ def shares_of(library: Library, weight: int, conversion: str) -> int | None:
     return low if units.weight_of_shares(library, low, conversion) == weight else None
 
 
+def told_shares(asked: Asked, group: Differing) -> int | None:
+    """The shares that AFTER itself has, 0 for the default; None where it has none to tell."""
+    owned = asked.after.owned
+    if owned is None or not owned.has(group.path):
+        return None
+    return next((int(each.now) if each.now.isdigit() else 0
+                 for each in owned.ranges(group.path) if each.key == "cpu-shares"), None)
+
+
 def limit_of(group: Differing, config: dict[str, Any]) -> dict[str, Any] | None:
     """The keys of a limit; None where the key that the service has cannot say it."""
     quota, period = group.after.quota, group.after.period
@@ -59,7 +68,9 @@ def keys_of(asked: Asked, group: Differing, config: dict[str, Any]) -> dict[str,
     """The keys of a service. What compose has no key for is refused."""
     found: dict[str, Any] = {}
     if group.has_weight:
-        shares = shares_of(asked.library, group.after.weight, asked.runtime)
+        shares = told_shares(asked, group)
+        if shares is None:
+            shares = shares_of(asked.library, group.after.weight, asked.runtime)
         if shares is None:
             asked.refuse(group.path, f"no cpu_shares give weight {group.after.weight}")
         else:
