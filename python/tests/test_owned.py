@@ -189,15 +189,15 @@ def test_the_one_container_of_a_pod(ctl):
 
 # need
 
-def two_pods(folder, limit=None):
-    """Two burstable pods of 100m and 300m on a node of 2 CPUs with 2000m for pods."""
+def two_pods(folder, limit=None, allocatable="2"):
+    """Two burstable pods of 100m and 300m on a node of 2 CPUs, by default all for pods."""
     def pod(name, request):
         resources = {"requests": {"cpu": request}, **({"limits": {"cpu": limit}} if limit else {})}
         return {"kind": "Pod", "metadata": {"name": name, "namespace": "x", "uid": name},
                 "spec": {"containers": [{"name": "c", "resources": resources}]}}
 
     node = {"kind": "Node", "metadata": {"name": "n"},
-            "status": {"capacity": {"cpu": "2"}, "allocatable": {"cpu": "2"}}}
+            "status": {"capacity": {"cpu": "2"}, "allocatable": {"cpu": allocatable}}}
     (folder / "n.json").write_text(json.dumps({"kind": "List", "items": [
         pod("a", "100m"), pod("b", "300m"), node]}))
     return folder / "n.json"
@@ -240,6 +240,14 @@ def test_a_request_up_to_the_limit(ctl, folder):
     assert by["request"]["least"] is None
     by, _ = needed(ctl, "x/a/c", "300m", two_pods(folder, "300m"))
     assert by["request"]["least"] == "0m"
+
+
+def test_a_node_with_more_requests_than_it_has(ctl, folder):
+    """400m of 300m are requested: no greater request is asked for, and a limit may be."""
+    by, _ = needed(ctl, "x/a/c", "600m", two_pods(folder, "300m", "300m"))
+    assert (by["request"]["least"], by["request"]["told"]) == (
+        None, "100m is all that the node has left")
+    assert (by["limit"]["now"], by["limit"]["least"]) == ("300m", "600m")
 
 
 def test_a_request_that_makes_a_pod_burstable(ctl):
@@ -285,12 +293,12 @@ def test_the_limit_of_a_container_is_that_of_its_pod_too(ctl):
     assert pod[0]["quota_usec"] == 320000 and found["gets_millicpu"] == 500
 
 
-AMOUNTS = st.none() | st.integers(0, 300)
+AMOUNTS = st.none() | st.integers(0, 120)
 
 
 @st.composite
 def nodes(draw):
-    """The JSON of a node of 300m to 600m with three pods of one or two containers."""
+    """The JSON of a node of 200m to 400m with three pods of one or two containers."""
     def container(name):
         request, limit = draw(AMOUNTS), draw(AMOUNTS)
         if request is not None and limit is not None:
@@ -303,18 +311,18 @@ def nodes(draw):
     pods = [{"kind": "Pod", "metadata": {"name": f"p{number}", "namespace": "x"},
              "spec": {"containers": [container(name) for name in "ab"[:draw(st.integers(1, 2))]]}}
             for number in range(3)]
-    allocatable = draw(st.integers(300, 600))
+    allocatable = draw(st.integers(200, 400))
     node = {"kind": "Node", "metadata": {"name": "n"},
             "status": {"capacity": {"cpu": "1"}, "allocatable": {"cpu": f"{allocatable}m"}}}
     return json.dumps({"kind": "List", "items": [*pods, node]}).encode()
 
 
-@settings(max_examples=15, deadline=None,
+@settings(max_examples=8, deadline=None,
           suppress_health_check=[HealthCheck.function_scoped_fixture])
 @given(data=nodes(), slices=st.integers(1, 60))
 def test_no_lesser_request_reaches(engine, data, slices):
-    """Of all requests and limits that can be asked for the least that reaches is found, over all
-    classes."""
+    """Of the requests and limits that can be asked for the least that reaches is found, over all
+    classes: those just below it, and each third of the lesser ones, do not reach."""
     model = kubernetes.read([("p", data)], None, engine.library, kubernetes.Wish(want="busy"))
     path = next(path for path in model.groups if model.owned.has(path))
     row = list(model.groups).index(path) + 1
@@ -326,8 +334,13 @@ def test_no_lesser_request_reaches(engine, data, slices):
     found = backwards.need(engine, model, path, Fraction(10 * slices)).owned
     for of, knob in zip(model.owned.ranges(path), found, strict=True):
         values = range(of.parts[0][0], of.parts[-1][1] + 1) if of.parts else ()
-        reaching = [value for value in values if gets(of.key, value) >= slices]
-        assert knob.least == (f"{reaching[0]}m" if reaching else None)
+        if knob.least is None:
+            assert all(gets(of.key, value) < slices for value in values[::9])
+        else:
+            least = int(knob.least[:-1])
+            assert gets(of.key, least) >= slices and least in values
+            lesser = range(values[0], least)
+            assert all(gets(of.key, value) < slices for value in {*lesser[::3], *lesser[-20:]})
 
 
 # systemd and docker

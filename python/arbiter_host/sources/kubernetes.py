@@ -31,7 +31,6 @@ from arbiter_host.sources.usage import Used, of_metrics, some
 ENDED = ("Succeeded", "Failed")
 # A request of so many thousandths has the greatest shares; no greater one weighs more.
 MOST_REQUEST = units.MAX_SHARES * 1000 // 1024
-MAX_REQUESTS = 10**18
 
 
 @dataclass(frozen=True)
@@ -202,8 +201,9 @@ def hindrance_of(pod: Pod, container: Container, room: int | None) -> str:
         return "all that its pod requests"
     if pod.own.limit is not None and (amounts.limit or 0) > pod.own.limit:
         return "the limit of its pod"
-    return "all that the node has left" if (pod.amounts.request or 0) > (
-        MAX_REQUESTS if room is None else room) else ""
+    if room is not None and (pod.amounts.request or 0) > room:
+        return "all that the node has left"
+    return ""
 
 
 def check_amounts(pod: Pod, container: Container) -> None:
@@ -360,8 +360,9 @@ class Source:
         place, number = self.built[1][path]
         pod = self.pods[place]
         amounts = pod.parts[number].amounts
-        room = None if self.allocatable is None else (
-            self.allocatable - requested_by(self.pods) + (pod.amounts.request or 0))
+        room = None
+        if self.allocatable is not None and key == "request":
+            room = self.allocatable - requested_by(self.pods) + (pod.amounts.request or 0)
 
         def hindrance(value: int) -> str:
             after = pod.with_amounts(number, replace(amounts, **{key: value}))
