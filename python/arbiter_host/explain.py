@@ -186,11 +186,23 @@ def limiting(plan: Plan, unit: str) -> str:
     return ", ".join(found[:8]) + more if found else "the demands alone"
 
 
-def in_slices(plan: Plan, group: Planned, found: Range) -> tuple[int, int]:
-    """A range in slices of one period. The plan is within it."""
+def in_slices(plan: Plan, found: Range) -> tuple[int, int]:
+    """A range in slices of one period."""
     host = plan.model.host
     low, high = (each * host.period_us / host.slice_us for each in (found.low, found.high))
-    return min(math.floor(low), group.gets), max(math.ceil(high), group.gets)
+    return math.floor(low), math.ceil(high)
+
+
+def is_firm(plan: Plan, group: Planned, found: Range) -> bool:
+    """Whether a group has its plan wherever tasks run."""
+    low, high = in_slices(plan, found)
+    return found.is_firm and low <= group.gets <= high
+
+
+def span(plan: Plan, group: Planned, found: Range) -> tuple[int, int]:
+    """A range in slices of one period, with the plan in it."""
+    low, high = in_slices(plan, found)
+    return min(low, group.gets), max(high, group.gets)
 
 
 def placed(plan: Plan, view: View, found: Outlook) -> Iterator[str]:
@@ -207,10 +219,10 @@ def placed(plan: Plan, view: View, found: Outlook) -> Iterator[str]:
         yield f"  {found.why_not}"
         return
     ranged = [group for group in plan.groups[1:] if group.path in found.ranges
-              and not found.ranges[group.path].is_firm]
+              and not is_firm(plan, group, found.ranges[group.path])]
     firm = len(found.ranges) - len(ranged) - 1
     if firm:
-        yield f"firm to 0.01 CPUs, wherever tasks run: {firm} of {len(found.ranges) - 1} groups"
+        yield f"firm to 0.03 CPUs, wherever tasks run: {firm} of {len(found.ranges) - 1} groups"
     if ranged:
         yield "what Linux may give a group by where tasks run (a model):"
         yield from range_lines(plan, view, found, ranged)
@@ -218,7 +230,7 @@ def placed(plan: Plan, view: View, found: Outlook) -> Iterator[str]:
 
 def range_lines(plan: Plan, view: View, found: Outlook, ranged: Sequence[Planned]) -> Iterator[str]:
     """A line for each group that is not firm, at most MOST_RANGES, the widest ranges."""
-    spans = {group.row: in_slices(plan, group, found.ranges[group.path]) for group in ranged}
+    spans = {group.row: span(plan, group, found.ranges[group.path]) for group in ranged}
     widest = sorted(ranged, key=lambda group: spans[group.row][0] - spans[group.row][1])
     shown_ = {group.row for group in widest[:MOST_RANGES]}
     rows = [["from", "to", "gets", "group"]]
@@ -293,9 +305,9 @@ def range_data(plan: Plan, group: Planned, found: Outlook) -> dict[str, Any] | N
     range_ = found.ranges.get(group.path)
     if range_ is None:
         return None
-    if range_.is_firm:
+    if is_firm(plan, group, range_):
         return {"firm": True}
-    low, high = in_slices(plan, group, range_)
+    low, high = span(plan, group, range_)
     return {"firm": False, "from": amounts(plan, low), "to": amounts(plan, high)}
 
 

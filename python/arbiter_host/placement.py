@@ -25,7 +25,7 @@ UNREACHED = 0.05
 
 
 class Range(NamedTuple):
-    """The least and the most that a group may have, in CPUs; a firm group has its plan."""
+    """The least and the most that a group may have, in CPUs, and whether all runs are alike."""
 
     low: float
     high: float

@@ -11,8 +11,10 @@ from arbiter_host.model import Group, Model
 from arbiter_host.plan import plan
 from kernel import kept
 
-# How far a firm group may be from its exact share, in CPUs, and a ranged one out of its range.
-FIRM_WITHIN = 0.01
+# How far a firm group may be from its exact share, in CPUs, and a ranged one out of its range. More
+# than OFF is counted.
+FIRM_WITHIN = 0.03
+OFF = 0.01
 BESIDE = 0.003
 
 
@@ -47,7 +49,9 @@ def judged(set_):
             where = (run["host"], run["kernel"], path, share, had, range_)
             if range_.is_firm:
                 firm += 1
-                off += [where] * (abs(had - share) > FIRM_WITHIN)
+                assert range_.low <= share <= range_.high, where
+                assert abs(had - share) <= FIRM_WITHIN, where
+                off += [where] * (abs(had - share) > OFF)
             else:
                 ranged += 1
                 low, high = min(range_.low, share) - BESIDE, max(range_.high, share) + BESIDE
@@ -55,13 +59,14 @@ def judged(set_):
     return firm, off, ranged, out
 
 
-@pytest.mark.parametrize("set_, least_firm, least_ranged, most_out", [
-    ("made", 16, 150, 4), ("review", 30, 90, 2), ("trial", 60, 55, 1)])
-def test_kept_runs(set_, least_firm, least_ranged, most_out):
+@pytest.mark.parametrize("set_, least_firm, most_off, least_ranged, most_out", [
+    ("made", 16, 0, 150, 4), ("review", 30, 0, 90, 2), ("trial", 60, 0, 55, 1),
+    ("chance", 14, 3, 80, 2)])
+def test_kept_runs(set_, least_firm, most_off, least_ranged, most_out):
     """Firm groups have their shares, and nearly all others are in their ranges."""
     firm, off, ranged, out = judged(set_)
     print(f"{set_}: {firm} firm, {len(off)} of them off; {ranged} ranged, {len(out)} of them out")
-    assert firm >= least_firm and not off, off
+    assert firm >= least_firm and len(off) <= most_off, off
     assert ranged >= least_ranged and len(out) <= most_out, out
 
 
@@ -139,7 +144,7 @@ def lines(engine, model, **view):
 def test_lines_of_explain(engine):
     """Firm groups are counted, and each other one has its range beside the plan."""
     assert lines(engine, host(2, ("a", 100, 2000, 2), ("b", 300, 2000, 2))) == [
-        "", "firm to 0.01 CPUs, wherever tasks run: 2 of 2 groups"]
+        "", "firm to 0.03 CPUs, wherever tasks run: 2 of 2 groups"]
     ranged = lines(engine, host(2, *((each, 100, 1000, 1) for each in "abc")))
     assert ranged[:3] == ["", "what Linux may give a group by where tasks run (a model):",
                           "  from    to  gets  group"]
@@ -182,6 +187,16 @@ def test_data_of_explain(engine):
     unknown = with_unknown(engine)
     assert unknown["groups"][1]["placement"] is None
     assert unknown["placement"]["not_known"].endswith("no number of tasks: 1")
+
+
+def test_a_plan_out_of_the_runs_is_not_firm(engine):
+    """Where all runs are alike and the plan is beside them, the range reaches from one to the
+    other."""
+    model = host(2, ("a", 100, 2000, 2), ("b", 300, 2000, 2))
+    found, beside = plan(engine, model), placement.Range(0.55, 0.56, True)
+    told = explain.range_data(found, found.groups[1], placement.Outlook({"a": beside}))
+    assert told["firm"] is False
+    assert (told["from"]["slices"], told["to"]["slices"]) == (50, 56)
 
 
 def with_unknown(engine):
