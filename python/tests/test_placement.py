@@ -49,7 +49,7 @@ def judged(set_):
             where = (run["host"], run["kernel"], path, share, had, range_)
             if range_.is_firm:
                 firm += 1
-                assert range_.low <= share <= range_.high, where
+                assert range_.low - OFF <= share <= range_.high + OFF, where
                 assert abs(had - share) <= FIRM_WITHIN, where
                 off += [where] * (abs(had - share) > OFF)
             else:
@@ -193,7 +193,7 @@ def test_a_plan_out_of_the_runs_is_not_firm(engine):
     """Where all runs are alike and the plan is beside them, the range reaches from one to the
     other."""
     model = host(2, ("a", 100, 2000, 2), ("b", 300, 2000, 2))
-    found, beside = plan(engine, model), placement.Range(0.55, 0.56, True)
+    found, beside = plan(engine, model), placement.Range(0.55, 0.555, True)
     told = explain.range_data(found, found.groups[1], placement.Outlook({"a": beside}))
     assert told["firm"] is False
     assert (told["from"]["slices"], told["to"]["slices"]) == (50, 56)
