@@ -1,4 +1,5 @@
 """The model of placement: against runs of guests that are kept, the proved law, and its words."""
+import json
 import time
 from fractions import Fraction
 
@@ -68,6 +69,39 @@ def test_kept_runs(set_, least_firm, most_off, least_ranged, most_out):
     print(f"{set_}: {firm} firm, {len(off)} of them off; {ranged} ranged, {len(out)} of them out")
     assert firm >= least_firm and len(off) <= most_off, off
     assert ranged >= least_ranged and len(out) <= most_out, out
+
+
+SCRIPT = """#: --processors 2 --tasks a=1
+mkdir a
+write a cpu.max 50000 200000
+mkdir b
+write b cpu.weight 300
+demand a 200
+demand b 30
+"""
+
+
+def test_saved_runs_are_kept(tmp_path, monkeypatch):
+    """A saved run is kept with its host; refused runs and those of one CPU are not."""
+    monkeypatch.setattr(kept, "KEPT", tmp_path / "kept.json.xz")
+    lines = [{"path": path, "share": share, "had": had}
+             for path, share, had in ((".", 55, 54), ("a", 25, 24.5), ("b", 30, 29.5))]
+    for name, first in (("own", ""), ("single", "#: --processors 1\n")):
+        (tmp_path / f"{name}.script").write_text(SCRIPT + first)
+    run = {"scenario": "own", "release": "6.12", "refusal": "", "lines": lines}
+    runs = [run, {**run, "refusal": "others"}, {**run, "scenario": "single"}]
+    (tmp_path / "saved.json").write_text("".join(json.dumps(each) + "\n" for each in runs))
+    kept.main(["set", str(tmp_path / "saved.json")])
+    kept.main(["set", str(tmp_path / "saved.json")])
+    found = kept.kept()
+    assert [run["groups"] for run in found["runs"]] == 2 * [{"a": [0.25, 0.245],
+                                                             "b": [0.3, 0.295]}]
+    assert list(found["hosts"]) == ["own"]
+    assert found["hosts"]["own"]["groups"] == [
+        {"path": "a", "weight": 100, "quota": 50000, "period": 200000, "burst": 0,
+         "demand": 1000.0, "tasks": 1},
+        {"path": "b", "weight": 300, "quota": None, "period": 100000, "burst": 0,
+         "demand": 300.0, "tasks": 1}]
 
 
 def test_rates_follow_the_proved_law():
