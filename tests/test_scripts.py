@@ -443,7 +443,7 @@ def test_help_of_build(copy):
     same((status, err), (0, ""), "--help")
     same(copy.call(["./build", "-h"])[1], out, "-h")
     places = re.findall(r"^  ((?:bin|lib|include|share)/\S+)$", out, re.M)
-    same(len(places), 33, "places in help")
+    same(len(places), 36, "places in help")
     no_folder = [(words, "needs a folder") for words in (["--install"], ["--install", ""])]
     for words, part in ((["--frob"], "'--frob'"), (["dir"], "'dir'"), *no_folder):
         status, out, err = copy.call(["./build", *words])
