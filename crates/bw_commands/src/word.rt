@@ -11,17 +11,11 @@ fn is_blank(byte: u8) -> bool
     byte == b' ' || byte == b'\t'
 }
 
-// Texts from this length on are searched many bytes at a time, which does not pay off below.
-const LONG: usize = 48;
-
-// Place of the first blank.
+// Place of the first blank. `memchr2` tests many bytes at a time, which pays off in long paths.
 fn first_blank(text: &[u8]) -> Option<usize>
     ensures value { result ≡ position is_blank text.now }
     ensures within { IfSome result (λ n. n < length text.now) }
 {
-    if text.len() < LONG {
-        return text.iter().position(|b| is_blank(*b));
-    }
     memchr2(b' ', b'\t', text)
 }
 
