@@ -1,6 +1,5 @@
 -- The files of lemmas.
 mod Faults
-mod FirstByte
 mod Refusals
 mod Words
 mod Totals

@@ -3,20 +3,17 @@ ghost use Rattle.std.specs.Prelude.{◌≡◌, ◌≤◌, ◌<◌, length, not, 
 ghost use Rattle.bw_commands.specs.Word.{is_blank, word_len_of, blank_len_of, first_word};
 ghost use Rattle.bw_commands.specs.Word.{after_word};
 
-use memchr::memchr2;
-
 fn is_blank(byte: u8) -> bool
     ensures { result ≡ is_blank byte }
 {
     byte == b' ' || byte == b'\t'
 }
 
-// Place of the first blank. `memchr2` tests many bytes at a time, which pays off in long paths.
 fn first_blank(text: &[u8]) -> Option<usize>
     ensures value { result ≡ position is_blank text.now }
     ensures within { IfSome result (λ n. n < length text.now) }
 {
-    memchr2(b' ', b'\t', text)
+    text.iter().position(|b| is_blank(*b))
 }
 
 fn first_other(text: &[u8]) -> Option<usize>
