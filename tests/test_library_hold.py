@@ -44,7 +44,7 @@ def using(rows: Sequence[Row], used: Sequence[int]) -> List[Row]:
     # Nobody is hungry: the first has an eighth above its 8, the second its floor.
     (TWO, [0, 8, 5], [0, 0, 0], [None, 9, 13], [0, 8, 5], [13, 8, 5]),
     # The first used more than it is planned: its limit is the planned amount.
-    (TWO, [0, 16, 13], [0, 0, 0], [None, 7, 14], [0, 16, 13], [20, 7, 13]),
+    (TWO, [0, 16, 13], [0, 0, 0], [None, 7, 15], [0, 16, 13], [20, 7, 13]),
     # The first is so light that its floor is 0. It used 3 slices or none: one more is its limit.
     (LIGHT, [0, 3, 10], [0, 0, 0], [None, 4, 20], [0, 3, 10], [13, 3, 10]),
     (LIGHT, [0, 0, 10], [0, 0, 0], [None, 1, 20], [0, 0, 10], [10, 0, 10]),
