@@ -36,8 +36,8 @@ tune_fault_name tune.RootFixed = codes "RootFixed"
 tune_fault_name tune.GoalAbove = codes "GoalAbove"
 tune_fault_name tune.OutOfMemory = codes "OutOfMemory"
 
--- The first test that goals fail: that their groups are there, below the root, and apart. Goals that
--- pass all three can run out of memory.
+-- The first test that goals fail: that their groups are there, below the root, and apart. Goals
+-- that pass all three can run out of memory.
 abbrev pub IsTuneRefused : List Row → List Goal → TuneFault → Type 0
 IsTuneRefused rows goals tune.NotFound = HasMissing rows goals
 IsTuneRefused rows goals tune.RootFixed = AreFound rows goals × HasRoot goals

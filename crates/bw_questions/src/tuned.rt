@@ -35,10 +35,10 @@ pub use tuning::{Conflict, Tuning};
 ///
 /// # Cost
 ///
-/// Goals that ask for more than the plan serves in all are found with one plan. Else each raise of a
-/// weight makes at most 14 plans, and one for each goal up to the one that falls short. Each raise is
-/// of 1 or more. Goals below one group that ask for a slice more than it gets can raise their weights
-/// one by one up to 10000.
+/// Goals that ask for more than the plan serves in all are found with one plan. Else each raise of
+/// a weight makes at most 14 plans, and one for each goal up to the one that falls short. Each
+/// raise is of 1 or more. Goals below one group that ask for a slice more than it gets can raise
+/// their weights one by one up to 10000.
 ///
 /// # Errors
 ///

@@ -10,8 +10,8 @@ use bw_plan::{plan, there_is_one_plan};
 use bw_plan_laws::raised_limits_serve_no_less;
 use std::alloc::{AllocError, Global};
 
-/// The first goals that ask for more than the plan serves in all, or None. No weights meet them all:
-/// weights do not change what is served, and no goal's group is above another's.
+/// The first goals that ask for more than the plan serves in all, or None. No weights meet them
+/// all: weights do not change what is served, and no goal's group is above another's.
 ///
 /// It makes one plan.
 ///

@@ -33,11 +33,11 @@ fn unmet(
     Ok(None)
 }
 
-/// The least weights that are no less than those of an instance and meet all goals, or goals that no
-/// such weights meet at once.
+/// The least weights that are no less than those of an instance and meet all goals, or goals that
+/// no such weights meet at once.
 ///
-/// A raise is the least that meets the goal beside the other weights as they stand. All weights that
-/// meet all goals are at least as great, so no raise goes too far.
+/// A raise is the least that meets the goal beside the other weights as they stand. All weights
+/// that meet all goals are at least as great, so no raise goes too far.
 ///
 /// # Errors
 /// `AllocError` if memory was refused.
