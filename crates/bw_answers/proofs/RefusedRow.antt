@@ -224,18 +224,18 @@ tree_of rows held parents =
     (placed rows parents)
 
 -- the way up ends in time
-pub shallow : (rows : List Row) → AreTreeRows rows → (g at level : ℕ)
-    → depth_of rows g ≡ depth_of rows at + level → level ≤ MAX_DEPTH → parent_of rows at ≡ None
+pub shallow : (rows : List Row) → AreTreeRows rows → (g at steps : ℕ)
+    → depth_of rows g ≡ depth_of rows at + steps → steps ≤ MAX_DEPTH → parent_of rows at ≡ None
     → nat_lt MAX_DEPTH (depth_of rows g) ≡ false
-shallow rows tree g at level depth few top =
+shallow rows tree g at steps depth few top =
     let none : depth_of rows at ≡ 0 = depth_of-top rows tree at top in
     le-ltb MAX_DEPTH (depth_of rows g) (omega (arith, depth, few, none))
 
 -- the way up goes on
-pub deeper : (rows : List Row) → AreTreeRows rows → (g at p level : ℕ)
-    → depth_of rows g ≡ depth_of rows at + level → parent_of rows at ≡ Some p
-    → depth_of rows g ≡ depth_of rows p + (level + 1)
-deeper rows tree g at p level depth up =
+pub deeper : (rows : List Row) → AreTreeRows rows → (g at p steps : ℕ)
+    → depth_of rows g ≡ depth_of rows at + steps → parent_of rows at ≡ Some p
+    → depth_of rows g ≡ depth_of rows p + (steps + 1)
+deeper rows tree g at p steps depth up =
     let more : depth_of rows at ≡ depth_of rows p + 1 = depth_of-step rows tree at p up in
     omega (arith, depth, more)
 

@@ -20,7 +20,7 @@ fn row_at(columns: &Columns<'_>, g: u32) -> Row
     columns.row(g as usize)
 }
 
-// Whether a row is more than 64 levels below the root.
+// Whether a row is more than 64 groups below the root.
 fn is_too_deep(columns: &Columns<'_>, g: u32) -> bool
     requires even { are_even (table_of columns.now) ≡ true }
     requires within { g < length columns.now.parents.now }
@@ -28,7 +28,7 @@ fn is_too_deep(columns: &Columns<'_>, g: u32) -> bool
     ensures { result ≡ nat_lt MAX_DEPTH (depth_of (rows_in (table_of columns.now)) g) }
 {
     let mut at = g;
-    for level in 0..MAX_DEPTH {
+    for step in 0..MAX_DEPTH {
         match row_at(columns, at).parent {
             None => return false,
             Some(parent) => at = parent,

@@ -1,6 +1,6 @@
 -- What other crates may cite of this one's proofs, each passed on from the module that proves it.
 pub use Rattle.bw_model.proofs.Basics.{sum_below, sum-cons, sum-is, sum_below-front, sum_below-ap}
-pub use Rattle.bw_model.proofs.Basics.{sum_below-le, sum_below-zero, sum_by-range}
+pub use Rattle.bw_model.proofs.Basics.{sum_below-le, sum_below-zero, sum_below-add, sum_by-range}
 pub use Rattle.bw_model.proofs.Basics.{sum_by-filter_range}
 pub use Rattle.bw_model.proofs.Basics.{sum_below-change, sum_below-term, and_no, passed, goes_on}
 pub use Rattle.bw_model.proofs.Basics.{no_parent, cancel_le, strong, from_the_last, list_any-range}

@@ -14,7 +14,7 @@ use Rattle.bw_model.specs.Groups.{Groups, IsInstance, AreTreeRows, parent_of, is
 use Rattle.bw_model.specs.Plan.{IsPlan}
 use Rattle.bw_model.proofs.CallerLemmas.{strong, is_under-self}
 use Rattle.bw_model.proofs.CallerLemmas.{sum_below, sum_below-ap, sum_below-le, sum_below-zero}
-use Rattle.bw_model.proofs.CallerLemmas.{sum_by-filter_range}
+use Rattle.bw_model.proofs.CallerLemmas.{sum_below-add, sum_by-filter_range}
 use Rattle.bw_plan.specs.Laws.{HasOnePlan, ThereIsOnePlan}
 use Rattle.bw_plan_laws.specs.Host.{RaisedLimitsServeNoLess}
 use Rattle.bw_plan_laws.proofs.CallerLemmas.{under_same}
@@ -29,11 +29,6 @@ use Rattle.bw_questions.proofs.Paths.{above_parent, one_line}
 -- the amounts of the first goals, in all
 abbrev pub asked_by : List Goal → ℕ → ℕ
 asked_by goals n = sum_below n (λ k. (goal_at goals k).amount)
-
-sum_below-add : (n : ℕ) (f g : ℕ → ℕ)
-    → sum_below n (λ k. f k + g k) ≡ sum_below n f + sum_below n g
-sum_below-add zero f g = omega arith
-sum_below-add (suc n) f g = omega (arith, sum_below-add n f g)
 
 -- The root is above each group.
 root_above : (rows : List Row) → AreTreeRows rows → (l : ℕ) → l < length rows

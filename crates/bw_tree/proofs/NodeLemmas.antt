@@ -205,99 +205,99 @@ left_by b gs id p g at is =
 pub above_kept : (gs hs : Groups) (W : ℕ → Type 0)
     → ((q p : ℕ) → W q → parent_of (group_at gs q) ≡ Some p
     → (parent_of (group_at hs q) ≡ Some p) × W p)
-    → (levels id top : ℕ) → W id → above gs levels id ≡ Some top → above hs levels id ≡ Some top
+    → (steps id top : ℕ) → W id → above gs steps id ≡ Some top → above hs steps id ≡ Some top
 above_kept gs hs W step zero id top w at = above_here hs id ∙ sym (above_here gs id) ∙ at
-above_kept gs hs W step (suc levels) id top w at =
-    by (parent_of (group_at gs id)) refl (λ p. above_kept gs hs W step levels p top)
+above_kept gs hs W step (suc steps) id top w at =
+    by (parent_of (group_at gs id)) refl (λ p. above_kept gs hs W step steps p top)
   where
     by : (o : Option ℕ) → parent_of (group_at gs id) ≡ o
-        → ((p : ℕ) → W p → above gs levels p ≡ Some top → above hs levels p ≡ Some top)
-        → above hs (suc levels) id ≡ Some top
+        → ((p : ℕ) → W p → above gs steps p ≡ Some top → above hs steps p ≡ Some top)
+        → above hs (suc steps) id ≡ Some top
     by None up higher =
-        let wrong : None ≡ Some top = sym (above_more gs levels id None up) ∙ at in absurd (cc)
+        let wrong : None ≡ Some top = sym (above_more gs steps id None up) ∙ at in absurd (cc)
     by (Some p) up higher =
         let next = step id p w up in
-        above_more hs levels id (Some p) next.0
-        ∙ higher p next.1 (sym (above_more gs levels id (Some p) up) ∙ at)
+        above_more hs steps id (Some p) next.0
+        ∙ higher p next.1 (sym (above_more gs steps id (Some p) up) ∙ at)
 
 -- above the end of a way nothing lies
-above_ends : (gs : Groups) (levels more id : ℕ) → above gs levels id ≡ None
-    → above gs (levels + more) id ≡ None
+above_ends : (gs : Groups) (steps more id : ℕ) → above gs steps id ≡ None
+    → above gs (steps + more) id ≡ None
 above_ends gs zero more id none = let wrong : Some id ≡ None = sym (above_here gs id) ∙ none in
     absurd (cc)
-above_ends gs (suc levels) more id none =
-    let e : suc levels + more ≡ suc (levels + more) = omega arith in
+above_ends gs (suc steps) more id none =
+    let e : suc steps + more ≡ suc (steps + more) = omega arith in
     ap (λ n. above gs n id) e
-    ∙ by (parent_of (group_at gs id)) refl (λ p. above_ends gs levels more p)
+    ∙ by (parent_of (group_at gs id)) refl (λ p. above_ends gs steps more p)
   where
     by : (o : Option ℕ) → parent_of (group_at gs id) ≡ o
-        → ((p : ℕ) → above gs levels p ≡ None → above gs (levels + more) p ≡ None)
-        → above gs (suc (levels + more)) id ≡ None
-    by None up higher = above_more gs (levels + more) id None up
-    by (Some p) up higher = above_more gs (levels + more) id (Some p) up
-        ∙ higher p (sym (above_more gs levels id (Some p) up) ∙ none)
+        → ((p : ℕ) → above gs steps p ≡ None → above gs (steps + more) p ≡ None)
+        → above gs (suc (steps + more)) id ≡ None
+    by None up higher = above_more gs (steps + more) id None up
+    by (Some p) up higher = above_more gs (steps + more) id (Some p) up
+        ∙ higher p (sym (above_more gs steps id (Some p) up) ∙ none)
 
 -- nor above one that has no parent
-above_top : (gs : Groups) (levels more id top : ℕ) → above gs levels id ≡ Some top
-    → parent_of (group_at gs top) ≡ None → above gs (levels + suc more) id ≡ None
+above_top : (gs : Groups) (steps more id top : ℕ) → above gs steps id ≡ Some top
+    → parent_of (group_at gs top) ≡ None → above gs (steps + suc more) id ≡ None
 above_top gs zero more id top at none =
     let same : id ≡ top = inside (sym (above_here gs id) ∙ at) in
     let e : zero + suc more ≡ suc more = omega arith in
     ap (λ n. above gs n id) e
     ∙ above_more gs more id None (ap (λ k. parent_of (group_at gs k)) same ∙ none)
-above_top gs (suc levels) more id top at none =
-    let e : suc levels + suc more ≡ suc (levels + suc more) = omega arith in
+above_top gs (suc steps) more id top at none =
+    let e : suc steps + suc more ≡ suc (steps + suc more) = omega arith in
     ap (λ n. above gs n id) e
-    ∙ by (parent_of (group_at gs id)) refl (λ p is. above_top gs levels more p top is none)
+    ∙ by (parent_of (group_at gs id)) refl (λ p is. above_top gs steps more p top is none)
   where
     by : (o : Option ℕ) → parent_of (group_at gs id) ≡ o
-        → ((p : ℕ) → above gs levels p ≡ Some top → above gs (levels + suc more) p ≡ None)
-        → above gs (suc (levels + suc more)) id ≡ None
+        → ((p : ℕ) → above gs steps p ≡ Some top → above gs (steps + suc more) p ≡ None)
+        → above gs (suc (steps + suc more)) id ≡ None
     by None up higher =
-        let wrong : None ≡ Some top = sym (above_more gs levels id None up) ∙ at in absurd (cc)
-    by (Some p) up higher = above_more gs (levels + suc more) id (Some p) up
-        ∙ higher p (sym (above_more gs levels id (Some p) up) ∙ at)
+        let wrong : None ≡ Some top = sym (above_more gs steps id None up) ∙ at in absurd (cc)
+    by (Some p) up higher = above_more gs (steps + suc more) id (Some p) up
+        ∙ higher p (sym (above_more gs steps id (Some p) up) ∙ at)
 
--- a depth is below each number of levels that leads nowhere
-pub depth_below : (gs : Groups) (depth levels id top : ℕ) → above gs depth id ≡ Some top
-    → above gs levels id ≡ None → depth < levels
-depth_below gs depth levels id top at none = by (cases_lt depth levels)
+-- a depth is below each number of steps that leads nowhere
+pub depth_below : (gs : Groups) (depth steps id top : ℕ) → above gs depth id ≡ Some top
+    → above gs steps id ≡ None → depth < steps
+depth_below gs depth steps id top at none = by (cases_lt depth steps)
   where
-    by : (depth < levels) ⊎ (levels ≤ depth) → depth < levels
+    by : (depth < steps) ⊎ (steps ≤ depth) → depth < steps
     by (inl lt) = lt
     by (inr le) =
-        let e : depth ≡ levels + (depth - levels) = omega (arith, le) in
+        let e : depth ≡ steps + (depth - steps) = omega (arith, le) in
         let wrong : Some top ≡ None = sym at ∙ ap (λ n. above gs n id) e
-        ∙ above_ends gs levels (depth - levels) id none in
+        ∙ above_ends gs steps (depth - steps) id none in
         absurd (cc)
 
--- a group lies so deep where so many levels lead to a group
-pub deep_enough : (gs : Groups) (depth levels id top : ℕ) → above gs depth id ≡ Some top
+-- a group lies so deep where so many steps lead to a group
+pub deep_enough : (gs : Groups) (depth steps id top : ℕ) → above gs depth id ≡ Some top
     → parent_of (group_at gs top) ≡ None
-    → leb levels depth ≡ is_some (above gs levels id)
-deep_enough gs depth levels id top at none = by (above gs levels id) refl
+    → leb steps depth ≡ is_some (above gs steps id)
+deep_enough gs depth steps id top at none = by (above gs steps id) refl
   where
-    by : (o : Option ℕ) → above gs levels id ≡ o → leb levels depth ≡ is_some o
-    by None is = let lt = depth_below gs depth levels id top at is in
-        lt-leb levels depth lt
-    by (Some k) is = onto (cases_lt depth levels)
+    by : (o : Option ℕ) → above gs steps id ≡ o → leb steps depth ≡ is_some o
+    by None is = let lt = depth_below gs depth steps id top at is in
+        lt-leb steps depth lt
+    by (Some k) is = onto (cases_lt depth steps)
       where
-        onto : (depth < levels) ⊎ (levels ≤ depth) → leb levels depth ≡ true
-        onto (inr le) = le-leb levels depth le
+        onto : (depth < steps) ⊎ (steps ≤ depth) → leb steps depth ≡ true
+        onto (inr le) = le-leb steps depth le
         onto (inl lt) =
-            let e : levels ≡ depth + suc (levels - depth - 1) = omega (arith, lt) in
+            let e : steps ≡ depth + suc (steps - depth - 1) = omega (arith, lt) in
             let wrong : Some k ≡ None = sym is ∙ ap (λ n. above gs n id) e
-            ∙ above_top gs depth (levels - depth - 1) id top at none in
+            ∙ above_top gs depth (steps - depth - 1) id top at none in
             absurd (cc)
 
 -- one group more
 module _ (gs : Groups) (k parent i : ℕ) (g : GroupFields) (up : g.parent ≡ Some parent)
     (rising : AreRising gs) (absent : group_at gs k ≡ None) (apart : parent ≢ k)
     (none : has_children gs k ≡ false) (at : StandsAt gs parent i) where
-  old_way : (levels id top : ℕ) → above gs levels id ≡ Some top
-      → above (gs ++ (k, g) ∷ []) levels id ≡ Some top
-  old_way levels id top is =
-      above_kept gs (gs ++ (k, g) ∷ []) (λ _. Unit {0}) step levels id top tt is
+  old_way : (steps id top : ℕ) → above gs steps id ≡ Some top
+      → above (gs ++ (k, g) ∷ []) steps id ≡ Some top
+  old_way steps id top is =
+      above_kept gs (gs ++ (k, g) ∷ []) (λ _. Unit {0}) step steps id top tt is
     where
       step : (q p : ℕ) → Unit {0} → parent_of (group_at gs q) ≡ Some p
           → (parent_of (group_at (gs ++ (k, g) ∷ []) q) ≡ Some p) × Unit {0}

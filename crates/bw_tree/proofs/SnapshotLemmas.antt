@@ -272,11 +272,11 @@ module _ (t : TreeState) (ok : IsTree t) (s : Shape) (d : ℕ × GroupFields) (r
       → parent_row (rows_of t.groups s) i ≡ row_above t.groups (get_or t.groups i d).1.parent
   row_parent i within = ap (λ (q : Row). q.parent) (row_at t.groups s i d no_row within)
 
-  -- as many levels lie above a group as its row is deep
-  pub levels : (m i : ℕ) → i < length t.groups → m ≤ depth_of (rows_of t.groups s) i
+  -- as many steps lie above a group as its row is deep
+  pub steps : (m i : ℕ) → i < length t.groups → m ≤ depth_of (rows_of t.groups s) i
       → is_some (above t.groups m (get_or t.groups i d).0) ≡ true
-  levels zero i within le = ap is_some (above_here t.groups (get_or t.groups i d).0)
-  levels (suc m) i within le = step i within le (levels m) (get_or t.groups i d).1.parent refl
+  steps zero i within le = ap is_some (above_here t.groups (get_or t.groups i d).0)
+  steps (suc m) i within le = step i within le (steps m) (get_or t.groups i d).1.parent refl
     where
       step : (i : ℕ) → i < length t.groups → suc m ≤ depth_of (rows_of t.groups s) i
           → ((j : ℕ) → j < length t.groups → m ≤ depth_of (rows_of t.groups s) j
@@ -319,7 +319,7 @@ module _ (t : TreeState) (ok : IsTree t) (s : Shape) (d : ℕ × GroupFields) (r
       low k within (inl deep) =
           let there : has_group t.groups (get_or t.groups k d).0 ≡ true =
           ap is_some (found_at t.groups k d ok.rising within) in
-          let wrong : true ≡ false = sym (levels MAX_PATH k within (omega (arith, deep)))
+          let wrong : true ≡ false = sym (steps MAX_PATH k within (omega (arith, deep)))
           ∙ ap is_some (ok.shallow (get_or t.groups k d).0 there) in
           absurd (cc)
       low k within (inr fine) = le-ltb MAX_DEPTH _ fine

@@ -24,7 +24,7 @@ one_child_more node = record node { children = node.children + 1 }
 abbrev pub one_child_less : Node → Node
 one_child_less node = record node { children = node.children - 1 }
 
--- a node is that of a group: it has the number of the group's children, and of its levels below the
+-- a node is that of a group: it has the number of the group's children, and its depth below the
 -- root, whose id is 0
 pub record IsNodeOf (groups : List (ℕ × GroupFields)) (id : ℕ) (node : Node) : Type 0 where
   pub children : node.children ≡ children_count groups id

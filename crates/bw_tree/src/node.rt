@@ -9,7 +9,7 @@ ghost use Rattle.bw_tree.specs.Nodes.{one_child_less};
 pub(crate) struct Node {
     // number of its children
     pub(crate) children: u32,
-    // number of levels below the root
+    // depth: number of groups above it, 0 for the root
     pub(crate) depth: u32,
 }
 

@@ -110,7 +110,7 @@ impl Tree {
         None
     }
 
-    // Whether the group that stands at this place is `MAX_DEPTH` levels below the root.
+    // Whether the group that stands at this place is `MAX_DEPTH` groups below the root.
     fn is_deepest(&self, id: GroupId, place: usize) -> bool
         requires { position (nat_eq id) (keys_of self.now.groups) ≡ Some place }
         ensures { result ≡ is_some (above self.now.groups MAX_DEPTH id) }
