@@ -532,6 +532,19 @@ def test_quality_without_a_status():
     assert [kubernetes.pod_of(each, []).quality for each in found["items"]] == wanted
 
 
+def test_static_pods_stand_by_the_identifier_of_kubelet(engine):
+    """A mirror has a uid of its own; the group has that of the annotation, without dashes."""
+    found = {"metadata": {"name": "etcd-n1", "namespace": "kube-system", "uid": "0a-1b",
+                          "annotations": {"kubernetes.io/config.hash": "7c9f",
+                                          "kubernetes.io/config.mirror": "7c9f"}},
+             "spec": {"containers": [{"name": "etcd", "resources": {"requests": {"cpu": "100m"}}}]}}
+    model = kubernetes.read([("p", json.dumps({"items": [found]}).encode())], EIGHT, engine.library)
+    assert model.groups["kubepods/burstable/kube-system:etcd-n1"].place == (
+        "kubepods.slice/kubepods-burstable.slice/kubepods-burstable-pod7c9f.slice")
+    del found["metadata"]["annotations"]["kubernetes.io/config.mirror"]
+    assert kubernetes.pod_of(found, []).uid == "0a-1b"
+
+
 def member(limit, is_sidecar=False):
     """A container, as a pod's JSON has it."""
     found = {"name": "c", "resources": {"limits": {"cpu": limit} if limit else {}}}

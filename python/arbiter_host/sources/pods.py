@@ -16,6 +16,8 @@ from arbiter_host.sources.data import table, tables, text
 
 TOP = "kubepods"
 CLASSES = {"Guaranteed": TOP, "Burstable": f"{TOP}/burstable", "BestEffort": f"{TOP}/besteffort"}
+# The annotation by which the API server's copy of a static pod has kubelet's own identifier of it.
+MIRROR = "kubernetes.io/config.mirror"
 # A quantity: a number, and either a suffix or an exponent. None below 0 is an amount of CPU.
 QUANTITY = re.compile(r"\+?([0-9]{1,30}(?:\.[0-9]{0,30})?|\.[0-9]{1,30})"
                       r"(?:([numkMGTPE]|[KMGTPE]i)|[eE]([+-]?[0-9]{1,2}))?")
@@ -220,6 +222,11 @@ def is_memory_limited(container: dict[str, Any]) -> bool:
     return bool(limit) and memory_of(container, "requests") in (None, limit)
 
 
+def uid_of(metadata: dict[str, Any]) -> str:
+    """The identifier in the name of a pod's group: of a static pod its mirror has another."""
+    return text(table(metadata, "annotations"), MIRROR) or text(metadata, "uid")
+
+
 def names_of(pod: dict[str, Any]) -> tuple[str, str]:
     """The namespace and the name of a pod."""
     metadata = table(pod, "metadata")
@@ -237,7 +244,7 @@ def pod_of(pod: dict[str, Any], notes: list[str]) -> Pod:
     overhead = thousandths(table(spec, "overhead").get("cpu"), where, notes) or 0
     own = amounts_of(table(spec, "resources"), where, notes)
     asks = any(memory_of(each, key) for each in raw for key in ("requests", "limits"))
-    return Pod(namespace, name, text(metadata, "uid"), parts, overhead, own,
+    return Pod(namespace, name, uid_of(metadata), parts, overhead, own,
                told if told in CLASSES else "", asks, all(map(is_memory_limited, raw)),
                selector_of(spec), tuple(map(toleration_of, tables(spec, "tolerations"))))
 
