@@ -8,7 +8,7 @@ from __future__ import annotations
 
 import itertools
 import re
-from collections.abc import Iterator, Sequence
+from collections.abc import Iterator, Mapping, Sequence
 from dataclasses import dataclass, field
 from fractions import Fraction
 from typing import Any
@@ -57,6 +57,8 @@ class Job:
     is_bound: bool | None = None
     # The name of its folder is told by the number of a job alone.
     is_raw: bool = True
+    # What sacct calls a task of an array or a part of a job of several kinds of nodes.
+    alias: str = ""
 
     @property
     def parts(self) -> tuple[str, str, str]:
@@ -143,9 +145,20 @@ def allotted(raw: dict[str, Any]) -> list[tuple[str, int, bool]]:
     return found
 
 
+def alias_of(raw: dict[str, Any]) -> str:
+    """What sacct calls a job where that is not its number: `ARRAY_TASK` or `FIRST+OFFSET`."""
+    for above, key, mark in (("array_job_id", "array_task_id", "_"),
+                             ("het_job_id", "het_job_offset", "+")):
+        first = count(raw, above)
+        if first and table(raw, key).get("set", raw.get(key) is not None):
+            return f"{first}{mark}{count(raw, key)}"
+    return ""
+
+
 def job_of(raw: dict[str, Any], node: str) -> Job:
     """A job of `scontrol show job --json`."""
-    job = Job(str(number(raw, "job_id")), text(raw, "user_name"), text(raw, "name"))
+    job = Job(str(number(raw, "job_id")), text(raw, "user_name"), text(raw, "name"),
+              alias=alias_of(raw))
     job.nodes = hosts_of(text(raw, "nodes"))
     told = allotted(raw)
     here = [(cpus, cores) for name, cpus, cores in told if name == node or len(told) == 1]
@@ -196,7 +209,7 @@ def step_of(row: dict[str, str]) -> Step:
     return step
 
 
-def take_row(row: dict[str, str], jobs: dict[str, Job]) -> bool:
+def take_row(row: dict[str, str], jobs: dict[str, Job], aliases: Mapping[str, str]) -> bool:
     """Takes a row of sacct. Returns whether it is of something that runs."""
     word = row.get("JobIDRaw") or row.get("JobID") or ""
     found = IDENTIFIER.fullmatch(word)
@@ -204,7 +217,8 @@ def take_row(row: dict[str, str], jobs: dict[str, Job]) -> bool:
         raise HostFault(f"{shown(word[:40])!r} is no JobID")
     if not row.get("State", "RUNNING").split(" ")[0] in RUNNING:
         return False
-    job = jobs.setdefault(found.group(1), Job(found.group(1), is_raw=found.group(1).isdigit()))
+    name = aliases.get(found.group(1), found.group(1))
+    job = jobs.setdefault(name, Job(name, is_raw=name.isdigit()))
     step = step_of(row)
     if found.group(2):
         job.steps[found.group(2)] = step
@@ -218,10 +232,10 @@ def take_row(row: dict[str, str], jobs: dict[str, Job]) -> bool:
 
 def take_rows(data: bytes, name: str, jobs: dict[str, Job]) -> int:
     """Takes the rows of one file. Returns how many are of what does not run."""
-    left = 0
+    left, aliases = 0, {job.alias: key for key, job in jobs.items() if job.alias}
     for at, row in rows_of(data, name):
         try:
-            left += not take_row(row, jobs)
+            left += not take_row(row, jobs, aliases)
         except HostFault as fault:
             raise HostFault(f"{name}:{at}: {fault.message}") from fault
     return left
