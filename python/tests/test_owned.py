@@ -354,7 +354,8 @@ def of(group):
     (["CPUWeight=300"], (300, 50000, 100000)), (["CPUWeight=idle"], (1, 50000, 100000)),
     (["CPUWeight="], (100, 50000, 100000)), (["CPUQuota=12.5%"], (200, 12500, 100000)),
     # 5 ms of a second are 1 ms in 200 ms: systemd takes the longer period.
-    (["CPUQuota=0.5%"], (200, 1000, 200000)), (["CPUQuota=infinity"], (200, None, 100000)),
+    (["CPUQuota=0.5%"], (200, 1000, 200000)), (["CPUQuota=0.3%"], (200, 1000, 333333)),
+    (["CPUQuota=0.03%"], (200, 1000, 1000000)), (["CPUQuota=infinity"], (200, None, 100000)),
     (["CPUQuota=350%", "CPUWeight=1"], (1, 350000, 100000)),
 ])
 def test_units(words, wanted):

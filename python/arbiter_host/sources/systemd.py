@@ -53,8 +53,8 @@ def time_of(value: str) -> int | None:
 
 
 def adjusted_period(per_second: int, period: int) -> int:
-    """The period that systemd writes: at least 1 ms of quota fits in it, and it is at most 1 s."""
-    least = -(-units.MIN_QUOTA * SECOND // max(per_second, 1))
+    """The period that systemd writes: so long that the quota is 1 ms, rounded down, at most 1 s."""
+    least = units.MIN_QUOTA * SECOND // max(per_second, 1)
     return max(min(max(least, period), units.MAX_PERIOD), units.MIN_PERIOD)
 
 
