@@ -2,9 +2,12 @@
 from __future__ import annotations
 
 import csv
+import http.client
 import io
 import json
+import math
 import re
+import time
 import urllib.error
 import urllib.parse
 import urllib.request
@@ -23,8 +26,10 @@ TIMES = ("time", "period", "timestamp", "date", "datetime", "_time", "ts")
 EMPTY = ("", "nan", "null", "none", "undefined", "-")
 # Epochs above this are milliseconds.
 MILLISECONDS = 10**11
-SECONDS = 60
-MAX_ANSWER = 1 << 28
+SCHEMES = ("http://", "https://")
+# Seconds of one answer from the server, and of all of them; bytes of all, and of one.
+SECONDS, MOST_SECONDS = 60, 600
+MAX_ANSWER, PIECE = 1 << 28, 1 << 20
 
 
 @dataclass(frozen=True)
@@ -145,29 +150,68 @@ def read_pairs(data: bytes, name: str, unit: str, host: Host) -> list[Sample]:
     return found
 
 
+def instant(at: Any) -> float:
+    """The time of a value, in seconds. A ValueError for one that is none."""
+    try:
+        found = float(at)
+    except OverflowError as error:
+        raise ValueError(at) from error
+    if not math.isfinite(found):
+        raise ValueError(at)
+    return found
+
+
 def series_of(answer: Any, label: str) -> dict[str, list[tuple[float, str]]]:
     """The values of each series of a range query, by one of its labels."""
     found = {}
-    result = answer.get("data", {}).get("result", []) if isinstance(answer, dict) else []
-    for each in result:
+    for each in answer["data"]["result"]:
         metric, values = each["metric"], each["values"]
         name = metric.get(label) or ",".join(map(str, metric.values())) or "value"
-        found[str(name)] = [(float(at), str(value)) for at, value in values]
+        found[str(name)] = [(instant(at), str(value)) for at, value in values]
     return found
+
+
+class Redirects(urllib.request.HTTPRedirectHandler):
+    """Follows a server to other addresses of HTTP alone."""
+
+    def redirect_request(self, req: Any, fp: Any, code: int, msg: str, headers: Any,
+                         newurl: str) -> urllib.request.Request | None:
+        """The request of the other address."""
+        if not newurl.lower().startswith(SCHEMES):
+            raise HostFault(f"{shown(req.full_url)}: it names {shown(cut(newurl, 100))} instead,"
+                            " which is not http:// or https://")
+        return super().redirect_request(req, fp, code, msg, headers, newurl)
+
+
+def body_of(answer: Any, until: float) -> bytes:
+    """The bytes of an answer. A fault where it is too long, or not whole at a time."""
+    data = bytearray()
+    while piece := answer.read1(PIECE):
+        data += piece
+        if len(data) > MAX_ANSWER:
+            raise HostFault(f"{shown(answer.url)}: an answer of more than {MAX_ANSWER >> 20} MiB")
+        if time.monotonic() > until:
+            raise HostFault(f"{shown(answer.url)}: its answer takes more than {MOST_SECONDS}"
+                            " seconds")
+    if answer.length:
+        raise HostFault(f"{shown(answer.url)}: its answer ends in the middle")
+    return bytes(data)
 
 
 def fetched(url: str) -> Any:
     """The JSON of an address."""
+    until = time.monotonic() + MOST_SECONDS
     try:
-        with urllib.request.urlopen(url, timeout=SECONDS) as answer:
-            return json.loads(answer.read(MAX_ANSWER))
+        with urllib.request.build_opener(Redirects).open(url, timeout=SECONDS) as answer:
+            return json.loads(body_of(answer, until))
     except urllib.error.HTTPError as error:
-        told = error.read(400).decode(errors="replace")
+        told = error.read(400).decode(errors="replace") or str(error.reason)[:400]
         raise HostFault(f"{shown(url)}: {error.code}: {shown(told)}") from error
     except urllib.error.URLError as error:
         raise HostFault(f"{shown(url)}: {error.reason}") from error
-    except (OSError, ValueError, RecursionError) as error:
-        raise HostFault(f"{shown(url)}: {shown(str(error))}") from error
+    except (OSError, http.client.HTTPException, ValueError, RecursionError) as error:
+        raise HostFault(f"{shown(url)}: {shown(str(error)[:400]) or type(error).__name__}"
+                        ) from error
 
 
 def read_prometheus(url: str, words: dict[str, str], label: str, unit: str, host: Host,
@@ -176,7 +220,7 @@ def read_prometheus(url: str, words: dict[str, str], label: str, unit: str, host
 
     A series without a value asks for nothing, or for what it asked before if holes are kept.
     """
-    if not url.startswith(("http://", "https://")):
+    if not url.startswith(SCHEMES):
         raise HostFault(f"{shown(url)}: not http:// or https://", 2)
     where = f"{url.rstrip('/')}/api/v1/query_range?{urllib.parse.urlencode(words)}"
     try:

@@ -1,14 +1,22 @@
-"""A series from a real Prometheus over a recorded block, where Debian's package is here."""
+"""A series from a real Prometheus over a recorded block, where Debian's package is here; servers
+that answer wrongly."""
 import csv
 import io
 import shutil
 import socket
 import subprocess
+import threading
 import time
 import urllib.error
 import urllib.request
+from contextlib import contextmanager, suppress
+from fractions import Fraction
 
 import pytest
+from arbiter import Host
+from arbiter_host import samples
+from arbiter_host.faults import HostFault
+from arbiter_host.names import shown
 
 BEGIN, STEP, COUNT = 1767607200, 300, 6
 # Seconds of CPU that each pod uses in a step, beginning with the first: half a CPU, then two.
@@ -99,3 +107,91 @@ def test_metrics_are_metrics(ctl, folder):
     ended = subprocess.run([tool, "check", "metrics"], input=out.encode(), capture_output=True,
                            check=False, timeout=60)
     assert ended.returncode == 0, ended.stdout + ended.stderr
+
+
+@contextmanager
+def answering(raw):
+    """The address of a server that answers each request with these bytes."""
+    with socket.socket() as listening:
+        listening.bind(("127.0.0.1", 0))
+        listening.listen()
+
+        def run():
+            with suppress(OSError):
+                while True:
+                    reader, _ = listening.accept()
+                    with reader, suppress(OSError):
+                        reader.recv(65536)
+                        reader.sendall(raw)
+        threading.Thread(target=run, daemon=True).start()
+        try:
+            yield f"http://127.0.0.1:{listening.getsockname()[1]}"
+        finally:
+            listening.shutdown(socket.SHUT_RDWR)
+
+
+def asked(url):
+    """The samples of a range query."""
+    words = {"query": "q", "start": "1", "end": "2", "step": "1"}
+    return samples.read_prometheus(url, words, "pod", "cpu", Host(1))
+
+
+def whole(text, length=None):
+    """An answer of HTTP with a text."""
+    length = len(text) if length is None else length
+    return f"HTTP/1.1 200 OK\r\nContent-Length: {length}\r\n\r\n{text}".encode()
+
+
+def values(at, value="1"):
+    """The text of an answer with one value."""
+    return ('{"data": {"result": [{"metric": {"pod": "a"}, "values": [[' + at + ', "' + value
+            + '"]]}]}}')
+
+
+def moved(to):
+    """An answer that names another address."""
+    return f"HTTP/1.1 302 Found\r\nLocation: {to}\r\nContent-Length: 0\r\n\r\n".encode()
+
+
+@pytest.mark.parametrize("raw, told", [
+    (b"SSH-2.0-OpenSSH\r\n", "SSH-2.0"), (b"", "closed connection"),
+    (b"HTTP/1.1 200 OK\r\nTransfer-Encoding: chunked\r\n\r\nzz\r\n", "IncompleteRead"),
+    (b"HTTP/1.1 200 OK\r\nA: " + b"x" * 70000 + b"\r\n\r\n", "65536 bytes"),
+    (whole("{}", 100), "ends in the middle"), (whole("[1]"), "no answer to a range query"),
+    (whole('{"data": null}'), "no answer to a range query"),
+    (whole(values("NaN")), "no answer to a range query"),
+    (whole(values("1e400")), "no answer to a range query"),
+    (whole(values("1" + "0" * 400)), "no answer to a range query"),
+    (whole(values("1", "\\u001b[31m")), r"a: '\\x1b[31m' is no number"),
+    (moved("file:///etc/passwd"), "file:///etc/passwd"),
+    (moved("ftp://127.0.0.1/x"), "ftp://127.0.0.1/x instead, which is not http"),
+], ids=["no http", "nothing", "chunks", "header", "cut", "list", "no data", "nan", "infinite",
+        "large", "letters", "file", "ftp"])
+def test_a_server_that_lies(raw, told):
+    """Each wrong answer is a fault of one line, which shows no raw control character."""
+    with answering(raw) as url, pytest.raises(HostFault) as fault:
+        asked(url)
+    assert told in fault.value.message and shown(fault.value.message) == fault.value.message
+
+
+def test_a_server_that_moved():
+    """Another address of HTTP is followed."""
+    with answering(whole(values("7"))) as there, answering(moved(f"{there}/x")) as url:
+        assert [(each.name, each.demands) for each in asked(url)] == [("7", {"a": Fraction(1000)})]
+
+
+@pytest.mark.parametrize("url", ["http://a:b", "http://a b/", "http://a\n/", "http://[::1"])
+def test_addresses_that_are_none(url):
+    with pytest.raises(HostFault) as fault:
+        asked(url)
+    assert shown(fault.value.message) == fault.value.message
+
+
+def test_an_answer_without_an_end(monkeypatch):
+    """Its bytes and its time have bounds."""
+    monkeypatch.setattr(samples, "MAX_ANSWER", 1 << 20)
+    with answering(whole(" " * (2 << 20))) as url, pytest.raises(HostFault, match="more than 1 M"):
+        asked(url)
+    monkeypatch.setattr(samples, "MOST_SECONDS", 0)
+    with answering(whole(values("7"))) as url, pytest.raises(HostFault, match="more than 0 sec"):
+        asked(url)

@@ -100,7 +100,8 @@ def prometheus(url: str, words: dict[str, str], host_label: str,
             if not isinstance(host, str) or not isinstance(group, str):
                 raise HostFault(f"{shown(url)}: a series without the labels {host_label} and"
                                 f" {label}")
-            cells += [(float(at), host, group, str(value)) for at, value in each["values"]]
+            cells += [(samples.instant(at), host, group, str(value))
+                      for at, value in each["values"]]
     except (KeyError, TypeError, ValueError, AttributeError) as error:
         raise HostFault(f"{shown(url)}: no answer to a range query") from error
     cells.sort(key=lambda cell: cell[0])
