@@ -1,6 +1,7 @@
 """The last round of a loop as OpenMetrics, in a file for a textfile collector.
 
-The file is written whole or not at all, in a folder that other users cannot change.
+The file is written whole or not at all, in a folder that other users cannot change. Another file
+is not replaced.
 """
 from __future__ import annotations
 
@@ -13,7 +14,12 @@ from typing import Any
 from arbiter import Host
 from arbiter_host import record, units
 from arbiter_host.beneath import check_path
-from arbiter_host.names import label
+from arbiter_host.exports.files import is_ours
+from arbiter_host.faults import HostFault
+from arbiter_host.names import label, shown
+
+# What the file begins with.
+MARK = "# TYPE arbiter_hold_"
 
 # Keys of a group in the line of a round, and what the gauge is.
 AMOUNTS = (
@@ -65,14 +71,26 @@ class File:
         check_path(path)
         self.path = os.path.abspath(path)
         self.name = os.path.basename(self.path)
-        self.folder = record.opened_folder(os.path.dirname(self.path), is_made=False)
+        self.part = f".{self.name}.part"
+        self.folder = record.collected_folder(os.path.dirname(self.path))
+        try:
+            self.check()
+        except HostFault:
+            os.close(self.folder)
+            raise
+
+    def check(self) -> None:
+        """A fault where the name is that of another file."""
+        with record.faults(self.path):
+            if not is_ours(self.folder, self.name, MARK):
+                raise HostFault(f"{shown(self.path)}: is there, and has no metrics of arbiterctl"
+                                " hold; nothing is changed")
 
     def put(self, content: str) -> None:
         """Puts a text in place of the last. Everybody may read it."""
-        part = f".{self.name}.part"
         with record.faults(self.path):
-            record.write_part(self.folder, part, content, 0o644)
-            os.rename(part, self.name, src_dir_fd=self.folder, dst_dir_fd=self.folder)
+            record.write_part(self.folder, self.part, content, 0o644)
+            os.rename(self.part, self.name, src_dir_fd=self.folder, dst_dir_fd=self.folder)
 
     def remove(self) -> None:
         """Removes the file."""

@@ -21,12 +21,11 @@ from arbiter_host.beneath import check_path
 from arbiter_host.exports.files import is_ours
 from arbiter_host.faults import HostFault, UsageFault, strerror
 from arbiter_host.names import shown
-from arbiter_host.record import FLAGS, opened_folder
+from arbiter_host.record import FLAGS, collected_folder
 from arbiter_host.watch import Alert, Figures
 
-# Seconds for which a slow reader may hold others up.
+# Seconds for which a reader may hold others up, however slowly it asks and takes.
 SECONDS = 5
-HOSTS = ("127.0.0.1", "localhost", "[::1]")
 # The names of the metrics of groups, their values, and what they say.
 GROUPS: tuple[tuple[str, Callable[[Figures], Any], str], ...] = (
     ("arbiter_plan_gets_cpus", lambda each: each.plan / 1000, "CPUs that the plan gives a group."),
@@ -81,11 +80,12 @@ def registry_of(figured: Figured) -> CollectorRegistry:
 
 
 def put_file(path: str, registry: CollectorRegistry) -> None:
-    """Writes the metrics to a file whole, or not at all. Another file is not replaced."""
+    """Writes the metrics to a file whole, or not at all. Everybody may read it. Another file is not
+    replaced."""
     check_path(path)
     above, name = os.path.split(os.path.abspath(path))
     part = f".{secrets.token_hex(8)}.part"
-    folder = opened_folder(above)
+    folder = collected_folder(above)
     try:
         if not is_ours(folder, name, "# HELP arbiter_"):
             raise HostFault(f"{shown(path)}: is there, and has no metrics of arbiterctl")
@@ -93,6 +93,7 @@ def put_file(path: str, registry: CollectorRegistry) -> None:
                              dir_fd=folder)
         try:
             with os.fdopen(descriptor, "wb") as file:
+                os.fchmod(descriptor, 0o644)
                 file.write(generate_latest(registry))
             os.rename(part, name, src_dir_fd=folder, dst_dir_fd=folder)
         except OSError:
@@ -108,10 +109,14 @@ def put_file(path: str, registry: CollectorRegistry) -> None:
 class Handler(WSGIRequestHandler):
     """Answers one request, and logs none."""
 
-    timeout = SECONDS
-
     def log_message(self, format: str, *words: Any) -> None:
         """Logs nothing."""
+
+
+def cut_off(request: socket.socket) -> None:
+    """Ends what a reader sends and takes. One that is closed has ended."""
+    with suppress(OSError):
+        request.shutdown(socket.SHUT_RDWR)
 
 
 class Server(WSGIServer):
@@ -123,6 +128,16 @@ class Server(WSGIServer):
         self.server_name, self.server_port = "localhost", self.server_address[1]
         self.setup_environ()
 
+    def process_request(self, request: Any, client_address: Any) -> None:
+        """Answers one request. A reader that takes too long is cut off."""
+        ending = threading.Timer(SECONDS, cut_off, [request])
+        ending.daemon = True
+        ending.start()
+        try:
+            super().process_request(request, client_address)
+        finally:
+            ending.cancel()
+
     def handle_error(self, request: Any, client_address: Any) -> None:
         """A reader that went away is no fault of the server."""
 
@@ -133,15 +148,20 @@ class Server6(Server):
     address_family = socket.AF_INET6
 
 
+def loopback(host: str) -> str:
+    """The loopback address that a name means; empty for all other names."""
+    bare = "127.0.0.1" if host == "localhost" else host.removeprefix("[").removesuffix("]")
+    try:
+        return bare if ipaddress.ip_address(bare).is_loopback else ""
+    except ValueError:
+        return ""
+
+
 def address_of(text: str) -> tuple[str, int]:
     """A loopback address and a port, 0 to 65535. All others are refused."""
     host, colon, port = text.rpartition(":")
-    bare = "127.0.0.1" if host == "localhost" else host.removeprefix("[").removesuffix("]")
-    try:
-        is_loopback = ipaddress.ip_address(bare).is_loopback
-    except ValueError:
-        is_loopback = False
-    if not (colon and is_loopback and port.isascii() and port.isdigit() and int(port) < 65536):
+    bare = loopback(host)
+    if not (colon and bare and port.isascii() and port.isdigit() and int(port) < 65536):
         raise UsageFault(f"--listen {shown(text)}: not a loopback address and a port, such as"
                          " 127.0.0.1:9101")
     return bare, int(port)
@@ -155,7 +175,7 @@ def guarded(registry: CollectorRegistry) -> Callable[..., Any]:
     def answer(environ: dict[str, Any], start: Callable[..., Any]) -> Any:
         host = str(environ.get("HTTP_HOST", "")).lower()
         name = host.rpartition(":")[0] if ":" in host.rpartition("]")[2] else host
-        if name not in HOSTS and not name.startswith("127."):
+        if not loopback(name):
             start("403 Forbidden", [("Content-Type", "text/plain")])
             return [b"not a loopback name\n"]
         if environ["PATH_INFO"] != "/metrics" or environ["REQUEST_METHOD"] != "GET":

@@ -4,6 +4,7 @@ from __future__ import annotations
 import os
 import sys
 from collections.abc import Sequence
+from contextlib import suppress
 from typing import Any
 
 from arbiter_host import names
@@ -69,8 +70,20 @@ def drop_output() -> None:
         pass
 
 
+def say(words: str) -> None:
+    """Prints a line on standard error. Where that is gone or full nothing is printed: it must stop
+    no change halfway."""
+    if sys.stderr is not None:
+        with suppress(OSError, ValueError):
+            print(f"arbiterctl: {names.shown(words)}", file=sys.stderr, flush=True)
+
+
+def warn(words: str) -> None:
+    """Prints a warning on standard error."""
+    say(f"warning: {words}")
+
+
 def tell(fault: HostFault) -> None:
     """Prints a fault on standard error, a line each."""
-    if sys.stderr is not None:
-        for line in fault.message.split("\n"):
-            print(f"arbiterctl: {names.shown(line)}", file=sys.stderr)
+    for line in fault.message.split("\n"):
+        say(line)

@@ -1,14 +1,16 @@
 """The undo file of a loop, rewritten while it runs, and the lock that keeps a second loop away.
 
-Both are in folders that other users cannot change. No link is followed at their names.
+Both are in folders that other users cannot change, nor any folder above. No link is followed at
+their names.
 """
 from __future__ import annotations
 
+import errno
 import fcntl
 import os
 import stat
 from collections.abc import Iterator
-from contextlib import contextmanager, suppress
+from contextlib import ExitStack, contextmanager, suppress
 
 from arbiter_host.beneath import check_path
 from arbiter_host.faults import HostFault, strerror
@@ -17,6 +19,9 @@ from arbiter_host.names import shown
 FOLDER = "/run/arbiter"
 LOCK = "hold.lock"
 FLAGS = os.O_NOFOLLOW | os.O_CLOEXEC
+PLACE, FOLDERS = os.O_PATH | FLAGS, os.O_RDONLY | os.O_DIRECTORY | FLAGS
+# Links on the way to a folder, as the kernel has it.
+MOST_LINKS = 40
 
 
 @contextmanager
@@ -28,25 +33,98 @@ def faults(path: str) -> Iterator[None]:
         raise HostFault(f"{shown(path)}: {strerror(error)}; nothing is changed") from error
 
 
-def opened_folder(path: str, is_made: bool = True) -> int:
-    """Opens a folder that is this user's alone to change. With `is_made` it is made where there is
-    none."""
+def check_way(path: str, descriptor: int) -> None:
+    """A fault where another user may change which file a name of a folder stands for.
+
+    In a sticky folder users change names of their own files alone.
+    """
+    found = os.fstat(descriptor)
+    is_free = found.st_mode & 0o022 and not found.st_mode & stat.S_ISVTX
+    if found.st_uid not in (0, os.geteuid()) or is_free:
+        raise HostFault(f"{shown(path)}: other users may change this folder; nothing is changed")
+
+
+def check_own(path: str, descriptor: int) -> None:
+    """A fault where a folder is not this user's alone to change."""
+    found = os.fstat(descriptor)
+    if found.st_uid != os.geteuid() or found.st_mode & 0o022:
+        raise HostFault(f"{shown(path)}: other users may change this folder; nothing is changed")
+
+
+def link_text(path: str, descriptor: int) -> str:
+    """What a link holds; empty for what is none. Anybody makes links in a sticky folder, so a link
+    has to be this user's or root's."""
+    found = os.fstat(descriptor)
+    if not stat.S_ISLNK(found.st_mode):
+        return ""
+    if found.st_uid not in (0, os.geteuid()):
+        raise HostFault(f"{shown(path)}: a link of another user; nothing is changed")
+    return os.readlink("", dir_fd=descriptor)
+
+
+def descended(path: str, opened: ExitStack) -> int:
+    """Opens a folder, part by part from the root on, as a place. A fault where another user may
+    change a folder or a link on the way."""
+    def step(name: str, above: int = -1) -> int:
+        found = os.open(name, PLACE, dir_fd=above)
+        opened.callback(os.close, found)
+        return found
+
+    names, links, here, where = path.split("/")[::-1], 0, step("/"), "/"
+    while names:
+        check_way(where, here)
+        name = names.pop() or "."
+        below, whole = step(name, here), os.path.join(where, name)
+        link = link_text(whole, below)
+        if not link:
+            here, where = below, os.path.normpath(whole)
+            continue
+        links += 1
+        if links > MOST_LINKS:
+            raise OSError(errno.ELOOP, os.strerror(errno.ELOOP))
+        names += link.split("/")[::-1]
+        if link.startswith("/"):
+            here, where = step("/"), "/"
+    check_way(where, here)
+    return here
+
+
+def own_folder(path: str) -> int:
+    """Opens a folder that is this user's alone to change, below folders that are so or root's. It
+    is made where there is none."""
+    check_path(path)
+    above, name = os.path.split(os.path.abspath(path))
+    with faults(path), ExitStack() as opened:
+        place = descended(above, opened)
+        if name:
+            with suppress(FileExistsError):
+                os.mkdir(name, 0o700, dir_fd=place)
+        descriptor = os.open(name or "/", FOLDERS, dir_fd=place)
+    return checked_own(path, descriptor)
+
+
+def collected_folder(path: str) -> int:
+    """Opens a folder of a textfile collector, which is this user's alone to change. Those above it
+    may be the collector's, as Debian has them: who changes them hides metrics, and no more."""
     check_path(path)
     with faults(path):
-        if is_made:
-            with suppress(FileExistsError):
-                os.mkdir(path, 0o700)
-        descriptor = os.open(path, os.O_RDONLY | os.O_DIRECTORY | FLAGS)
-    found = os.fstat(descriptor)
-    if found.st_uid != os.geteuid() or stat.S_IMODE(found.st_mode) & 0o022:
+        descriptor = os.open(os.path.abspath(path), FOLDERS)
+    return checked_own(path, descriptor)
+
+
+def checked_own(path: str, descriptor: int) -> int:
+    """A folder that was opened, if it is this user's alone to change; else it is closed."""
+    try:
+        check_own(path, descriptor)
+    except HostFault:
         os.close(descriptor)
-        raise HostFault(f"{shown(path)}: other users may change this folder; nothing is changed")
+        raise
     return descriptor
 
 
 def lock(path: str) -> list[int]:
     """Locks a folder against a second loop. The lock stands while the descriptors are open."""
-    folder = opened_folder(path)
+    folder = own_folder(path)
     name = os.path.join(path, LOCK)
     try:
         with faults(name):
@@ -65,14 +143,29 @@ def lock(path: str) -> list[int]:
 
 def write_part(folder: int, name: str, text: str, mode: int = 0o600, is_synced: bool = False
                ) -> None:
-    """Writes a file of a folder of `opened_folder`. Its name is one that nobody reads."""
+    """Writes a file of a folder of one's own. Its name is one that nobody reads. Where that
+    fails, as on a full disk, the file is not there."""
     descriptor = os.open(name, os.O_WRONLY | os.O_CREAT | os.O_TRUNC | FLAGS, mode, dir_fd=folder)
-    with os.fdopen(descriptor, "w", encoding="utf-8") as file:
-        os.fchmod(descriptor, mode)
-        file.write(text)
-        file.flush()
-        if is_synced:
-            os.fsync(file.fileno())
+    try:
+        with os.fdopen(descriptor, "w", encoding="utf-8") as file:
+            os.fchmod(descriptor, mode)
+            file.write(text)
+            file.flush()
+            if is_synced:
+                os.fsync(file.fileno())
+    except OSError:
+        with suppress(OSError):
+            os.unlink(name, dir_fd=folder)
+        raise
+
+
+def is_there(folder: int, name: str) -> bool:
+    """Whether a folder has a name, be it that of a link that leads nowhere."""
+    try:
+        os.lstat(name, dir_fd=folder)
+        return True
+    except FileNotFoundError:
+        return False
 
 
 class Record:
@@ -83,11 +176,11 @@ class Record:
         self.path = os.path.abspath(path)
         self.name = os.path.basename(self.path)
         self.part = f"{self.name}.part"
-        self.folder = opened_folder(os.path.dirname(self.path))
+        self.folder = own_folder(os.path.dirname(self.path))
         self.is_there = False
         # The text that was put last.
         self.text = ""
-        if os.path.lexists(self.path):
+        if is_there(self.folder, self.name):
             os.close(self.folder)
             raise HostFault(f"the undo file {shown(self.path)}: File exists; nothing is changed."
                             " If a loop was killed: arbiterctl undo it with --yes, remove it")

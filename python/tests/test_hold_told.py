@@ -314,8 +314,8 @@ def test_gauges_are_what_prometheus_reads():
 
 
 def test_gauges_are_written_whole(folder):
-    """A name that is there is replaced; a part stays unseen; other users change nothing."""
-    (folder / "hold.prom").write_text("old")
+    """An earlier file is replaced; a part stays unseen; other users change nothing."""
+    (folder / "hold.prom").write_text(gauges.text(LINE, Host(2, 100000, 1000)))
     (folder / "hold.prom").chmod(0o600)
     file = gauges.File(str(folder / "hold.prom"))
     file.put("new\n")

@@ -164,6 +164,7 @@ def test_command_of_an_alert(ctl, folder):
     (["--alert", "throttled>5%"], "trees of cgroups alone are measured"),
     (["--after", "0"], "--after: 1 to"), (["--interval", "0"], "--interval: above 0"),
     (["--for", "x"], "--for: 'x' is no time"), (["--listen", "0.0.0.0:1"], "not a loopback"),
+    (["--command", ""], "--command: it is empty"), (["--command", " "], "--command: it is empty"),
 ])
 def test_words_that_are_refused(ctl, folder, words, told):
     (folder / "s.script").write_bytes(STARVES)
@@ -287,6 +288,44 @@ def test_a_reader_that_says_nothing_holds_nobody_up_for_long(served):
         assert time.monotonic() - begun < 3 * metrics.SECONDS
 
 
+@pytest.mark.parametrize("host, is_answered", [
+    ("127.0.0.1", True), ("127.0.0.1:9101", True), ("127.9.9.9", True), ("localhost:1", True),
+    ("LOCALHOST", True), ("[::1]:9101", True), ("127.evil.example", False), ("", False),
+    ("127.0.0.1.evil.example:9101", False), ("localhost.evil.example", False),
+    ("[::1].evil.example", False), ("8.8.8.8", False), ("[2001:db8::1]:80", False),
+])
+def test_names_of_a_browser(host, is_answered):
+    """A name of somebody's domain that begins as a loopback address is none."""
+    told = []
+    metrics.guarded(metrics.registry_of(metrics.Figured()))(
+        {"HTTP_HOST": host, "PATH_INFO": "/metrics", "REQUEST_METHOD": "GET", "QUERY_STRING": ""},
+        lambda status, _: told.append(status[:3]))
+    assert told == ["200" if is_answered else "403"]
+
+
+def test_a_slow_reader_is_cut_off(monkeypatch, capfd):
+    """One that asks letter by letter, and one that takes nothing of a long answer: neither holds
+    the next one up for long, or leaves a word in the log."""
+    monkeypatch.setattr(metrics, "SECONDS", 2)
+    figured = metrics.Figured()
+    # (an answer of some megabytes fits into no socket)
+    figured.put([watch.Figures(f"{at}" * 40, "", Fraction(0), Fraction(0), Fraction(0), Fraction(0),
+                               False, True) for at in range(6000)], [])
+    where = metrics.serve("127.0.0.1:0", metrics.registry_of(figured))
+    begun = time.monotonic()
+    with socket.create_connection(where, timeout=30) as slow:
+        slow.setsockopt(socket.SOL_SOCKET, socket.SO_RCVBUF, 4096)
+        slow.sendall(b"GET /metrics HTTP/1.0\r\nHost: 127.0.0.1\r\n\r\n")
+        with socket.create_connection(where, timeout=30) as letters:
+            with pytest.raises(OSError):
+                while time.monotonic() < begun + 30:
+                    letters.sendall(b"G")
+                    time.sleep(0.1)
+            assert asked(f"127.0.0.1:{where[1]}")[0] == 200
+    assert time.monotonic() - begun < 25
+    assert capfd.readouterr().err == ""
+
+
 def test_interrupt_ends_it(served):
     process, _ = served
     process.send_signal(signal.SIGINT)
@@ -351,6 +390,38 @@ def test_textfile(ctl, folder, engine, monkeypatch):
     os.chmod(folder / "d", 0o777)
     _, err = ctl.run(*words, status=1)
     assert "other users may change this folder" in err
+
+
+def test_everybody_reads_a_textfile(folder):
+    """Whatever the umask of the command is: the collector is another user."""
+    before = os.umask(0o077)
+    try:
+        metrics.put_file(str(folder / "x.prom"), metrics.registry_of(metrics.Figured()))
+    finally:
+        os.umask(before)
+    assert (folder / "x.prom").stat().st_mode & 0o777 == 0o644
+
+
+def test_a_textfile_that_fails_later(ctl, folder):
+    """It is told once, and the watch goes on; where the first one fails it ends."""
+    os.mkdir(folder / "d", 0o755)
+    (folder / "s.script").write_bytes(STARVES)
+    words = [sys.executable, PACKAGE / "arbiterctl", "watch", folder / "s.script", "--textfile",
+             folder / "d/x.prom", "--interval", "100ms"]
+    process = subprocess.Popen(list(map(str, words)), env=ctl.environment, stdout=subprocess.PIPE,
+                               stderr=subprocess.PIPE, text=True)
+    process.stdout.readline()
+    os.chmod(folder / "d", 0o777)
+    for _ in range(10):
+        process.stdout.readline()
+    os.chmod(folder / "d", 0o755)
+    (folder / "d/x.prom").unlink()
+    for _ in range(10):
+        process.stdout.readline()
+    process.send_signal(signal.SIGINT)
+    err = process.communicate(timeout=30)[1]
+    assert process.returncode == -signal.SIGINT and (folder / "d/x.prom").exists()
+    assert err.count("\n") == 1 == err.count("other users may change this folder")
 
 
 def test_dashboard():

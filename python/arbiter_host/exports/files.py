@@ -15,7 +15,7 @@ from arbiter_host.exports.base import MARK, Document
 from arbiter_host.faults import HostFault, UsageFault, strerror
 from arbiter_host.names import shown
 from arbiter_host.output import emit
-from arbiter_host.record import FLAGS, opened_folder
+from arbiter_host.record import FLAGS, check_own, own_folder
 
 # Bytes of a file that may hold the mark.
 HEAD = 200
@@ -49,7 +49,7 @@ class Written:
     def __init__(self, path: str) -> None:
         self.path = path
         # The open folders by their paths below, and the files that wait: folder, part, name.
-        self.folders = {"": opened_folder(path)}
+        self.folders = {"": own_folder(path)}
         self.parts: list[tuple[int, str, str]] = []
 
     def folder(self, names: Sequence[str]) -> int:
@@ -61,6 +61,7 @@ class Written:
                 os.mkdir(names[-1], 0o700, dir_fd=above)
             self.folders[whole] = os.open(names[-1], os.O_RDONLY | os.O_DIRECTORY | FLAGS,
                                           dir_fd=above)
+            check_own(os.path.join(self.path, whole), self.folders[whole])
         return self.folders[whole]
 
     def add(self, document: Document) -> None:

@@ -7,7 +7,6 @@ import os
 import re
 import shlex
 import subprocess
-import sys
 import time
 from collections.abc import Callable, Sequence
 from fractions import Fraction
@@ -64,12 +63,7 @@ def run_command(words: Sequence[str], raised: Sequence[watch.Alert]) -> None:
     except subprocess.TimeoutExpired:
         why = f"no end in {SECONDS} seconds"
     if why:
-        tell(f"--command {words[0]}: {why}")
-
-
-def tell(words: str) -> None:
-    """Tells something on standard error."""
-    print(f"arbiterctl: warning: {shown(words)}", file=sys.stderr, flush=True)
+        output.warn(f"--command {words[0]}: {why}")
 
 
 class Watch:
@@ -97,7 +91,7 @@ class Watch:
             from arbiter_host import metrics
             address, port = metrics.serve(self.options.listen, metrics.registry_of(self.figured))
             where = f"[{address}]" if ":" in address else address
-            print(f"arbiterctl: http://{where}:{port}/metrics", file=sys.stderr, flush=True)
+            output.say(f"http://{where}:{port}/metrics")
 
     def tell_notes(self, notes: Sequence[str]) -> None:
         """Tells what the source could not say, each once."""
@@ -106,7 +100,7 @@ class Watch:
                 if len(self.told) >= MOST_TOLD:
                     self.told.clear()
                 self.told.add(note)
-                tell(note)
+                output.warn(note)
 
     def take(self, found: watch.Round) -> None:
         """Takes a round: metrics, its line, and the alerts that it raises."""
@@ -119,14 +113,23 @@ class Watch:
         if self.figured:
             self.figured.put(figures, held)
         if self.figured and self.options.textfile:
-            from arbiter_host import metrics
-            metrics.put_file(self.options.textfile, metrics.registry_of(self.figured))
+            self.put_file(self.figured)
         output.emit(json.dumps(watch.line_of(state, found, held)) + "\n")
         self.is_raised = self.is_raised or bool(raised)
         if raised and self.command:
             run_command(self.command, raised)
         if raised and not self.is_lasting:
             raise Alerted(held)
+
+    def put_file(self, figured: Figured) -> None:
+        """Writes the textfile. Where that fails after the first round the watch goes on."""
+        from arbiter_host import metrics
+        try:
+            metrics.put_file(self.options.textfile, metrics.registry_of(figured))
+        except HostFault as fault:
+            if self.state.rounds == 1:
+                raise
+            self.tell_notes([fault.message])
 
     def rounds(self, read: Callable[[], watch.Round], waits_first: bool) -> None:
         """Rounds until the end."""
@@ -137,7 +140,7 @@ class Watch:
                 self.state.failed += 1
                 if self.state.failed >= MOST_FAILED or self.options.once:
                     raise
-                tell(fault.message)
+                output.warn(fault.message)
                 continue
             self.take(found)
         if self.is_raised:
@@ -154,6 +157,8 @@ def run(options: argparse.Namespace) -> None:
         watching = Watch(options)
     except ValueError as error:
         raise UsageFault(f"--command: {error}") from error
+    if options.command is not None and not watching.command:
+        raise UsageFault("--command: it is empty")
     read, is_tree = reader(options, watching.wanted)
     watching.begin()
     watching.rounds(read, is_tree)

@@ -1,0 +1,161 @@
+"""Other users of the host: folders on the way, links, files in the way, and a full disk."""
+import errno
+import os
+from pathlib import Path
+
+import pytest
+from arbiter_host import gauges, metrics, record
+from arbiter_host.exports import files
+from arbiter_host.exports.base import MARK, Document
+from arbiter_host.faults import HostFault
+
+NOBODY = 65534
+as_root = pytest.mark.skipif(os.geteuid() != 0, reason="gives files to another user")
+
+
+def closed(descriptors):
+    """Closes what was opened."""
+    for each in descriptors:
+        os.close(each)
+
+
+def export(folder):
+    files.write(f"{folder}/", [Document("web.service.d/x.conf", f"# {MARK}dropin\n")])
+
+
+def textfile(folder):
+    metrics.put_file(f"{folder}/x.prom", metrics.registry_of(metrics.Figured()))
+
+
+# Each writes below a folder, or opens it to write there later.
+WRITERS = {
+    "lock": lambda folder: closed(record.lock(str(folder))),
+    "undo": lambda folder: record.Record(f"{folder}/undo.json").close(),
+    "gauges": lambda folder: gauges.File(f"{folder}/x.prom").close(),
+    "export": export, "textfile": textfile,
+}
+COLLECTED = ("gauges", "textfile")
+each_writer = pytest.mark.parametrize("write", WRITERS.values(), ids=list(WRITERS))
+each_trusted = pytest.mark.parametrize("write", [
+    each for name, each in WRITERS.items() if name not in COLLECTED])
+
+
+@each_trusted
+def test_folders_on_the_way(folder, write):
+    """A folder of one's own below one that others may change can be taken away by them."""
+    (folder / "open/mine").mkdir(parents=True, mode=0o755)
+    for mode, is_safe in ((0o777, False), (0o775, False), (0o757, False), (0o755, True),
+                          (0o1777, True)):
+        (folder / "open").chmod(mode)
+        if is_safe:
+            write(folder / "open/mine")
+            continue
+        with pytest.raises(HostFault, match="open: other users may change this folder"):
+            write(folder / "open/mine")
+        assert not list((folder / "open/mine").iterdir())
+
+
+@as_root
+@each_trusted
+def test_folders_of_another_user(folder, write):
+    """Its owner may change it whatever its mode is. So may the owner of a link, in sticky ones."""
+    (folder / "his/mine").mkdir(parents=True)
+    os.chown(folder / "his", NOBODY, NOBODY)
+    (folder / "away").symlink_to(folder / "his")
+    for name in ("his", "away"):
+        with pytest.raises(HostFault, match="his: other users may change this folder"):
+            write(folder / name / "mine")
+    (folder / "sticky").mkdir()
+    (folder / "sticky").chmod(0o1777)
+    (folder / "real/mine").mkdir(parents=True)
+    (folder / "sticky/link").symlink_to(folder / "real")
+    write(folder / "sticky/link/mine")
+    os.chown(folder / "sticky/link", NOBODY, NOBODY, follow_symlinks=False)
+    with pytest.raises(HostFault, match="link: a link of another user"):
+        write(folder / "sticky/link/mine")
+
+
+@as_root
+def test_a_folder_of_a_collector(folder):
+    """Debian's is root's, below one of the collector's user; so no other user writes there."""
+    (folder / "prometheus/node-exporter").mkdir(parents=True)
+    os.chown(folder / "prometheus", NOBODY, NOBODY)
+    for name in COLLECTED:
+        WRITERS[name](folder / "prometheus/node-exporter")
+    os.chown(folder / "prometheus/node-exporter", NOBODY, NOBODY)
+    for name in COLLECTED:
+        with pytest.raises(HostFault, match="node-exporter: other users may change this folder"):
+            WRITERS[name](folder / "prometheus/node-exporter")
+
+
+@each_writer
+def test_links_on_the_way(folder, write):
+    """Links of one's own lead on; the last name is none, a slash behind it or not."""
+    (folder / "real/mine").mkdir(parents=True)
+    for place, (name, target) in enumerate((("one", "real"), ("two", folder / "one"),
+                                            ("three", "./../" + folder.name + "/two"))):
+        (folder / name).symlink_to(target)
+        (folder / f"real/mine/{place}").mkdir()
+        write(folder / name / f"mine/{place}")
+    (folder / "last").symlink_to(folder / "real/mine")
+    for path in (f"{folder}/last", f"{folder}/last/"):
+        with pytest.raises(HostFault, match="Not a directory"):
+            write(path)
+    (folder / "round").symlink_to(folder / "round")
+    with pytest.raises(HostFault, match="Too many levels"):
+        write(folder / "round/mine")
+    (folder / "file").write_text("")
+    with pytest.raises(HostFault, match="Not a directory"):
+        write(folder / "file/mine")
+
+
+def test_a_folder_below_an_export(folder):
+    """A folder that is there already is not one that others may change."""
+    (folder / "web.service.d").mkdir()
+    (folder / "web.service.d").chmod(0o777)
+    with pytest.raises(HostFault, match="web.service.d: other users may change this folder"):
+        export(folder)
+    assert not list((folder / "web.service.d").iterdir())
+
+
+@pytest.mark.parametrize("make", [
+    lambda path: path.write_text("127.0.0.1 localhost\n"), lambda path: path.write_text(""),
+    lambda path: path.symlink_to("nowhere"), os.mkfifo, os.mkdir,
+], ids=["text", "empty", "link", "fifo", "folder"])
+def test_gauges_replace_no_other_file(folder, make):
+    """Neither at the beginning nor at the end, at which they are removed."""
+    make(folder / "hosts")
+    before = os.lstat(folder / "hosts")
+    with pytest.raises(HostFault):
+        gauges.File(str(folder / "hosts"))
+    assert os.lstat(folder / "hosts") == before
+
+
+@pytest.fixture
+def full(folder, monkeypatch):
+    """A folder whose disk takes no byte more."""
+    monkeypatch.setattr(os, "fsync", refuse)
+    monkeypatch.setattr(os, "fchmod", refuse)
+    return folder
+
+
+def refuse(*_):
+    raise OSError(errno.ENOSPC, os.strerror(errno.ENOSPC))
+
+
+def test_a_full_disk(full):
+    """No part of an undo file, or of the gauges, stays."""
+    kept, file = record.Record(str(full / "undo.json")), gauges.File(str(full / "x.prom"))
+    for put in (kept.put, file.put):
+        with pytest.raises(HostFault, match="No space left"):
+            put("text")
+        assert list(full.iterdir()) == []
+    kept.close()
+    file.close()
+
+
+@as_root
+def test_the_default_folder_is_roots():
+    """Nobody but root makes a name beside the lock of the host."""
+    found = Path(record.FOLDER).parent.stat()
+    assert found.st_uid == 0 and not found.st_mode & 0o022
