@@ -22,17 +22,20 @@
  *   4 to 10   the rows are (TooMany, BadParent, BadWeight, TooDeep, InnerDemand, DemandTooLarge, RootLimited)
  *   14, 15    the quota or burst is, or its own period (QuotaTooLarge, PeriodOutOfRange)
  *   20        the group is no row (NotFound)
+ *   26        a goal is of row 0 (RootFixed)
+ *   29        a goal's group is another goal's group, or above it (GoalAbove)
  *   40 to 43  the text is (BadLine, BadField, CutShort, Trailing)
  *   50        not one entry for each row (WrongLength)
  *   51 to 58  the amounts are not the plan by this certificate
  *   71        memory was refused (OutOfMemory)
  * The first that applies is answered, in this order:
  *   1. 50, where the columns of the rows differ in length, or a column of an answer or `hungry` from them, or nums, dens and
- *      places of arbiter_check from each other
+ *      places of arbiter_check from each other, or goal_groups, goal_amounts and together of arbiter_tune
  *   2. 1 to 3
  *   3. 4 to 10, of a text 40 to 43 too
  *   4. of a check 50, where amounts, flags or levels are not one for each row, and then 51 to 58; of a question about a group
- *      20, where it is no row; of arbiter_least_limit 10, where it is row 0, whose only limit is the capacity
+ *      20, where it is no row; of arbiter_least_limit 10, where it is row 0, whose only limit is the capacity; of goals 20, 26
+ *      and then 29
  * Memory is asked for after steps 1 and 2: 71 can stand in place of any later answer, and of no earlier one. So of arbiter_check
  * a bad host with amounts of another length than the rows answers 1 to 3, and one with uneven nums, dens and places 50. Of
  * arbiter_check_text 71 can stand in place of any answer.
@@ -55,6 +58,7 @@ extern "C" {
 #define ARBITER_VERSION "1.0.0"
 #define ARBITER_NO_PARENT UINT32_MAX
 #define ARBITER_NO_LIMIT UINT64_MAX
+#define ARBITER_NO_GOAL UINT64_MAX
 /* Reasons of arbiter_reasons. */
 #define ARBITER_NOTHING_ASKED 0
 #define ARBITER_ALL_WANTED 1
@@ -179,6 +183,22 @@ uint32_t arbiter_least_processors(uint64_t processors, uint64_t period_us, uint6
                                   const uint32_t *parents, size_t parents_length, const uint64_t *weights, size_t weights_length,
                                   const uint64_t *limits, size_t limits_length, const uint64_t *demands, size_t demands_length,
                                   uint32_t group, uint64_t amount, uint64_t *least);
+
+/* Weights under which all goals are met at once. Goal k asks for at least goal_amounts[k] slices for the group of row goal_groups[k]:
+ * by the plan or, where `guaranteed` is not 0, by arbiter_guarantee. There may be no goal. Only the weights of the goals' groups
+ * change, within 1 to 10000.
+ * Where such weights meet all goals, *unmet is ARBITER_NO_GOAL, `tuned` has the weight of each row, and `together` is 0 for each
+ * goal. The weights are the least that are no less than `weights`; where none of these meet all goals, the least of all.
+ * Where none do, `together` is 1 for goals that no such weights meet at once, and 0 for the others. *unmet is the place of one of
+ * them, from 0, and `tuned` is `weights`.
+ * Goals that ask for more than the plan serves in all are found with one plan. Else each raise of a weight makes at most 14 plans,
+ * and one for each goal up to the one that falls short. Each raise is of 1 or more. */
+uint32_t arbiter_tune(uint64_t processors, uint64_t period_us, uint64_t slice_us,
+                      const uint32_t *parents, size_t parents_length, const uint64_t *weights, size_t weights_length,
+                      const uint64_t *limits, size_t limits_length, const uint64_t *demands, size_t demands_length,
+                      const uint32_t *goal_groups, size_t goal_groups_length,
+                      const uint64_t *goal_amounts, size_t goal_amounts_length, uint32_t guaranteed,
+                      uint64_t *tuned, size_t tuned_length, uint8_t *together, size_t together_length, uint64_t *unmet);
 
 /* The limits of the next round, from what each leaf used in the last one. The rows are as everywhere, with the slices that each
  * leaf used, rounded up, in `used` in the place of demands. `hungry` is not 0 where the leaf would have used more; it is not read

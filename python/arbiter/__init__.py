@@ -12,10 +12,10 @@ The package needs the standard library alone. The code that plans and checks is 
 package is not.
 """
 from arbiter.columns import (Certificate, Columns, Figures, Host, Kind, Level, Reason, Round, Row,
-                             Script)
+                             Script, Unmet)
 from arbiter.found import Unavailable
 from arbiter.library import Library, Refused
 
 __all__ = ["Certificate", "Columns", "Figures", "Host", "Kind", "Level", "Library", "Reason",
-           "Refused", "Round", "Row", "Script", "Unavailable"]
+           "Refused", "Round", "Row", "Script", "Unavailable", "Unmet"]
 __version__ = "1.0.0"

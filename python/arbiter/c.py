@@ -7,7 +7,7 @@ from typing import Any
 
 from arbiter.found import TO_DO, Unavailable
 
-NO_PARENT, NO_LIMIT = 2**32 - 1, 2**64 - 1
+NO_PARENT, NO_LIMIT, NO_GOAL = 2**32 - 1, 2**64 - 1, 2**64 - 1
 # Bytes for each name, and for the version, and the 0 behind it.
 NAME_ROOM = 17
 U8, U32, U64, SIZE = ctypes.c_uint8, ctypes.c_uint32, ctypes.c_uint64, ctypes.c_size_t
@@ -25,6 +25,7 @@ WORDS: dict[str, list[Any]] = {
     "limiting": TREE + COLUMN + [POINTER] * 2,
     "reasons": TREE + COLUMN * 2,
     "figures": TREE + COLUMN * 6,
+    "tune": TREE + COLUMN * 2 + [U32] + COLUMN * 2 + [POINTER],
     "hold": TREE + COLUMN * 8,
     "guarantee": TREE + [U32, POINTER],
     "least_weight": TREE + [U32, U64, POINTER],

@@ -206,6 +206,15 @@ class Certificate(NamedTuple):
                 for each in zip(self.nums, self.dens, self.places)]
 
 
+class Unmet(NamedTuple):
+    """Goals that no weights of 1 to 10000 of the goals' groups meet at once, by their places."""
+
+    # One of them.
+    goal: int
+    # All of them, in their order.
+    together: list[int]
+
+
 class Round(NamedTuple):
     """The limits of a round, and the demands and the certified plan that they come from. Each has
     one entry for each row, in slices of one period."""

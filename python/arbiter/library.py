@@ -10,10 +10,12 @@ from typing import TypeAlias
 
 from arbiter import c, found
 from arbiter.columns import (U8, U32, U64, Certificate, Columns, Figures, Host, Kind, Reason, Round,
-                             Row, Script, column, given, in_range, zeros)
+                             Row, Script, Unmet, column, given, in_range, zeros)
 
 # The rows of a tree, or their columns, which are made once for several calls.
 Rows: TypeAlias = Sequence[Row] | Columns
+# The row of a group, and the slices of one period that it is to get at least.
+Goal: TypeAlias = tuple[int, int]
 # Most groups of a tree, the root among them.
 MOST_GROUPS = 16384
 CONVERSIONS = {"linear": 1, "logarithmic": 2}
@@ -157,6 +159,26 @@ class Library:
         self.ask("hold", host, columns, *given(flags, held, demands, amounts, *evidence))
         limits = [None if limit == c.NO_LIMIT else limit for limit in held]
         return Round(limits, demands.tolist(), amounts.tolist(), evidence)
+
+    def tune(self, host: Host, rows: Rows, goals: Sequence[Goal],
+             guaranteed: bool = False) -> list[int] | Unmet:
+        """The weight of each row under which each goal is met at once, or goals that cannot be.
+
+        A goal asks for the slices by the plan or, where `guaranteed`, whatever the groups ask for
+        that are not under its group. Only the weights of the goals' groups change, within 1 to
+        10000. They are the least that are no less than the rows have, or else the least of all.
+        Refused as a plan is, then 20 NotFound if a goal's group is no row, 26 RootFixed if one is
+        row 0, and 29 GoalAbove if one is another goal's group, or above it.
+        """
+        columns, unmet = Columns.of(rows), c.U64()
+        groups = column(U32, [group for group, _ in goals], "group")
+        amounts = column(U64, [amount for _, amount in goals], "amount")
+        tuned, together = zeros(U64, len(columns)), zeros(U8, len(goals))
+        self.ask("tune", host, columns, *given(groups, amounts), int(bool(guaranteed)),
+                 *given(tuned, together), ctypes.byref(unmet))
+        if unmet.value == c.NO_GOAL:
+            return tuned.tolist()
+        return Unmet(unmet.value, [place for place, flag in enumerate(together) if flag])
 
     def of_group(self, name: str, host: Host, rows: Rows, group: int, *amount: int) -> int:
         """The number that a question about the group of a row is answered with."""
