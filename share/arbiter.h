@@ -184,9 +184,9 @@ uint32_t arbiter_least_processors(uint64_t processors, uint64_t period_us, uint6
                                   const uint64_t *limits, size_t limits_length, const uint64_t *demands, size_t demands_length,
                                   uint32_t group, uint64_t amount, uint64_t *least);
 
-/* Weights under which all goals are met at once. Goal k asks for at least goal_amounts[k] slices for the group of row goal_groups[k]:
- * by the plan or, where `guaranteed` is not 0, by arbiter_guarantee. There may be no goal. Only the weights of the goals' groups
- * change, within 1 to 10000.
+/* Weights under which all goals are met at once. Goal k asks for at least goal_amounts[k] slices for the group of row
+ * goal_groups[k]: by the plan or, where `guaranteed` is not 0, by arbiter_guarantee. There may be no goal. Only the weights of the
+ * goals' groups change, within 1 to 10000.
  * Where such weights meet all goals, *unmet is ARBITER_NO_GOAL, `tuned` has the weight of each row, and `together` is 0 for each
  * goal. The weights are the least that are no less than `weights`; where none of these meet all goals, the least of all.
  * Where none do, `together` is 1 for goals that no such weights meet at once, and 0 for the others. *unmet is the place of one of
