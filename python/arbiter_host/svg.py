@@ -66,6 +66,14 @@ def steps(most: float, about: int) -> list[float]:
     return [round(place * step, 6) for place in range(int(most / step + 1e-9) + 1)]
 
 
+def inside(width_: float, height: float, title: str, parts: Sequence[str]) -> str:
+    """A picture inside a page, whose letters and ground it has."""
+    size = f"{number(width_)} {number(height)}"
+    head = (f'<svg width="{number(width_)}" height="{number(height)}" viewBox="0 0 {size}"'
+            f" role=\"img\" aria-label={quoteattr(shown(title))}>")
+    return "\n".join([head, *parts, "</svg>"])
+
+
 def document(width_: float, height: float, title: str, parts: Sequence[str]) -> str:
     """A whole picture."""
     size = f'{number(width_)} {number(height)}'

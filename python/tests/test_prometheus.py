@@ -43,20 +43,20 @@ def free_port():
         return found.getsockname()[1]
 
 
-@pytest.fixture
-def server(folder):
-    """A server over the block, which is ended after the test."""
+@contextmanager
+def running(folder, text):
+    """The address of a server over counters in OpenMetrics, which is ended behind it."""
     program, tool = shutil.which("prometheus"), shutil.which("promtool")
     if program is None or tool is None:
         pytest.skip("no prometheus and promtool here: apt-get install prometheus")
-    (folder / "m").write_text(recorded())
+    (folder / "m").write_text(text)
     (folder / "c.yml").write_text("global: {}\n")
     subprocess.run([tool, "tsdb", "create-blocks-from", "openmetrics", folder / "m", folder / "d"],
                    check=True, capture_output=True, timeout=60)
     url = f"http://127.0.0.1:{free_port()}"
     words = [program, f"--config.file={folder}/c.yml", f"--storage.tsdb.path={folder}/d",
              f"--web.listen-address={url[7:]}", "--storage.tsdb.retention.time=100y"]
-    running = subprocess.Popen(words, stdout=subprocess.DEVNULL, stderr=subprocess.DEVNULL)
+    process = subprocess.Popen(words, stdout=subprocess.DEVNULL, stderr=subprocess.DEVNULL)
     try:
         until = time.monotonic() + 30
         while time.monotonic() < until:
@@ -67,8 +67,15 @@ def server(folder):
                 time.sleep(0.2)
         yield url
     finally:
-        running.terminate()
-        running.wait(30)
+        process.terminate()
+        process.wait(30)
+
+
+@pytest.fixture
+def server(folder):
+    """A server over the block."""
+    with running(folder, recorded()) as url:
+        yield url
 
 
 def words_of(url, *words):

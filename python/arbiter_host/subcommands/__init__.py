@@ -30,6 +30,7 @@ PLACES = {
     "series": Place("series", "SERIES", "plan many samples of demands"),
     "top": Place("top", "TOP", "live view over a host's cgroups and their plan"),
     "watch": Place("watch", "WATCH", "tell when a host gets bad: alerts and metrics"),
+    "audit": Place("audit", "AUDIT", "the plan beside what groups used: how far off, and why"),
     "fleet": Place("fleet", "FLEET", "ask many hosts at once, on all processors"),
     "apply": Place("apply", "APPLY", "set weights and limits on a host; without --yes only print"),
     "undo": Place("apply", "UNDO", "bring the settings before `apply` back"),

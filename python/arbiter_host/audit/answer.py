@@ -1,0 +1,262 @@
+"""The answer of an audit: a row for each group, the worst first, as text and as data."""
+from __future__ import annotations
+
+import json
+from collections.abc import Iterator, Sequence
+from dataclasses import dataclass
+from fractions import Fraction
+from typing import Any
+
+from arbiter_host import text, units
+from arbiter_host.audit.causes import Outlooks, cause_of
+from arbiter_host.audit.intervals import Audit, Cell, Interval
+from arbiter_host.demands import mean
+from arbiter_host.model import Group
+from arbiter_host.names import parent_path, short, shown
+
+HEADS = ("used", "plan", "mean off", "of plan", "worst off", "of plan then", "intervals",
+         "likely cause", "group")
+# What a file without names begins with.
+FORM = "arbiter_audit"
+MARK = f'{{"{FORM}"'
+# Thousandths of a CPU of a hundredth.
+HUNDREDTH = 10
+
+
+@dataclass(frozen=True)
+class Row:
+    """One group over all intervals. A cell is None where it was not measured."""
+
+    path: str
+    group: Group
+    cells: Sequence[Cell | None]
+    # The place of the interval in which it was most off, and the likely cause there.
+    worst: int
+    cause: str
+
+    @property
+    def seen(self) -> list[Cell]:
+        """The cells that were measured."""
+        return [cell for cell in self.cells if cell]
+
+    @property
+    def used(self) -> Fraction:
+        """What it used as a mean, in thousandths of a CPU."""
+        return mean([cell.used for cell in self.seen])
+
+    @property
+    def planned(self) -> Fraction:
+        """The plan as a mean, in thousandths of a CPU."""
+        return mean([cell.planned for cell in self.seen])
+
+    @property
+    def off(self) -> Fraction:
+        """What it used as a mean less the plan."""
+        return self.used - self.planned
+
+    @property
+    def part(self) -> Fraction | None:
+        """That as a part of the plan; None where nothing was planned."""
+        return self.off / self.planned if self.planned else None
+
+    @property
+    def most(self) -> Cell:
+        """The cell in which it was most off."""
+        found = self.cells[self.worst]
+        assert found
+        return found
+
+
+@dataclass(frozen=True)
+class Told:
+    """An audit with its rows, the worst first, and why placement is not known."""
+
+    audit: Audit
+    rows: list[Row]
+    why_not: list[str]
+
+
+def worst_of(cells: Sequence[Cell | None]) -> int:
+    """The place of the cell that is most off; the first of several."""
+    return -max((abs(cell.off), -place) for place, cell in enumerate(cells) if cell)[1]
+
+
+def told(audit: Audit) -> Told:
+    """The rows of all groups that were measured, by how far off they were at worst."""
+    intervals = audit.intervals
+    groups = {path: interval.model.groups[path] for interval in intervals
+              for path in interval.cells}
+    cells = {path: [interval.cells.get(path) for interval in intervals] for path in groups}
+    worst = {path: worst_of(each) for path, each in cells.items()}
+    order = sorted(groups, key=lambda path: (-abs(intervals[worst[path]].cells[path].off), path))
+    outlooks = Outlooks(intervals)
+    rows = [Row(path, groups[path], cells[path], worst[path],
+                cause_of(intervals, worst[path], path, outlooks)) for path in order]
+    return Told(audit, rows, list(outlooks.why_not))
+
+
+def cpus(thousandths: Fraction) -> str:
+    """CPUs, to a thousandth."""
+    return f"{float(thousandths) / 1000:.3f}"
+
+
+def points(thousandths: Fraction) -> str:
+    """Hundredths of a CPU, with a sign."""
+    return f"{float(thousandths) / HUNDREDTH:+.1f}"
+
+
+def percent(part: Fraction | None) -> str:
+    """A part in percent, with a sign."""
+    return "-" if part is None else f"{float(part) * 100:+.0f} %"
+
+
+def length_words(intervals: Sequence[Interval]) -> str:
+    """The number of intervals, and how long they are."""
+    lengths = [units.decimal(each.seconds) for each in sorted(intervals, key=lambda one:
+                                                              one.seconds)]
+    span = lengths[0] if lengths[0] == lengths[-1] else f"{lengths[0]} to {lengths[-1]}"
+    return f"intervals: {len(intervals)}, each of {span} s"
+
+
+def head(found: Told) -> Iterator[str]:
+    """The lines above the table."""
+    intervals = found.audit.intervals
+    yield text.host_words(found.audit.plan)
+    yield f"{length_words(intervals)}; the proved check accepted each plan"
+    yield ("off: what a group used less its plan, in hundredths of a CPU and in parts of the plan")
+    unplanned = [each.unplanned for each in intervals if each.unplanned is not None]
+    if unplanned:
+        yield f"used by no group of the plan, as a mean: {cpus(mean(unplanned))} CPUs"
+
+
+def cells_of(row: Row) -> list[str]:
+    """The cells of a row."""
+    return [cpus(row.used), cpus(row.planned), points(row.off), percent(row.part),
+            points(row.most.off), percent(row.most.part), str(len(row.seen)), row.cause,
+            short(shown(row.path))]
+
+
+def busy(found: Told) -> list[Row]:
+    """The rows of groups that used something, or were planned something."""
+    return [row for row in found.rows if row.used or row.planned]
+
+
+def foot(found: Told) -> Iterator[str]:
+    """The lines below the table."""
+    idle = len(found.rows) - len(busy(found))
+    if idle:
+        yield f"groups that used nothing: {idle}"
+    for why in found.why_not:
+        yield f"placement is not known: {why}"
+
+
+def number(value: Fraction | None) -> float | None:
+    """A number as JSON has it."""
+    return None if value is None else round(float(value), 6)
+
+
+def off_data(used: Fraction, planned: Fraction, part: Fraction | None) -> dict[str, Any]:
+    """What was used and planned, in CPUs, and off in hundredths of one and as a part."""
+    return {"used_cpus": number(used / 1000), "plan_cpus": number(planned / 1000),
+            "off_hundredths": number((used - planned) / HUNDREDTH), "off_part": number(part)}
+
+
+def column(cells: Sequence[Cell | None], key: str) -> list[Any]:
+    """A value of each interval; None where nothing was measured."""
+    values = [None if cell is None else getattr(cell, key) for cell in cells]
+    return [number(each) if isinstance(each, Fraction) else each for each in values]
+
+
+def cells_data(cells: Sequence[Cell | None]) -> dict[str, Any]:
+    """The cells of a group by interval."""
+    return {"used_millicpu": column(cells, "used"), "demand_millicpu": column(cells, "demand"),
+            "plan_millicpu": column(cells, "planned"), "periods": column(cells, "periods"),
+            "throttled": column(cells, "throttled"), "hungry": column(cells, "hungry"),
+            "tasks": column(cells, "tasks")}
+
+
+def row_data(row: Row, intervals: Sequence[Interval]) -> dict[str, Any]:
+    """A row as data."""
+    holes = {place: interval.holes[row.path] for place, interval in enumerate(intervals)
+             if row.path in interval.holes}
+    return {"group": row.path, "title": row.group.title, "weight": row.group.weight,
+            "quota_usec": row.group.quota, "period_usec": row.group.period,
+            "intervals": len(row.seen), "holes": {str(key): why for key, why in holes.items()},
+            "mean": off_data(row.used, row.planned, row.part),
+            "worst": {"interval": row.worst,
+                      **off_data(row.most.used, row.most.planned, row.most.part)},
+            "cause": row.cause, **cells_data(row.cells)}
+
+
+def host_data(found: Told) -> dict[str, int]:
+    """The host of the plans."""
+    host = found.audit.plan.model.host
+    return {"processors": host.processors, "period_usec": host.period_us,
+            "slice_usec": host.slice_us}
+
+
+def as_data(found: Told) -> dict[str, Any]:
+    """An audit as data."""
+    audit = found.audit
+    intervals = [{"from": each.name, "seconds": number(each.seconds),
+                  "unplanned_millicpu": number(each.unplanned)} for each in audit.intervals]
+    return {"host": host_data(found), "check": "accepted", "engine": audit.plan.by,
+            "intervals": intervals, "notes": audit.notes,
+            "placement": {"not_known": found.why_not or None},
+            "groups": [row_data(row, audit.intervals) for row in found.rows]}
+
+
+def tree_order(intervals: Sequence[Interval]) -> list[str]:
+    """All groups of all intervals, each right before those below it."""
+    below: dict[str, dict[str, None]] = {".": {}}
+    for interval in intervals:
+        for path in interval.model.groups:
+            below.setdefault(path, {})
+            below[parent_path(path)][path] = None
+    found, waiting = [], list(reversed(below["."]))
+    while waiting:
+        path = waiting.pop()
+        found.append(path)
+        waiting += reversed(below[path])
+    return found
+
+
+def settings_data(path: str, intervals: Sequence[Interval]) -> list[list[int | None]]:
+    """The settings of a group, each with the interval from which on they held: weight, quota,
+    period, burst."""
+    found: list[list[int | None]] = []
+    for place, interval in enumerate(intervals):
+        group = interval.model.groups.get(path)
+        if group is None:
+            continue
+        now = [group.weight, group.quota, group.period, group.burst]
+        if not found or found[-1][1:] != now:
+            found.append([place, *now])
+    return found
+
+
+def anonymous(found: Told) -> dict[str, Any]:
+    """An audit without a name or a date: groups are numbered, and times are those since the first.
+    """
+    intervals = found.audit.intervals
+    order = tree_order(intervals)
+    name = {path: f"g{number}" for number, path in enumerate(order, 1)}
+    rows = {row.path: row for row in found.rows}
+    groups = []
+    for path in order:
+        data = {"group": name[path], "above": name.get(parent_path(path)),
+                "settings": settings_data(path, intervals)}
+        groups.append(data | (cells_data(rows[path].cells) if path in rows else {}))
+    return {FORM: 1, **host_data(found),
+            "intervals": [{"at": number(each.at - intervals[0].at),
+                           "seconds": number(each.seconds),
+                           "unplanned_millicpu": number(each.unplanned)} for each in intervals],
+            "groups": groups}
+
+
+def anonymous_text(found: Told) -> str:
+    """The same as JSON, with a line for each group."""
+    *heads, (last, groups) = anonymous(found).items()
+    lines = [f"{json.dumps(key)}: {json.dumps(value)}," for key, value in heads]
+    rows = ",\n".join(map(json.dumps, groups))
+    return "{" + "\n".join([*lines, f"{json.dumps(last)}: [", rows]) + "\n]}\n"

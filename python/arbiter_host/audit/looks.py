@@ -1,0 +1,143 @@
+"""Looks at all groups of a host: of copies of a tree, or of a tree that is read again and again."""
+from __future__ import annotations
+
+import os
+from collections.abc import Callable, Hashable, Mapping, Sequence
+from dataclasses import dataclass, field
+from fractions import Fraction
+from typing import NamedTuple
+
+from arbiter import Host
+from arbiter_host import awake, progress, units, watch
+from arbiter_host.awake import Tasks
+from arbiter_host.demands import Reading, rise
+from arbiter_host.faults import HostFault
+from arbiter_host.model import Group, Model, checked
+from arbiter_host.names import shown
+from arbiter_host.sources import cgroup2, cgroups
+from arbiter_host.sources.cgroups import Node, Wish
+
+# Groups times looks. A look at a group takes about a kilobyte.
+MOST_COUNTED = 1_000_000
+MICROSECONDS = 10**6
+
+
+class Counted(NamedTuple):
+    """What is counted of a group: its counters, what its tasks did, and the seconds at which that
+    was counted. Without such a time it is that of the look."""
+
+    reading: Reading
+    tasks: Tasks = {}
+    at: Fraction | None = None
+
+
+@dataclass
+class Look:
+    """All groups at one time, which is in seconds.
+
+    What is counted stands by the group's path and by what tells a group from another one that has
+    its path later.
+    """
+
+    name: str
+    at: Fraction
+    model: Model
+    counted: Mapping[str, Mapping[Hashable, Counted]]
+    # The number of tasks of each leaf where it was read.
+    tasks: Mapping[str, int] = field(default_factory=dict)
+    notes: Sequence[str] = ()
+
+
+def fine(host: Host) -> Host:
+    """A host of as many CPUs, with a period of 1 s and slices of 1 ms where a plan can be so fine.
+
+    Use is in microseconds. A slice of 10m would hide what is below it.
+    """
+    return Host(host.processors, MICROSECONDS, 1000) if host.processors <= 64 else host
+
+
+def settings_of(model: Model) -> list[tuple[object, ...]]:
+    """What a plan depends on but demands."""
+    return [(path, each.weight, each.quota, each.period, each.burst)
+            for path, each in model.groups.items()]
+
+
+def counted_of(node: Node, is_live: bool) -> Counted:
+    """What was counted of a group of a tree. What its tasks did is known on the host alone."""
+    threads = cgroups.file_text(node.folder, "cgroup.threads") if is_live else None
+    did = {} if node.children or threads is None else awake.tasks(threads[:awake.MOST_TEXT])
+    return Counted(node.measured.readings[0], did)
+
+
+def look(folder: str, host: Host, depth: int, is_live: bool = False) -> Look:
+    """One look at a tree of cgroups. Its time is set by who asks."""
+    version, top = cgroup2.version_of(folder), os.path.realpath(folder)
+    model, root = Model(checked(host)), Node(top, Group("."))
+    model.notes += version.told(top)
+    root.measured.readings.append(version.reading(top))
+    walk = cgroups.Walk(version, model, Wish(depth=depth))
+    walk.below(root)
+    if not walk.nodes:
+        raise HostFault(f"{shown(folder)}: no groups with the cpu controller are below it")
+    # Of two trees nothing but the path tells whether a group is the same.
+    found: dict[str, dict[Hashable, Counted]] = {
+        node.group.path: {node.group.identity if is_live else "": counted_of(node, is_live)}
+        for node in [root, *walk.nodes] if node.measured.readings[0].usage is not None}
+    tasks = {node.group.path: node.measured.tasks for node in walk.nodes
+             if node.measured.tasks is not None}
+    notes, model.notes = model.notes, []
+    return Look("", Fraction(0), model, found, tasks, notes)
+
+
+def added(looks: list[Look], found: Look) -> None:
+    """Adds a look behind others. Equal settings are kept once."""
+    if looks and settings_of(looks[-1].model) == settings_of(found.model):
+        found.model = looks[-1].model
+    looks.append(found)
+    if len(looks) * len(found.model.groups) > MOST_COUNTED:
+        raise HostFault(f"{len(looks)} looks at {len(found.model.groups)} groups are too many: take"
+                        " a longer interval, or --depth-read")
+
+
+def named(looks: list[Look]) -> list[Look]:
+    """Names looks by the seconds since the first."""
+    for each in looks:
+        each.name = f"{units.decimal(each.at - looks[0].at, 1)} s"
+    return looks
+
+
+def check_order(one: Look, two: Look, folder: str) -> None:
+    """A fault where the later of two copies, which is in a folder, was made before the other."""
+    pairs = [(before, two.counted[path][key]) for path, each in one.counted.items()
+             for key, before in each.items() if key in two.counted.get(path, {})]
+    fell = [rise(before.reading.usage, after.reading.usage) is None for before, after in pairs]
+    if fell and all(fell):
+        raise HostFault(f"{shown(folder)}: all its counters are below those of the copy before it:"
+                        " name copies in the order in which they were made")
+
+
+def of_copies(folders: Sequence[str], host: Host, depth: int, interval: Fraction) -> list[Look]:
+    """The looks of copies of a tree, each of which was made an interval after the one before."""
+    looks: list[Look] = []
+    for folder in folders:
+        found = look(folder, host, depth)
+        found.at = len(looks) * interval
+        if looks:
+            check_order(looks[-1], found, folder)
+        added(looks, found)
+    return named(looks)
+
+
+def live(folder: str, host: Host, depth: int, times: watch.Times, clock: Callable[[], float],
+         sleep: Callable[[float], None]) -> list[Look]:
+    """The looks at a tree of this machine until the end of some time."""
+    looks: list[Look] = []
+    with progress.bar("looks", int((times.whole or 0) / times.interval) + 1) as tick:
+        for _ in watch.turns(times, clock, sleep, False):
+            found = look(folder, host, depth, True)
+            found.at = Fraction(clock()).limit_denominator(MICROSECONDS)
+            if looks and found.at <= looks[-1].at:
+                raise HostFault("the clock went back between two looks: begin again")
+            added(looks, found)
+            tick()
+    return named(looks)

@@ -1,0 +1,243 @@
+"""Looks at the groups of a source from a range of Prometheus: the counters of cAdvisor."""
+from __future__ import annotations
+
+import math
+import re
+import urllib.parse
+from collections.abc import Hashable, Iterator, Mapping, Sequence
+from dataclasses import dataclass, field, replace
+from fractions import Fraction
+from typing import Any
+
+from arbiter_host import samples, units
+from arbiter_host.audit.looks import Counted, Look, added
+from arbiter_host.demands import Reading
+from arbiter_host.faults import HostFault, UsageFault
+from arbiter_host.model import Group, Model
+from arbiter_host.names import cut, shown
+from arbiter_host.sources.usage import some
+
+USAGE = "container_cpu_usage_seconds_total"
+# The metrics by what they are here. USAGE alone has to be there.
+METRICS = {
+    "usage": USAGE,
+    # When the last sample before each step was taken.
+    "at": f"timestamp({USAGE})",
+    "periods": "container_cpu_cfs_periods_total",
+    "throttled": "container_cpu_cfs_throttled_periods_total",
+    "pressure": "container_pressure_cpu_waiting_seconds_total",
+    "tasks": "container_threads",
+    "quota": "container_spec_cpu_quota",
+    "period": "container_spec_cpu_period",
+}
+SELECTOR = re.compile(r"\{[^{}]*\}")
+# Greatest value of a counter that is read: above it a float has no whole microseconds.
+MOST = 2.0**53
+# Steps that may pass between two looks: with more the server was away.
+MOST_STEPS = Fraction(3, 2)
+# Labels of a series, without its metric.
+Labels = frozenset[tuple[str, str]]
+# Values of a series by time, in milliseconds.
+Values = dict[int, float]
+
+
+@dataclass(frozen=True)
+class Asked:
+    """A server, the selector of its series, the range, and the label that names groups."""
+
+    url: str
+    selector: str
+    start: str
+    end: str
+    step: str
+    label: str
+
+    def check(self) -> None:
+        """A fault where words of it are refused."""
+        if not self.url.startswith(("http://", "https://")):
+            raise UsageFault(f"{shown(self.url)}: not http:// or https://")
+        if self.selector and not SELECTOR.fullmatch(self.selector):
+            raise UsageFault("--query: a selector of series, such as '{node=\"n1\"}'")
+
+    def series(self, metric: str) -> dict[Labels, Values]:
+        """The values of each series of a metric in the range."""
+        query = metric.replace(USAGE, USAGE + self.selector)
+        query = query if USAGE in metric else metric + self.selector
+        words = {"query": query, "start": self.start, "end": self.end, "step": self.step}
+        where = f"{self.url.rstrip('/')}/api/v1/query_range?{urllib.parse.urlencode(words)}"
+        try:
+            return dict(self.parsed(samples.fetched(where)))
+        except (KeyError, TypeError, ValueError, AttributeError, OverflowError) as error:
+            raise HostFault(f"{shown(self.url)}: no answer to a range query") from error
+
+    def parsed(self, answer: Any) -> Iterator[tuple[Labels, Values]]:
+        """The series of an answer. A value that is no number is left out."""
+        for each in answer["data"]["result"]:
+            labels = frozenset((str(key), str(value)) for key, value in each["metric"].items()
+                               if key != "__name__")
+            times = [round(float(at) * 1000) for at, _ in each["values"]]
+            if any(two <= one for one, two in zip(times, times[1:])):
+                raise HostFault(f"{shown(self.url)}: the times of a series go back: ask for a range"
+                                " after the clock was set")
+            values = [number_of(str(value), self.url) for _, value in each["values"]]
+            yield labels, {at: value for at, value in zip(times, values) if value is not None}
+
+
+def number_of(text: str, url: str) -> float | None:
+    """A value; None for one that is no counter, such as NaN."""
+    try:
+        value = float(text)
+    except ValueError as error:
+        raise HostFault(f"{shown(url)}: {shown(cut(text, 40))!r} is no number") from error
+    return value if math.isfinite(value) and 0 <= value <= MOST else None
+
+
+@dataclass
+class Places:
+    """Finds the leaf that a series speaks of."""
+
+    model: Model
+    label: str
+    # The leaves by what measurements call them; a name of several has None.
+    names: dict[str, str | None] = field(default_factory=dict)
+    lasts: dict[str, str | None] = field(default_factory=dict)
+    folders: dict[str, str] = field(default_factory=dict)
+    inner: set[str] = field(default_factory=set)
+    # The leaves that may be measured: pause containers of pods are not.
+    leaves: list[str] = field(default_factory=list)
+
+    def __post_init__(self) -> None:
+        for path, below in self.model.children().items():
+            if below or path == ".":
+                self.inner.add(path)
+                continue
+            group, last = self.model.groups[path], path.rpartition("/")[2]
+            self.leaves += [path] if not group.title.endswith("/pause") else []
+            for name in {path, group.title}:
+                self.names[name] = None if name in self.names else path
+            self.lasts[last] = None if last in self.lasts else path
+        for path, group in self.model.groups.items():
+            self.folders[(group.place or path).strip("/")] = path
+
+    def of(self, labels: Mapping[str, str]) -> str | None:
+        """The path of a series: of its container, its folder, or a name; None where none is."""
+        container, named = labels.get("container"), labels.get(self.label, "")
+        if container:
+            whole = "/".join(labels.get(key, "") for key in ("namespace", "pod", "container"))
+            return self.names.get(whole) or self.names.get(named)
+        if "id" in labels:
+            found = self.folders.get(labels["id"].strip("/"))
+            return found or self.lasts.get(labels.get("name", ""))
+        return self.names.get(named) or self.lasts.get(named)
+
+    def is_known(self, labels: Mapping[str, str]) -> bool:
+        """Whether a series without a leaf is one of a group above leaves, or of a pause
+        container."""
+        return (labels.get("container") == "POD" or labels.get("id") == "/"
+                or not labels.get("container") and "pod" in labels and "id" in labels)
+
+
+def title_of(labels: Mapping[str, str], label: str) -> str:
+    """A series in words."""
+    parts = [labels.get(key, "") for key in ("namespace", "pod", "container")]
+    word = "/".join(filter(None, parts)) or labels.get("id") or labels.get(label, "")
+    return shown(cut(word or "without a name", 60))
+
+
+@dataclass
+class Found:
+    """The series of all metrics, and the leaf of each."""
+
+    series: dict[str, dict[Labels, Values]]
+    leaves: dict[Labels, str]
+
+    def value(self, key: str, labels: Labels, at: int) -> float | None:
+        """A value of a metric, of the series with the same labels."""
+        return self.series[key].get(labels, {}).get(at)
+
+    def count(self, key: str, labels: Labels, at: int, scale: int = 1) -> int | None:
+        """A counter as a whole number."""
+        value = self.value(key, labels, at)
+        return None if value is None else round(value * scale)
+
+    def counted(self, labels: Labels, at: int) -> Counted:
+        """The counters of a series at a step. Those of times are microseconds."""
+        taken = self.value("at", labels, at)
+        reading = Reading(self.count("usage", labels, at, 10**6), self.count("periods", labels, at),
+                          self.count("throttled", labels, at),
+                          self.count("pressure", labels, at, 10**6))
+        return Counted(reading, {}, None if taken is None else Fraction(round(taken * 1000), 1000))
+
+    def limits(self, at: int) -> dict[str, tuple[int, int]]:
+        """The quotas and periods at a step, by leaf."""
+        found = {}
+        for labels, path in self.leaves.items():
+            quota, period = (self.count(key, labels, at) for key in ("quota", "period"))
+            if quota and period:
+                found[path] = (min(max(quota, units.MIN_QUOTA), units.MAX_QUOTA),
+                               min(max(period, units.MIN_PERIOD), units.MAX_PERIOD))
+        return found
+
+
+def fetched(asked: Asked, model: Model) -> tuple[Found, list[str]]:
+    """All series, and what is told of those of no group."""
+    asked.check()
+    usage = asked.series(METRICS["usage"])
+    if not any(usage.values()):
+        raise HostFault(f"{shown(asked.url)}: no {USAGE} from {shown(asked.start)} to"
+                        f" {shown(asked.end)}: ask for another range, or --query")
+    places, leaves, missing = Places(model, asked.label), {}, []
+    for labels in usage:
+        path = places.of(dict(labels))
+        if path is not None and path not in places.inner:
+            leaves[labels] = path
+        elif path is None and not places.is_known(dict(labels)):
+            missing.append(title_of(dict(labels), asked.label))
+    if not leaves:
+        raise HostFault(f"{shown(asked.url)}: series of no group here, {some(sorted(missing))}:"
+                        " --label and --query name others")
+    series = {key: usage if key == "usage" else asked.series(metric)
+              for key, metric in METRICS.items()}
+    notes = [f"series of no group here, {some(sorted(missing))}"] if missing else []
+    unseen = [shown(path) for path in places.leaves if path not in leaves.values()]
+    notes += [f"groups of which nothing is measured, {some(unseen)}"] if unseen else []
+    return Found(series, leaves), notes
+
+
+def with_limits(model: Model, limits: Mapping[str, tuple[int, int]]) -> Model:
+    """A model with the limits that were measured."""
+    groups = dict(model.groups)
+    for path, (quota, period) in limits.items():
+        group: Group = groups[path]
+        groups[path] = replace(group, quota=quota, period=period, burst=min(group.burst, quota))
+    return replace(model, groups=groups)
+
+
+def looks(asked: Asked, model: Model) -> tuple[list[Look], list[str]]:
+    """The looks at the groups of a model, and what is told of the series."""
+    found, notes = fetched(asked, model)
+    times = sorted({at for labels in found.leaves for at in found.series["usage"][labels]})
+    made: list[Look] = []
+    models: dict[tuple[object, ...], Model] = {}
+    for at in times:
+        counted: dict[str, dict[Hashable, Counted]] = {}
+        tasks: dict[str, int] = {}
+        for labels, path in found.leaves.items():
+            if found.value("usage", labels, at) is not None:
+                counted.setdefault(path, {})[labels] = found.counted(labels, at)
+                count = found.count("tasks", labels, at)
+                if count:
+                    tasks[path] = tasks.get(path, 0) + count
+        limits = found.limits(at)
+        key = tuple(sorted(limits.items()))
+        models.setdefault(key, with_limits(model, limits))
+        added(made, Look(samples.time_name(str(at // 1000)), Fraction(at, 1000), models[key],
+                         counted, tasks))
+    return made, notes
+
+
+def gaps(found: Sequence[Look]) -> set[int]:
+    """The places of looks before which the server was away: more than a step passed."""
+    passed = [two.at - one.at for one, two in zip(found, found[1:])]
+    least = min(passed, default=Fraction(0))
+    return {place for place, each in enumerate(passed, 1) if each > MOST_STEPS * least}

@@ -1,0 +1,180 @@
+"""`arbiterctl audit`."""
+from __future__ import annotations
+
+import argparse
+import os
+import time
+from collections.abc import Callable, Sequence
+from fractions import Fraction
+
+from arbiter import Host
+from arbiter_host import load, progress, watch
+from arbiter_host.audit import answer, intervals, looks, ranges, written
+from arbiter_host.audit.answer import Told
+from arbiter_host.audit.causes import NOTHING
+from arbiter_host.audit.looks import Look
+from arbiter_host.faults import UsageFault
+from arbiter_host.hold import HOST_TREE
+from arbiter_host.model import Model
+from arbiter_host.names import shown
+from arbiter_host.output import emit_json, emit_styled
+from arbiter_host.subcommands.backwards import aligned
+from arbiter_host.subcommands.base import (Subcommand, add_reading_options, found_engine,
+                                           source_name)
+from arbiter_host.subcommands.series import add_prometheus_options
+
+LIVE_INTERVAL, STEP = "5s", "1m"
+
+
+def host_of(options: argparse.Namespace) -> Callable[[Host], Host]:
+    """What makes the host of the plans: as fine as can be, unless an option names it."""
+    is_named = options.period is not None or options.slice is not None
+    return (lambda host: host) if is_named else looks.fine
+
+
+def of_range(options: argparse.Namespace) -> tuple[list[Look], list[str], set[int]]:
+    """The looks of a range of Prometheus, what is told of them, and those after a gap."""
+    if options.time is not None or not options.start or not options.end or not options.source:
+        raise UsageFault("--prometheus takes SOURCE, --start and --end, and no --for")
+    asked = ranges.Asked(options.prometheus, options.query or "", options.start, options.end,
+                         options.step or STEP, options.label)
+    asked.check()
+    model = load.load(options, options.source, found_engine(options))
+    load.warn(model, source_name(options.source))
+    model = model.with_host(host_of(options)(model.host))
+    found, notes = ranges.looks(asked, model)
+    return found, notes, ranges.gaps(found)
+
+
+def of_trees(options: argparse.Namespace) -> list[Look]:
+    """The looks at copies of a tree, or at one tree again and again."""
+    folders = [*(options.source or [HOST_TREE]), *options.later]
+    for folder in folders:
+        if not os.path.isdir(folder):
+            raise UsageFault(f"{shown(folder)}: no folder: a source that is no tree takes"
+                             " --prometheus")
+    host = host_of(options)(load.machine(options))
+    if options.time is not None:
+        if len(folders) > 1:
+            raise UsageFault("--for reads one tree again and again: name one")
+        times = watch.Times(load.interval_of(options.interval),
+                            Fraction(load.time_option(options.time, "--for"), 10**6))
+        return looks.live(folders[0], host, options.depth_read, times, time.monotonic, time.sleep)
+    if len(folders) < 2:
+        raise UsageFault("one copy alone: name two or more in the order in which they were made, or"
+                         " read this tree by --for 60s")
+    if not options.has_interval:
+        raise UsageFault("--interval: the time from one copy to the next, such as --interval 10s")
+    return looks.of_copies(folders, host, options.depth_read, load.interval_of(options.interval))
+
+
+def audited(options: argparse.Namespace) -> Told:
+    """The audit that the options ask for, after its notes were told."""
+    options.has_interval = options.interval is not None
+    options.interval = options.interval or LIVE_INTERVAL
+    load.check_options(options)
+    by, notes, away = found_engine(options), list[str](), set[int]()
+    if options.prometheus:
+        found, notes, away = of_range(options)
+    else:
+        found = of_trees(options)
+    with progress.bar("intervals", len(found) - 1) as tick:
+        audit = intervals.audited(by, found, options.want, away, tick)
+    told = dict.fromkeys([*notes, *(note for each in found for note in each.notes)])
+    audit.notes = [*told, *audit.notes]
+    return answer.told(audit)
+
+
+def documents(options: argparse.Namespace, found: Told) -> list[written.Document]:
+    """The files that the options ask for."""
+    made = []
+    if options.html:
+        from arbiter_host.audit import page
+        title = f"Audit of {source_name(options.source or [HOST_TREE])}"
+        made.append(written.Document(options.html, page.page(found, title), page.MARK))
+    if options.anonymous:
+        text = answer.anonymous_text(found)
+        made.append(written.Document(options.anonymous, text, answer.MARK))
+    return made
+
+
+def lines_of(found: Told) -> list[tuple[str, str]]:
+    """The lines of an audit. What is not explained is red."""
+    rows = answer.busy(found)
+    table = [list(answer.HEADS), *(answer.cells_of(row) for row in rows)]
+    styles = ["bold", *("red" if row.cause == NOTHING else "" for row in rows)]
+    return [*((line, "") for line in answer.head(found)), ("", ""),
+            *zip(aligned(table, 0), styles), *((line, "") for line in answer.foot(found))]
+
+
+def warn(notes: Sequence[str], source: str) -> None:
+    """Tells what could not be measured."""
+    load.warn(Model(notes=list(notes)), source)
+
+
+def run(options: argparse.Namespace) -> None:
+    """Measures how far off the plan is, and writes the answers."""
+    found = audited(options)
+    files = documents(options, found)
+    warn(found.audit.notes, source_name(options.source or [HOST_TREE]))
+    written.put(files)
+    if options.json:
+        emit_json(answer.as_data(found))
+    else:
+        emit_styled(lines_of(found))
+
+
+def add_words(parser: argparse.ArgumentParser) -> None:
+    """The words of `audit`."""
+    parser.add_argument("source", nargs="*", metavar="SOURCE", help="copies of a tree of cgroups in"
+                        " the order in which they were made; with --for one tree, which is read"
+                        f" again and again (default {HOST_TREE}); with --prometheus a source as of"
+                        " explain")
+    parser.add_argument("--for", dest="time", metavar="TIME", help="read a tree for this time, such"
+                        " as 60s")
+    parser.add_argument("--json", action="store_true", help="print the same as JSON, with each"
+                        " interval")
+    parser.add_argument("--html", metavar="FILE", help="write one HTML page too, with plan and use"
+                        " over time")
+    parser.add_argument("--anonymous", metavar="FILE", help="write the numbers without a name of a"
+                        " group, a host or a date, to be sent to somebody")
+    add_prometheus_options(parser)
+    add_reading_options(parser)
+    parser.set_defaults(interval=None)
+
+
+DETAILS = (
+    "In each interval the demand of a group without children is what it used. One that was"
+    " throttled at its limit, or that had a task that was always awake and waited, wanted more: its"
+    " demand is that of --want psi. --want takes another rule for all groups. The plan is that of"
+    " these demands, with the settings of the interval's end.",
+    "Off is what a group used less its plan. The table has the mean, and the interval in which it"
+    " was greatest. The groups that were most off stand first.",
+    "The likely cause is the first that holds in that interval. `less than a slice`: off is."
+    " `placement`: what the group used is in its range by where tasks run, as of explain."
+    " `phase of periods`: it or a group above has a limit, and off is at most one quota of that in"
+    " the interval. `demand that moved`: the demand differs by more than off from that of the"
+    " interval before or after. Else it is `not explained`.",
+    "A group that came or went, whose counters fell, or of which there is no new sample is left out"
+    " of that interval, which is told.",
+    "--prometheus reads the counters of cAdvisor, container_cpu_usage_seconds_total and those of"
+    " throttled periods, pressure, threads and limits. --query is a selector of their series, such"
+    " as '{node=\"n1\"}'. They belong to a group by namespace, pod and container, by id, or by the"
+    " label of --label. --step is 1m without one.",
+    "A tree is read each 5 s unless --interval says else. Of copies --interval has to say how long"
+    " after one the next was made.",
+    "The plan has a period of 1 s and slices of 1 ms, unless --period or --slice are given.",
+)
+EXAMPLES = (
+    ("this machine for a minute", "arbiterctl audit --for 60s"),
+    ("two copies of its tree, as a page too", "arbiterctl audit copy-1 copy-2 --interval 10s"
+     " --html audit.html"),
+    ("a node, from Prometheus", "arbiterctl audit pods.json node.json --prometheus"
+     " http://127.0.0.1:9090 --query '{node=\"n1\"}' --start 2026-01-05T10:00:00Z --end"
+     " 2026-01-05T11:00:00Z"),
+    ("numbers without names, for a report", "arbiterctl audit /sys/fs/cgroup --for 60s --anonymous"
+     " audit.json"),
+)
+AUDIT = Subcommand("audit",
+                   "Measures how far off the plan is: sets it beside what each group used, interval"
+                   " by interval, and says the likely cause.", add_words, run, DETAILS, EXAMPLES)
