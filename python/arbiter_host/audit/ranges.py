@@ -30,7 +30,7 @@ METRICS = {
     "quota": "container_spec_cpu_quota",
     "period": "container_spec_cpu_period",
 }
-SELECTOR = re.compile(r"\{[^{}]*\}")
+SELECTOR = re.compile(r'\{(?:[^{}"]|"(?:[^"\\]|\\.)*")*\}')
 # Greatest value of a counter that is read: above it a float has no whole microseconds.
 MOST = 2.0**53
 # Steps that may pass between two looks: with more the server was away.
@@ -54,7 +54,7 @@ class Asked:
 
     def check(self) -> None:
         """A fault where words of it are refused."""
-        if not self.url.startswith(("http://", "https://")):
+        if not self.url.startswith(samples.SCHEMES):
             raise UsageFault(f"{shown(self.url)}: not http:// or https://")
         if self.selector and not SELECTOR.fullmatch(self.selector):
             raise UsageFault("--query: a selector of series, such as '{node=\"n1\"}'")
@@ -75,7 +75,7 @@ class Asked:
         for each in answer["data"]["result"]:
             labels = frozenset((str(key), str(value)) for key, value in each["metric"].items()
                                if key != "__name__")
-            times = [round(float(at) * 1000) for at, _ in each["values"]]
+            times = [round(samples.instant(at) * 1000) for at, _ in each["values"]]
             if any(two <= one for one, two in zip(times, times[1:])):
                 raise HostFault(f"{shown(self.url)}: the times of a series go back: ask for a range"
                                 " after the clock was set")

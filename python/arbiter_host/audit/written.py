@@ -12,7 +12,7 @@ from arbiter_host.beneath import check_path
 from arbiter_host.exports.files import is_ours
 from arbiter_host.faults import HostFault, strerror
 from arbiter_host.names import shown
-from arbiter_host.record import FLAGS, opened_folder
+from arbiter_host.record import FLAGS, own_folder
 
 
 class Document(NamedTuple):
@@ -53,7 +53,7 @@ def waiting(document: Document) -> Waiting:
     """Writes a file beside its name. A fault where its name is that of another's file."""
     check_path(document.path)
     above, name = os.path.split(os.path.abspath(document.path))
-    folder, part = opened_folder(above, is_made=False), f".{secrets.token_hex(8)}.part"
+    folder, part = own_folder(above), f".{secrets.token_hex(8)}.part"
     try:
         with faults(document.path):
             if not is_ours(folder, name, document.mark):
