@@ -192,5 +192,11 @@ def last_name(path: str) -> str:
 
 
 def pattern(text: str) -> re.Pattern[str]:
-    """The pattern of a text in which `*` stands for any letters, slashes too."""
-    return re.compile(".*".join(re.escape(part) for part in text.split("*")), re.DOTALL)
+    """The pattern of a text in which `*` stands for any letters, slashes too.
+
+    Each part but the last is taken where it is first found, which tries no name twice: so no name
+    takes long, whoever chose it.
+    """
+    first, *rest = map(re.escape, text.split("*"))
+    middle = "".join(f"(?>.*?{part})" for part in rest[:-1])
+    return re.compile(first + middle + (f".*{rest[-1]}" if rest else ""), re.DOTALL)

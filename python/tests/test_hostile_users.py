@@ -1,10 +1,14 @@
-"""Other users of the host: folders on the way, links, files in the way, and a full disk."""
+"""Other users of the host: folders on the way, links, files in the way, names; and a full disk."""
 import errno
+import fnmatch
+import itertools
 import os
+import re
+import time
 from pathlib import Path
 
 import pytest
-from arbiter_host import gauges, metrics, record
+from arbiter_host import gauges, metrics, names, record
 from arbiter_host.exports import files
 from arbiter_host.exports.base import MARK, Document
 from arbiter_host.faults import HostFault
@@ -159,3 +163,25 @@ def test_the_default_folder_is_roots():
     """Nobody but root makes a name beside the lock of the host."""
     found = Path(record.FOLDER).parent.stat()
     assert found.st_uid == 0 and not found.st_mode & 0o022
+
+
+def words(letters, most):
+    """All words of some letters, the empty one too."""
+    return ["".join(each) for many in range(most + 1)
+            for each in itertools.product(letters, repeat=many)]
+
+
+def test_patterns_by_another_way():
+    """`*` is any letters: what Python's fnmatch says where there is no other letter of its own."""
+    paths = words("ab/", 5)
+    for text in words("ab*", 4):
+        shape, other = names.pattern(text), re.compile(fnmatch.translate(text))
+        assert [path for path in paths if shape.fullmatch(path)] == [
+            path for path in paths if other.match(path)], text
+
+
+def test_no_name_makes_a_pattern_slow():
+    """Not even one on which each part of the pattern fits at hundreds of places."""
+    begun = time.monotonic()
+    assert not names.pattern("*a*b*c*d").fullmatch("a" * 240 + "b" * 240 + "c" * 240)
+    assert time.monotonic() - begun < 1
