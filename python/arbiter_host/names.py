@@ -197,6 +197,6 @@ def pattern(text: str) -> re.Pattern[str]:
     Each part but the last is taken where it is first found, which tries no name twice: so no name
     takes long, whoever chose it.
     """
-    first, *rest = map(re.escape, text.split("*"))
+    first, *rest = [re.escape(part) for part in text.split("*")]
     middle = "".join(f"(?>.*?{part})" for part in rest[:-1])
     return re.compile(first + middle + (f".*{rest[-1]}" if rest else ""), re.DOTALL)

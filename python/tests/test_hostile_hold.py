@@ -1,0 +1,381 @@
+"""Hold beside others: owners of groups, what is set meanwhile, readers that stop, other commands."""
+import errno
+import fcntl
+import json
+import os
+import shutil
+import signal
+import subprocess
+import sys
+import time
+
+import pytest
+import trees
+from arbiter_host import apply, beneath, hold, output, record
+from arbiter_host.apply import By, Change, Settings
+from arbiter_host.faults import HostFault
+from arbiter_host.subcommands import apply as applying
+from arbiter_host.subcommands import hold as holding
+from places import PACKAGE
+from test_hold import FREE, World, content, limit, said, started
+
+NOBODY = 65534
+OLD = Settings(100, None, 100000, 0)
+as_root = pytest.mark.skipif(os.geteuid() != 0, reason="gives files to another user")
+
+
+@pytest.fixture
+def world(folder):
+    """Weights 100, 100 and 200 on two CPUs: 200 slices, guarantees 50, 50 and 100."""
+    return World(folder, [("a", 100, FREE), ("b", 100, FREE), ("c", 200, FREE)])
+
+
+def give(path):
+    """Gives a group and its files to another user."""
+    for each in (path, *path.iterdir()):
+        os.chown(each, NOBODY, NOBODY)
+
+
+class Kernel(beneath.Root):
+    """A tree that refuses a quota below the burst, as the kernel does, and each file of `refused`."""
+
+    refused = ()
+
+    def write(self, folder, file, text):
+        burst = int(self.read(folder, "cpu.max.burst"))
+        quota = text.split()[0]
+        if file == "cpu.max" and quota != "max" and int(quota) < burst:
+            raise HostFault(f"{folder}/cpu.max: Invalid argument")
+        if folder in self.refused:
+            raise HostFault(f"{folder}/{file}: {os.strerror(errno.EIO)}")
+        super().write(folder, file, text)
+
+
+def between(loop, action, turn=1):
+    """Calls an action after the reading of a round and before its writing."""
+    real, left = loop.record.put, [turn]
+
+    def put(text):
+        real(text)
+        left[0] -= 1
+        if not left[0]:
+            action()
+    loop.record.put = put
+
+
+def at_end(loop, action):
+    """Calls an action before what stood is put back."""
+    real = loop.end
+    loop.end = lambda: (action(), real())
+
+
+# Names
+
+@as_root
+def test_a_tenant_names_a_group_as_kubelets(world, engine, folder, capsys):
+    """The loop goes on, and begins: a group of a tenant is none of kubelet's. Root's that comes
+    later is left alone."""
+    world.add("b/kubepods")
+    give(world.tree / "b/kubepods")
+    loop = world.loop(engine, folder / "undo")
+    lines = world.run(loop, lambda: world.add("kubepods.slice"), lambda: None,
+                      lambda: world.add("a/kubepods-x"), lambda: None)
+    assert [sorted(line["groups"]) for line, _ in lines] == [list("ac")] * 3 + [["c"]]
+    assert {world.maximum(path) for path in world.counters} == {FREE}
+    err = capsys.readouterr().err
+    for name in ("b/kubepods", "kubepods.slice", "a/kubepods-x"):
+        assert err.count(f"warning: {name}: its name is one of kubelet's") == 1
+
+
+def test_own_group_by_another_path(world, engine, folder, monkeypatch):
+    """It is known by what it is, so also in a tree that is mounted elsewhere."""
+    (folder / "cgroup").symlink_to(world.tree)
+    monkeypatch.setattr(hold, "HOST_TREE", str(folder / "cgroup"))
+    monkeypatch.setattr(hold.cgroups, "file_text", lambda *_: "0::/a\n")
+    own = hold.own_group()
+    monkeypatch.undo()
+    loop = world.loop(engine, folder / "undo")
+    loop.own = own
+    (line, stood), = world.run(loop, lambda: None)
+    assert sorted(line["groups"]) == ["b", "c"] and stood["a"] == FREE
+
+
+def test_remarks_fill_no_log(capsys):
+    """Each once, and at most a hundred at a time."""
+    remarks = output.Remarks()
+    remarks.tell([f"g{at}\n: odd" for at in range(150)] * 2)
+    remarks.tell(["g1\n: odd", "new"])
+    lines = capsys.readouterr().err.split("\n")[:-1]
+    assert len(lines) == 102 and lines[0] == "arbiterctl: warning: g0\\x0a: odd"
+    assert lines[100:] == ["arbiterctl: warning: remarks that are not shown: 50",
+                           "arbiterctl: warning: new"]
+
+
+# What is set meanwhile
+
+def test_a_limit_set_between_reading_and_writing(world, engine, folder, capsys):
+    """It is not written over, neither then nor at the end, and the others are held."""
+    loop = world.loop(engine, folder / "undo")
+    between(loop, lambda: (world.tree / "a/cpu.max").write_text("70000 100000\n"))
+    lines = world.run(loop, lambda: None, lambda: None)
+    assert [stood["a"] for _, stood in lines] == ["70000 100000"] * 2
+    assert [stood["b"] for _, stood in lines] == [limit(50)] * 2
+    assert [world.maximum(path) for path in "abc"] == ["70000 100000", FREE, FREE]
+    assert capsys.readouterr().err.count("a: somebody set") == 1
+
+
+@as_root
+def test_an_owner_makes_a_writing_fail(world, engine, folder, capsys):
+    """A burst that comes after the reading makes the kernel refuse the limit. Where the owner is a
+    tenant the loop goes on, and holds the others."""
+    loop = world.loop(engine, folder / "undo")
+    loop.root = Kernel(str(world.tree))
+    between(loop, lambda: (world.tree / "a/cpu.max.burst").write_text("90000\n"))
+    give(world.tree / "a")
+    lines = world.run(loop, lambda: None, lambda: None)
+    # (the next reading sees the burst, and it is lowered before the limit)
+    assert [[stood[path] for path in "abc"] for _, stood in lines] == [
+        [FREE, limit(50), limit(100)], [limit(50), limit(50), limit(100)]]
+    assert "its owner may have set it meanwhile" in capsys.readouterr().err
+    assert [world.maximum(path) for path in "abc"] == [FREE] * 3
+    assert (world.tree / "a/cpu.max.burst").read_text() == "90000\n"
+
+
+def test_a_writing_of_roots_that_fails_ends_it(world, engine, folder):
+    """The same of a group of the operator's is a fault of the host."""
+    loop = world.loop(engine, folder / "undo")
+    loop.root = Kernel(str(world.tree))
+    between(loop, lambda: (world.tree / "a/cpu.max.burst").write_text("90000\n"))
+    with pytest.raises(HostFault, match="a/cpu.max: Invalid argument"):
+        world.run(loop, lambda: None, lambda: None)
+    assert [world.maximum(path) for path in "abc"] == [FREE] * 3
+
+
+@pytest.mark.parametrize("own, burst, wanted", [
+    (FREE, 30000, 30000), ("90000 100000", 30000, 30000), ("40000 50000", 45000, 40000)])
+@pytest.mark.parametrize("is_at_end", [False, True])
+def test_a_burst_that_somebody_sets(folder, engine, own, burst, wanted, is_at_end):
+    """The limit is still the loop's, and is taken back: the burst stays as far as it fits."""
+    world = World(folder, [("a", 100, own), ("b", 300, FREE)])
+    loop = world.loop(engine, folder / "undo")
+
+    def put():
+        (world.tree / "a/cpu.max.burst").write_text(f"{burst}\n")
+
+    at_end(loop, put if is_at_end else lambda: None)
+    lines = world.run(loop, lambda: None, lambda: None if is_at_end else put(), lambda: None)
+    assert [stood["a"] for _, stood in lines] == [limit(50)] * 3
+    assert world.maximum("a") == own
+    assert (world.tree / "a/cpu.max.burst").read_text().strip() == str(wanted)
+
+
+def test_more_groups_than_files(world, engine, folder, monkeypatch, capsys):
+    """Those that cannot be open are left alone, and the loop goes on."""
+    monkeypatch.setattr(beneath, "most_files", lambda: hold.SPARE_FILES + 2)
+    lines = world.run(world.loop(engine, folder / "undo"), lambda: None, lambda: None)
+    assert [sorted(line["groups"]) for line, _ in lines] == [["a", "b"]] * 2
+    assert capsys.readouterr().err.count("more than 2 groups: the others are left alone") == 1
+
+
+def test_one_group_that_cannot_be_put_back(world, engine, folder):
+    """The others are, the fault names it, and the undo file stays."""
+    loop = world.loop(engine, folder / "undo")
+    loop.root = Kernel(str(world.tree))
+    with pytest.raises(HostFault) as fault:
+        world.run(loop, lambda: None, lambda: setattr(loop.root, "refused", ("a",)))
+    assert fault.value.message.startswith("a/cpu.max: Input/output error")
+    assert f"to undo: arbiterctl undo {folder / 'undo'} --yes" in fault.value.message
+    assert [world.maximum(path) for path in "abc"] == [limit(50), FREE, FREE]
+    apply.undo(apply.read_undo((folder / "undo").read_bytes(), "undo"), [])
+    assert [world.maximum(path) for path in "abc"] == [FREE] * 3
+
+
+# Readers that stop
+
+class Gone:
+    """A standard error that nobody reads."""
+
+    def write(self, _):
+        raise BrokenPipeError(errno.EPIPE, "gone")
+
+    def flush(self):
+        raise BrokenPipeError(errno.EPIPE, "gone")
+
+
+def test_nobody_reads_the_warnings(world, engine, folder, monkeypatch):
+    """What cannot be told stops nothing from being put back."""
+    def other():
+        (world.tree / "a/cpu.max").write_text("70000 100000\n")
+
+    loop = world.loop(engine, folder / "undo")
+    at_end(loop, other)
+    monkeypatch.setattr(sys, "stderr", Gone())
+    world.run(loop, lambda: None, lambda: None)
+    monkeypatch.undo()
+    assert [world.maximum(path) for path in "abc"] == ["70000 100000", FREE, FREE]
+    assert not (folder / "undo").exists()
+
+
+def is_waiting(process):
+    """Whether a process waits for a pipe."""
+    with open(f"/proc/{process.pid}/wchan", encoding="ascii") as file:
+        return "pipe" in file.read()
+
+
+def test_a_signal_while_nobody_reads(ctl, world, folder):
+    """The reader of the lines has stopped, so the loop waits to write: a signal ends it all the
+    same."""
+    before = content(world.tree)
+    loop = started(ctl, world, folder / "u")
+    fcntl.fcntl(loop.stdout, fcntl.F_SETPIPE_SZ, 4096)
+    until = time.monotonic() + 60
+    while not is_waiting(loop) and time.monotonic() < until:
+        time.sleep(0.1)
+    assert is_waiting(loop) and content(world.tree) != before
+    loop.send_signal(signal.SIGTERM)
+    assert loop.wait(20) == 0
+    assert content(world.tree) == before and not (folder / "u").exists()
+    loop.communicate()
+
+
+def test_a_hangup_that_is_ignored(ctl, world, folder):
+    """As nohup has it: the loop goes on."""
+    words = ["hold", world.tree, "--root", world.tree, "--cpus", "2", "--interval", "100ms",
+             "--period", "100ms", "--undo", folder / "u"]
+    loop = subprocess.Popen(
+        [sys.executable, str(PACKAGE / "arbiterctl"), *map(str, words)], env=ctl.environment,
+        stdout=subprocess.PIPE, stderr=subprocess.PIPE,
+        preexec_fn=lambda: signal.signal(signal.SIGHUP, signal.SIG_IGN))
+    for turn in range(1, 4):
+        assert json.loads(loop.stdout.readline())["round"] == turn
+        loop.send_signal(signal.SIGHUP)
+    loop.send_signal(signal.SIGTERM)
+    assert (said(loop), loop.returncode) == ([], 0)
+
+
+# A second command
+
+def test_apply_and_undo_beside_a_loop(folder, monkeypatch):
+    """What a loop wrote is not taken for the operator's own. Elsewhere both run."""
+    monkeypatch.setattr(record, "FOLDER", str(folder / "run"))
+    root = beneath.Root(str(folder))
+    applying.check_no_loop(root, ["held/a", "other"])
+    held = record.lock(str(folder / "run"), str(folder / "held"))
+    applying.check_no_loop(root, ["other", "held-not"])
+    for name in ("held/a", "held"):
+        with pytest.raises(HostFault, match="arbiterctl hold runs on .*/held: .* End it first"):
+            applying.check_no_loop(root, ["other", name])
+    for each in held:
+        os.close(each)
+    applying.check_no_loop(root, ["held/a"])
+    assert record.holder(str(folder / "run")) is None
+
+
+def test_a_loop_says_what_it_holds(ctl, world, folder):
+    loop = started(ctl, world, folder / "u")
+    assert record.holder(str(folder)) == str(world.tree)
+    loop.send_signal(signal.SIGTERM)
+    assert (said(loop), loop.returncode) == ([], 0)
+    assert record.holder(str(folder)) is None
+
+
+def test_who_asks_for_the_lock_stops_no_loop(folder):
+    """It has the lock for a moment, in which a loop may begin."""
+    with open(folder / "hold.lock", "w", encoding="ascii") as file:
+        fcntl.flock(file, fcntl.LOCK_SH)
+        subprocess.Popen(["sleep", "0.2"], pass_fds=[file.fileno()])
+    for each in record.lock(str(folder)):
+        os.close(each)
+
+
+def test_a_real_tree_by_another_path(folder, monkeypatch):
+    """A tree is the host's if its device is: there is one lock for all paths to it."""
+    (folder / "elsewhere").mkdir()
+    root = beneath.Root(str(folder / "elsewhere"))
+    assert not holding.is_real(root)
+    monkeypatch.setattr(holding.hold, "HOST_TREE", str(folder))
+    (folder / "link").symlink_to(folder / "elsewhere")
+    assert holding.is_real(beneath.Root(str(folder / "link")))
+    monkeypatch.setattr(holding.hold, "HOST_TREE", "/proc")
+    assert not holding.is_real(root)
+
+
+# Apply and undo
+
+@pytest.fixture
+def tree(folder):
+    """A tree of three groups of weight 100."""
+    trees.root2(folder / "t")
+    for name in "abc":
+        trees.group2(folder / "t" / name)
+    return folder / "t"
+
+
+def weights(tree):
+    """The weights of the groups."""
+    return [int((tree / name / "cpu.weight").read_text()) for name in "abc"]
+
+
+def new(weight):
+    """Changes of all groups to a weight."""
+    return [Change(name, OLD, Settings(weight, None, 100000, 0)) for name in "abc"]
+
+
+def test_a_weight_set_between_reading_and_writing(folder, tree, monkeypatch):
+    """`apply` ends there, and its undo file brings back the rest; so does `undo` itself."""
+    real = apply.write_synced
+
+    def write_synced(path, text):
+        real(path, text)
+        (tree / "b/cpu.weight").write_text("55\n")
+
+    monkeypatch.setattr(apply, "write_synced", write_synced)
+    with pytest.raises(HostFault, match="b: somebody set cpu.weight to 55 meanwhile\nto undo: "):
+        apply.make(beneath.Root(str(tree)), new(9), By.FILES, str(folder / "u"), [])
+    assert weights(tree) == [9, 55, 100]
+    (tree / "b/cpu.weight").write_text("9\n")
+    back = apply.read_undo((folder / "u").read_bytes(), "u")
+    (tree / "b/cpu.weight").write_text("77\n")
+    apply.undo(back, [])
+    assert weights(tree) == [100, 77, 100]
+    assert back.left == ["b: somebody set cpu.weight to 77 meanwhile: it is left (undo once more,"
+                         " or --force)"]
+
+
+def test_undo_goes_on_after_a_fault(folder, tree):
+    """One group that cannot be written costs the others nothing."""
+    apply.make(beneath.Root(str(tree)), new(9), By.FILES, str(folder / "u"), [])
+    back, done = apply.read_undo((folder / "u").read_bytes(), "u"), []
+    back.root = Kernel(str(tree))
+    back.root.refused = ("a",)
+    with pytest.raises(HostFault, match="^a/cpu.weight: Input/output error$"):
+        apply.undo(back, done)
+    assert weights(tree) == [9, 100, 100] and [step.folder for step in done] == ["b", "c"]
+
+
+def test_undo_after_all_groups_went(ctl, folder, tree):
+    """There is nothing to undo where the tree is there; a root without a tree is the wrong one."""
+    apply.make(beneath.Root(str(tree)), new(9), By.FILES, str(folder / "u"), [])
+    for name in "abc":
+        shutil.rmtree(tree / name)
+    out, err = ctl.run("undo", folder / "u", "--yes")
+    assert out == "# no change\n" and err.count("the group is gone, nothing of it is undone") == 3
+    for name in ("cpu.stat", "cgroup.controllers"):
+        (tree / name).unlink()
+    assert "none of the groups of" in ctl.run("undo", folder / "u", "--yes", status=1)[1]
+
+
+def test_an_undo_file_of_another_user(ctl, folder, tree):
+    """What it sets would be that user's choice. One that everybody may write is none either."""
+    apply.make(beneath.Root(str(tree)), new(9), By.FILES, str(folder / "u"), [])
+    os.chmod(folder / "u", 0o666)
+    assert "other users may change this file" in ctl.run("undo", folder / "u", status=1)[1]
+    os.chmod(folder / "u", 0o640)
+    if os.geteuid() == 0:
+        os.chown(folder / "u", NOBODY, NOBODY)
+        assert "other users may change this file" in ctl.run("undo", folder / "u", "--yes",
+                                                             status=1)[1]
+        os.chown(folder / "u", 0, 0)
+    assert weights(tree) == [9] * 3
+    ctl.run("undo", folder / "u", "--yes")
+    assert weights(tree) == [100] * 3
