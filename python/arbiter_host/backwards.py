@@ -147,9 +147,9 @@ def cpus_knob(asked: Asked) -> Knob:
                       lambda cpus: replace(model, host=replace(host, processors=cpus)))
 
 
-def with_setting(model: Model, source: Owned, setting: Setting) -> Model:
-    """The model with one setting of its source, and the demands that it has. Groups may move."""
-    after = source.changed([setting]).model()
+def with_settings(model: Model, source: Owned, settings: Sequence[Setting]) -> Model:
+    """The model with settings of its source, and the demands that it has. Groups may move."""
+    after = source.changed(settings).model()
     after = after if after.host == model.host else after.with_host(model.host)
     for group, was in zip(after.groups.values(), model.groups.values(), strict=True):
         group.demand, group.tasks = was.demand, was.tasks
@@ -174,7 +174,7 @@ def owned_knob(asked: Asked, source: Owned, path: str, of: Range) -> OwnedKnob:
 
     def planned_with(value: int) -> Plan:
         setting = Setting(path, of.key, of.written(value))
-        return plan(asked.engine, with_setting(model, source, setting))
+        return plan(asked.engine, with_settings(model, source, [setting]))
 
     value = least_of(of.parts, lambda each: planned_with(each).groups[row].gets >= asked.amount)
     if value is None:

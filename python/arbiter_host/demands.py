@@ -159,8 +159,8 @@ def set_demands(model: Model, measured: dict[str, Measured], want: str, seconds:
 
 
 def matching(model: Model, pattern: str) -> list[Group]:
-    """The groups of a path, a path's end, a title, or a pattern with `*` of either; a fault where
-    none is."""
+    """The groups of a path, a path's end, a title, or a pattern with `*` of these; a fault where
+    none is. In a pattern of a path's end `*` stands for no slash."""
     shape = names.pattern(pattern)
     found = [group for group in model.groups.values()
              if pattern in (".", group.path, group.title) or shape.fullmatch(group.path)]
@@ -168,6 +168,9 @@ def matching(model: Model, pattern: str) -> list[Group]:
         found = [each for each in model.groups.values() if each.path.endswith("/" + pattern)]
     if not found:
         found = [each for each in model.groups.values() if shape.fullmatch(each.title)]
+    if not found:
+        end = names.pattern_of_end(pattern)
+        found = [each for each in model.groups.values() if end.fullmatch(each.path)]
     if not found:
         raise HostFault(f"no group {names.shown(pattern)}")
     return found

@@ -191,12 +191,22 @@ def last_name(path: str) -> str:
     return path.rpartition("/")[2]
 
 
-def pattern(text: str) -> re.Pattern[str]:
-    """The pattern of a text in which `*` stands for any letters, slashes too.
+def shape(text: str, letter: str) -> str:
+    """The regular expression of a text in which `*` stands for any number of such letters.
 
     Each part but the last is taken where it is first found, which tries no name twice: so no name
     takes long, whoever chose it.
     """
     first, *rest = [re.escape(part) for part in text.split("*")]
-    middle = "".join(f"(?>.*?{part})" for part in rest[:-1])
-    return re.compile(first + middle + (f".*{rest[-1]}" if rest else ""), re.DOTALL)
+    middle = "".join(f"(?>{letter}*?{part})" for part in rest[:-1])
+    return first + middle + (f"{letter}*{rest[-1]}" if rest else "")
+
+
+def pattern(text: str) -> re.Pattern[str]:
+    """The pattern of a text in which `*` stands for any letters, slashes too."""
+    return re.compile(shape(text, "."), re.DOTALL)
+
+
+def pattern_of_end(text: str) -> re.Pattern[str]:
+    """The pattern of paths that end with a text. In it `*` stands for any letters but a slash."""
+    return re.compile("(?:.*/)?" + shape(text, "[^/]"), re.DOTALL)

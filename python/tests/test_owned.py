@@ -329,7 +329,7 @@ def test_no_lesser_request_reaches(engine, data, slices):
 
     def gets(key, value):
         setting = Setting(path, key, f"{value}m")
-        return plan(engine, backwards.with_setting(model, model.owned, setting)).groups[row].gets
+        return plan(engine, backwards.with_settings(model, model.owned, [setting])).groups[row].gets
 
     found = backwards.need(engine, model, path, Fraction(10 * slices)).owned
     for of, knob in zip(model.owned.ranges(path), found, strict=True):

@@ -15,7 +15,7 @@ _arbiterctl() {
         given=$before
     fi
     if ((COMP_CWORD == 1)); then
-        mapfile -t COMPREPLY < <(compgen -W "explain compare need recommend guarantee picture report series top watch audit fleet apply undo hold import from-cgroup -h --help -V --version" -- "$word")
+        mapfile -t COMPREPLY < <(compgen -W "explain compare need tune recommend guarantee picture report series top watch audit fleet apply undo hold import from-cgroup -h --help -V --version" -- "$word")
         return
     fi
     case ${COMP_WORDS[1]} in
@@ -103,6 +103,35 @@ _arbiterctl() {
                 --driver) mapfile -t COMPREPLY < <(compgen -W "systemd cgroupfs" -- "$word") ;;
                 *)
                     [[ $word == -* ]] && mapfile -t COMPREPLY < <(compgen -W "--unit --json --cpus --processors --period --slice --library --from --want --scale --interval --samples --later --own --depth-read --usage --cgroup --node --conversion --kubelet --runtime --driver --strict -h --help" -- "$word")
+                    ;;
+            esac
+            ;;
+        tune)
+            case $given in
+                --goal) ;;
+                --keep) ;;
+                --set) ;;
+                --unit) mapfile -t COMPREPLY < <(compgen -W "cpu m % slices us" -- "$word") ;;
+                --cpus|--processors) ;;
+                --period) ;;
+                --slice) ;;
+                --library) ;;
+                --from) mapfile -t COMPREPLY < <(compgen -W "script toml yaml json cgroup kubernetes systemd docker slurm" -- "$word") ;;
+                --want) mapfile -t COMPREPLY < <(compgen -W "usage peak p95 psi limit request busy" -- "$word") ;;
+                --scale) ;;
+                --interval) ;;
+                --samples) ;;
+                --later) ;;
+                --depth-read) ;;
+                --usage) ;;
+                --cgroup) ;;
+                --node) ;;
+                --conversion) mapfile -t COMPREPLY < <(compgen -W "linear log" -- "$word") ;;
+                --kubelet) mapfile -t COMPREPLY < <(compgen -W "linear log" -- "$word") ;;
+                --runtime) mapfile -t COMPREPLY < <(compgen -W "linear log" -- "$word") ;;
+                --driver) mapfile -t COMPREPLY < <(compgen -W "systemd cgroupfs" -- "$word") ;;
+                *)
+                    [[ $word == -* ]] && mapfile -t COMPREPLY < <(compgen -W "--goal --guarantee --keep --set --unit --json --cpus --processors --period --slice --library --from --want --scale --interval --samples --later --own --depth-read --usage --cgroup --node --conversion --kubelet --runtime --driver --strict -h --help" -- "$word")
                     ;;
             esac
             ;;

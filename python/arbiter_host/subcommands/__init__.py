@@ -23,6 +23,7 @@ PLACES = {
     "explain": Place("explain", "EXPLAIN", "why each group gets what it gets"),
     "compare": Place("compare", "COMPARE", "what changes from one plan to another"),
     "need": Place("backwards", "NEED", "the least setting with which a group gets an amount"),
+    "tune": Place("tune", "TUNE", "weights with which several groups get their goals at once"),
     "recommend": Place("recommend", "RECOMMEND", "propose requests and limits from what was used"),
     "guarantee": Place("backwards", "GUARANTEE", "what groups get whatever the others ask for"),
     "picture": Place("picture", "PICTURE", "draw a plan as SVG"),

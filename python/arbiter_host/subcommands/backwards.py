@@ -37,15 +37,19 @@ def value_words(found: Need, knob: Knob, value: int | None, unit: str) -> str:
     return text.amount(found.before, value, unit) if knob.name == "limit" else str(value)
 
 
+def paid(before: Plan, losses: Sequence[tuple[str, int]], unit: str) -> str:
+    """Groups and the slices that each loses, the first of them by name, in words."""
+    words = [f"{short(shown(path))} -{text.amount(before, slices, unit)}"
+             for path, slices in losses[:NAMED]]
+    rest = len(losses) - NAMED
+    return ", ".join(words + ([f"{rest} more"] if rest > 0 else [])) or "nobody"
+
+
 def who_pays(found: Need, knob: Knob | OwnedKnob, unit: str) -> str:
     """The groups that get less, the greatest loss first, in words."""
     if knob.plan is None:
         return f"no {knob.name} reaches it" if knob.name != "CPUs" else "64 CPUs do not reach it"
-    losses = backwards.payers(found.before, knob.plan, found.group.path)
-    words = [f"{short(shown(path))} -{text.amount(found.before, slices, unit)}"
-             for path, slices in losses[:NAMED]]
-    rest = len(losses) - NAMED
-    return ", ".join(words + ([f"{rest} more"] if rest > 0 else [])) or "nobody"
+    return paid(found.before, backwards.payers(found.before, knob.plan, found.group.path), unit)
 
 
 def need_lines(found: Need, unit: str) -> list[tuple[str, str]]:

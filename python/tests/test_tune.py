@@ -1,0 +1,368 @@
+"""Weights under which several goals are met at once. Each expected number is worked by hand.
+
+The slice n of a group of weight w costs (2n - 1) / w. Slices go to the least cost, on a tie to the
+group that was made first. So a group has n slices of a full host where its slice n costs no more
+than the next slice of each other one.
+"""
+import json
+from fractions import Fraction
+
+import pytest
+from arbiter import Host, Unmet
+from arbiter_host import demands, tune
+from arbiter_host.engine import Engine
+from arbiter_host.faults import HostFault
+from arbiter_host.model import Group, Model
+from arbiter_host.plan import plan
+from hypothesis import HealthCheck, given, settings
+from hypothesis import strategies as st
+
+
+def host_file(folder, *groups, cpus=1, slice_="5ms"):
+    """A host file. A group is its path, its weight and its demand in thousandths."""
+    tables = "".join(f'[groups."{path}"]\nweight = {weight}\n'
+                     + (f'demand = "{demand}m"\n' if demand else "")
+                     for path, weight, demand in groups)
+    (folder / "host.toml").write_text(f'[host]\ncpus = {cpus}\nslice = "{slice_}"\n{tables}')
+    return folder / "host.toml"
+
+
+def asked(ctl, source, *goals, words=()):
+    """What `tune --json` answers to goals."""
+    named = [word for goal in goals for word in ("--goal", goal)]
+    return json.loads(ctl.run("tune", source, *named, *words, "--json")[0])
+
+
+def changes(way):
+    """The settings before and after, by group."""
+    return {each["group"]: (each["now"], each["then"]) for each in way["changes"]}
+
+
+def two(folder, a=100, b=200):
+    """20 slices of 5 ms, of which both want all."""
+    return host_file(folder, ("a", a, 1000), ("b", b, 1000))
+
+
+def three(folder, c_asks=1000):
+    """Three groups of one weight, which have 7, 7 and 6 of 20 slices where all ask."""
+    return host_file(folder, ("a", 100, 1000), ("b", 100, 1000), ("c", 100, c_asks))
+
+
+def test_one_goal(ctl, folder):
+    """a's slice 10 costs 19/w, and b's slice 11 21/200: w is 181 at least."""
+    found = asked(ctl, two(folder), "a=500m")
+    assert found["met"] and found["goals"] == [
+        {"group": "a", "asked_millicpu": 500, "goal_millicpu": 500, "now_millicpu": 350,
+         "wants_millicpu": 1000}]
+    way = found["weights"]
+    assert changes(way) == {"a": ("100", "181")} and way["set"] == ["a.weight=181"]
+    assert (way["then_millicpu"], way["pays"]) == ([500], [{"group": "b", "millicpu": 150}])
+    assert way["told"] == tune.LEAST and found["settings"] is found["conflict"] is None
+
+
+def test_two_goals(ctl, folder):
+    """c keeps 3 slices, and its slice 4 costs 7/100. So a has 19/w from 272 on, b 13/w from 186.
+
+    c is no goal's group, so its weight stays, and it pays 3 of its 6 slices.
+    """
+    found = asked(ctl, three(folder), "a=500m", "b=350m")
+    way = found["weights"]
+    assert changes(way) == {"a": ("100", "272"), "b": ("100", "186")}
+    assert (way["then_millicpu"], way["pays"]) == ([500, 350], [{"group": "c", "millicpu": 150}])
+    out, _ = ctl.run("tune", three(folder), "--goal", "a=500m", "--goal", "b=350m")
+    assert [line.split() for line in out.split("\n")[1:]] == [
+        "all goals are met at once by today's demands, in CPUs; the proved check accepted the"
+        " plan".split(), [], ["goal", "now", "then", "wants", "group"],
+        ["0.50", "0.35", "0.50", "1.00", "a"], ["0.35", "0.35", "0.35", "1.00", "b"], [],
+        ["setting", "now", "then", "group"], ["weight", "100", "272", "a"],
+        ["weight", "100", "186", "b"], [], ["who", "else", "pays:", "c", "-0.15"],
+        tune.LEAST.split(), []]
+
+
+def test_what_is_met_stays(ctl, folder):
+    """7 of 20 slices are 350m."""
+    found = asked(ctl, three(folder), "a=350m", "b=100m")
+    assert found["weights"]["changes"] == [] and found["weights"]["told"] == tune.NO_CHANGE
+    assert "nothing changes" in ctl.run("tune", three(folder), "--goal", "a=350m")[0]
+
+
+def test_guarantee(ctl, folder):
+    """c asks for nothing, so a and b have 10 each. If it asks, they have 7 each, as above."""
+    source = three(folder, c_asks=0)
+    assert asked(ctl, source, "a=500m", "b=350m")["weights"]["changes"] == []
+    found = asked(ctl, source, "a=500m", "b=350m", words=["--guarantee"])
+    assert changes(found["weights"]) == {"a": ("100", "272"), "b": ("100", "186")}
+    assert [goal["now_millicpu"] for goal in found["goals"]] == [350, 350]
+    assert found["guaranteed"] and found["weights"]["then_millicpu"] == [500, 350]
+    assert "whatever the others ask for" in ctl.run("tune", source, "--goal", "a=500m",
+                                                    "--guarantee")[0]
+
+
+def test_goals_that_cannot_be_met(ctl, folder):
+    """12 and 12 are more than the 20 slices of the host; the goal of c has no part in it."""
+    words = ["a=600m", "b=600m"]
+    found = asked(ctl, three(folder), *words)
+    assert not found["met"] and found["weights"] is found["settings"] is None
+    assert found["conflict"] == {"goal": "b", "together": ["a", "b"], "asked_millicpu": 1200,
+                                 "served_millicpu": 1000}
+    out, _ = ctl.run("tune", three(folder), "--goal", "a=600m", "--goal", "b=600m", "--goal",
+                     "c=100m")
+    assert "weights of their groups cannot meet these goals together by today's demands" in out
+    assert "asked for in all: 1.20; served in all: 1.00" in out and "0.10" not in out
+
+
+def test_more_than_is_asked(ctl, folder):
+    """No weight gives a group more than it asks for, and a line says so."""
+    out, _ = ctl.run("tune", host_file(folder, ("a", 100, 300), ("b", 100, 300)), "--goal",
+                     "a=400m")
+    assert "the weight of its group cannot meet this goal" in out
+    assert "a asks for less: no setting gives it more than it asks for" in out
+
+
+def test_less_weight(ctl, folder):
+    """a's slice 19 costs 37/10000 at least, and b's slice 2 3/10000: b needs a lesser weight.
+
+    With 100 of a it is at most 8: 37/100 is no more than 3/w. a stays as it is.
+    """
+    found = asked(ctl, two(folder, b=10000), "a=950m", "b=50m")
+    assert changes(found["weights"]) == {"b": ("10000", "8")}
+    assert (found["weights"]["then_millicpu"], found["weights"]["told"]) == ([950, 50], tune.LOWER)
+
+
+def test_kept_weights(ctl, folder):
+    """a stays: its slice 18 costs 35/100, b's slice 3 5/w, so b has 14 at most. c is no goal's."""
+    found = asked(ctl, two(folder), "a=900m", "b=50m", words=["--keep", "a"])
+    assert changes(found["weights"]) == {"b": ("200", "14")}
+    assert found["weights"]["then_millicpu"] == [900, 100]
+    found = asked(ctl, two(folder), "a=900m", words=["--keep", "a"])
+    assert (found["met"], found["conflict"]["together"]) == (False, ["a"])
+    out, _ = ctl.run("tune", two(folder), "--goal", "a=900m", "--keep", "*")
+    assert "the weight of a stays as it is (--keep)" in out
+    kept = asked(ctl, three(folder), "a=500m", "b=350m", words=["--keep", "c"])
+    assert changes(kept["weights"]) == {"a": ("100", "272"), "b": ("100", "186")}
+
+
+def deep(folder):
+    """100 slices: `sys` with web and db, and `user`. All want all, so they have 25, 25 and 50."""
+    return host_file(folder, ("sys", 100, 0), ("sys/web", 100, 1000), ("sys/db", 100, 1000),
+                     ("user", 100, 1000), slice_="1ms")
+
+
+def test_groups_above(ctl, folder):
+    """web and db need 75 of sys, whose slice 75 costs 149/w, and user's slice 26 51/100: 293.
+
+    Then web's slice 60 costs 119/w, and db's slice 16 31/100: 384.
+    """
+    found = asked(ctl, deep(folder), "web=600m", "db=150m")
+    assert changes(found["weights"]) == {"sys": ("100", "293"), "sys/web": ("100", "384")}
+    assert found["weights"]["pays"] == [{"group": "user", "millicpu": 250}]
+    assert found["weights"]["told"] == tune.CLIMBED
+
+
+def test_a_group_above_that_is_given_more(ctl, folder):
+    """Beside db no weight gives web all 60 slices of sys. With 61 db has its first.
+
+    The slice 61 of sys costs 121/w, user's slice 40 79/100: 154. Then web's slice 60 costs 119/w,
+    and db's slice 2 3/100: 3967.
+    """
+    found = asked(ctl, deep(folder), "web=600m")
+    assert changes(found["weights"]) == {"sys": ("100", "154"), "sys/web": ("100", "3967")}
+    out, _ = ctl.run("tune", deep(folder), "--goal", "web=600m", "--keep", "sys")
+    assert "nor were weights of the groups above them found that do" in out
+    assert "the weight of sys stays as it is (--keep)" in out
+
+
+def test_groups_below_stay(ctl, folder):
+    """web needs 30 slices and db 21, more than the 50 of sys. With 59 web has 30 by its own weight.
+
+    The slice 59 of sys costs 117/w, user's slice 42 83/100: 141.
+    """
+    found = asked(ctl, deep(folder), "web=300m", "db=210m")
+    assert changes(found["weights"]) == {"sys": ("100", "141")}
+    assert found["weights"]["then_millicpu"] == [300, 290]
+    assert found["weights"]["pays"] == [{"group": "user", "millicpu": 90}]
+
+
+def test_patterns(ctl, folder):
+    """Each group that matches has the goal. Its slice 8 costs 15/w, batch's slice 5 9/100: 167."""
+    rest = (("runner@2", 100, 1000), ("batch", 100, 1000))
+    found = asked(ctl, host_file(folder, ("runner@1", 100, 1000), *rest), "runner@*=400m")
+    assert changes(found["weights"]) == {"runner@1": ("100", "167"), "runner@2": ("100", "167")}
+    model = Model()
+    for path in ("system.slice", "system.slice/runner@1", "system.slice/runner@1/init", "x"):
+        model.add(Group(path))
+    assert [each.path for each in demands.matching(model, "runner@*")] == ["system.slice/runner@1"]
+    with pytest.raises(HostFault, match="no group runner2"):
+        demands.matching(model, "runner2*")
+
+
+def test_rounded_up(ctl, folder):
+    """501m are 11 slices of 50m, which is said."""
+    out, _ = ctl.run("tune", two(folder), "--goal", "a=501m")
+    assert "501m is no whole number of slices: 0.55 is asked for" in out
+    assert asked(ctl, two(folder), "a=501m")["goals"][0]["goal_millicpu"] == 550
+    assert "no whole number" not in ctl.run("tune", two(folder), "--goal", "a=500m")[0]
+
+
+def test_changes_that_are_made_first(ctl, folder):
+    """b has weight 100 by --set: 19/w is no more than 21/100 from 91 on, so 100 is enough."""
+    found = asked(ctl, two(folder), "a=500m", words=["--set", "b.weight=100"])
+    assert found["weights"]["changes"] == [] and found["weights"]["then_millicpu"] == [500]
+
+
+@pytest.mark.parametrize("goals, status, words", [
+    (("a",), 2, "not GROUP=AMOUNT"), (("=1",), 2, "not GROUP=AMOUNT"), (("a=",), 2, "not GROUP="),
+    (("a=lots",), 2, "no amount of CPU"), (("a=0",), 2, "needs nothing"),
+    ((".=1",), 2, "the host has no weight"), (("none=1",), 1, "no group none"),
+    (("a=100m", "*=50m"), 2, "a has two goals"),
+    (("sys=500m", "web=100m"), 2, "sys is above sys/web"),
+    (("\x1b=1",), 1, "no group \\x1b"),
+])
+def test_refusals(ctl, folder, goals, status, words):
+    """One line for each, and no raw control character."""
+    source = host_file(folder, ("a", 100, 100), ("sys", 100, 0), ("sys/web", 100, 100))
+    named = [word for goal in goals for word in ("--goal", goal)]
+    _, err = ctl.run("tune", source, *named, status=status)
+    assert words in err and err.count("\n") == 1
+
+
+def test_words_that_are_needed(ctl, folder):
+    assert "--goal" in ctl.run("tune", two(folder), status=2)[1]
+    _, err = ctl.run("tune", two(folder), "--goal", "a=1", "--keep", "none", status=1)
+    assert "no group none" in err
+
+
+# Settings that people own
+
+
+def node_of(folder):
+    """Pods of 100m and 300m on a node of one CPU: weights 4 and 12, so 25 and 75 of 100 slices."""
+    def pod(name, request):
+        return {"kind": "Pod", "metadata": {"name": name, "namespace": "x", "uid": name}, "spec": {
+            "containers": [{"name": "c", "resources": {"requests": {"cpu": request}}}]}}
+
+    node = {"kind": "Node", "metadata": {"name": "n"},
+            "status": {"capacity": {"cpu": "1"}, "allocatable": {"cpu": "1"}}}
+    (folder / "n.json").write_text(json.dumps({"kind": "List", "items": [
+        pod("a", "100m"), pod("b", "300m"), node]}))
+    return folder / "n.json"
+
+
+def test_requests(ctl, folder):
+    """a's slice 40 costs 79/w, b's slice 61 121/12: 8, which 186 shares have, and so 182m.
+
+    Weights of the container alone do nothing: it is the only one of its pod that asks.
+    """
+    found = asked(ctl, node_of(folder), "x/a/c=400m", "x/b/c=600m", words=["--want", "busy"])
+    way = found["settings"]
+    path = "kubepods/burstable/x:a/c"
+    assert found["met"] and found["weights"] is None and found["conflict"]["goal"] == path
+    assert changes(way) == {path: ("100m", "182m")} and way["set"] == [f"{path}.request=182m"]
+    assert way["then_millicpu"] == [400, 600] and way["told"] == tune.RAISED
+    out, _ = ctl.run("tune", node_of(folder), "--want", "busy", "--goal", "x/a=400m")
+    assert [line.split() for line in out.split("\n") if line.startswith("request")] == [
+        ["request", "100m", "182m", path]]
+
+
+def test_requests_that_are_not_found(ctl, folder):
+    """b may not change: with no request of a are both met. A class whose weight is kept would."""
+    words = ["--want", "busy"]
+    found = asked(ctl, node_of(folder), "x/a/c=400m", words=[*words, "--keep", "x/a/c"])
+    assert not found["met"] and "its weight is kept" in found["no_settings"]
+    found = asked(ctl, node_of(folder), "x/a/c=400m", words=[*words, "--keep", "burstable"])
+    assert found["no_settings"] == "the weight of kubepods/burstable would change"
+    found = asked(ctl, node_of(folder), "x/a/c=400m", "x/b/c=700m", words=words)
+    assert not found["met"] and "no request reaches its goal" in found["no_settings"]
+
+
+def unit(name, weight):
+    """A unit as systemctl prints it."""
+    return f"Id={name}\nControlGroup=/{name}\nCPUWeight={weight}\nTasksCurrent=3\n\n"
+
+
+def test_units(ctl, folder):
+    """a's slice 50 costs 99/w, b's slice 51 101/200: 197, as CPUWeight too."""
+    (folder / "u.show").write_text(unit("a.service", "[not set]") + unit("b.service", 200))
+    found = asked(ctl, folder / "u.show", "a.service=500m", words=["--cpus", "1"])
+    assert changes(found["weights"]) == {"a.service": ("100", "197")}
+    assert changes(found["settings"]) == {"a.service": ("-", "197")}
+    assert found["settings"]["set"] == ["a.service.CPUWeight=197"]
+    assert found["settings"]["told"] == tune.LEAST
+
+
+def test_shares(ctl, folder):
+    """Shares of 1024 and 2048 weigh 39 and 79. 99/w is no more than 101/79 from 78 on: 2021."""
+    (folder / "d.json").write_text(json.dumps([
+        {"Id": name * 64, "Name": f"/{name}", "HostConfig": {"CpuShares": shares}}
+        for name, shares in (("a", 1024), ("b", 2048))]))
+    found = asked(ctl, folder / "d.json", "a=500m", words=["--cpus", "1"])
+    assert changes(found["weights"]) == {"system.slice/a": ("39", "78")}
+    assert changes(found["settings"]) == {"system.slice/a": ("1024", "2021")}
+
+
+# Against other weights
+
+
+PATHS = ["a", "b", "c", "a/x", "a/y"]
+SOME = settings(max_examples=30, deadline=None,
+                suppress_health_check=[HealthCheck.function_scoped_fixture])
+
+
+@st.composite
+def models(draw):
+    """Small hosts with limits and demands."""
+    model = Model(Host(draw(st.integers(1, 3)), 100000, 20000))
+    for path in PATHS:
+        quota = draw(st.none() | st.integers(3, 12).map(lambda slices: 20000 * slices))
+        demand = 0 if path == "a" else draw(st.integers(0, 12)) * 200
+        model.add(Group(path, draw(st.integers(1, 400)), quota, demand=Fraction(demand)))
+    return model
+
+
+GOALS = st.lists(st.tuples(st.sampled_from(["b", "c", "a/x", "a/y"]), st.integers(1, 6)),
+                 min_size=1, max_size=4, unique_by=lambda each: each[0])
+WEIGHTS = st.lists(st.lists(st.integers(1, 10000), min_size=6, max_size=6), max_size=5)
+
+
+def meets(found, goals, is_guaranteed, library):
+    """Whether a plan meets goals: by its amounts, or by those of the plan where others ask."""
+    for goal in goals:
+        model = found.model.copy()
+        for path, group in model.groups.items():
+            if is_guaranteed and path not in ("a", goal.group.path):
+                group.demand = Fraction(10**7)
+        if plan(Engine(library), model).by_path()[goal.group.path].gets < goal.amount:
+            return False
+    return True
+
+
+@SOME
+@given(model=models(), goals=GOALS, is_guaranteed=st.booleans(), others=WEIGHTS)
+def test_met_or_never(engine, model, goals, is_guaranteed, others):
+    """What is answered meets all goals. Goals that clash are met by no weights of their groups."""
+    words = [f"{path}={200 * slices}m" for path, slices in goals]
+    before = plan(engine, model)
+    found = tune.tune(before, words, is_guaranteed)
+    if found.best is not None:
+        assert meets(found.best.plan, found.goals, is_guaranteed, engine.library)
+        return
+    assert isinstance(found.weights, Unmet)
+    clash = [found.goals[place] for place in found.weights.together]
+    rows = {goal.group.row for goal in clash}
+    for weights in others:
+        mixed = [weights[row] if row in rows else group.weight
+                 for row, group in enumerate(before.groups)]
+        after = plan(engine, tune.with_weights(model, mixed))
+        assert not meets(after, clash, is_guaranteed, engine.library)
+
+
+def test_an_answer_that_does_not_meet_is_none(engine, monkeypatch):
+    """Weights are shown only where their accepted plan meets all goals."""
+    model = Model(Host(1, 100000, 5000))
+    for path in ("a", "b"):
+        model.add(Group(path, demand=Fraction(1000)))
+    before = plan(engine, model)
+    monkeypatch.setattr(engine.library, "tune", lambda *_: [100, 100, 100], raising=False)
+    monkeypatch.setattr(tune, "weights_of", lambda asked: asked.answer(asked.weights))
+    with pytest.raises(HostFault, match="a: the accepted plan does not meet its goal"):
+        tune.tune(before, ["a=900m"])
