@@ -178,6 +178,18 @@ def test_one_version(path):
     same(soname, [f"libarbiter.so.{first}"], "python/arbiter/found.py")
 
 
+def test_newest_changes_are_of_the_version():
+    """The first number of CHANGELOG.md is the version. Only what is not released is above it."""
+    heads = re.findall(r"^## (.*)$", (ROOT / "CHANGELOG.md").read_text(), re.M)
+    numbered = heads[heads[:1] == ["Unreleased"]:]
+    same(numbered[:1], [version()], "the newest version of CHANGELOG.md")
+    numbers = [tuple(map(int, each.split("."))) for each in numbered]
+    same(numbers, sorted(set(numbers), reverse=True), "versions of CHANGELOG.md")
+    page = (ROOT / "docs/EMBEDDING.md").read_text()
+    installed = set(re.findall(r"libarbiter\.so\.(\d+\.\d+\.\d+)", page))
+    same(installed, {version()}, "version in EMBEDDING.md")
+
+
 def test_one_licence():
     """The packages name the licence of LICENSE-MIT and LICENSE-APACHE."""
     both = "MIT OR Apache-2.0"
