@@ -113,7 +113,7 @@ def test_what_units_cannot_say(ctl, folder, form, script, change, words):
 
 
 def test_ansible(ctl, folder):
-    """A play that YAML and Ansible read; the text of the drop-in is no template."""
+    """A play that YAML reads; the text of the drop-in is no template."""
     found, _ = applied(ctl, folder, "ansible", UNITS, "--cpus", "4", *SSH_CHANGE)
 
     class Loader(yaml.SafeLoader):
@@ -127,12 +127,17 @@ def test_ansible(ctl, folder):
     assert copied["dest"] == "/etc/systemd/system/ssh.service.d/50-arbiter.conf"
     assert unit_file(copied["content"])["Service"]["CPUQuota"] == "150%"
     assert put["notify"] == play["handlers"][0]["name"] and "!unsafe" in found["arbiter.yaml"]
-    if shutil.which("ansible-playbook"):
-        words = ["ansible-playbook", "--syntax-check", "-i", "n1,", folder / "out/arbiter.yaml"]
-        assert subprocess.run([*words, "-e", "arbiter_hosts=n1"], capture_output=True, timeout=120,
-                              check=False).returncode == 0
-        # Without the name of its hosts it runs on none.
-        assert subprocess.run(words, capture_output=True, timeout=120, check=False).returncode != 0
+
+
+def test_ansible_reads_the_play(ctl, folder):
+    """ansible-playbook finds no fault. Without the name of its hosts the play runs on none."""
+    if shutil.which("ansible-playbook") is None:
+        pytest.skip("no ansible-playbook (package ansible-core)")
+    applied(ctl, folder, "ansible", UNITS, "--cpus", "4", *SSH_CHANGE)
+    words = ["ansible-playbook", "--syntax-check", "-i", "n1,", folder / "out/arbiter.yaml"]
+    for more, is_read in ((["-e", "arbiter_hosts=n1"], True), ([], False)):
+        ended = subprocess.run([*words, *more], capture_output=True, timeout=120, check=False)
+        assert (ended.returncode == 0) == is_read, ended.stderr
 
 
 def test_shell(ctl, folder):
