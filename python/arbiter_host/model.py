@@ -142,8 +142,9 @@ class Model:
         place, rows = {"": 0}, [Row(None, units.DEFAULT_WEIGHT, None, 0)]
         for path, group in self.groups.items():
             place[path] = len(rows)
-            rows.append(Row(place[path.rpartition("/")[0]], group.weight,
-                            group.limit_slices(slices), slices.demand(group.usable)))
+            limit = None if group.quota is None else group.limit_slices(slices)
+            rows.append(Row(place[path.rpartition("/")[0]], group.weight, limit,
+                            slices.demand(group.usable)))
         return rows
 
     def with_host(self, host: Host) -> Model:

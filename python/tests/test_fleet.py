@@ -1,4 +1,5 @@
 """Fleets: what is answered, what is refused, and that no host is lost, without Dask."""
+import gc
 import json
 import re
 import sqlite3
@@ -13,7 +14,7 @@ from arbiter import Certificate
 from arbiter_host import command
 from arbiter_host.engine import Certified, Engine, columns_of
 from arbiter_host.faults import HostFault, UsageFault
-from arbiter_host.fleet import demands, evidence, figures, forms, gather, hosts, pieces
+from arbiter_host.fleet import demands, evidence, figures, forms, gather, hosts, pieces, work
 from arbiter_host.fleet.pool import Here
 from arbiter_host.fleet.store import Row, Store
 from arbiter_host.sources import script
@@ -347,6 +348,30 @@ def test_memory_that_is_refused_costs_no_worker(fleet, alone, calls):
 
     pool = Workers({"tight": tight, "honest": honest})
     assert outcome(gathered(fleet, pool, calls)[1]) == alone and pool.shunned == []
+
+
+def test_the_search_for_cycles_rests_for_a_batch_alone(monkeypatch):
+    """It is on again after an answer and after a fault, and stays off where it was off."""
+    seen = []
+
+    def library(path):
+        seen.append(gc.isenabled())
+        if path:
+            raise KeyError(path)
+        raise MemoryError
+
+    monkeypatch.setattr(work, "library", library)
+    assert work.answered('{"action": "plan"}', []) == b'{"lost": "out of memory"}'
+    assert gc.isenabled()
+    with pytest.raises(KeyError):
+        work.answered('{"action": "plan", "library": "x"}', [])
+    assert gc.isenabled() and seen == [False, False]
+    gc.disable()
+    try:
+        work.answered('{"action": "plan"}', [])
+        assert not gc.isenabled()
+    finally:
+        gc.enable()
 
 
 BROKEN = {

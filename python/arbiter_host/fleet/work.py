@@ -2,9 +2,11 @@
 from __future__ import annotations
 
 import functools
+import gc
 import json
 import time
-from collections.abc import Sequence
+from collections.abc import Iterator, Sequence
+from contextlib import contextmanager
 from dataclasses import dataclass, field
 from typing import Any
 
@@ -56,6 +58,20 @@ def result(job: Job, item: Item, by: Engine) -> str:
         return canonical({"why": f"{type(error).__name__}: {error}"})
 
 
+@contextmanager
+def uncollected() -> Iterator[None]:
+    """Lets Python's search for cycles rest. A batch makes many objects, nearly none in a cycle, and
+    is short: the search took a sixth of its time."""
+    is_searching = gc.isenabled()
+    gc.disable()
+    try:
+        yield
+    finally:
+        if is_searching:
+            gc.enable()
+
+
+@uncollected()
 def answered(job_text: str, items: Sequence[Item]) -> bytes:
     """The results of a batch, each with its certificates, and the seconds of a processor that
     they took."""
