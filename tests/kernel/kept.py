@@ -5,6 +5,9 @@
 SAVED are files that `./test --kernel --save` wrote, beside scripts that are no scenarios here.
 Their runs of several processors are added to kept_runs.json.xz under the name SET, each with its
 host. Series, naps and pinned tasks are left out.
+
+A file of `arbiterctl audit --anonymous` is taken too. Each interval of it is a run, with its plan
+in place of exact shares, and a host of its own. One with a group that was not measured is left out.
 """
 from __future__ import annotations
 
@@ -69,12 +72,61 @@ def runs_of(set_: str, path: Path, hosts: dict[str, Any],
                           for each in said["lines"] if each["path"] in found.leaves}}
 
 
+def settings_at(group: dict[str, Any], place: int) -> list[Any]:
+    """The settings of a group in an interval: weight, quota, period, burst; none before the first.
+    """
+    found: list[list[Any]] = [each for each in group["settings"] if each[0] <= place]
+    return found[-1][1:] if found else []
+
+
+def host_of_interval(audit: dict[str, Any], place: int) -> dict[str, Any] | None:
+    """The host of an interval of an audit as data; None where a group of it was not measured, or
+    has no number of tasks. Its tasks work in each tenth of a second."""
+    groups, paths = [], dict[str | None, str]()
+    inner = {each["above"] for each in audit["groups"]}
+    for each in audit["groups"]:
+        settings, name = settings_at(each, place), each["group"]
+        above = paths.get(each["above"])
+        path = paths[name] = f"{above}/{name}" if above else name
+        demand, tasks = (each[key][place] if key in each else 0
+                         for key in ("demand_millicpu", "tasks"))
+        if not settings or name not in inner and (demand is None or demand and not tasks):
+            return None
+        weight, quota, period, burst = settings
+        groups.append({"path": path, "weight": weight, "quota": quota, "period": period,
+                       "burst": burst, "demand": demand or 0.0, "tasks": tasks or None})
+    return {"about": "an interval of an audit", "processors": audit["processors"],
+            "period": 100000, "slice": 1000, "groups": groups}
+
+
+def runs_of_audit(set_: str, path: Path, hosts: dict[str, Any]) -> Iterator[dict[str, Any]]:
+    """The intervals of a file of `audit --anonymous` as runs."""
+    audit = json.loads(path.read_text(encoding="utf-8"))
+    for place in range(len(audit["intervals"]) if audit["processors"] > 1 else 0):
+        host = host_of_interval(audit, place)
+        if host is None:
+            continue
+        name = f"{path.stem}-{place}"
+        hosts[name] = host
+        paths = [each["path"] for each in host["groups"]]
+        yield {"set": set_, "host": name, "kernel": "not told", "groups": {
+            at: [each[key][place] / 1000 for key in ("plan_millicpu", "used_millicpu")]
+            for at, each in zip(paths, audit["groups"]) if "plan_millicpu" in each}}
+
+
+def runs_in(set_: str, path: Path, hosts: dict[str, Any]) -> Iterator[dict[str, Any]]:
+    """The runs of a file of either kind."""
+    if path.read_text(encoding="utf-8").startswith('{"arbiter_audit"'):
+        return runs_of_audit(set_, path, hosts)
+    return runs_of(set_, path, hosts, [SCENARIOS, path.parent])
+
+
 def main(words: list[str]) -> None:
-    """Adds the runs of saved files."""
+    """Adds the runs of files."""
     set_, *files = words
     found = kept() if KEPT.exists() else {"sets": {}, "hosts": {}, "runs": []}
     for path in map(Path, files):
-        found["runs"] += runs_of(set_, path, found["hosts"], [SCENARIOS, path.parent])
+        found["runs"] += runs_in(set_, path, found["hosts"])
     KEPT.write_bytes(lzma.compress(json.dumps(found, separators=(",", ":")).encode()))
     print(f"{len(found['runs'])} runs of {len(found['hosts'])} hosts")
 

@@ -107,7 +107,10 @@ def points(thousandths: Fraction) -> str:
 
 def percent(part: Fraction | None) -> str:
     """A part in percent, with a sign."""
-    return "-" if part is None else f"{float(part) * 100:+.0f} %"
+    if part is None:
+        return "-"
+    whole = round(part * 100)
+    return f"{whole:+}%" if whole else "0%"
 
 
 def length_words(intervals: Sequence[Interval]) -> str:
@@ -126,7 +129,7 @@ def head(found: Told) -> Iterator[str]:
     yield ("off: what a group used less its plan, in hundredths of a CPU and in parts of the plan")
     unplanned = [each.unplanned for each in intervals if each.unplanned is not None]
     if unplanned:
-        yield f"used by no group of the plan, as a mean: {cpus(mean(unplanned))} CPUs"
+        yield f"used outside these groups, as a mean: {cpus(mean(unplanned))} CPUs"
 
 
 def cells_of(row: Row) -> list[str]:

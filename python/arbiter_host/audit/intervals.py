@@ -31,9 +31,10 @@ class Cell:
     # Its periods, and those in which it was throttled.
     periods: int
     throttled: int
-    # Whether it would have used more.
+    # Whether it would have used more, and whether it waited and that is a guess.
     hungry: bool
     tasks: int | None
+    may_be_hungry: bool = False
 
     @property
     def off(self) -> Fraction:
@@ -74,6 +75,11 @@ class Span(NamedTuple):
         """What it used, in thousandths of a CPU."""
         return units.thousandths_of_usage(self.risen.usage or 0, self.seconds)
 
+    @property
+    def waits(self) -> bool:
+        """Whether its tasks waited for as long as hungry ones do at least: a tenth of the time."""
+        return (self.risen.pressure or 0) * 10 >= self.seconds * 10**6
+
     def measured(self, tasks: int | None) -> Measured:
         """The same as two readings."""
         first = Reading(*(None if each is None else 0 for each in self.risen))
@@ -88,6 +94,13 @@ class Asking:
     demand: Fraction
     hungry: bool
     tasks: int | None
+
+    def cell(self, planned: Fraction, want: str | None) -> Cell:
+        """The cell of a leaf with its plan."""
+        span, risen = self.span, self.span.risen
+        waited = want is None and not self.hungry and span.waits and not span.two
+        return Cell(span.used, self.demand, planned, risen.periods or 0, risen.throttled or 0,
+                    self.hungry, self.tasks, waited)
 
 
 def span_of(one: Counted, two: Counted, seconds: Fraction) -> Span | str:
@@ -207,9 +220,7 @@ def interval_of(engine: Engine, one: Look, two: Look, want: str | None,
     found = plan(engine, with_demands(model, {path: (each.demand, each.tasks)
                                               for path, each in known.items()})) if known else None
     gets = {each.path: found.thousandths(each.gets) for each in found.groups} if found else {}
-    cells = {path: Cell(each.span.used, each.demand, gets[path], each.span.risen.periods or 0,
-                        each.span.risen.throttled or 0, each.hungry, each.tasks)
-             for path, each in known.items()}
+    cells = {path: each.cell(gets[path], want) for path, each in known.items()}
     return Interval(one.name, one.at, two.at - one.at, model, cells, holes,
                     unplanned_of(one, two, known)), found
 
@@ -233,6 +244,11 @@ def notes_of(looks: Sequence[Look], intervals: Sequence[Interval]) -> list[str]:
            for each in of_path.values()):
         found.append("pressure is not measured: a group that waited is taken to have had what it"
                      " wanted")
+    waited = {path: None for interval in intervals for path, cell in interval.cells.items()
+              if cell.may_be_hungry}
+    if waited:
+        found.append("groups that waited, and may have wanted more than they used (--want psi),"
+                     f" {some([shown(path) for path in waited])}")
     changed = sum(one.model is not two.model for one, two in zip(looks, looks[1:]))
     if changed:
         found.append(f"groups or settings changed in intervals: {changed}; those of their ends are"
