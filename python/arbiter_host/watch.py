@@ -43,11 +43,14 @@ class Figures:
         """By how much it got more than the plan gives it; below 0 where it got less."""
         return None if self.got is None else self.got - self.plan
 
-    def value(self, key: str) -> Fraction | None:
-        """What a condition compares; None where nothing was measured for it."""
+    def value(self, key: str, is_named: bool = False) -> Fraction | None:
+        """What a condition compares; None where nothing was measured for it.
+
+        Groups with children are compared by `throttled`, and where a condition names them.
+        """
         if key == "throttled":
             return self.throttled
-        if not self.is_leaf:
+        if not (self.is_leaf or is_named):
             return None
         if key == "off":
             return None if self.off is None else abs(self.off)
@@ -64,13 +67,14 @@ class Condition(NamedTuple):
 
     def is_of(self, figures: Figures) -> bool:
         """Whether it speaks of a group."""
+        shape = names.pattern(self.group)
         return (self.group in ("", figures.path, figures.title)
                 or figures.path.endswith(f"/{self.group}")
-                or bool(names.pattern(self.group).fullmatch(figures.path)))
+                or any(shape.fullmatch(each) for each in (figures.path, figures.title)))
 
     def holds(self, figures: Figures) -> bool:
         """Whether there is an alert of a group."""
-        value = figures.value(self.key)
+        value = figures.value(self.key, bool(self.group) and "*" not in self.group)
         return value is not None and value > self.least and self.is_of(figures)
 
 
@@ -135,6 +139,12 @@ def alerts(found: Sequence[Figures], wanted: Sequence[Condition]) -> list[Alert]
     """The alerts of a round."""
     return [Alert(each.words, figures.path) for each in wanted for figures in found
             if each.holds(figures)]
+
+
+def missing(found: Sequence[Figures], wanted: Sequence[Condition]) -> list[str]:
+    """What is to be told of conditions whose group is not there."""
+    return [f"--alert {each.words}: no group {each.group} is there" for each in wanted
+            if not any(map(each.is_of, found))]
 
 
 class Seen(NamedTuple):

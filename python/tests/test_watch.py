@@ -71,6 +71,21 @@ def test_figures_by_hand(engine, folder):
         "starved,throttled>39%,throttled>40%,lack>300m,lack>340m,off>299m,off>300m,b*:off,web:off"))
     assert [tuple(each) for each in held] == [
         ("throttled>39%", "web"), ("lack>300m", "web"), ("off>299m", "batch"), ("b*:off", "batch")]
+    # A group with children is compared where it is named: the host used 300m less than its plan.
+    named = watch.conditions(".:off>299m,.:off>300m,*:off>250m")
+    assert [tuple(each) for each in watch.alerts(list(found.values()), named)] == [
+        (".:off>299m", "."), ("*:off>250m", "batch")]
+
+
+def test_groups_of_conditions():
+    """A path, its end, a title, or a pattern of either, as `--set` takes them."""
+    figures = watch.Figures("kubepods/a:web/app", "a/web/app", Fraction(0), Fraction(1), None, None,
+                            False, True)
+    for group, is_of in {"": True, "app": True, "a/web/app": True, "a/web/*": True, "*web/app": True,
+                         "kubepods/*": True, "web": False, "b/*": False, "pp": False}.items():
+        one, = watch.conditions(f"{group}:lack" if group else "lack")
+        assert one.is_of(figures) == is_of, group
+        assert len(watch.missing([figures], [one])) == (not is_of)
 
 
 def test_a_group_made_again_is_not_compared(engine, folder):
@@ -133,6 +148,8 @@ def test_once_of_a_script(ctl, folder):
     assert json.loads(out) == {"round": 1, "wanted_cpus": 2, "planned_cpus": 1,
                                "alerts": [{"alert": "starved", "group": "b"}]}
     assert json.loads(ctl.run(*words, "a:starved")[0])["alerts"] == []
+    _, err = ctl.run(*words, "c:starved")
+    assert err == "arbiterctl: warning: --alert c:starved: no group c is there\n"
     assert json.loads(ctl.run(*words, "starved", "--after", "2")[0])["alerts"] == []
 
 

@@ -104,10 +104,11 @@ class Watch:
 
     def take(self, found: watch.Round) -> None:
         """Takes a round: metrics, its line, and the alerts that it raises."""
-        self.tell_notes([*found.plan.model.refused, *found.plan.model.notes])
+        figures = found.figures()
+        self.tell_notes([*found.plan.model.refused, *found.plan.model.notes,
+                         *watch.missing(figures, self.wanted)])
         state, after = self.state, self.options.after
         state.rounds, state.failed = state.rounds + 1, 0
-        figures = found.figures()
         raised = state.raised(watch.alerts(figures, self.wanted), after)
         held = state.held(after)
         if self.figured:
