@@ -43,6 +43,9 @@ def test_usage_from_standard_input(ctl):
     """`kubectl top pods -A --containers | arbiterctl explain pods.json node.json --usage -`."""
     data = (FIXTURES / "top.txt").read_bytes()
     assert demands_of(ctl, PODS, NODE, "--usage", "-", given=data)[0] == TOLD
+    # `--sum` prints the sums behind a line.
+    sums = b"%62s________   ________     \n%62s3070m      1261Mi    \n" % (b"", b"")
+    assert demands_of(ctl, PODS, NODE, "--usage", "-", given=data + sums)[0] == TOLD
     # A source that is loaded twice has it twice.
     out, _ = ctl.run("compare", PODS, NODE, "--usage", "-", "--cpus", "3", "--json", given=data)
     assert json.loads(out)["after"]["wanted"]["millicpu"] == 3080

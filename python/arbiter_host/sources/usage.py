@@ -83,6 +83,8 @@ def of_text(data: bytes, name: str) -> Iterator[Used]:
         words = line.split()
         if not words:
             continue
+        if not "".join(words).strip("_"):
+            return  # (the sums of `--sum` follow)
         if len(words) != len(columns):
             raise HostFault(f"{name}:{number}: {len(words)} words and not {len(columns)}")
         cells = {column: word[:MAX_TEXT] for column, word in zip(columns, words)}
