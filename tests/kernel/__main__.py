@@ -24,8 +24,8 @@ FILES = [Path(__file__).with_name(name) for name in ("test_real_files.py", "test
 LATER = 21300
 # Runs of one boot.
 BATCH = 12
-# Seconds of a processor for a second of a guest of one processor, and of several, about.
-ONE_GUEST, SEVERAL = 0.5, 3
+# Seconds of a processor for a second of a guest of one processor, and of up to four, about.
+ONE_GUEST, SEVERAL = 0.5, 1
 # What `arbiterctl import` writes above the demand of a group whose tasks are known.
 TASKS = re.compile(r"# tasks ([0-9]+)")
 
@@ -71,9 +71,9 @@ def with_host(text: str) -> str:
 
 def batches(found: list[Scenario], repeats: int,
             boot: int) -> Iterator[list[tuple[Scenario, int]]]:
-    """The runs of each boot: scenarios of equally many processors."""
-    for processors in sorted({each.processors for each in found}):
-        runs = [(each, repeat) for each in found if each.processors == processors
+    """The runs of each boot: scenarios of one board."""
+    for board in sorted({each.board for each in found}):
+        runs = [(each, repeat) for each in found if each.board == board
                 for repeat in range(repeats)]
         for at in range(0, len(runs), boot):
             yield runs[at:at + boot]
@@ -88,7 +88,7 @@ def measured(kernel: packages.Kernel, setting: machine.Setting, options: argpars
         span = layout.Span(options.seconds, options.settle, LATER * repeat)
         jobs.append((f"{each.name} {kernel.name} {repeat + 1}", each, span))
     given = [(key, change(each) if change else each, span) for key, each, span in jobs]
-    lines = machine.run(kernel, runs[0][0].processors, setting, layout.many(given))
+    lines = machine.run(kernel, runs[0][0].board, setting, layout.many(given))
     for (_, each, span), run in zip(jobs, readings.runs(lines), strict=True):
         yield compare.outcome_of(each, run, span)
 
@@ -121,16 +121,23 @@ def arguments(words: list[str]) -> argparse.Namespace:
     return parser.parse_args(words)
 
 
+def cost(each: Scenario) -> float:
+    """Seconds of a processor for a second of a scenario's guest, about."""
+    return ONE_GUEST if each.processors == 1 else SEVERAL * max(each.processors / 4, 1)
+
+
 def announced(found: list[Scenario], options: argparse.Namespace) -> str:
-    """How many runs there will be, and about how long they take one processor."""
+    """What will be done: how many runs, where, and about how long they take one processor."""
     runs, seconds = 0, 0.0
-    for name in options.kernels.split(","):
+    kernels = options.kernels.split(",")
+    for name in kernels:
         for each in found:
             if each.kernel in ("", name):
-                cost = ONE_GUEST if each.processors == 1 else SEVERAL
                 runs += options.repeats
-                seconds += options.repeats * cost * (options.seconds + options.settle)
-    return f"{runs} runs, about {max(round(seconds / 60), 1)} minutes of a processor"
+                seconds += options.repeats * cost(each) * (options.seconds + options.settle)
+    return (f"{runs} runs of {options.seconds:g} s in guests of Linux {' and '.join(kernels)}: about"
+            f" {max(round(seconds / 60), 1)} min of a processor. Nothing of this machine is changed;"
+            f" kernels are in {packages.cache_folder()}.")
 
 
 def setting_of(options: argparse.Namespace) -> machine.Setting:
@@ -168,13 +175,13 @@ def work(words: list[str]) -> int:
     lacks = packages.missing()
     if lacks:
         raise faults.KernelFault(lacks)
-    planned.program()
     print(announced(found, options), flush=True)
+    planned.begin()
+    kernels = [packages.kernel(name) for name in options.kernels.split(",")]
     setting, outcomes = setting_of(options), []
-    for name in options.kernels.split(","):
-        kernel = packages.kernel(name)
+    for kernel in kernels:
         print(f"Linux {kernel.release}, {kernel.ticks} ticks a second; {setting.told}")
-        fit = [each for each in found if each.kernel in ("", name)]
+        fit = [each for each in found if each.kernel in ("", kernel.name)]
         for runs in batches(fit, options.repeats, options.boot):
             for outcome in measured(kernel, setting, options, runs):
                 outcomes.append(outcome)

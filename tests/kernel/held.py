@@ -177,13 +177,13 @@ def span_of(way: Way, options: argparse.Namespace, repeat: int) -> layout.Span:
 
 def ran(kernel: packages.Kernel, jobs: Sequence[Job], setting: machine.Setting
         ) -> Iterator[dict[str, Any]]:
-    """Boots one guest for jobs of equally many processors, and compares them with their plans."""
+    """Boots one guest for jobs of one board, and compares them with their plans."""
     work = f"echo '+cpu' > {layout.TOP}/cgroup.subtree_control\n{layout.BEAT}" + "".join(
         f"echo run {shlex.quote(job.key(kernel))}\n{job.script()}" for job in jobs)
     with tempfile.TemporaryDirectory(prefix="arbiter-hold-") as name:
         more = ({"hold": (0o100755, hold_program(Path(name)))}
                 if any(job.way.is_loop for job in jobs) else {})
-    lines = machine.run(kernel, jobs[0].scenario.processors, setting, work, more)
+    lines = machine.run(kernel, jobs[0].scenario.board, setting, work, more)
     told = rounds_in(lines)
     runs = readings.runs([line for line in lines if not line.startswith("held ")])
     for job, run in zip(jobs, runs, strict=True):
@@ -239,8 +239,7 @@ def batches(jobs: Sequence[Job], boot: int) -> Iterator[list[Job]]:
     """The jobs of each boot, in order."""
     found: list[Job] = []
     for job in jobs:
-        if found and (len(found) == boot
-                      or job.scenario.processors != found[0].scenario.processors):
+        if found and (len(found) == boot or job.scenario.board != found[0].scenario.board):
             yield found
             found = []
         found.append(job)
@@ -255,9 +254,9 @@ def work(words: Sequence[str]) -> int:
     lacks = packages.missing()
     if lacks:
         raise faults.KernelFault(lacks)
+    planned.begin()
     refused = 0
-    for name in options.kernels.split(","):
-        kernel = packages.kernel(name)
+    for kernel in [packages.kernel(name) for name in options.kernels.split(",")]:
         jobs = [Job(each, way, repeat, span_of(way, options, repeat))
                 for each in sources(options.sources) for way in ways
                 for repeat in range(options.first, options.first + options.repeats)]

@@ -8,6 +8,7 @@ import subprocess
 import tempfile
 from dataclasses import dataclass
 from pathlib import Path
+from typing import NamedTuple
 
 from kernel import packages
 from kernel.faults import KernelFault
@@ -37,6 +38,18 @@ echo "steal $(dmesg | grep -c stealtime)"
 echo end
 poweroff -f
 """
+
+
+class Board(NamedTuple):
+    """The processors of a guest, and the sockets that they are in. Each socket has its cache."""
+
+    processors: int = 1
+    sockets: int = 1
+
+    @property
+    def words(self) -> tuple[str, ...]:
+        """The emulator's words."""
+        return ("-smp", f"{self.processors},sockets={self.sockets}")
 
 
 @dataclass(frozen=True)
@@ -120,16 +133,16 @@ def wait(words: list[str], seconds: float) -> str:
             raise
 
 
-def run(kernel: packages.Kernel, processors: int, setting: Setting, work: str,
+def run(kernel: packages.Kernel, board: Board, setting: Setting, work: str,
         more: dict[str, tuple[int, bytes]] | None = None, memory: int = 256) -> list[str]:
     """Boots a guest that runs a shell script. Returns the lines that the script printed."""
-    emulator = packages.emulator(setting.shift is not None and processors > 1)
+    emulator = packages.emulator(setting.shift is not None and board.processors > 1)
     with tempfile.TemporaryDirectory(prefix="arbiter-guest-") as name:
         folder = Path(name)
         program = packages.guest_program(folder)
         (folder / "initramfs").write_bytes(initramfs(work, program, more or {}))
         words = [*emulator.words, "-M", "pc-q35-7.1", *setting.words, "-m", str(memory),
-                 "-smp", str(processors), "-nodefaults", "-display", "none", "-no-reboot",
+                 *board.words, "-nodefaults", "-display", "none", "-no-reboot",
                  "-kernel", str(kernel.image), "-initrd", str(folder / "initramfs"),
                  "-append", KERNEL_WORDS, "-serial", f"file:{folder}/console",
                  "-serial", f"file:{folder}/out"]

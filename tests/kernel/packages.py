@@ -10,6 +10,7 @@ import os
 import re
 import shutil
 import subprocess
+import sys
 from dataclasses import dataclass
 from pathlib import Path
 
@@ -74,6 +75,7 @@ def fetch(packages: list[str], to: Path, apt: tuple[str, ...] = ()) -> None:
     """Downloads packages and unpacks them into a folder, which is there only if all went well."""
     if to.exists():
         return
+    print(f"kernel: downloading {', '.join(packages)} into {to.parent}", file=sys.stderr)
     made = to.with_name(f"{to.name}.{os.getpid()}")
     made.mkdir(parents=True)
     try:

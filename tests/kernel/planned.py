@@ -31,6 +31,15 @@ def program() -> Path:
     return found
 
 
+def begin() -> None:
+    """Asks the program for nothing. ./arbiter may have to be compiled first: it says so itself,
+    and takes its time before the first guest runs."""
+    words = [str(program()), "run"]
+    ended = subprocess.run(words, stdin=subprocess.DEVNULL, stdout=subprocess.DEVNULL, check=False)
+    if ended.returncode:
+        raise KernelFault(f"{' '.join(words)}: status {ended.returncode}")
+
+
 def answers(scenario: Scenario, lines: list[str]) -> list[str]:
     """The program's answers to a script."""
     words = (str(program()), "run", "--processors", str(scenario.processors), "--period",

@@ -109,4 +109,4 @@ def shown_by(kernel: packages.Kernel, setting: machine.Setting) -> dict[str, Pha
     told = json.dumps({"top": layout.HOME, "steps": list(steps())}).encode()
     more = {**interpreter.files(), "steps.json": (0o100644, told),
             f"{interpreter.HOME}/{DRIVER.name}": (0o100644, DRIVER.read_bytes())}
-    return read(machine.run(kernel, 1, setting, work(), more, MEMORY), len(list(steps())))
+    return read(machine.run(kernel, machine.Board(), setting, work(), more, MEMORY), len(list(steps())))

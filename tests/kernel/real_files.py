@@ -91,7 +91,7 @@ def read(lines: list[str]) -> Found:
 
 def shown_by(kernel: packages.Kernel, setting: machine.Setting) -> Found:
     """Runs it in a guest."""
-    return read(machine.run(kernel, 1, setting, work()))
+    return read(machine.run(kernel, machine.Board(), setting, work()))
 
 
 def unpacked(found: Found, folder: Path) -> Path:

@@ -66,5 +66,5 @@ def shown_by(kernel: packages.Kernel, setting: machine.Setting) -> dict[str, Pha
     told = json.dumps({"top": layout.HOME, "steps": list(steps())}).encode()
     more = {**interpreter.files(), "steps.json": (0o100644, told),
             f"{interpreter.HOME}/{DRIVER.name}": (0o100644, DRIVER.read_bytes())}
-    lines = machine.run(kernel, PROCESSORS, setting, work(), more, MEMORY)
+    lines = machine.run(kernel, machine.Board(PROCESSORS), setting, work(), more, MEMORY)
     return real_apply.read(lines, len(list(steps())))

@@ -8,6 +8,7 @@ from dataclasses import dataclass, field
 from pathlib import Path
 
 from kernel.faults import KernelFault
+from kernel.machine import Board
 
 MOST_TASKS = 256
 SETTINGS = ("mkdir", "write")
@@ -44,6 +45,7 @@ class Scenario:
     name: str
     about: str = ""
     processors: int = 1
+    sockets: int = 1
     period: int = 100000
     slice: int = 1000
     # Microseconds from the start of a demand period to that of a quota period; None: as it comes.
@@ -58,6 +60,11 @@ class Scenario:
     paths: list[str] = field(default_factory=list)
     leaves: dict[str, Leaf] = field(default_factory=dict)
     steps: list[dict[str, int]] = field(default_factory=list)
+
+    @property
+    def board(self) -> Board:
+        """What its guest is."""
+        return Board(self.processors, self.sockets)
 
     @property
     def is_series(self) -> bool:
@@ -96,6 +103,7 @@ def options_parser() -> argparse.ArgumentParser:
     """The options of a script's lines `#:`."""
     parser = argparse.ArgumentParser(prog="#:", add_help=False, exit_on_error=False)
     parser.add_argument("--processors", type=int, default=1)
+    parser.add_argument("--sockets", type=int, default=1)
     parser.add_argument("--period", type=int, default=100000)
     parser.add_argument("--slice", type=int, default=1000)
     parser.add_argument("--tasks", type=pair, action="append", default=[])
@@ -147,7 +155,8 @@ def parse(name: str, text: str) -> Scenario:
         elif words[0] not in QUESTIONS:
             raise KernelFault(f"{name}: {line!r} has no place in a scenario")
     found.steps = found.steps or [now]
-    for key in ("processors", "period", "slice", "offset", "unjudged", "features", "kernel"):
+    for key in ("processors", "sockets", "period", "slice", "offset", "unjudged", "features",
+                "kernel"):
         setattr(found, key, getattr(options, key))
     for path in now:
         demands = tuple(step.get(path, 0) for step in found.steps)

@@ -25,7 +25,7 @@ def outcomes_of_one_guest(program):
     given = {(name, ""): found[name] for name in GOOD}
     given |= {(name, fault): deliberate.FAULTS[fault](found[name]) for name, fault in BAD.items()}
     work = layout.many([(" ".join(key), each, SPAN) for key, each in given.items()])
-    runs = readings.runs(machine.run(kernel, 1, SETTING, work))
+    runs = readings.runs(machine.run(kernel, machine.Board(), SETTING, work))
     planned.use(program.path)
     return {key: compare.outcome_of(found[key[0]], run, SPAN) for key, run in zip(given, runs)}
 

@@ -6,8 +6,8 @@ from fractions import Fraction
 import pytest
 
 from kernel import __main__ as main
-from kernel import (compare, deliberate, exact, layout, machine, page, planned, readings,
-                    real_apply, scenario, table)
+from kernel import (compare, deliberate, exact, layout, machine, packages, page, planned,
+                    readings, real_apply, scenario, table)
 from kernel.__main__ import SCENARIOS, batches, sources
 from kernel.faults import KernelFault
 from support import ROOT
@@ -176,11 +176,36 @@ def test_spread_tasks_keep_to_one_processor_each():
 
 
 def test_runs_are_announced():
-    """One processor: 2 kernels, 5 repeats, 12 s at half; two: the same at three times."""
+    """2 kernels, 5 repeats, 12 s: one processor at half, two at one, eight at two."""
     options = main.arguments(["x"])
-    found = [of("mkdir a\ndemand a 100\n"), of("#: --processors 2\nmkdir a\ndemand a 100\n")]
-    assert main.announced(found[:1], options) == "10 runs, about 1 minutes of a processor"
-    assert main.announced(found, options) == "20 runs, about 7 minutes of a processor"
+    found = [of(f"#: --processors {number}\nmkdir a\ndemand a 100\n") for number in (1, 2, 8)]
+    for count, start in ((1, "10 runs of 10 s in guests of Linux 6.1 and 6.12: about 1 min of"),
+                         (2, "20 runs of 10 s in guests of Linux 6.1 and 6.12: about 3 min of"),
+                         (3, "30 runs of 10 s in guests of Linux 6.1 and 6.12: about 7 min of")):
+        assert main.announced(found[:count], options).startswith(start)
+
+
+def test_program_is_asked_before_a_guest(monkeypatch, tmp_path):
+    """A program that cannot run ends the command before a kernel is had and a guest is booted."""
+    broken = tmp_path / "arbiter"
+    broken.write_text("#!/bin/sh\nexit 2\n")
+    broken.chmod(0o755)
+    begun = []
+    monkeypatch.setattr(planned, "chosen", [broken])
+    monkeypatch.setattr(packages, "missing", lambda: "")
+    monkeypatch.setattr(packages, "kernel", begun.append)
+    with pytest.raises(KernelFault, match="arbiter run: status 2"):
+        main.work(["one-weights"])
+    assert begun == []
+
+
+def test_board_of_a_scenario():
+    """Eight processors in two sockets: the emulator's words, and boots of that board alone."""
+    eight = of("#: --processors 8 --sockets 2\nmkdir a\ndemand a 800\n")
+    assert eight.board.words == ("-smp", "8,sockets=2")
+    assert (eight.leaves["a"].tasks, eight.leaves["a"].cpus) == (8, 255)
+    flat = of("#: --processors 8\nmkdir a\ndemand a 800\n")
+    assert [len(each) for each in batches([eight, flat], 3, 12)] == [3, 3]
 
 
 def test_features_are_set_and_set_back():
@@ -230,7 +255,7 @@ def test_page_of_counters_and_offsets():
 def test_runs_are_of_scenarios():
     """docs/kernel/runs.txt names each scenario, and none that is not there."""
     text = (ROOT / "docs/kernel/runs.txt").read_text(encoding="utf-8")
-    named = set(re.findall(r"`((?:one|two|four|limit|series)-[a-z-]+)`", text))
+    named = set(re.findall(r"`((?:one|two|four|eight|limit|series)-[a-z-]+)`", text))
     assert sorted(named) == ALL
 
 
