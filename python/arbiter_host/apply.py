@@ -8,7 +8,6 @@ from __future__ import annotations
 
 import json
 import os
-import re
 import secrets
 import shlex
 import subprocess
@@ -25,8 +24,8 @@ from arbiter_host.faults import HostFault, strerror
 from arbiter_host.model import Group, Model, check_settings
 from arbiter_host.names import NOWHERE, raw_path, shown
 from arbiter_host.sources import data
+from arbiter_host.sources.systemd import UNIT
 
-UNIT = re.compile(r"[A-Za-z0-9:_.\\@-]+\.(service|slice|scope)")
 SECONDS = 60
 VERSION = 1
 

@@ -456,3 +456,76 @@ def test_a_class_that_changes_in_a_fleet(ctl, folder):
                                "0", "--json")[0])
     # 52 slices and not 6.
     assert ["kubepods/besteffort/batch:report-x/report", 46] in found["hosts"][0]["gains"]
+
+
+# Units in a tree of cgroups
+
+
+def unit_tree(folder):
+    """Two units on one level, of which one has a group of its own below it."""
+    trees.root2(folder / "t")
+    trees.group2(folder / "t/a.service", maximum="10000 50000", burst=4000)
+    trees.group2(folder / "t/b.service", weight=200)
+    trees.group2(folder / "t/b.service/init.scope")
+    trees.group2(folder / "t/plain")
+    return folder / "t"
+
+
+def of_tree(ctl, folder, *changes):
+    """The groups of the tree with changes, and what is told."""
+    sets = [word for each in changes for word in ("--set", each)]
+    out, err = ctl.run("import", "cgroup", unit_tree(folder), "--interval", "1ms", *sets, "--to",
+                       "json")
+    return json.loads(out)["groups"], err
+
+
+@pytest.mark.parametrize("change_, wanted", [
+    ("a.service.CPUWeight=300", (300, "10000 50000")), ("a.service.CPUWeight=none", (100, None)),
+    # 50% are 25 ms of the unit's own period of 50 ms.
+    ("a.service.CPUQuota=50%", (100, "25000 50000")), ("a.service.CPUQuota=", (100, "max 50000")),
+])
+def test_units_of_a_tree(ctl, folder, change_, wanted):
+    """A weight and a quota as systemd writes them, with the period and the burst that stand."""
+    found, _ = of_tree(ctl, folder, change_)
+    weight, maximum = wanted
+    group = found["a.service"]
+    assert group.get("weight", 100) == weight
+    assert group.get("max", "") == ("10000 50000" if maximum is None else maximum)
+    assert found["b.service"]["weight"] == 200
+
+
+def test_an_idle_unit_of_a_tree(ctl, folder):
+    found, err = of_tree(ctl, folder, "b.service.CPUWeight=idle")
+    assert found["b.service"]["weight"] == 1 and "idle: weight 1 is taken" in err
+
+
+@pytest.mark.parametrize("change_, words", [
+    ("b.service/init.scope.CPUWeight=300", "has no CPUWeight in this source"),
+    ("plain.CPUQuota=50%", "has no CPUQuota in this source"),
+    ("a.service.CPUWeight=0", "not 1 to 10000"), ("a.service.CPUQuota=5", "not a percentage"),
+    ("a.service.CPUQuota=2%", "below the burst 4000"),
+    ("a.service.request=5m", "this source has CPUWeight, CPUQuota"),
+])
+def test_what_units_of_a_tree_have_not(ctl, folder, change_, words):
+    """What is below a service is that service's, and a folder of another name is no unit."""
+    _, err = ctl.run("import", "cgroup", unit_tree(folder), "--interval", "1ms", "--set", change_,
+                     status=2)
+    assert words in err and err.count("\n") == 1
+
+
+def test_units_of_version_1_have_none(ctl, folder):
+    """Their weights are shares, which no property of systemd is."""
+    trees.group1(folder / "t")
+    trees.group1(folder / "t/a.service")
+    _, err = ctl.run("import", "cgroup", folder / "t", "--interval", "1ms", "--set",
+                     "a.service.CPUWeight=5", status=2)
+    assert "which this source has none of" in err
+
+
+def test_the_least_weight_of_a_unit_of_a_tree(ctl, folder):
+    """100 slices: b's slice 41 costs 81/200, and a's slice 60 119/w: 294, without its limit."""
+    words = (unit_tree(folder), "--cpus", "1", "--depth-read", "1", "--scale", "plain=0")
+    (folder / "t/a.service/cpu.max").write_text("max 50000\n")
+    by, _ = needed(ctl, "a.service", "600m", *words)
+    assert (by["CPUWeight"]["now"], by["CPUWeight"]["least"]) == ("100", "294")
+    assert by["CPUQuota"]["now"] == "-"

@@ -6,24 +6,10 @@ from collections.abc import Iterator
 from arbiter_host import apply
 from arbiter_host.exports.base import Asked, Differing, Document, head, of_kubelet
 from arbiter_host.names import shown
-from arbiter_host.sources.containers import slice_folder
+from arbiter_host.sources.systemd import unit_of
 
 FILE = "50-arbiter.conf"
 SECTIONS = {"service": "Service", "slice": "Slice", "scope": "Scope"}
-
-
-def unit_of(folder: str) -> str:
-    """The unit of the system whose group a folder is by its path; empty where it is none.
-
-    What is below a service is that service's, such as the units of a user's manager.
-    """
-    names = folder.split("/")
-    above = "/".join(names[:-1])
-    is_unit = all(apply.UNIT.fullmatch(name) for name in names)
-    if not is_unit or above and not (above.endswith(".slice") and slice_folder(names[-2]) == above):
-        return ""
-    is_slice = names[-1].endswith(".slice")
-    return names[-1] if not is_slice or slice_folder(names[-1]) == folder else ""
 
 
 def settings(group: Differing) -> Iterator[str]:

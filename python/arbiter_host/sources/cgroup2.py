@@ -10,7 +10,7 @@ from arbiter_host.demands import Reading
 from arbiter_host.faults import HostFault, strerror
 from arbiter_host.model import Model
 from arbiter_host.names import shown
-from arbiter_host.sources import cgroup1, cgroups
+from arbiter_host.sources import cgroup1, cgroups, tree_units
 from arbiter_host.sources.cgroups import (Node, Version, Wish, file_text, keyed, number_in,
                                           set_number)
 
@@ -117,5 +117,9 @@ def version_of(folder: str) -> Version:
 
 
 def read(folder: str, host: Host, wish: Wish = Wish()) -> Model:
-    """The model of a tree of either version."""
-    return cgroups.read(version_of(folder), folder, host, wish)
+    """The model of a tree of either version. Units have settings in version 2."""
+    version = version_of(folder)
+    model = cgroups.read(version, folder, host, wish)
+    if version.mark == Files.mark:
+        model.owned = tree_units.Source(model.copy())
+    return model

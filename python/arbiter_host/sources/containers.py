@@ -39,20 +39,11 @@ def is_podman(container: dict[str, Any]) -> bool:
     return any(key in container for key in ("OCIRuntime", "ConmonPidFile", "IsInfra"))
 
 
-def slice_folder(name: str) -> str:
-    """The folder of a slice: `a-b.slice` stands in `a.slice`."""
-    stem, parts = name.removesuffix(".slice"), []
-    pieces = stem.split("-")
-    for count in range(1, len(pieces) + 1):
-        parts.append("-".join(pieces[:count]) + ".slice")
-    return "/".join(parts)
-
-
 def parent_of(container: dict[str, Any], wish: Wish) -> str:
     """The folder in which a container's group stands."""
     given = text(table(container, "HostConfig"), "CgroupParent").strip("/")
     if given.endswith(".slice") and "/" not in given and wish.driver == "systemd":
-        return slice_folder(given)
+        return systemd.slice_folder(given)
     if given:
         return given
     if is_podman(container):

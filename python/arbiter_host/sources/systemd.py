@@ -24,6 +24,31 @@ SECOND = 10**6
 QUOTA = re.compile(r"([0-9]{1,9})(?:\.([0-9]{1,2}))?%")
 # Greatest quota that systemd can write, in hundredths of a percent.
 MOST_QUOTA = 10**9
+UNIT = re.compile(r"[A-Za-z0-9:_.\\@-]+\.(service|slice|scope)")
+
+
+def slice_folder(name: str) -> str:
+    """The folder of a slice: `a-b.slice` stands in `a.slice`."""
+    stem, parts = name.removesuffix(".slice"), []
+    pieces = stem.split("-")
+    for count in range(1, len(pieces) + 1):
+        parts.append("-".join(pieces[:count]) + ".slice")
+    return "/".join(parts)
+
+
+def unit_of(folder: str) -> str:
+    """The unit of the system whose group a folder is by its path; empty where it is none.
+
+    What is below a service is that service's, such as the units of a user's manager.
+    """
+    names_ = folder.split("/")
+    above = "/".join(names_[:-1])
+    is_unit = all(UNIT.fullmatch(name) for name in names_)
+    if not is_unit or above and not (above.endswith(".slice")
+                                     and slice_folder(names_[-2]) == above):
+        return ""
+    is_slice = names_[-1].endswith(".slice")
+    return names_[-1] if not is_slice or slice_folder(names_[-1]) == folder else ""
 
 
 def blocks(data: bytes) -> Iterator[dict[str, str]]:
@@ -213,15 +238,19 @@ class Source:
 
     def ranges(self, path: str) -> list[Range]:
         """The weights and the quotas that can be asked for of a unit."""
-        unit, group = self.found[path], self.built.groups[path]
-        most = 10000 * self.host.processors
-        quota = "-" if group.quota is None else percent(
-            Fraction(10000 * group.quota, group.period))
-        weight = "-" if unit.get("CPUWeight", "") in NOT_SET else str(unit["CPUWeight"])
-        return [Range("CPUWeight", shown(weight[:20]), [(units.MIN_WEIGHT, units.MAX_WEIGHT)], str,
-                      f"{units.MAX_WEIGHT} is the greatest"),
-                Range("CPUQuota", quota, [(1, most)], lambda each: percent(Fraction(each)),
-                      f"{percent(Fraction(most))} are all CPUs")]
+        word = self.found[path].get("CPUWeight", "")
+        weight = "-" if word in NOT_SET else shown(word[:20])
+        return ranges_of(weight, self.built.groups[path], self.host)
+
+
+def ranges_of(weight: str, group: Group, host: Host) -> list[Range]:
+    """The weights and the quotas that can be asked for of a unit's group, and its weight now."""
+    most = 10000 * host.processors
+    quota = "-" if group.quota is None else percent(Fraction(10000 * group.quota, group.period))
+    return [Range("CPUWeight", weight, [(units.MIN_WEIGHT, units.MAX_WEIGHT)], str,
+                  f"{units.MAX_WEIGHT} is the greatest"),
+            Range("CPUQuota", quota, [(1, most)], lambda each: percent(Fraction(each)),
+                  f"{percent(Fraction(most))} are all CPUs")]
 
 
 def percent(hundredths: Fraction) -> str:
