@@ -3,7 +3,8 @@ use Rattle.std.specs.Prelude.{ℕ}
 use Rattle.bw_model.specs.Faults.{host_fault_number, instance_fault_number}
 use Rattle.bw_columns.specs.declared.refusal.Refusal.{Refusal}
 use Rattle.bw_columns.specs.declared.refusal.Refusal.TheVariants.{WrongLength, Host, Instance}
-use Rattle.bw_columns.specs.declared.refusal.Refusal.TheVariants.{NotFound}
+use Rattle.bw_columns.specs.declared.refusal.Refusal.TheVariants.{NotFound, RootFixed}
+use Rattle.bw_columns.specs.declared.refusal.Refusal.TheVariants.{GoalAbove}
 
 -- the number of a refusal
 abbrev pub number_of_refusal : Refusal → ℕ
@@ -11,3 +12,5 @@ number_of_refusal WrongLength = 50
 number_of_refusal (Host fault) = host_fault_number fault
 number_of_refusal (Instance fault) = instance_fault_number fault
 number_of_refusal NotFound = 20
+number_of_refusal RootFixed = 26
+number_of_refusal GoalAbove = 29

@@ -16,6 +16,10 @@ pub enum Refusal {
     Instance(InstanceFault),
     /// 20: the group is no row.
     NotFound,
+    /// 26: a goal is of the root.
+    RootFixed,
+    /// 29: a goal's group is another goal's group, or above it.
+    GoalAbove,
 }
 
 impl Refusal {
@@ -29,6 +33,8 @@ impl Refusal {
             Refusal::Host(fault) => u32::from(fault.number()),
             Refusal::Instance(fault) => u32::from(fault.number()),
             Refusal::NotFound => 20,
+            Refusal::RootFixed => 26,
+            Refusal::GoalAbove => 29,
         }
     }
 }
