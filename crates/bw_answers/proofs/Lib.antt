@@ -3,3 +3,4 @@ pub mod CallerLemmas
 mod Questions
 mod Blamed
 mod RefusedRow
+mod TunedAnswers

@@ -47,6 +47,8 @@ refusal_positive (of_refusal.Instance DemandTooLarge) = omega arith
 refusal_positive (of_refusal.Instance RootLimited) = omega arith
 refusal_positive (of_refusal.Instance OutOfMemory) = omega arith
 refusal_positive of_refusal.NotFound = omega arith
+refusal_positive of_refusal.RootFixed = omega arith
+refusal_positive of_refusal.GoalAbove = omega arith
 
 -- what refuses host and rows refuses a question, too
 carried : (number next answer : ℕ) → 0 < answer → IsAfterMemory next → Answers number answer

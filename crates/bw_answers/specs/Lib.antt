@@ -7,3 +7,4 @@ pub mod Limited
 pub mod Questions
 pub mod Reasoned
 pub mod RefusedRow
+pub mod Tuned

@@ -12,7 +12,7 @@ use Rattle.bw_model.specs.declared.instance_fault.InstanceFault.TheVariants.{Dem
 use Rattle.bw_model.specs.declared.instance_fault.InstanceFault.TheVariants.{RootLimited}
 use Rattle.bw_model.specs.declared.instance_fault.InstanceFault.TheVariants.{OutOfMemory}
 use Rattle.bw_model.specs.Groups.{row_of, parent_of, weight_of, demand_of, depth_of}
-use Rattle.bw_model.specs.Refusal.{is_earlier, demand_above, refusal}
+use Rattle.bw_model.specs.Refusal.{is_earlier, demand_above}
 
 -- whether a row is one for which a fault refuses the rows
 abbrev pub has_fault : List Row → InstanceFault → ℕ → Bool
