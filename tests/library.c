@@ -37,6 +37,10 @@ int main(void)
     uint64_t wants[7], mosts[7], active_weights[7], withheld[7];
     uint8_t tights[7];
     uint32_t actives[7];
+    const uint32_t goal_groups[2] = {1, 2};
+    const uint64_t goal_amounts[2] = {14, 6}, too_much[2] = {14, 7};
+    uint8_t together[2] = {7, 7};
+    uint64_t unmet = 9;
     const uint64_t used[3] = {0, 4, 10};
     const uint8_t hungry[3] = {0, 0, 1};
     uint64_t caps[3] = {0, 0, 0}, asks[3];
@@ -151,5 +155,24 @@ int main(void)
         return 45;
     if (bursts[1] != 25000 || carries[1] != 6 || capped[1] != 15 || capped[2] != ARBITER_NO_LIMIT || quotas[2] != ARBITER_NO_LIMIT)
         return 46;
+    /* The fourteenth slice of the first costs 27 / 208, the seventh of the second 13 / 100: less with 208, and more with 207. */
+    if (arbiter_tune(1, 100000, 5000, parents, 3, alike, 3, limits, 3, demands, 3, goal_groups, 2, goal_amounts, 1, 0, heavy, 3, together, 2, &unmet) != 50)
+        return 47;
+    if (arbiter_tune(1, 100000, 5000, parents, 3, alike, 3, limits, 3, demands, 3, parents, 2, goal_amounts, 2, 0, heavy, 3, together, 2, &unmet) != 20)
+        return 48;
+    if (arbiter_tune(1, 100000, 5000, parents, 3, alike, 3, limits, 3, demands, 3, parents + 1, 2, goal_amounts, 2, 0, heavy, 3, together, 2, &unmet) != 26)
+        return 49;
+    if (heavy[1] != 100 || together[0] != 7 || together[1] != 7 || unmet != 9)
+        return 50;
+    if (arbiter_tune(1, 100000, 5000, parents, 3, alike, 3, limits, 3, demands, 3, goal_groups, 2, goal_amounts, 2, 0, heavy, 3, together, 2, &unmet) != 0)
+        return 51;
+    if (heavy[0] != 100 || heavy[1] != 208 || heavy[2] != 100 || together[0] != 0 || together[1] != 0 || unmet != ARBITER_NO_GOAL)
+        return 52;
+    if (arbiter_tune(1, 100000, 5000, parents, 3, alike, 3, limits, 3, demands, 3, goal_groups, 2, too_much, 2, 1, heavy, 3, together, 2, &unmet) != 0)
+        return 53;
+    if (heavy[0] != 100 || heavy[1] != 100 || heavy[2] != 100 || together[0] != 1 || together[1] != 1 || unmet != 1)
+        return 54;
+    if (arbiter_name(29, name, sizeof name) != 9 || !is_same(name, "GoalAbove"))
+        return 55;
     return 0;
 }

@@ -40,6 +40,13 @@ static const uint8_t hungry[5] = {0, 0, 1, 0, 1};
 static uint64_t amounts[5], nums[5], dens[5], caps[5], asks[5], rest;
 static uint64_t wants[5], mosts[5], active_weights[5], withheld[5];
 static uint8_t flags[5], reasons[5], tights[5];
+/* The two goals are met by weights that are lower. */
+static const uint64_t greatest[5] = {100, 10000, 100, 300, 10000};
+static const uint32_t goal_groups[2] = {1, 4};
+static const uint64_t goal_amounts[2] = {6, 14};
+static const uint64_t asks_too_much[2] = {7, 14};
+static uint64_t tuned[5], unmet;
+static uint8_t together[2];
 static uint32_t places[5], groups[5], blamed[5], actives[5], count, row;
 /* Each command of a script, a name that takes memory, a period with a carry, and refused lines. */
 static const char script[] = "mkdir pod\nmkdir pod/a-name-of-more-than-24-bytes\nmkdir pod/y\nwrite pod cpu.max 50000\n"
@@ -50,7 +57,7 @@ static uint8_t names[64];
 
 #define ROWS 1, 100000, 5000, parents, 5, weights, 5, limits, 5, demands, 5
 /* The calls before the check. */
-#define CALLS 12
+#define CALLS 14
 
 static void mark(void)
 {
@@ -63,6 +70,9 @@ static void mark(void)
             columns[column][g] = 7;
         lines[g] = names[g] = 7;
     }
+    for (int g = 0; g < 5; g++)
+        tuned[g] = 7;
+    together[0] = together[1] = unmet = 7;
     rest = count = row = 7;
     names_count = refused_count = 7;
 }
@@ -79,6 +89,11 @@ static int is_marked(void)
         for (int column = 0; column < 7; column++)
             if (columns[column][g] != 7)
                 return 0;
+    for (int g = 0; g < 5; g++)
+        if (tuned[g] != 7)
+            return 0;
+    if (together[0] != 7 || together[1] != 7 || unmet != 7)
+        return 0;
     return rest == 7 && count == 7 && row == 7 && names_count == 7 && refused_count == 7;
 }
 
@@ -99,6 +114,9 @@ static uint32_t call(int which)
     case 11: return arbiter_script(1, 100000, 5000, (const uint8_t *)script, sizeof script - 1, above, 5, columns[0], 5,
                                   columns[1], 5, columns[2], 5, columns[3], 5, columns[4], 5, columns[5], 5, columns[6], 5,
                                   names, sizeof names, lines, 5, faults, 5, &count, &names_count, &refused_count);
+    case 12: return arbiter_tune(1, 100000, 5000, parents, 5, greatest, 5, limits, 5, demands, 5, goal_groups, 2,
+                                goal_amounts, 2, 0, tuned, 5, together, 2, &unmet);
+    case 13: return arbiter_tune(ROWS, goal_groups, 2, asks_too_much, 2, 1, tuned, 5, together, 2, &unmet);
     default: return arbiter_check(ROWS, amounts, 5, flags, 5, nums, 5, dens, 5, places, 5, &row);
     }
 }

@@ -24,4 +24,5 @@ mod script_call;
 mod shares_call;
 mod slices_call;
 mod told;
+mod tune_call;
 mod version_call;

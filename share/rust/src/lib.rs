@@ -358,6 +358,62 @@ pub fn hold(host: Host, rows: &[Row], hungry: &[bool]) -> Result<Round, Fault> {
     })
 }
 
+/// A group, by its row, and the slices of one period that it is to get at least.
+#[derive(Clone, Copy, Debug, PartialEq, Eq)]
+pub struct Goal {
+    /// The row of the group.
+    pub group: u32,
+    /// The slices of one period.
+    pub amount: u64,
+}
+
+/// The answer to several goals.
+#[derive(Clone, Debug, PartialEq, Eq)]
+pub enum Tuning {
+    /// The weight of each row under which all goals are met.
+    Met(Vec<u64>),
+    /// Goals that no weights of 1 to 10000 of the goals' groups meet at once.
+    Unmet {
+        /// The place of one of them.
+        goal: usize,
+        /// The places of all of them, in their order.
+        together: Vec<usize>,
+    },
+}
+
+/// The weights under which each goal is met at once: by the plan or, where `guaranteed`, as [`guarantee`] has it.
+///
+/// Only the weights of the goals' groups change, within 1 to 10000. They are the least that are no less than those of the rows,
+/// or else the least of all.
+///
+/// # Errors
+/// As of [`plan`], then 20 where a goal's group is no row, 26 where it is the root, and 29 where it is another goal's group, or
+/// above it.
+pub fn tune(host: Host, rows: &[Row], goals: &[Goal], guaranteed: bool) -> Result<Tuning, Fault> {
+    let groups: Vec<u32> = goals.iter().map(|goal| goal.group).collect();
+    let amounts: Vec<u64> = goals.iter().map(|goal| goal.amount).collect();
+    let (columns, mut tuned) = (Columns::of(rows), vec![0; rows.len()]);
+    let (mut together, mut unmet) = (vec![0; goals.len()], raw::NO_GOAL);
+    let number = columns.tune(
+        host,
+        &groups,
+        &amounts,
+        guaranteed,
+        &mut tuned,
+        &mut together,
+        &mut unmet,
+    );
+    of_rows(number, &columns)?;
+    if unmet == raw::NO_GOAL {
+        return Ok(Tuning::Met(tuned));
+    }
+    let marked = |place: &usize| together[*place] != 0;
+    Ok(Tuning::Unmet {
+        goal: unmet as usize,
+        together: (0..goals.len()).filter(marked).collect(),
+    })
+}
+
 /// The slices of one period that a group gets whatever the groups not under it ask for.
 ///
 /// They give it no less, and for some demands of theirs no more. `group` is its row.
@@ -671,6 +727,32 @@ mod tests {
             assert_eq!(least_processors(host, &rows, 1, 14), Ok(Some(2)));
             assert_eq!(least_processors(host, &rows, 1, 21), Ok(None));
         }
+    }
+
+    #[test]
+    fn tunes() {
+        let (host, rows) = (Host::default(), equal());
+        let goal = |group, amount| Goal { group, amount };
+        let both = |one, other| [goal(1, one), goal(2, other)];
+        let met = Ok(Tuning::Met(vec![100, 208, 100]));
+        assert_eq!(tune(host, &rows, &both(14, 6), false), met);
+        assert_eq!(tune(host, &rows, &both(14, 6), true), met);
+        let same = Ok(Tuning::Met(vec![100; 3]));
+        assert_eq!(tune(host, &rows, &[], true), same);
+        let unmet = Ok(Tuning::Unmet {
+            goal: 1,
+            together: vec![0, 1],
+        });
+        assert_eq!(tune(host, &rows, &both(14, 7), false), unmet);
+        for (goals, number) in [
+            ([goal(0, 1), goal(3, 1)], 20),
+            ([goal(1, 1), goal(0, 1)], 26),
+            ([goal(1, 1), goal(1, 2)], 29),
+        ] {
+            let refused = Err(fault(number, None));
+            assert_eq!(tune(host, &rows, &goals, false), refused);
+        }
+        assert_eq!(fault(29, None).name(), "GoalAbove");
     }
 
     #[test]

@@ -4,6 +4,7 @@ use crate::{Certificate, Fault, Group, Host, Level, Reason, RefusedLine, Row, Sc
 
 const NO_PARENT: u32 = u32::MAX;
 pub(crate) const NO_LIMIT: u64 = u64::MAX;
+pub(crate) const NO_GOAL: u64 = u64::MAX;
 pub(crate) const NAME_ROOM: usize = 17;
 const MOST_GROUPS: usize = 16_384;
 
@@ -76,6 +77,12 @@ extern "C" {
                                 limits: *const u64, limits_length: usize,
                                 demands: *const u64, demands_length: usize,
                                 group: u32, amount: u64, least: *mut u64) -> u32;
+    fn arbiter_tune(processors: u64, period_us: u64, slice_us: u64,
+                    parents: *const u32, parents_length: usize, weights: *const u64, weights_length: usize,
+                    limits: *const u64, limits_length: usize, demands: *const u64, demands_length: usize,
+                    goal_groups: *const u32, goal_groups_length: usize, goal_amounts: *const u64, goal_amounts_length: usize,
+                    guaranteed: u32, tuned: *mut u64, tuned_length: usize, together: *mut u8, together_length: usize,
+                    unmet: *mut u64) -> u32;
     fn arbiter_hold(processors: u64, period_us: u64, slice_us: u64,
                     parents: *const u32, parents_length: usize, weights: *const u64, weights_length: usize,
                     limits: *const u64, limits_length: usize, used: *const u64, used_length: usize,
@@ -228,6 +235,19 @@ impl Columns {
                             self.demands.as_ptr(), self.demands.len(),
                             reasons.as_mut_ptr(), reasons.len(),
                             blamed.as_mut_ptr(), blamed.len())
+        }
+    }
+
+    #[rustfmt::skip]
+    pub(crate) fn tune(&self, host: Host, groups: &[u32], amounts: &[u64], guaranteed: bool,
+                       tuned: &mut [u64], together: &mut [u8], unmet: &mut u64) -> u32 {
+        // SAFETY: as above
+        unsafe {
+            arbiter_tune(host.processors, host.period_us, host.slice_us,
+                         self.parents.as_ptr(), self.parents.len(), self.weights.as_ptr(), self.weights.len(),
+                         self.limits.as_ptr(), self.limits.len(), self.demands.as_ptr(), self.demands.len(),
+                         groups.as_ptr(), groups.len(), amounts.as_ptr(), amounts.len(), u32::from(guaranteed),
+                         tuned.as_mut_ptr(), tuned.len(), together.as_mut_ptr(), together.len(), unmet)
         }
     }
 
