@@ -5,12 +5,14 @@ The reader of a source is imported when one is read.
 from __future__ import annotations
 
 import argparse
+import codecs
 import functools
 import os
 import re
 import stat
 import sys
 from collections.abc import Mapping, Sequence
+from contextlib import suppress
 from dataclasses import dataclass, replace
 from fractions import Fraction
 from typing import TYPE_CHECKING, BinaryIO, Protocol
@@ -31,6 +33,10 @@ KINDS = ("script", "toml", "yaml", "json", "cgroup", "kubernetes", "systemd", "d
 MAX_FILE = 512 << 20
 TOO_LONG = f"more than {MAX_FILE >> 20} MiB"
 PIECE = 1 << 20
+# The first bytes of packed files, and what unpacks these.
+PACKED = {b"\x1f\x8b": "gzip", b"\xfd7zXZ\0": "xz", b"(\xb5/\xfd": "zstd"}
+# Bytes of UTF-16 that are taken, which PowerShell writes.
+MAX_WIDE = 128 << 20
 MAX_SECONDS = 86400
 # A name and its bytes; None stands for a folder.
 File = tuple[str, bytes | None]
@@ -166,6 +172,18 @@ def opened_bytes(path: str, is_plain: bool) -> bytes:
         return bounded(file)
 
 
+def in_utf8(path: str, data: bytes) -> bytes:
+    """The bytes of a file; of UTF-16 with its mark those of the same text. A fault if packed."""
+    for mark, command in PACKED.items():
+        if data.startswith(mark):
+            raise HostFault(f"{names.shown(path)}: packed by {command}: unpack it first, as by"
+                            f" `{command} -dc FILE | arbiterctl .. -`")
+    if data[:2] in (codecs.BOM_UTF16_LE, codecs.BOM_UTF16_BE) and len(data) <= MAX_WIDE:
+        with suppress(UnicodeDecodeError):
+            return data.decode("utf-16").encode()
+    return data
+
+
 def file_bytes(path: str, is_plain: bool = False) -> bytes:
     """The bytes of a file; `-` is standard input, unless the file has to be plain."""
     try:
@@ -179,7 +197,7 @@ def file_bytes(path: str, is_plain: bool = False) -> bytes:
         raise HostFault(f"{names.shown(path)}: no path") from error
     if len(data) > MAX_FILE:
         raise HostFault(f"{names.shown(path)}: {TOO_LONG}")
-    return data
+    return in_utf8(path, data)
 
 
 def slurm_part(data: bytes) -> str:

@@ -1,6 +1,8 @@
 """Readers and writers: what each takes from its format, and that what is written is read back."""
+import gzip
 import json
 import os
+import re
 import threading
 from fractions import Fraction
 from pathlib import Path
@@ -8,7 +10,7 @@ from pathlib import Path
 import pytest
 import trees
 from arbiter import Host
-from arbiter_host import demands, units
+from arbiter_host import demands, load, units
 from arbiter_host.faults import HostFault
 from arbiter_host.model import Group, Model
 from arbiter_host.plan import plan
@@ -262,6 +264,19 @@ def test_host_file_names_the_line(text, words):
     assert words in fault.value.message
 
 
+@pytest.mark.parametrize("text, kind, words", [
+    ("groups: {}\n---\ngroups: {}\n", "yaml",
+     "h:2: expected a single document in the stream, but found another document"),
+    ("apiVersion: v1\nkind: Pod\n", "yaml", "h:1: an object of Kubernetes, of which pods and nodes"
+     " are read as JSON: kubectl get pods -o json"),
+    ('{"kind": "PodMetricsList",\n "apiVersion": "metrics.k8s.io/v1beta1"}', "json",
+     "h:1: an object of Kubernetes, of which pods"),
+])
+def test_what_is_no_host_file_is_named(text, kind, words):
+    with pytest.raises(HostFault, match="^" + re.escape(words)):
+        hostfile.read(text.encode(), "h", kind)
+
+
 def test_host_file_in_yaml_names_the_line():
     with pytest.raises(HostFault, match="h:3: "):
         hostfile.read(b"host:\n  cpus: 2\n bad\n", "h", "yaml")
@@ -446,6 +461,32 @@ def test_cgroup1_great_shares(folder):
     model = cgroup2.read(str(folder), EIGHT, cgroups.Wish(Fraction(1, 1000)))
     assert [each.weight for each in model.groups.values()] == [10000, 5000]
     assert any("kept as 5000" in note for note in model.notes)
+
+
+# files
+
+def test_packed_files_are_named(folder):
+    """One line says what unpacks them."""
+    (folder / "pods.json.gz").write_bytes(gzip.compress(b"{}"))
+    with pytest.raises(HostFault, match="pods.json.gz: packed by gzip: unpack it first, as by"):
+        load.file_bytes(str(folder / "pods.json.gz"))
+
+
+@pytest.mark.parametrize("form", ["utf-16-le", "utf-16-be", "utf-8"])
+def test_files_of_powershell(ctl, folder, form):
+    """`kubectl .. > FILE` writes UTF-16 with a mark and Windows line ends there."""
+    for name in ("pods.json", "node.json"):
+        text = "\ufeff" + fixture(name)[1].decode().replace("\n", "\r\n")
+        (folder / name).write_bytes(text.encode(form))
+    words = ("import", "any", "--to", "json")
+    assert (ctl.run(*words, folder / "pods.json", folder / "node.json")[0]
+            == ctl.run(*words, FIXTURES / "pods.json", FIXTURES / "node.json")[0])
+
+
+def test_wide_text_that_is_none_is_left(folder):
+    """Bytes with the mark that are no UTF-16 are read as they are, and refused."""
+    (folder / "h.toml").write_bytes(b"\xff\xfe\x00\xd8")
+    assert load.file_bytes(str(folder / "h.toml")) == b"\xff\xfe\x00\xd8"
 
 
 # Kubernetes

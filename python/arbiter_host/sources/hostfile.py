@@ -113,7 +113,10 @@ def parsed_yaml(text: str, name: str) -> tuple[Places, Any]:
     except yaml.YAMLError as error:
         mark = getattr(error, "problem_mark", None)
         line = mark.line + 1 if mark else 1
-        problem = getattr(error, "problem", None) or "no YAML"
+        words = [getattr(error, "problem", None) or "no YAML"]
+        if isinstance(error, yaml.composer.ComposerError):
+            words = [each for each in (error.context, *words) if each]
+        problem = ", ".join(words)
         raise HostFault(f"{name}:{line}: {names.shown(str(problem))}") from error
 
 
@@ -294,6 +297,9 @@ def read(data: bytes, name: str, kind: str, host: Host | None = None) -> Model:
     for key in entry:
         if key not in ("host", "groups"):
             line = places.line(str(key), table="")
+            if "apiVersion" in entry:
+                raise HostFault(f"{name}:{line}: an object of Kubernetes, of which pods and nodes"
+                                " are read as JSON: kubectl get pods -o json")
             raise HostFault(f"{name}:{line}: no table {text_of(key)}: host, groups")
     model = Model(host or read_host(places, entry.get("host", {})), names_host="host" in entry)
     checked(model.host)
