@@ -573,6 +573,79 @@ def test_quality_without_a_status():
     assert [kubernetes.pod_of(each, []).quality for each in found["items"]] == wanted
 
 
+def resources(request=None, limit=None, memory=None):
+    """Requests and limits, as a pod's JSON has them."""
+    found = {"requests": {"cpu": request} if request else {},
+             "limits": {"cpu": limit} if limit else {}}
+    for each in found.values() if memory else ():
+        each["memory"] = memory
+    return {"resources": found}
+
+
+def test_limits_of_a_pod_itself(engine):
+    """A container without a limit has that of its pod: 2000m are 2048 shares, weight 79. One with
+    a request of 250m and without a limit has 256 shares, weight 10. The pod of 1000m has 39."""
+    found = {"metadata": {"name": "p"}, "spec": {**resources("1", "2"), "containers": [
+        {"name": "a"}, {"name": "b", **resources("250m")},
+        {"name": "c", **resources("250m", "500m")}]}}
+    model = kubernetes.read([("p", json.dumps({"items": [found]}).encode())], EIGHT, engine.library)
+    path = "kubepods/burstable/default:p"
+    assert {name: of(model.groups[f"{path}{name}"]) for name in ("", "/a", "/b", "/c")} == {
+        "": (39, 200000, 100000), "/a": (79, 200000, 100000), "/b": (10, 200000, 100000),
+        "/c": (10, 50000, 100000)}
+    assert [model.groups[f"{path}/{name}"].demand for name in "abc"] == [0, 250, 250]
+
+
+@pytest.mark.parametrize("own, container, wanted", [
+    (resources("1", "1", "1Gi"), {}, "Guaranteed"), (resources("1", "2", "1Gi"), {}, "Burstable"),
+    (resources("1", "1"), {}, "Burstable"), (resources(), {}, "BestEffort"),
+    # What the pod itself has stands for what its containers have.
+    (resources("1", "2"), resources("1", "1", "1Gi"), "Burstable"),
+    (resources("1", "1", "1Gi"), resources("250m"), "Guaranteed"),
+    ({"resources": {"limits": {"memory": "1Gi"}}}, resources("1", "1", "1Gi"), "Burstable"),
+    (resources(), resources("1", "1", "1Gi"), "Guaranteed"),
+])
+def test_quality_of_pods_with_amounts_of_their_own(own, container, wanted):
+    found = {"metadata": {"name": "p"}, "spec": {**own, "containers": [{"name": "c", **container}]}}
+    assert kubernetes.pod_of(found, []).quality == wanted
+
+
+@pytest.mark.parametrize("policy, state, is_there", [
+    ("Never", {"terminated": {"exitCode": 1}}, False), ("Never", {"running": {}}, True),
+    ("OnFailure", {"terminated": {"exitCode": 0}}, False),
+    ("OnFailure", {"terminated": {"exitCode": 1}}, True),
+    ("Always", {"terminated": {"exitCode": 0}}, True),
+    ("Always", {"waiting": {"reason": "CrashLoopBackOff"}}, True), ("Never", {}, True),
+])
+def test_containers_that_have_ended(engine, policy, state, is_there):
+    """The work of a job is done, and its proxy goes on: the pod requests both, 500m, weight 20."""
+    found = {"metadata": {"name": "p"}, "spec": {"restartPolicy": policy, "containers": [
+        {"name": "work", **resources("400m")}, {"name": "proxy", **resources("100m")}]},
+        "status": {"phase": "Running", "containerStatuses": [{"name": "work", "state": state}]}}
+    model = kubernetes.read([("p", json.dumps({"items": [found]}).encode())], EIGHT, engine.library)
+    path = "kubepods/burstable/default:p"
+    assert (f"{path}/work" in model.groups) == is_there and f"{path}/proxy" in model.groups
+    assert model.groups[path].weight == 20
+
+
+def test_pods_that_wait_for_a_node(engine):
+    """They are of no node where others are; alone they are looked at on the node that is given."""
+    def pod(name, node="", phase="Pending"):
+        return {"metadata": {"name": name}, "status": {"phase": phase},
+                "spec": {"nodeName": node, "containers": [{"name": "c", **resources("1")}]}}
+
+    def read(*items):
+        data = json.dumps({"items": items}).encode()
+        return kubernetes.read([("p", data), fixture("node.json")], None, engine.library)
+
+    found = read(pod("here", "n1"), pod("waits"), pod("draft", phase=""))
+    assert [each.title for each in found.groups.values() if each.title.count("/") == 1] == [
+        "default/here", "default/draft"]
+    assert "pods that no node has yet, left out: 1" in found.notes
+    # 1024 shares for one pod.
+    assert read(pod("waits")).groups["kubepods/burstable"].weight == 39
+
+
 def test_static_pods_stand_by_the_identifier_of_kubelet(engine):
     """A mirror has a uid of its own; the group has that of the annotation, without dashes."""
     found = {"metadata": {"name": "etcd-n1", "namespace": "kube-system", "uid": "0a-1b",
@@ -620,6 +693,12 @@ def test_pods_of_several_nodes(engine):
     data = json.dumps(found).encode()
     with pytest.raises(HostFault, match="2 nodes .n1, n2.: choose one by --node"):
         kubernetes.read([("p", data)], EIGHT, engine.library)
+    nodes = [{"kind": "Node", "metadata": {"name": f"n{number}"}} for number in range(7)]
+    with pytest.raises(HostFault, match="^7 nodes .n0, n1, n2, n3, n4, ...: choose one by --node"):
+        kubernetes.read([("n", json.dumps(nodes).encode())], EIGHT, engine.library)
+    with pytest.raises(HostFault, match="^no node n9 among 2 .n0, n1.: choose one by --node"):
+        kubernetes.read([("n", json.dumps(nodes[:2]).encode())], EIGHT, engine.library,
+                        kubernetes.Wish(node="n9"))
     model = kubernetes.read([("p", data)], EIGHT, engine.library, kubernetes.Wish(node="n2"))
     assert sum("/pause" in each.title for each in model.groups.values()) == 1
 

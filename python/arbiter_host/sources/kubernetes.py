@@ -9,7 +9,7 @@ from __future__ import annotations
 import bisect
 import functools
 import math
-from collections.abc import Mapping, Sequence
+from collections.abc import Iterable, Mapping, Sequence
 from dataclasses import dataclass, field, replace
 from fractions import Fraction
 from typing import Any
@@ -68,15 +68,38 @@ def has_ended(item: dict[str, Any]) -> bool:
     return text(table(item, "status"), "phase") in ENDED
 
 
+def is_waiting(item: dict[str, Any]) -> bool:
+    """Whether a pod waits for a node. One that a file of its own describes does not."""
+    return (text(table(item, "status"), "phase") == "Pending"
+            and not text(table(item, "spec"), "nodeName"))
+
+
+def without_waiting(items: Sequence[dict[str, Any]], notes: list[str]) -> list[dict[str, Any]]:
+    """The pods of some objects. Beside pods of nodes those that wait for one are left out."""
+    pods = [each for each in items if is_pod(each)]
+    placed = [each for each in pods if not is_waiting(each)]
+    if len(placed) == len(pods) or not any(text(table(each, "spec"), "nodeName") for each in pods):
+        return pods
+    notes.append(f"pods that no node has yet, left out: {len(pods) - len(placed)}")
+    return placed
+
+
+def several(what: str, nodes: Iterable[str]) -> HostFault:
+    """A fault where one node is meant, with the names of some."""
+    found = sorted(nodes)
+    rest = ", .." if len(found) > 5 else ""
+    return HostFault(f"{what} ({', '.join(map(shown, found[:5]))}{rest}): choose one by --node, or"
+                     " ask all by `fleet`")
+
+
 def pods_on(items: Sequence[dict[str, Any]], node: str, notes: list[str]) -> list[Pod]:
     """The pods of one node that have not ended; a fault where several nodes are meant."""
-    pods = [each for each in items if is_pod(each)]
+    pods = without_waiting(items, notes)
     if node:
         pods = [each for each in pods if text(table(each, "spec"), "nodeName") in ("", node)]
     nodes = {text(table(each, "spec"), "nodeName") for each in pods} - {""}
     if len(nodes) > 1:
-        some = ", ".join(shown(each) for each in sorted(nodes)[:5])
-        raise HostFault(f"the pods are of {len(nodes)} nodes ({some}): choose one by --node")
+        raise several(f"the pods are of {len(nodes)} nodes", nodes)
     lasting = [each for each in pods if not has_ended(each)]
     if len(lasting) < len(pods):
         notes.append(f"pods that have ended, left out: {len(pods) - len(lasting)}")
@@ -88,10 +111,13 @@ def pods_on(items: Sequence[dict[str, Any]], node: str, notes: list[str]) -> lis
 def node_of(items: Sequence[dict[str, Any]], wish: Wish) -> dict[str, Any] | None:
     """The node of that name, or the only one."""
     nodes = [each for each in items if each.get("kind") == "Node"]
+    known = [text(table(each, "metadata"), "name") for each in nodes]
+    if nodes and wish.node and wish.node not in known:
+        raise several(f"no node {shown(wish.node)} among {len(nodes)}", known)
     if wish.node:
-        nodes = [each for each in nodes if text(table(each, "metadata"), "name") == wish.node]
+        nodes = [each for each, name in zip(nodes, known) if name == wish.node]
     if len(nodes) > 1:
-        raise HostFault(f"{len(nodes)} nodes: choose one by --node")
+        raise several(f"{len(nodes)} nodes", known)
     return nodes[0] if nodes else None
 
 
@@ -160,7 +186,7 @@ class Builder:
 
     def container(self, pod: Pod, parent: str, folder: str, container: Container) -> str:
         """Makes a container, and returns its path."""
-        path, amounts = self.name(parent, container.name), container.amounts
+        path, amounts = self.name(parent, container.name), pod.given(container)
         group = Group(path, self.weight(amounts.request or 0, self.wish.runtime),
                       title=f"{pod.title}/{container.name}",
                       place=scope_of(folder, container, self.wish.driver))

@@ -45,11 +45,13 @@ class Container:
     is_init: bool = False
     is_sidecar: bool = False
     is_running: bool = False
+    # It has ended, and is not begun again.
+    has_ended: bool = False
 
     @property
     def has_group(self) -> bool:
         """Whether it has a group: an init container that does not run has none."""
-        return not self.is_init or self.is_sidecar or self.is_running
+        return not self.has_ended and (not self.is_init or self.is_sidecar or self.is_running)
 
 
 @dataclass(frozen=True)
@@ -72,11 +74,13 @@ class Pod:
     # All of its containers, init containers first.
     parts: tuple[Container, ...] = ()
     overhead: int = 0
-    # Requests and limits of the pod itself.
+    # Requests and limits of the pod itself, and whether it has such of CPU or memory.
     own: Amounts = Amounts()
+    is_whole: bool = False
     # The class that its status tells, empty for none.
     told: str = ""
-    # Whether a container asks for memory, and whether each has a limit of it that is its request.
+    # Whether something of it asks for memory, and whether each has a limit of it that is its
+    # request: the pod itself where it is whole, else its containers.
     asks_memory: bool = False
     is_memory_equal: bool = False
     # The labels that its node must have, and the taints of a node that it tolerates.
@@ -105,12 +109,17 @@ class Pod:
 
     @property
     def quality_by_rule(self) -> str:
-        """The quality class by kubelet's rule."""
-        amounts = [each.amounts for each in self.parts]
+        """The quality class by kubelet's rule: by amounts of the pod itself where it has such."""
+        amounts = [self.own] if self.is_whole else [each.amounts for each in self.parts]
         if not (self.asks_memory or any(each.request or each.limit for each in amounts)):
             return "BestEffort"
         equal = all(each.limit and each.request == each.limit for each in amounts)
         return "Guaranteed" if equal and self.is_memory_equal else "Burstable"
+
+    def given(self, container: Container) -> Amounts:
+        """What a container is given: without a limit of its own that of the pod itself."""
+        request, limit = container.amounts.request, container.amounts.limit or self.own.limit
+        return Amounts(limit if request is None else request, limit)
 
     def with_amounts(self, place: int, amounts: Amounts) -> Pod:
         """The pod with other amounts of one container.
@@ -164,6 +173,14 @@ def identifier_of(status: dict[str, Any]) -> str:
     return prefix + identifier if identifier else ""
 
 
+def has_ended(state: dict[str, Any], pod: dict[str, Any], is_sidecar: bool) -> bool:
+    """Whether a container is at its end by its state, and kubelet does not begin it again."""
+    policy = text(table(pod, "spec"), "restartPolicy")
+    is_done = policy == "Never" or policy == "OnFailure" and not table(state, "terminated").get(
+        "exitCode")
+    return "terminated" in state and is_done and not is_sidecar
+
+
 def containers_of(pod: dict[str, Any], where: str, notes: list[str]) -> tuple[Container, ...]:
     """All containers of a pod: init containers first, in order."""
     found = []
@@ -173,11 +190,11 @@ def containers_of(pod: dict[str, Any], where: str, notes: list[str]) -> tuple[Co
         for each in tables(table(pod, "spec"), key):
             name = text(each, "name") or "unnamed"
             known = status.get(name, {})
-            is_init = key == "initContainers"
+            is_init, state = key == "initContainers", table(known, "state")
+            is_sidecar = is_init and text(each, "restartPolicy") == "Always"
             amounts = amounts_of(table(each, "resources"), f"{where}/{name}", notes)
-            found.append(Container(name, amounts, identifier_of(known), is_init,
-                                   is_init and text(each, "restartPolicy") == "Always",
-                                   "running" in table(known, "state")))
+            found.append(Container(name, amounts, identifier_of(known), is_init, is_sidecar,
+                                   "running" in state, has_ended(state, pod, is_sidecar)))
     return tuple(found)
 
 
@@ -239,12 +256,14 @@ def pod_of(pod: dict[str, Any], notes: list[str]) -> Pod:
     namespace, name = names_of(pod)
     where = f"{namespace}/{name}"
     told = text(table(pod, "status"), "qosClass")
-    raw = tables(spec, "initContainers") + tables(spec, "containers")
+    is_whole = any(name in table(spec, "resources", key) for key in ("requests", "limits")
+                   for name in ("cpu", "memory"))
+    raw = [spec] if is_whole else tables(spec, "initContainers") + tables(spec, "containers")
     parts = containers_of(pod, where, notes)
     overhead = thousandths(table(spec, "overhead").get("cpu"), where, notes) or 0
     own = amounts_of(table(spec, "resources"), where, notes)
     asks = any(memory_of(each, key) for each in raw for key in ("requests", "limits"))
-    return Pod(namespace, name, uid_of(metadata), parts, overhead, own,
+    return Pod(namespace, name, uid_of(metadata), parts, overhead, own, is_whole,
                told if told in CLASSES else "", asks, all(map(is_memory_limited, raw)),
                selector_of(spec), tuple(map(toleration_of, tables(spec, "tolerations"))))
 
