@@ -23,8 +23,8 @@ def run(options: argparse.Namespace) -> None:
 def add_words(parser: argparse.ArgumentParser) -> None:
     """The words of `explain`."""
     parser.add_argument("source", nargs="+", metavar="SOURCE", help="a script, a host file, a"
-                        " folder of cgroups, JSON of kubectl or docker, or text of systemctl show;"
-                        " `-` is standard input")
+                        " folder of cgroups, JSON of kubectl, docker or scontrol, or text of"
+                        " systemctl show or sacct; `-` is standard input")
     add_answer_options(parser)
 
 
