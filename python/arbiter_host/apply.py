@@ -133,11 +133,11 @@ def changes(before: Model, after: Model, root: Root) -> tuple[list[Change], list
     return list(found.values()), only_in_one(before, after)
 
 
-def only_in_one(before: Model, after: Model) -> list[str]:
-    """The groups that one of the models lacks, in words."""
+def only_in_one(before: Model, after: Model, but: Container[str] = ()) -> list[str]:
+    """The groups that one of the models lacks, in words, but for some paths."""
     return [f"{path}: only {'before' if path in before.groups else 'after'}: groups are neither"
             " made nor removed" for path in {**before.groups, **after.groups}
-            if path not in before.groups or path not in after.groups]
+            if (path not in before.groups or path not in after.groups) and path not in but]
 
 
 def number(text: str) -> int:

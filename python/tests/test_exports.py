@@ -305,16 +305,44 @@ def test_patch_of_a_pod(ctl, folder):
     assert "Pod prod/db-0: nothing owns it whose template may change" in err
 
 
-def test_another_class_is_refused(ctl, folder):
-    """A first request moves a pod out of besteffort: its group would be another one."""
+@pytest.mark.parametrize("owner", ["", "ReplicaSet", "StatefulSet"])
+def test_another_class(ctl, folder, owner):
+    """A first request moves a pod out of besteffort. What owns pods makes them anew; a pod alone
+    keeps its class."""
     pods = cluster(folder)
+    if owner:
+        owned(pods, "report-x", owner, "report", {"pod-template-hash": "none"})
+        (folder / "pods.json").write_text(json.dumps(pods))
+    resources(pods, "report-x", "report")["requests"] = {"cpu": "250m"}
     report = next(each for each in pods["items"] if each["metadata"]["name"] == "report-x")
-    report["spec"]["containers"][0]["resources"] = {"requests": {"cpu": "250m"}}
     report["status"]["qosClass"] = "Burstable"
-    found, err = patched(ctl, folder, pods, status=1)
-    assert found == {}
-    assert ("kubepods/besteffort/batch:report-x: is kubepods/burstable/batch:report-x in AFTER: the"
-            " class of its pod would be another") in err
+    found, err = patched(ctl, folder, pods, status=0 if owner else 1)
+    path = "kubepods/besteffort/batch:report-x/report"
+    if not owner:
+        assert found == {} and err.count("arbiterctl: ") == 2
+        assert f"{path}: the class of its pod would be another, and a pod keeps its own" in err
+        return
+    (text,) = found.values()
+    assert yaml.safe_load(text)["spec"]["template"]["spec"]["containers"] == [
+        {"name": "report", "resources": {"requests": {"cpu": "250m"}}}]
+    assert (f"{owner} batch/report: with another class its pods are made anew:"
+            " kubepods/burstable/batch:report-x/report") in err
+    assert "only before" not in err
+    # `--set` says the same.
+    words = ("--set", "batch/report-x/report.request=250m", "--as", "kubectl-patch", "--to", "-")
+    assert (yaml.safe_load(ctl.run("apply", folder / "pods.json", NODE, *words)[0])
+            == yaml.safe_load(text))
+
+
+def test_out_of_guaranteed(ctl, folder):
+    """A request below the limit: the limit stays, and burstable has 500m more in its sum."""
+    pods = cluster(folder)
+    found, err = applied(ctl, folder, "kubectl-patch", folder / "pods.json", NODE, "--set",
+                         "prod/db-0/postgres.request=500m")
+    assert yaml.safe_load(found["prod.statefulset.db.yaml"])["spec"]["template"]["spec"] == {
+        "containers": [{"name": "postgres", "resources": {"requests": {"cpu": "500m"}}}]}
+    assert resources(pods, "db-0", "postgres")["limits"]["cpu"] == "1"
+    assert "kubepods/burstable/prod:db-0/postgres" in err
 
 
 def test_settings_that_people_own(ctl, folder):

@@ -76,6 +76,8 @@ class Asked:
     # What the form cannot say, and what is to be told beside, in words.
     refused: list[str] = field(default_factory=list)
     told: list[str] = field(default_factory=list)
+    # The paths, before and after, of groups that the form takes to be one.
+    moved: set[str] = field(default_factory=set)
 
     def common(self) -> Iterator[Differing]:
         """The groups that are in both models."""

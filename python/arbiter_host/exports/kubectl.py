@@ -9,7 +9,7 @@ from __future__ import annotations
 import copy
 import json
 import re
-from collections.abc import Sequence
+from collections.abc import Iterator, Sequence
 from fractions import Fraction
 from typing import Any, NamedTuple
 
@@ -159,11 +159,24 @@ def patch_pods(pods: Pods, target: Target, rows: dict[str, Any]) -> None:
                     patch_raw(known[each["name"]], each["resources"])
 
 
+def paired(asked: Asked) -> Iterator[Differing]:
+    """The groups of both models: of one path, else of one title, where the class of a pod changes.
+    """
+    yield from asked.common()
+    places = {each.title: path for path, each in asked.after.groups.items()
+              if each.title and path not in asked.before.groups}
+    for path, each in asked.before.groups.items():
+        if path not in asked.after.groups and each.title in places:
+            then = places[each.title]
+            asked.moved.update((path, then))
+            yield Differing(path, each, asked.after.groups[then])
+
+
 def check_again(asked: Asked, pods: Pods) -> None:
     """Refuses each group that kubelet and the runtime would set otherwise than is asked."""
     found = asked.reread(pods.written()).groups
     for path, group in asked.after.groups.items():
-        if path not in asked.before.groups:
+        if path not in asked.before.groups and path not in asked.moved:
             continue
         wanted, would = apply.settings_of(group), None
         if path in found:
@@ -174,13 +187,15 @@ def check_again(asked: Asked, pods: Pods) -> None:
                          " requests and limits of containers decide it")
 
 
-def check_classes(asked: Asked) -> None:
-    """Refuses what is another group in AFTER, since the class of its pod is another."""
-    places = {each.title: path for path, each in asked.after.groups.items() if each.title}
-    for path, each in asked.before.groups.items():
-        if path not in asked.after.groups and each.title in places:
-            asked.refuse(path, f"is {shown(places[each.title])} in AFTER: the class of its pod"
-                         " would be another")
+def check_class(asked: Asked, group: Differing, target: Target) -> None:
+    """Refuses another class of a pod that nothing makes anew; tells it of others."""
+    if asked.after.groups.get(group.path) is group.after:
+        return
+    if target.kind == "Pod":
+        asked.refuse(group.path, "the class of its pod would be another, and a pod keeps its own")
+    else:
+        asked.told.append(f"{target.words}: with another class its pods are made anew:"
+                          f" {shown(group.after.path)}")
 
 
 def key_of(pod: dict[str, Any], name: str) -> str:
@@ -240,7 +255,7 @@ def documents(asked: Asked) -> list[Document]:
         raise HostFault(f"--as kubectl-patch is for pods: {fault.message}") from fault
     found: dict[Target, dict[str, Any]] = {}
     words: dict[Target, list[str]] = {}
-    for group in asked.common():
+    for group in paired(asked):
         if group.before.title not in pods.containers:
             continue
         if not (group.has_weight or group.has_limit or group.has_request):
@@ -250,12 +265,12 @@ def documents(asked: Asked) -> list[Document]:
         if not (NAME.fullmatch(target.namespace) and NAME.fullmatch(target.name)):
             asked.refuse(group.path, f"{target.words} is no name that Kubernetes takes")
             continue
+        check_class(asked, group, target)
         resources = changes(asked, group, container)
         add(asked, found, target, (key_of(pod, name), name, resources))
         words.setdefault(target, []).append(group.words)
     for target, rows in found.items():
         patch_pods(pods, target, rows)
-    check_classes(asked)
     check_again(asked, pods)
     tell(asked, pods, list(found))
     return [document(target, rows, words[target]) for target, rows in found.items()]

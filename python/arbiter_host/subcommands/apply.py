@@ -81,11 +81,11 @@ def run_apply(options: argparse.Namespace) -> None:
     after = change.told(models[-1], change.changed(models[-1], options.set))
     root, way = beneath.Root(options.root), way_of(options)
     if options.form:
-        write_form(options, exports.Asked(
-            models[0], after, sources[0], root, way, by.library,
-            options.runtime or options.conversion,
-            lambda found: load.of_files(options, found, by)))
-        warn(apply.only_in_one(models[0], after))
+        asked = exports.Asked(models[0], after, sources[0], root, way, by.library,
+                              options.runtime or options.conversion,
+                              lambda found: load.of_files(options, found, by))
+        write_form(options, asked)
+        warn(apply.only_in_one(models[0], after, asked.moved))
         return
     set_host(options, apply.changes(models[0], after, root), root, way)
 
