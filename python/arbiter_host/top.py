@@ -25,6 +25,7 @@ BARS = " \u2581\u2582\u2583\u2584\u2585\u2586\u2587\u2588"
 # The orders and filters that a key goes through. The first is that of the options.
 SORTS = ("", *explain.SORTS)
 FILTERS = ("", *explain.ONLY)
+ENDS = "qQ\x04"
 HELP = "q quit  s sort  f filter  - fold  + unfold  a all"
 # Seconds after which keys are looked for again.
 PATIENCE = 0.1
@@ -38,23 +39,24 @@ def height() -> int:
         return 24
 
 
-def folded(plan: Plan, view: View, rows: int, table: Callable[[Plan, View], Lines]) -> Lines:
-    """The table as deep as it has room; else the top of the tree, the greatest lack first."""
+def folded(plan: Plan, view: View, rows: int,
+           table: Callable[[Plan, View], Lines]) -> tuple[int, Lines]:
+    """The table as deep as it has room, behind that depth; else the top of the tree, the greatest
+    lack first."""
     lines = table(plan, view)
-    deepest = min(max(group.depth for group in plan.groups), view.depth)
-    for depth in range(deepest - 1, 0, -1):
-        if len(lines) <= rows or view.is_flat:
-            return lines
+    depth = max((group.depth for group in in_order(plan, view)), default=0)
+    while len(lines) > rows and depth > 1 and not view.is_flat:
+        depth -= 1
         lines = table(plan, view._replace(depth=depth))
     if len(lines) <= rows or view.sort or view.is_flat:
-        return lines
-    return table(plan, view._replace(depth=1, sort="lack"))
+        return depth, lines
+    return depth, table(plan, view._replace(depth=1, sort="lack"))
 
 
 def screen(plan: Plan, view: View, rows: int,
            table: Callable[[Plan, View], Lines] = explain.table) -> Lines:
     """The lines of one picture of the host, folded and cut to so many rows."""
-    lines = folded(plan, view, rows, table)
+    _, lines = folded(plan, view, rows, table)
     head = [(f"{time.strftime('%H:%M:%S')}  {lines[0][0]}", lines[0][1]), *lines[1:]]
     if len(head) <= rows:
         return head
@@ -116,9 +118,9 @@ class Keys:
     is_all: bool = False
     is_ended: bool = False
 
-    def take(self, letter: str, deepest: int) -> None:
-        """Takes a key. `deepest` is the depth that is shown."""
-        if letter in "qQ\x04":
+    def take(self, letter: str, shown: int) -> None:
+        """Takes a key. `shown` is the depth to which there is room."""
+        if letter in ENDS:
             self.is_ended = True
         elif letter == "s":
             self.sort = (self.sort + 1) % len(SORTS)
@@ -127,7 +129,7 @@ class Keys:
         elif letter == "a":
             self.is_all = not self.is_all
         elif letter in "-+":
-            now = deepest if self.depth is None else self.depth
+            now = shown if self.depth is None else min(self.depth, shown)
             self.depth = max(now + (1 if letter == "+" else -1), 0)
 
     def view(self, view: View) -> View:
@@ -219,10 +221,14 @@ def live(read: Callable[[], Plan], view: Callable[[], View], count: int) -> None
             except queue.Empty:
                 is_new = False
             if plan is None or not (letters or is_new):
+                keys.is_ended = any(letter in ENDS for letter in letters)
                 continue
-            for letter in letters:
-                keys.take(letter, max(group.depth for group in plan.groups))
-            lines = screen(plan, keys.view(view()), max(height() - 2, 5), history.table)
+            rows = max(height() - 2, 5)
+            if letters:
+                shown, _ = folded(plan, keys.view(view()), rows, history.table)
+                for letter in letters:
+                    keys.take(letter, shown)
+            lines = screen(plan, keys.view(view()), rows, history.table)
             texts = [Text(names.cut(line, console.width), style)
                      for line, style in [*lines, (keys.words(), "reverse")]]
             live_.update(Group(*texts), refresh=True)

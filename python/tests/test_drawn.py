@@ -502,6 +502,8 @@ def test_history_of_top(engine):
     ("", {}), ("s", {"sort": "lack"}), ("s" * 6, {}), ("f", {"only": ("starved",)}),
     ("-", {"depth": 2}), ("---+", {"depth": 1}), ("-" * 9, {"depth": 0}),
     ("a", {"everything": True}), ("xsz", {"sort": "lack"}),
+    # There is no more to unfold than there is room for, so one `-` folds again.
+    ("++++", {"depth": 4}), ("++++-", {"depth": 2}),
 ])
 def test_keys_of_top(letters, view):
     keys = top.Keys()
@@ -511,6 +513,18 @@ def test_keys_of_top(letters, view):
     assert not keys.is_ended
     keys.take("q", 3)
     assert keys.is_ended
+
+
+def test_top_folds_from_what_is_shown(engine):
+    """Where 40 rows have room for the pods alone, one `-` leaves the host; idle groups count not."""
+    found = plan(engine, wide_host(111))
+    assert top.folded(found, explain.View(), 200, explain.table)[0] == 2
+    depth, lines = top.folded(found, explain.View(), 40, explain.table)
+    keys = top.Keys()
+    keys.take("-", depth)
+    assert (depth, keys.view(explain.View()).depth) == (1, 0)
+    found.model.groups |= {"pod0/idle": Group("pod0/idle"), "pod0/idle/x": Group("pod0/idle/x")}
+    assert top.folded(plan(engine, found.model), explain.View(), 200, explain.table)[0] == 2
 
 
 def test_top_once_as_json(ctl, folder):
@@ -569,5 +583,26 @@ def test_top_in_tmux(ctl, folder):
         assert "no group is starved" in tmux.seen("only: starved")
         tmux.run("send-keys", "-t", "top", "q")
         assert "ended 0" in tmux.seen("ended 0")
+    finally:
+        tmux.run("kill-server")
+
+
+def test_top_ends_before_its_first_picture(ctl, folder):
+    """`q` is taken while the first two readings are ten minutes apart."""
+    if shutil.which("tmux") is None:
+        pytest.skip("no tmux")
+    trees.root2(folder / "t")
+    ctl.environment.pop("COLUMNS")
+    tmux = Tmux(folder, ctl.environment)
+    command = (f"/usr/bin/python3 {PACKAGE}/arbiterctl top {folder}/t --cpus 2 --interval 10min"
+               "; echo ended $?; cat")
+    tmux.run("new-session", "-d", "-s", "top", "-x", "100", "-y", "30", command)
+    try:
+        for _ in range(100):
+            tmux.run("send-keys", "-t", "top", "q")
+            time.sleep(0.3)
+            if "ended" in (text := tmux.run("capture-pane", "-p", "-t", "top")):
+                break
+        assert "ended 0" in text
     finally:
         tmux.run("kill-server")
