@@ -1,5 +1,5 @@
 //! The groups of a hierarchy as columns of numbers.
-ghost use Rattle.std.specs.Prelude.{◌≡◌, ◌≤◌, ◌++◌, length, map, IfOk, OnOk};
+ghost use Rattle.std.specs.Prelude.{◌≡◌, ◌≤◌, ◌++◌, length, map, IfOk, IfErr, OnOk};
 ghost use Rattle.bw_model.specs.declared.limits.TheConstants.{MAX_GROUPS};
 ghost use Rattle.bw_tree.specs.Groups.{group_at};
 ghost use Rattle.bw_columns.specs.Asked.{limit_number};
@@ -9,7 +9,7 @@ ghost use Rattle.bw_group_columns.specs.Groups.{name_lines, told_of, columns_of,
 use bw_columns::{NO_LIMIT, NO_PARENT, limit_number};
 use bw_hierarchy::{Fault, Hierarchy};
 use bw_model::{Quota, Row};
-use bw_tree::{GroupId, Tree};
+use bw_tree::{GroupId, Tree, TreeFault};
 use std::alloc::{AllocError, Global};
 
 /// The groups of a hierarchy by column, in order of creation.
@@ -175,6 +175,7 @@ pub fn group_columns(alloc: Global, hierarchy: &Hierarchy) -> Result<GroupColumn
     ensures told { IfOk result (λ c. columns_of c ≡ told_of hierarchy.now) }
     ensures long { IfOk result (λ c. AreLong (columns_of c)) }
     ensures few { IfOk result (λ c. length c.parents.items ≤ MAX_GROUPS) }
+    ensures err { IfErr result (λ e. e ≡ Fault.Tree TreeFault.OutOfMemory) }
 {
     let snapshot = hierarchy.snapshot()?;
     let rows = snapshot.instance.rows();

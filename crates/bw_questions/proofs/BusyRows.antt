@@ -1,6 +1,6 @@
 -- The instance that the rows make with greater demands of the leaves outside a group.
 use Rattle.std.proofs.Common.{◌≡◌, ℕ, ◌<◌, ◌≤◌, List, Bool, true, false, Option, None, Some, length}
-use Rattle.std.proofs.Common.{refl, ap, sym, ◌∙◌, arith, inl, inr, eqb, ◌||◌, ◌+◌, zero, suc}
+use Rattle.std.proofs.Common.{refl, ap, sym, ◌∙◌, arith, inl, inr, eqb, ◌||◌}
 use Rattle.std.proofs.Common.{get_or}
 use Rattle.std.specs.Prelude.{◌&&◌, not, map}
 use Rattle.std.specs.List.{range_with_len}
@@ -11,8 +11,8 @@ use Rattle.std.proofs.lemmas.List.FromFn.{get_or-map-range_with_len, length-map-
 use Rattle.bw_model.specs.declared.row.Row.{Row}
 use Rattle.bw_model.specs.declared.limits.TheConstants.{MAX_DEMAND}
 use Rattle.bw_model.specs.Groups.{Groups, IsInstance, AreTreeRows, no_row, parent_of, row_of}
-use Rattle.bw_model.specs.Groups.{weight_of, demand_of, limit_of, is_leaf, is_under, depth_of}
-use Rattle.bw_model.proofs.CallerLemmas.{strong, parent_lt, is_under-step, is_under-top}
+use Rattle.bw_model.specs.Groups.{demand_of, is_leaf, is_under}
+use Rattle.bw_model.proofs.CallerLemmas.{parent_lt, is_under-step, is_under-top}
 use Rattle.bw_plan_laws.proofs.CallerLemmas.{AreAlike, other_demands-IsInstance}
 use Rattle.bw_questions.specs.Busy.{flag_of, busy_row, busy_rows}
 

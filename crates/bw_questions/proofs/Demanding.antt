@@ -1,11 +1,10 @@
 -- Goals that ask for more than is served.
 use Rattle.std.proofs.Common.{◌≡◌, ◌≢◌, ℕ, zero, suc, ◌+◌, ◌<◌, ◌≤◌, List, Bool, true, false}
-use Rattle.std.proofs.Common.{Some, cond, length, get_or, refl, ap, sym, ◌∙◌, arith, inl}
-use Rattle.std.proofs.Common.{inr, get_or-set_same, get_or-set_other}
+use Rattle.std.proofs.Common.{Some, cond, length, get_or, refl, ap, sym, ◌∙◌, arith}
+use Rattle.std.proofs.Common.{inl, inr, get_or-set_same, get_or-set_other}
 use Rattle.std.specs.Prelude.{◌&&◌, slice_index, slice_index_or, slice_set}
 use Rattle.std.proofs.Math.Bool.{and-false}
-use Rattle.std.proofs.Math.Numerals.{add-one}
-use Rattle.std.proofs.lemmas.Bool.{cases_eq, cases_Bool}
+use Rattle.std.proofs.lemmas.Bool.{cases_eq, cases_lt, cases_Bool}
 use Rattle.std.proofs.lemmas.List.{length-set}
 use Rattle.std.proofs.lemmas.List.FromFn.{get_or-map-range_with_len}
 use Rattle.bw_model.specs.declared.row.Row.{Row}
@@ -22,13 +21,15 @@ use Rattle.bw_questions.specs.declared.tuned.goal.Goal.{Goal}
 use Rattle.bw_questions.specs.declared.tuned.measure.Measure.{Measure}
 use Rattle.bw_questions.specs.declared.tuned.measure.Measure.TheVariants.{Planned, Guaranteed}
 use Rattle.bw_questions.specs.declared.tuned.tuning.Conflict.{Conflict}
+use Rattle.bw_questions.specs.declared.tuned.tuning.Tuning.{Tuning}
 use Rattle.bw_questions.specs.Tune.{goal_at, AreFound, AreApart, AreGoals, IsMet, IsReweighted}
-use Rattle.bw_questions.specs.Tune.{AreMarkedMet, IsConflict}
+use Rattle.bw_questions.specs.Tune.{AreMarkedMet, IsConflict, asked_first, NamesTheExcess}
 use Rattle.bw_questions.proofs.Paths.{above_parent, one_line}
 
--- the amounts of the first goals, in all
-abbrev pub asked_by : List Goal → ℕ → ℕ
-asked_by goals n = sum_below n (λ k. (goal_at goals k).amount)
+asked_is : (goals : List Goal) (n : ℕ)
+    → asked_first goals n ≡ sum_below n (λ k. (goal_at goals k).amount)
+asked_is goals zero = refl
+asked_is goals (suc n) = omega (arith, asked_is goals n)
 
 -- The root is above each group.
 root_above : (rows : List Row) → AreTreeRows rows → (l : ℕ) → l < length rows
@@ -183,11 +184,12 @@ met_within : ThereIsOnePlan → RaisedLimitsServeNoLess → (measure : Measure) 
     (goals : List Goal) → IsInstance groups → AreGoals groups.rows goals
     → IsReweighted groups others goals → (amounts : List ℕ) → IsPlan groups amounts → (m : ℕ)
     → m ≤ length goals → ((k : ℕ) → k < m → IsMet measure others (goal_at goals k))
-    → asked_by goals m ≤ get_or amounts 0 0
+    → asked_first goals m ≤ get_or amounts 0 0
 met_within each served measure groups others goals valid good other amounts plan m few met =
     let one : HasOnePlan others = each others other.valid in
     omega (
       arith,
+      asked_is goals m,
       served_same each served groups others goals valid other amounts plan one,
       goals_within others other.valid goals
           (λ k below. omega (arith, good.found k below, other.tree.as_many))
@@ -200,47 +202,101 @@ met_within each served measure groups others goals valid good other amounts plan
           (λ k less. met_amount measure others other.valid (goal_at goals k) one (met k less)),
     )
 
--- What stands at each turn: a bound of what the goals before it ask for, and their marks.
-pub record IsAsked (goals : List Goal) (place asked : ℕ) (marked : List Bool) : Type 0 where
+-- The marks of the first goals, and of no others.
+pub record AreFirst (goals : List Goal) (place : ℕ) (marked : List Bool) : Type 0 where
   pub one_each : length marked ≡ length goals
-  pub no_more : asked ≤ asked_by goals place
   pub marks : (k : ℕ) → k < place → slice_index_or marked k false ≡ true
+  pub others : (k : ℕ) → place ≤ k → slice_index_or marked k false ≡ false
 
-pub asked_more : (goals : List Goal) (place asked : ℕ) (marked : List Bool)
-    → IsAsked goals place asked marked → place < length goals → (next : ℕ)
-    → next ≤ asked + (goal_at goals place).amount
-    → IsAsked goals (place + 1) next (slice_set marked place true)
-asked_more goals place asked marked so_far below next bound =
-    rw (add-one place)
-    (record {
-      one_each = length-set marked place true ∙ so_far.one_each;
-      no_more = omega (arith, bound, so_far.no_more);
-      marks = λ k less. elim (cases_eq k place) [
-        | inl here ↦
-            rw here
-            (get_or-set_same marked place true false (omega (arith, below, so_far.one_each)))
-        | inr other ↦
-            get_or-set_other marked place k true false other
-            ∙ so_far.marks k (omega (arith, less, other))
-      ];
-    })
+pub one_more : (goals : List Goal) (place : ℕ) (marked : List Bool) → AreFirst goals place marked
+    → place < length goals → AreFirst goals (suc place) (slice_set marked place true)
+one_more goals place marked first below = record {
+  one_each = length-set marked place true ∙ first.one_each;
+  marks = λ k less. elim (cases_eq k place) [
+    | inl here ↦
+        rw here
+        (get_or-set_same marked place true false (omega (arith, below, first.one_each)))
+    | inr other ↦
+        get_or-set_other marked place k true false other
+        ∙ first.marks k (omega (arith, less, other))
+  ];
+  others = λ k above.
+      get_or-set_other marked place k true false (λ e. omega (arith, e, above))
+      ∙ first.others k (omega (arith, above));
+}
 
-pub asked-IsConflict : ThereIsOnePlan → RaisedLimitsServeNoLess → (measure : Measure)
-    (groups : Groups) (goals : List Goal) → IsInstance groups → AreGoals groups.rows goals
-    → (amounts : List ℕ) → IsPlan groups amounts → (place asked : ℕ) (marked : List Bool)
-    → IsAsked goals (place + 1) asked marked → place < length goals
-    → get_or amounts 0 0 < asked → (conflict : Conflict) → conflict.goal ≡ place
-    → conflict.together.items ≡ marked → IsConflict measure groups goals conflict
-asked-IsConflict each served measure groups goals valid good amounts plan place asked marked so_far
-    below much conflict here are = record {
-      one_each = rw are so_far.one_each;
+-- What stands at each turn: what the goals before it leave of what is served, and their marks.
+pub record IsAsked (goals : List Goal) (served place left : ℕ) (marked : List Bool) : Type 0 where
+  pub first : AreFirst goals place marked
+  pub spent : left + asked_first goals place ≡ served
+
+-- More goals ask for no less.
+asked_rises : (goals : List Goal) (m n : ℕ) → m ≤ n → asked_first goals m ≤ asked_first goals n
+asked_rises goals m zero few = let e : m ≡ 0 = omega (arith, few) in rw e (omega arith)
+asked_rises goals m (suc n) few = elim (cases_eq m (suc n)) [
+  | inl here ↦ rw here (omega arith)
+  | inr other ↦ omega (arith, asked_rises goals m n (omega (arith, few, other)))
+]
+
+no_later : (goals : List Goal) (served a b : ℕ) → asked_first goals a ≤ served
+    → served < asked_first goals (suc b) → a ≤ b
+no_later goals served a b fits more = elim (cases_lt b a) [
+  | inl before ↦
+      absurd (omega (arith, asked_rises goals (suc b) a (omega (arith, before)), fits, more))
+  | inr first ↦ first
+]
+
+module _ (each : ThereIsOnePlan) (groups : Groups) (goals : List Goal) (valid : IsInstance groups)
+    (planned : List ℕ) (is_plan : IsPlan groups planned) where
+  served_is : (amounts : List ℕ) → IsPlan groups amounts → get_or amounts 0 0 ≡ get_or planned 0 0
+  served_is amounts plan =
+      ap (λ xs. get_or xs 0 0)
+      ((each groups valid).alone amounts plan ∙ sym ((each groups valid).alone planned is_plan))
+
+  pub asked-all : (place left : ℕ) → length goals ≤ place
+      → left + asked_first goals place ≡ get_or planned 0 0 → (tuning : Tuning)
+      → NamesTheExcess groups goals tuning
+  asked-all place left long spent tuning amounts n plan n_in fits more =
+      absurd (omega (
+        arith,
+        asked_rises goals (suc n) place (omega (arith, n_in, long)),
+        spent,
+        more,
+        served_is amounts plan,
+      ))
+
+  module _ (place left : ℕ) (marked : List Bool) (first : AreFirst goals (suc place) marked)
+      (spent : left + asked_first goals place ≡ get_or planned 0 0)
+      (more : left < (goal_at goals place).amount) where
+    pub asked-IsConflict : RaisedLimitsServeNoLess → (measure : Measure)
+        → AreGoals groups.rows goals → place < length goals → (conflict : Conflict)
+        → conflict.goal ≡ place → conflict.together.items ≡ marked
+        → IsConflict measure groups goals conflict
+    asked-IsConflict served measure good below conflict here are = record {
+      one_each = rw are first.one_each;
       within = rw here below;
-      marked = rw (here, are) (so_far.marks place (omega arith));
+      marked = rw (here, are) (first.marks place (omega arith));
       never = λ others other met.
           let all : AreMarkedMet measure others goals marked = rw are at met in
-          let fits : asked_by goals (place + 1) ≤ get_or amounts 0 0 =
-          met_within each served measure groups others goals valid good other amounts plan
-          (place + 1) (omega (arith, below))
-          (λ k less. all k (omega (arith, less, below)) (so_far.marks k less)) in
-          omega (arith, so_far.no_more, much, fits);
+          let fits : asked_first goals (suc place) ≤ get_or planned 0 0 =
+          met_within each served measure groups others goals valid good other planned is_plan
+          (suc place) (omega (arith, below))
+          (λ k less. all k (omega (arith, less, below)) (first.marks k less)) in
+          omega (arith, spent, more, fits);
     }
+
+    pub asked-first : (amounts : List ℕ) (n : ℕ) → IsPlan groups amounts
+        → asked_first goals n ≤ get_or amounts 0 0 → get_or amounts 0 0 < asked_first goals (suc n)
+        → (place ≡ n) × ((k : ℕ) → k ≤ n → slice_index_or marked k false ≡ true)
+        × ((k : ℕ) → n < k → slice_index_or marked k false ≡ false)
+    asked-first amounts n plan fits above =
+        let low : n ≤ place =
+        no_later goals (get_or planned 0 0) n place
+        (omega (arith, fits, served_is amounts plan)) (omega (arith, spent, more)) in
+        let high : place ≤ n =
+        no_later goals (get_or planned 0 0) place n (omega (arith, spent))
+        (omega (arith, above, served_is amounts plan)) in (
+          omega (arith, low, high),
+          λ k few. first.marks k (omega (arith, few, low)),
+          λ k less. first.others k (omega (arith, less, high)),
+        )

@@ -1,8 +1,9 @@
 -- Weights under which several goals are met at once.
-use Rattle.std.specs.Prelude.{◌≡◌, ◌≢◌, ℕ, ◌<◌, ◌≤◌, ◌⊎◌, List, Bool, true, false, length}
-use Rattle.std.specs.Prelude.{slice_index_or}
+use Rattle.std.specs.Prelude.{◌≡◌, ◌≢◌, ℕ, zero, suc, ◌+◌, ◌<◌, ◌≤◌, ◌⊎◌, List, Bool, true, false}
+use Rattle.std.specs.Prelude.{length, slice_index, slice_index_or}
 use Rattle.bw_model.specs.declared.row.Row.{Row}
 use Rattle.bw_model.specs.Groups.{Groups, IsInstance, weight_of, demand_of, limit_of, is_under}
+use Rattle.bw_model.specs.Plan.{IsPlan}
 use Rattle.bw_plan_laws.specs.Tree.{IsSameTree}
 use Rattle.bw_questions.specs.declared.tuned.goal.Goal.{Goal}
 use Rattle.bw_questions.specs.declared.tuned.measure.Measure.{Measure}
@@ -122,6 +123,24 @@ abbrev pub IsTuning : Measure → Groups → List Goal → Tuning → Type 0
 IsTuning measure groups goals (Met tuned) = IsTuned measure groups goals tuned
     × (IsLeastRaise measure groups goals tuned ⊎ IsLeastOfAll measure groups goals tuned)
 IsTuning measure groups goals (Unmet conflict) = IsConflict measure groups goals conflict
+
+-- the slices that the first n goals ask for
+abbrev pub asked_first : List Goal → ℕ → ℕ
+asked_first goals zero = 0
+asked_first goals (suc n) = asked_first goals n + (goal_at goals n).amount
+
+-- the answer names the goals up to a place, and no others
+abbrev pub NamesUpTo : ℕ → Tuning → Type 0
+NamesUpTo n (Met tuned) = ⊥
+NamesUpTo n (Unmet conflict) = (conflict.goal ≡ n)
+    × ((k : ℕ) → k ≤ n → slice_index_or conflict.together.items k false ≡ true)
+    × ((k : ℕ) → n < k → slice_index_or conflict.together.items k false ≡ false)
+
+-- goals that ask for more than is served in all: the answer names the first that do
+abbrev pub NamesTheExcess : Groups → List Goal → Tuning → Type 0
+NamesTheExcess groups goals tuning = (amounts : List ℕ) (n : ℕ) → IsPlan groups amounts
+    → n < length goals → asked_first goals n ≤ slice_index amounts 0
+    → slice_index amounts 0 < asked_first goals (suc n) → NamesUpTo n tuning
 
 -- the groups whose plan tells what a goal is measured by
 abbrev pub judged : Measure → Groups → ℕ → Groups

@@ -1,10 +1,10 @@
 //! Goals that ask for more than the host serves.
-ghost use Rattle.std.specs.Prelude.{IfOk, IfSome};
+ghost use Rattle.std.specs.Prelude.{IfOk, IfSome, IfNone};
 ghost use Rattle.bw_questions.specs.declared.tuned.measure.Measure.{Measure};
-ghost use Rattle.bw_questions.specs.Tune.{AreGoals, IsConflict};
+ghost use Rattle.bw_questions.specs.Tune.{AreGoals, IsConflict, NamesTheExcess};
 
 use super::goal::Goal;
-use super::tuning::Conflict;
+use super::tuning::{Conflict, Tuning};
 use bw_model::Instance;
 use bw_plan::{plan, there_is_one_plan};
 use bw_plan_laws::raised_limits_serve_no_less;
@@ -23,25 +23,28 @@ pub(crate) fn excess(
     goals: &[Goal],
 ) -> Result<Option<Conflict>, AllocError>
     requires { AreGoals instance.now.rows goals.now }
-    ensures { IfOk result (λ found. IfSome found (λ conflict.
+    ensures conflict { IfOk result (λ found. IfSome found (λ conflict.
         (measure : Measure) → IsConflict measure instance.now goals.now conflict)) }
+    ensures first { IfOk result (λ found. IfSome found (λ conflict.
+        NamesTheExcess instance.now goals.now (Tuning.Unmet conflict))) }
+    ensures none { IfOk result (λ found. IfNone found
+        ((tuning : Tuning) → NamesTheExcess instance.now goals.now tuning)) }
 {
     let _rows = instance.rows();
     there_is_one_plan();
     raised_limits_serve_no_less();
     let planned = plan(alloc, instance)?;
-    let served = planned.amounts[0];
+    let mut left = planned.amounts[0];
     let mut together = vec![in alloc; false; goals.len()]?;
-    let mut asked: u64 = 0;
     for (place, goal) in goals.iter().enumerate() {
         together[place] = true;
-        asked = asked.saturating_add(goal.amount);
-        if asked > served {
+        if goal.amount > left {
             return Ok(Some(Conflict {
                 goal: place,
                 together,
             }));
         }
+        left -= goal.amount;
     }
     Ok(None)
 }

@@ -1,7 +1,9 @@
 -- The goals of `tune` that are answered by hand.
 use Rattle.bw_questions.specs.Raising.{IsTooMuch}
 use Rattle.bw_questions.specs.declared.tuned.measure.Measure.{Measure}
-use Rattle.bw_questions.specs.Tune.{AreGoals, IsConflict}
+use Rattle.bw_questions.specs.declared.tuned.tuning.Tuning.{Tuning}
+use Rattle.bw_questions.specs.declared.tuned.tuning.Tuning.TheVariants.{Met}
+use Rattle.bw_questions.specs.Tune.{AreGoals, IsConflict, NamesTheExcess}
 use Rattle.bw_questions.proofs.Raises.{no_value}
 use Rattle.bw_questions.proofs.TwoStarts.{good_light, light-IsTuning}
 use Rattle.bw_questions.proofs.tuned.tune.Goals as goal
@@ -29,5 +31,19 @@ pub returns-in-Some-2-clause-ok : goal.returns-in-Some-2-clause-ok
 returns-in-Some-2-clause-ok c =
     let never : (measure : Measure)
     → IsConflict measure c.args.instance.now c.args.goals.now c.in-Some-2.conflict =
-    rw c.in-Some-2.is at c.in_ok-conflict.ensures in
+    rw c.in-Some-2.is at c.in_ok-conflict.ensures.conflict in
     never c.args.measure
+
+pub returns-in-Met-clause-excess : goal.returns-in-Met-clause-excess
+returns-in-Met-clause-excess c =
+    let fits : (tuning : Tuning)
+    → NamesTheExcess c.args.instance.now c.args.goals.now tuning =
+    rw (no_value _ c.in_default-2.not-Some) at c.in_ok-conflict.ensures.none in
+    fits (Met c.in-Met.tuned)
+
+pub returns-clause-excess : goal.returns-clause-excess
+returns-clause-excess c =
+    let fits : (tuning : Tuning)
+    → NamesTheExcess c.args.instance.now c.args.goals.now tuning =
+    rw (no_value _ c.in_default-2.not-Some) at c.in_ok-conflict.ensures.none in
+    fits c.in_ok-tuning-in-Unmet.tuning
