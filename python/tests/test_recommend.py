@@ -206,3 +206,90 @@ def test_what_recommend_refuses(ctl, folder):
     assert "No such file" in err
     _, err = ctl.run("recommend", PODS, NODE, "--prometheus", "http://127.0.0.1:1", status=2)
     assert "--prometheus takes" in err
+
+
+# Containers of docker, and units
+
+
+def test_containers_of_docker(ctl, folder):
+    """500m and 300m and 15% are 575m and 345m: 588 and 353 shares, and 0.345 CPUs where one stood.
+
+    They weigh 23 and 14. All of 500m and 300m is there on one CPU, and is less than their parts.
+    """
+    (folder / "d.json").write_text(json.dumps([
+        {"Id": name * 64, "Name": f"/{name}", "Config": {"Image": "b"}, "HostConfig": config}
+        for name, config in (("a", {}), ("b", {"CpuShares": 2048, "NanoCpus": 10**9}))]))
+    (folder / "h.csv").write_text("time,a,b\n1,500m,300m\n2,500m,300m\n")
+    words = (folder / "d.json", "--cpus", "1", "--history", folder / "h.csv")
+    by, found, err = recommended(ctl, *words)
+    assert {name: each["settings"] for name, each in by.items()} == {
+        "system.slice/a": {"cpu-shares": {"now": "-", "then": "588"},
+                           "cpus": {"now": "-", "then": None}},
+        "system.slice/b": {"cpu-shares": {"now": "2048", "then": "353"},
+                           "cpus": {"now": "1", "then": "0.345"}}}
+    assert by["system.slice/b"]["set"] == ["system.slice/b.cpu-shares=353",
+                                           "system.slice/b.cpus=0.345"]
+    assert [each["guaranteed_millicpu"] for each in by.values()] == [500, 300]
+    assert found["requests_millicpu"] is found["allocatable_millicpu"] is None and err == ""
+    sets = [word for each in by.values() for one in each["set"] for word in ("--set", one)]
+    out, _ = ctl.run("compare", *words[:3], *sets, "--json")
+    assert {each["group"]: each["weight"] for each in json.loads(out)["after"]["groups"][2:]} == {
+        "system.slice/a": 23, "system.slice/b": 14}
+    out, _ = ctl.run("recommend", *words)
+    assert "requests of all pods" not in out
+    assert out.split("\n")[-2].split() == ["300m", "300m", "2048", "353", "1", "0.345", "300m",
+                                           "300m", "system.slice/b"]
+
+
+def test_stats_of_docker(ctl, folder):
+    """125.37% and 15% are 1442m, 1476 shares, and the limit is 1442m. job is not in the stats."""
+    by, _, _ = recommended(ctl, FIXTURES / "docker.json", "--cpus", "4", "--usage",
+                           FIXTURES / "stats.json")
+    assert by["system.slice/web"]["set"] == ["system.slice/web.cpu-shares=1476",
+                                             "system.slice/web.cpus=1.442"]
+    assert set(by) == {"system.slice/web", "system.slice/db"}
+
+
+def units_of(folder, name, seconds):
+    """Two units after some seconds of use, of which one has a quota of 50%."""
+    def unit(unit_, used, quota):
+        return (f"Id={unit_}\nControlGroup=/{unit_}\nCPUWeight=[not set]\nTasksCurrent=2\n"
+                f"CPUQuotaPerSecUSec={quota}\nCPUUsageNSec={used * 10**9}\n\n")
+
+    (folder / name).write_text(unit("a.service", 3 * seconds, "500ms")
+                               + unit("b.service", 12 * seconds, "infinity")
+                               + unit("idle.service", 0, "infinity"))
+    return folder / name
+
+
+def unit_settings(by):
+    """The settings of the units, now and then."""
+    return {each["unit"]: tuple((each["settings"][key]["now"], each["settings"][key]["then"])
+                                for key in ("CPUWeight", "CPUQuota")) for each in by}
+
+
+def test_units(ctl, folder):
+    """3 and 12 of 10 seconds are 300m and 1200m, with 15% 345m and 1380m: weights 35 and 138."""
+    words = (units_of(folder, "1.show", 0), "--later", units_of(folder, "2.show", 1), "--interval",
+             "10s", "--cpus", "4")
+    found = json.loads(ctl.run("recommend", *words, "--json")[0])["units"]
+    assert unit_settings(found) == {"a.service": (("100", "35"), ("50%", "34.5%")),
+                                    "b.service": (("100", "138"), ("-", None))}
+    out, _ = ctl.run("recommend", *words)
+    assert out.split("\n")[4].split() == ["used", "most", "CPUWeight", "then", "CPUQuota", "then",
+                                          "gets", "guaranteed", "unit"]
+    _, err = ctl.run("recommend", words[0], "--cpus", "4", status=1)
+    assert "nothing was seen of any unit here: --history, --later or --prometheus" in err
+
+
+def test_units_of_a_tree(ctl, folder):
+    """The same use in a tree of cgroups. What is no unit is left out."""
+    for copy, factor in (("a", 0), ("b", 10**6)):
+        trees.root2(folder / copy)
+        trees.group2(folder / copy / "a.service", maximum="50000 100000", usage=3 * factor)
+        trees.group2(folder / copy / "b.service", usage=12 * factor, threads=2)
+        trees.group2(folder / copy / "plain", usage=factor)
+    found = json.loads(ctl.run("recommend", folder / "a", "--later", folder / "b", "--interval",
+                               "10s", "--cpus", "4", "--json")[0])["units"]
+    assert unit_settings(found) == {"a.service": (("100", "35"), ("50%", "34.5%")),
+                                    "b.service": (("100", "138"), ("-", None))}

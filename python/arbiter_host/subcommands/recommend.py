@@ -8,14 +8,13 @@ from arbiter_host.faults import UsageFault
 from arbiter_host.model import Model
 from arbiter_host.names import cut, short, shown
 from arbiter_host.output import emit_json, emit_styled
-from arbiter_host.recommend import Recommendation, Use
-from arbiter_host.sources.pods import Amounts
+from arbiter_host.kinds import Use, kind_of
+from arbiter_host.recommend import Proposal, Recommendation
 from arbiter_host.subcommands.backwards import aligned
 from arbiter_host.subcommands.base import (Subcommand, add_reading_options, found_engine,
                                            source_name)
 from arbiter_host.subcommands.series import add_prometheus_options, mapped
 
-HEADS = ("used", "most", "request", "then", "limit", "then", "gets", "guaranteed", "container")
 
 
 def history_of(options: argparse.Namespace, model: Model) -> list[samples.Sample]:
@@ -37,7 +36,7 @@ def history_of(options: argparse.Namespace, model: Model) -> list[samples.Sample
 
 def uses_of(options: argparse.Namespace, model: Model) -> tuple[dict[str, Use], int]:
     """What was seen of each container, and the greatest number of samples."""
-    found = recommend.of_readings(model)
+    found = kind_of(model).seen()
     history = history_of(options, model)
     if history:
         uses, told = recommend.of_history(model, history, mapped(options.map))
@@ -52,7 +51,6 @@ def run(options: argparse.Namespace) -> None:
     rule = recommend.rule_of(options.target, options.headroom)
     by = found_engine(options)
     model = load.load(options, options.source, by)
-    recommend.source_of(model)
     uses, count = uses_of(options, model)
     load.warn(model, source_name(options.source))
     found = recommend.recommended(by, model, uses, rule)
@@ -63,24 +61,34 @@ def run(options: argparse.Namespace) -> None:
         emit_styled(lines_of(found, count))
 
 
-def cells(amounts: Amounts) -> tuple[str, str]:
-    """A request and a limit as Kubernetes writes them."""
-    request, limit = ("-" if each is None else f"{each}m" for each in (amounts.request,
-                                                                        amounts.limit))
-    return request, limit
+def cells(each: Proposal, keys: tuple[str, str]) -> list[str]:
+    """What weighs a group and what limits it, now and then, as people write them."""
+    then = {setting.key: setting.value for setting in each.settings}
+    return [word for key, now in zip(keys, each.words) for word in (now, then.get(key, "-"))]
+
+
+def totals_line(found: Recommendation) -> list[tuple[str, str]]:
+    """What all pods request, if groups have requests. It is red where the node has less."""
+    if found.requests is None:
+        return []
+    of_node = "" if found.allocatable is None else f", of {found.allocatable}m that the node has"
+    is_more = found.allocatable is not None and found.allocatable < found.requests[1]
+    return [(f"requests of all pods: {found.requests[0]}m now, {found.requests[1]}m then{of_node}",
+             "red" if is_more else "")]
 
 
 def lines_of(found: Recommendation, count: int) -> list[tuple[str, str]]:
     """The lines of `recommend`. A container that is short then is red."""
     percent, headroom = found.rule.percent, float(found.rule.headroom * 100)
-    of_node = "" if found.allocatable is None else f", of {found.allocatable}m that the node has"
     groups = found.after.by_path()
-    rows, styles = [list(HEADS)], ["bold"]
+    rows = [["used", "most", found.keys[0], "then", found.keys[1], "then", "gets", "guaranteed",
+             found.noun]]
+    styles = ["bold"]
     for each, path, owed in zip(found.proposals, found.paths, found.guaranteed):
-        now, then, group = cells(each.now), cells(each.then), groups[path]
+        group = groups[path]
         mark = "*" if each.is_throttled else ""
-        rows.append([f"{float(each.used):.0f}m", f"{float(each.most):.0f}m{mark}", now[0], then[0],
-                     now[1], then[1], text.amount(found.after, group.gets, "m") + "m",
+        rows.append([f"{float(each.used):.0f}m", f"{float(each.most):.0f}m{mark}",
+                     *cells(each, found.keys), text.amount(found.after, group.gets, "m") + "m",
                      text.amount(found.after, owed, "m") + "m",
                      cut(short(shown(each.title)), 100)])
         styles.append("red" if group.gets < group.want else "")
@@ -90,8 +98,7 @@ def lines_of(found: Recommendation, count: int) -> list[tuple[str, str]]:
     lines = [(text.host_words(found.after), ""),
              (f"p{percent} of at most {many}, and {headroom:g}% on top; the proved check accepted"
               " the plan", ""),
-             (f"requests of all pods: {found.requests[0]}m now, {found.requests[1]}m then{of_node}",
-              "red" if (found.allocatable or found.requests[1]) < found.requests[1] else ""),
+             *totals_line(found),
              (f"short when each uses this at once: {len(short_)}"
               + (f" ({', '.join(short_[:3])}{', ..' if len(short_) > 3 else ''})" if short_
                  else ""), "red" if short_ else ""), ("", ""), *zip(aligned(rows, 0), styles)]
@@ -102,8 +109,8 @@ def lines_of(found: Recommendation, count: int) -> list[tuple[str, str]]:
 
 def add_words(parser: argparse.ArgumentParser) -> None:
     """The words of `recommend`."""
-    parser.add_argument("source", nargs="+", metavar="SOURCE", help="pods and their node, as of"
-                        " explain")
+    parser.add_argument("source", nargs="+", metavar="SOURCE", help="pods and their node,"
+                        " containers of docker, units, or a tree of cgroup v2, as of explain")
     parser.add_argument("--target", default="p95", metavar="pN", help="the percentile of the use"
                         " that is requested, p1 to p100 or max (default p95)")
     parser.add_argument("--headroom", default="15", metavar="PERCENT", help="what is put on top of"
@@ -126,7 +133,10 @@ DETAILS = (
     " the greatest use, or what a throttled container wanted at least, with the same on top. A"
     " container without a limit gets none. In a guaranteed pod the request is the limit.",
     "What was used is said by --history, --prometheus, --usage or --cgroup; the last tells of"
-    " throttling too. A container of which nothing is said stays as it is.",
+    " throttling too. Of units it is the demand, where that is taken from usage. A container of"
+    " which nothing is said stays as it is.",
+    "For containers of docker the request is 1024 cpu-shares for each CPU and the limit cpus, for"
+    " units 100 of CPUWeight for each CPU and CPUQuota.",
     "In the plan each container asks for what it used at the percentile, with the proposed weights"
     " and limits. Beside it is what each is guaranteed, whatever the others ask for.",
 )
@@ -137,6 +147,6 @@ EXAMPLES = (
      "arbiterctl recommend pods.json node.json --history pods.csv --target p90 --json"),
 )
 RECOMMEND = Subcommand("recommend",
-                       "Proposes a request and a limit for each container of a node from what it"
+                       "Proposes a request and a limit for each container or unit from what it"
                        " used, and says who would be short and what each is guaranteed.",
                        add_words, run, DETAILS, EXAMPLES)
