@@ -169,8 +169,19 @@ def test_shell(ctl, folder):
 def test_shell_sets_units_by_systemctl(ctl, folder):
     found, _ = applied(ctl, folder, "shell", UNITS, "--cpus", "4", *SSH_CHANGE, "--persistent")
     assert found["arbiter.sh"].endswith(
-        "\nsystemctl set-property -- ssh.service CPUWeight=300\n"
+        "\nlook system.slice/ssh.service/cpu.weight 200\n"
+        "systemctl set-property -- ssh.service CPUWeight=300\n"
+        "look system.slice/ssh.service/cpu.max '50000 100000'\n"
         "systemctl set-property -- ssh.service CPUQuota=150% CPUQuotaPeriodSec=100000us\n")
+    # It stops at the property whose file holds something else.
+    trees.root2(folder / "t")
+    trees.group2(folder / "t" / SSH, 200, "70000 100000")
+    (folder / "systemctl").write_text("#!/bin/sh\necho \"$@\"\n")
+    (folder / "systemctl").chmod(0o755)
+    ended = subprocess.run(["bash", folder / "out/arbiter.sh", folder / "t"], capture_output=True,
+                           env={"PATH": f"{folder}:/usr/bin:/bin"}, text=True, check=False)
+    assert ended.returncode == 1 and "cpu.max holds 70000 100000, not 50000 100000" in ended.stderr
+    assert ended.stdout == "set-property -- ssh.service CPUWeight=300\n"
 
 
 # compose
@@ -195,6 +206,7 @@ def test_compose(ctl, folder):
     found, _ = applied(ctl, folder, "compose", containers(folder), "--cpus", "4", "--set",
                        "*/web*.max=2cpu", "--set", "*/web*.weight=200", "--set", "*/db.max=50%")
     assert list(found) == ["shop.override.yaml"]
+    assert "# Compose takes no `cpus` beside deploy.resources" in found["shop.override.yaml"]
     data = yaml.safe_load(found["shop.override.yaml"])
     shares = data["services"]["web"].pop("cpu_shares")
     assert data == {"services": {"web": {"cpus": 2},
@@ -358,6 +370,9 @@ def test_settings_that_people_own(ctl, folder):
                        "*/web*.cpus=2", "--set", "*/db.cpu-shares=512", to="out/c/")
     assert yaml.safe_load(found["c/shop.override.yaml"])["services"] == {
         "web": {"cpus": 2}, "db": {"cpu_shares": 512}}
+    shares, _ = applied(ctl, folder, "compose", containers(folder), "--cpus", "4", "--set",
+                        "*/db.cpu-shares=512", to="out/s/")
+    assert "deploy.resources" not in shares["s/shop.override.yaml"]
     found, _ = applied(ctl, folder, "dropin", UNITS, "--cpus", "4", "--set",
                        f"{SSH}.CPUQuota=75%", to="out/d/")
     assert unit_file(found["d/ssh.service.d/50-arbiter.conf"])["Service"] == {

@@ -125,6 +125,9 @@ def documents(asked: Asked) -> list[Document]:
         data = {"services": {name: keys for (each, name), keys in found.items()
                              if each == project}}
         use = f"# docker compose -p {project} -f COMPOSE.yaml -f {project}.override.yaml up -d\n"
+        if any("cpus" in keys for keys in data["services"].values()):
+            use += ("# Compose takes no `cpus` beside deploy.resources.limits.cpus: where a service"
+                    " has that, change it there.\n")
         documents_.append(Document(f"{project}.override.yaml", head("compose") + use
                                    + "".join(lines) + yaml.safe_dump(data, sort_keys=False)))
     return documents_

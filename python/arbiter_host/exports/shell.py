@@ -11,11 +11,14 @@ from arbiter_host.names import shown
 BEGIN = """\
 set -euo pipefail
 root=${1:-/sys/fs/cgroup}
-# Writes a file that holds what stood when this script was written.
-put() { # FILE OLD NEW
+# Ends the script if a file does not hold what stood when this script was written.
+look() { # FILE OLD
   local now
   now=$(cat -- "$root/$1")
   [ "$now" = "$2" ] || { echo "$0: $1 holds $now, not $2" >&2; exit 1; }
+}
+put() { # FILE OLD NEW
+  look "$1" "$2"
   echo "$3" > "$root/$1"
 }
 """
@@ -29,12 +32,12 @@ def quoted(text: str) -> str:
                           for each in os.fsencode(text)) + "'"
 
 
-def line_of(step: apply.Step) -> str:
-    """A step as a line."""
+def lines_of(step: apply.Step) -> list[str]:
+    """A step as lines."""
+    there = (f"{step.folder}/{step.file}", step.old)
     if step.unit:
-        return shlex.join(apply.command_of(step))
-    words = (f"{step.folder}/{step.file}", step.old, step.new)
-    return " ".join(["put", *map(quoted, words)])
+        return [" ".join(["look", *map(quoted, there)]), shlex.join(apply.command_of(step))]
+    return [" ".join(["put", *map(quoted, (*there, step.new))])]
 
 
 def documents(asked: Asked) -> list[Document]:
@@ -42,8 +45,9 @@ def documents(asked: Asked) -> list[Document]:
     lines = []
     changes, _ = apply.changes(asked.before, asked.after, asked.root)
     for group, change in zip(asked.groups(), changes):
-        lines += [f"# {group.words}",
-                  *map(line_of, apply.steps_of(change, change.before, asked.by))]
+        lines += [f"# {group.words}"]
+        for step in apply.steps_of(change, change.before, asked.by):
+            lines += lines_of(step)
     asked.told += of_kubelet(asked)
     text = "".join(f"{line}\n" for line in lines)
     use = "# bash arbiter.sh [ROOT]\n"
