@@ -443,7 +443,9 @@ def test_help_of_build(copy):
     same((status, err), (0, ""), "--help")
     same(copy.call(["./build", "-h"])[1], out, "-h")
     places = re.findall(r"^  ((?:bin|lib|include|share)/\S+)$", out, re.M)
-    same(len(places), 36, "places in help")
+    pages = [place for place in places if place.startswith("share/man/") and "arbiterctl" in place]
+    same(len(pages), len(list((ROOT / "share/man").iterdir())), "man pages of arbiterctl in help")
+    same(len(places) - len(pages), 19, "other places in help")
     no_folder = [(words, "needs a folder") for words in (["--install"], ["--install", ""])]
     for words, part in ((["--frob"], "'--frob'"), (["dir"], "'dir'"), *no_folder):
         status, out, err = copy.call(["./build", *words])

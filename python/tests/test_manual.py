@@ -1,4 +1,6 @@
 """Man pages, completions and help of arbiterctl: one source, and what shells make of them."""
+import http.server
+import json
 import os
 import pty
 import re
@@ -6,6 +8,7 @@ import select
 import shutil
 import subprocess
 import sys
+import threading
 import time
 
 import pytest
@@ -111,6 +114,9 @@ def examples(ctl, folder):
     trees.group2(folder / "cgroup/system.slice/db.service", usage=5)
     ctl.run("import", "cgroup", folder / "cgroup", "--interval", "1ms", "-o",
             folder / "host.script")
+    for at in (1, 2):
+        trees.root2(folder / f"copy-{at}")
+        trees.group2(folder / f"copy-{at}/web.service", usage=at * 10**6)
     (folder / "bin").mkdir()
     for name, text in (("arbiterctl", f'exec {sys.executable} {PACKAGE}/arbiterctl "$@"'),
                        ("kubectl", f"case $1 in top) cat {fixtures}/top.txt;"
@@ -125,6 +131,37 @@ def examples(ctl, folder):
     return folder
 
 
+class Counters(http.server.BaseHTTPRequestHandler):
+    """Answers each range query with a counter of a container of the fixtures."""
+
+    def do_GET(self):
+        labels = {"namespace": "prod", "pod": "db-0", "container": "postgres"}
+        series = {"metric": labels, "values": [[60 * at, str(60 * at)] for at in range(3)]}
+        self.send_response(200)
+        self.end_headers()
+        self.wfile.write(json.dumps({"data": {"result": [series]}}).encode())
+
+    def log_message(self, *_):
+        pass
+
+
+@pytest.fixture
+def server():
+    """The port of a server in place of Prometheus."""
+    found = http.server.ThreadingHTTPServer(("127.0.0.1", 0), Counters)
+    threading.Thread(target=found.serve_forever, daemon=True).start()
+    yield found.server_port
+    found.shutdown()
+    found.server_close()
+
+
+def busy(command, folder):
+    """A command beside which a group of a tree uses something."""
+    stat = f"{folder}/cgroup/web.service/cpu.stat"
+    return (f"for at in $(seq 3000); do echo usage_usec $at > {stat}.new && mv {stat}.new {stat} &&"
+            f" sleep 0.01; done & {command}; ended=$?; kill $!; exit $ended")
+
+
 def example_command(command, folder):
     """An example that reads a small tree for a moment, in place of this machine for seconds."""
     command = command.replace("/sys/fs/cgroup", f"{folder}/cgroup").replace("10s", "10ms")
@@ -133,6 +170,9 @@ def example_command(command, folder):
         command += f" {folder}/cgroup" if "cgroup" not in command else ""
     if command.startswith("arbiterctl watch"):
         command = command.replace(":9101", ":0") + " --once --interval 10ms"
+    if command.startswith("arbiterctl audit") and "--for" in command:
+        tree = f" {folder}/cgroup" if "cgroup" not in command else ""
+        command = busy(command.replace("60s", "300ms --interval 100ms") + tree, folder)
     if "fleet" in command:
         command += " --workers 0"
     if "apply" in command or "hold" in command:
@@ -142,8 +182,9 @@ def example_command(command, folder):
 
 @pytest.mark.parametrize("command", [command for each in every() if each.name != "undo"
                                      for _, command in each.examples])
-def test_examples_run(ctl, examples, command):
+def test_examples_run(ctl, examples, server, command):
     """Each example of the help and of the man pages ends with status 0 and says something."""
+    command = command.replace("127.0.0.1:9090", f"127.0.0.1:{server}")
     ended = subprocess.run(["bash", "-c", example_command(command, examples)], cwd=examples,
                            capture_output=True, env=ctl.environment, timeout=60, check=False)
     assert (ended.returncode, b"Traceback" in ended.stderr) == (0, False), ended.stderr.decode()
