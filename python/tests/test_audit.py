@@ -10,14 +10,17 @@ from fractions import Fraction
 
 import pytest
 import test_drawn
+import test_placement
 import test_prometheus
 import trees
 from arbiter import Host
 from arbiter_host import awake, placement, watch
 from arbiter_host.audit import answer, causes, intervals, looks, page, ranges, written
 from arbiter_host.audit.intervals import Cell, Interval
+from arbiter_host.demands import Reading
 from arbiter_host.faults import HostFault
 from arbiter_host.model import Group, Model
+from kernel import kept
 from places import PACKAGE
 
 FIXTURES = PACKAGE / "tests/fixtures"
@@ -481,6 +484,67 @@ def test_a_recorded_block(ctl, folder):
     assert groups["web"]["used_millicpu"] == [500, 500, 2000, 2000, 2000]
     assert groups["web"]["plan_millicpu"] == [500] * 5
     assert groups["db"]["used_millicpu"] == groups["db"]["plan_millicpu"] == [100] * 5
+
+
+# runs of guests
+
+def kept_look(at, model, runs):
+    """A look at a host that had the runs before it, 10,000 s each. Each group waited for what it
+    lacked, so that its demand is that of the run."""
+    span, counted = 10**4, {}
+    for path in runs[0]["groups"]:
+        wants = float(model.groups[path].usable) / 1000
+        had = [run["groups"][path][1] for run in runs[:at]]
+        waited = sum(max(0, 1 - each / wants) for each in had)
+        counted[path] = {"": looks.Counted(Reading(usec(sum(had) * span), 0, 0,
+                                                   usec(waited * span)))}
+    tasks = {path: model.groups[path].tasks for path in counted}
+    return looks.Look(f"{at}", Fraction(at * span), model, counted, tasks)
+
+
+def kept_audit(engine, name):
+    """The audit of all kept runs of a host, an interval for each, and what each was off then."""
+    found = kept.kept()
+    runs = [run for run in found["runs"] if run["host"] == name]
+    model = test_placement.kept_host(found["hosts"][name])
+    model = model.with_host(looks.fine(model.host))
+    seen = [kept_look(at, model, runs) for at in range(len(runs) + 1)]
+    return intervals.audited(engine, seen, "psi", set(), lambda: None), [
+        {path: 100 * (had - share) for path, (share, had) in run["groups"].items()}
+        for run in runs]
+
+
+def test_kept_runs_are_as_far_off(engine):
+    """Each run is as far off as docs/KERNEL.md was made of. There the share is that of the time
+    that other tasks left, which used at most half a percent of it."""
+    for name, host in kept.kept()["hosts"].items():
+        audit, runs = kept_audit(engine, name)
+        for found, off in zip(audit.intervals, runs, strict=True):
+            for path, each in found.cells.items():
+                assert abs(float(each.off) / 10 - off[path]) <= 0.5 * host["processors"], (
+                    name, path, float(each.off), off[path])
+
+
+@pytest.mark.parametrize("name, least, most", [
+    # one task against two or three, three and five with one each: 3 to 9
+    ("two-one-two", 3, 9), ("two-one-three", 3, 9), ("two-three-tasks", 3, 9), ("two-five", 3, 9),
+    # limits or idle time among the groups: up to 37
+    ("two-demands", 10, 37), ("two-pod", 5, 37), ("four-limits", 5, 37),
+    # a limit that binds alone, and as many tasks as CPUs: 0.3 to 1
+    ("two-nested", 0, 1), ("trial-71-two-cpus-limit", 0, 1), ("trial-61-two-cpus-weights", 0, 1)])
+def test_rows_of_the_page(engine, name, least, most):
+    """The group that was most off is as far off as the row of docs/KERNEL.md says."""
+    audit, _ = kept_audit(engine, name)
+    worst = max(abs(each.off) for found in audit.intervals for each in found.cells.values())
+    assert least <= worst / 10 <= most
+
+
+@pytest.mark.parametrize("name", ["two-one-three", "two-five", "two-demands"])
+def test_likely_cause_of_kept_runs(engine, name):
+    """By where tasks run, as the page has it, for all groups that are off by a point or more."""
+    audit, _ = kept_audit(engine, name)
+    rows = [row for row in answer.told(audit).rows if abs(row.most.off) >= 10]
+    assert len(rows) >= 2 and {row.cause for row in rows} == {causes.PLACEMENT}
 
 
 # the page
