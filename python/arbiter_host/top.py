@@ -4,6 +4,7 @@ from __future__ import annotations
 import os
 import queue
 import select
+import signal
 import sys
 import termios
 import threading
@@ -150,6 +151,28 @@ class Keys:
 
 
 @contextmanager
+def ended_by_signals() -> Iterator[None]:
+    """Lets signals that end the command end the view first, so that the terminal is as it was."""
+    came: list[int] = []
+
+    def take(number: int, _: object) -> None:
+        came.append(number)
+        raise KeyboardInterrupt
+
+    before = {each: signal.signal(each, take) for each in (signal.SIGTERM, signal.SIGHUP)}
+    try:
+        yield
+    except KeyboardInterrupt:
+        if not came:
+            raise
+    finally:
+        for each, handler in before.items():
+            signal.signal(each, handler)
+    if came:
+        os.kill(os.getpid(), came[0])
+
+
+@contextmanager
 def key_by_key() -> Iterator[int | None]:
     """Standard input key by key, if it is a terminal. It is as it was at the end."""
     if sys.stdin is None or not sys.stdin.isatty():
@@ -209,8 +232,8 @@ def live(read: Callable[[], Plan], view: Callable[[], View], count: int) -> None
     console, reader, keys, history = (Console(highlight=False), Reader(read, count), Keys(),
                                       History())
     plan: Plan | None = None
-    with key_by_key() as descriptor, Live(console=console, screen=True,
-                                          auto_refresh=False) as live_:
+    with (ended_by_signals(), key_by_key() as descriptor,
+          Live(console=console, screen=True, auto_refresh=False) as live_):
         while not keys.is_ended:
             letters = pressed(descriptor)
             try:

@@ -6,6 +6,7 @@ import io
 import json
 import re
 import shutil
+import signal
 import subprocess
 import threading
 import time
@@ -438,9 +439,10 @@ def test_top_without_a_terminal(ctl, folder):
     assert out.count("2 CPUs, period 100 ms") == 2 and out.count("  web") == 2
 
 
-@pytest.mark.parametrize("columns, lines", [(80, 24), (200, 50)])
-def test_top_on_a_terminal(ctl, folder, columns, lines):
-    """The view fits the terminal, and Ctrl-C leaves the terminal as it was."""
+@pytest.mark.parametrize("columns, lines, ending", [
+    (80, 24, signal.SIGINT), (200, 50, signal.SIGINT), (80, 24, signal.SIGTERM)])
+def test_top_on_a_terminal(ctl, folder, columns, lines, ending):
+    """The view fits the terminal, and each signal leaves the terminal as it was, with its echo."""
     trees.root2(folder)
     for number in range(60):
         trees.group2(folder / f"web{number}", usage=5)
@@ -448,6 +450,9 @@ def test_top_on_a_terminal(ctl, folder, columns, lines):
                "ready,say=os.pipe()\n"
                "pid,fd=pty.fork()\n"
                "if pid==0: os.read(ready,1); os.execvp(sys.argv[1],sys.argv[1:])\n"
+               # (the number of the terminal, by TIOCGPTN)
+               "at=struct.unpack('I',fcntl.ioctl(fd,0x80045430,b'1234'))[0]\n"
+               "tty=os.open(f'/dev/pts/{at}',os.O_RDWR|os.O_NOCTTY)\n"
                f"fcntl.ioctl(fd,termios.TIOCSWINSZ,struct.pack('HHHH',{lines},{columns},0,0))\n"
                "os.write(say,b'x')\n"
                "out=b'';end=time.time()+50\n"
@@ -455,14 +460,14 @@ def test_top_on_a_terminal(ctl, folder, columns, lines):
                "  if select.select([fd],[],[],.2)[0]:\n"
                "    try: out+=os.read(fd,65536)\n"
                "    except OSError: break\n"
-               "os.kill(pid,signal.SIGINT)\n"
-               "while True:\n"
-               "  try: part=os.read(fd,65536)\n"
-               "  except OSError: break\n"
-               "  if not part: break\n"
-               "  out+=part\n"
-               "_,status=os.waitpid(pid,0)\n"
-               "sys.stdout.buffer.write(out);sys.exit(0 if status==2 else 9)\n")
+               f"os.kill(pid,{int(ending)})\n"
+               "gone=0\n"
+               "while not gone:\n"
+               "  gone,status=os.waitpid(pid,os.WNOHANG)\n"
+               "  while select.select([fd],[],[],.2)[0]: out+=os.read(fd,65536)\n"
+               "echo=termios.tcgetattr(tty)[3]&termios.ECHO\n"
+               "sys.stdout.buffer.write(out)\n"
+               f"sys.exit(0 if status=={int(ending)} and echo else 9)\n")
     ctl.environment.pop("COLUMNS")
     ctl.environment["TERM"] = "xterm"
     words = ["python3", "-c", command, "/usr/bin/python3", PACKAGE / "arbiterctl", "top", folder,
