@@ -23,7 +23,7 @@ from arbiter_host.beneath import Gone, Identity, Root, check_path, parts_of
 from arbiter_host.faults import HostFault, strerror
 from arbiter_host.model import Group, Model, check_settings
 from arbiter_host.names import NOWHERE, raw_path, shown
-from arbiter_host.sources import data
+from arbiter_host.sources import cgroup2, data
 from arbiter_host.sources.systemd import UNIT
 
 SECONDS = 60
@@ -252,6 +252,30 @@ def command_of(step: Step) -> list[str]:
     return ["systemctl", "set-property", *until_boot, "--", step.unit, *step.new.split(" ")]
 
 
+class Meanwhile(HostFault):
+    """A file that somebody set after it was read and before it was to be written."""
+
+
+def check_stands(step: Step, root: Root) -> None:
+    """A fault where a file holds something else than when its step was made. What systemd writes
+    is its own."""
+    if step.unit:
+        return
+    now = " ".join(root.read(step.folder, step.file).split())
+    if now != step.old:
+        raise Meanwhile(f"{shown(step.folder)}: somebody set {step.file} to {shown(now[:40])}"
+                        " meanwhile")
+
+
+def after_step(stands: Settings, wanted: Settings, step: Step) -> Settings:
+    """What stands in a group after one step to what is wanted."""
+    if step.file == "cpu.max":
+        return replace(stands, quota=wanted.quota, period=wanted.period)
+    if step.file == "cpu.weight":
+        return replace(stands, weight=wanted.weight)
+    return replace(stands, burst=wanted.burst)
+
+
 def do(step: Step, root: Root) -> None:
     """Makes one change."""
     if not step.unit:
@@ -288,7 +312,7 @@ def write_synced(path: str, text: str) -> None:
     try:
         try:
             write_new(part, text)
-            os.link(part, path)
+            os.link(part, path, follow_symlinks=False)
         finally:
             with suppress(FileNotFoundError):
                 os.unlink(part)
@@ -364,6 +388,7 @@ def make(root: Root, found: Sequence[Change], by: By, undo: str, done: list[Step
     write_synced(undo, undo_text(root, found, by))
     try:
         for step in steps:
+            check_stands(step, root)
             do(step, root)
             done.append(step)
         check_after(root, found)
@@ -449,8 +474,11 @@ def read_undo(content: bytes, name: str, is_forced: bool = False) -> Back:
     if data.number(found, "arbiter_undo") != VERSION or not data.text(found, "root"):
         raise HostFault(f"{name}: no undo file of `arbiterctl apply`")
     back = Back(Root(found["root"]), by_of(found))
-    are_there = [take_back(back, entry, is_forced) for entry in data.tables(found, "groups")]
-    if are_there and not any(are_there):
+    entries = data.tables(found, "groups")
+    are_there = [take_back(back, entry, is_forced) for entry in entries]
+    # Groups that a loop holds come and go.
+    is_loops = all("earlier" in entry for entry in entries) and cgroup2.is_tree(back.root.path)
+    if are_there and not any(are_there) and not is_loops:
         raise HostFault(f"{shown(back.root.path)}: none of the groups of {name} is there")
     return back
 
@@ -458,14 +486,26 @@ def read_undo(content: bytes, name: str, is_forced: bool = False) -> Back:
 def undo(back: Back, done: list[Step]) -> None:
     """Brings the old settings back, and reads them. `done` gets the steps that were made.
 
-    A group that goes meanwhile is told in `back.left`.
+    A group that goes meanwhile, and a file that somebody sets meanwhile, are told in `back.left`. A
+    fault of one group is raised after the others were undone.
     """
-    by_files = false_units(back.steps())
+    by_files, wrong, skipped = false_units(back.steps()), [], set()
     for step in back.steps(by_files):
-        with suppress(Gone):
+        try:
+            check_stands(step, back.root)
             do(step, back.root)
             done.append(step)
+        except Gone:
+            continue
+        except Meanwhile as fault:
+            back.left.append(f"{fault.message}: it is left (undo once more, or --force)")
+            skipped.add(step.folder)
+        except HostFault as fault:
+            wrong.append(fault.message)
+            skipped.add(step.folder)
     there = [change for change in back.changes if standing(back.root, change.folder)]
     back.left += [f"{change.folder}: the group is gone, nothing of it is undone"
                   for change in back.changes if change not in there]
-    check_after(back.root, there)
+    if wrong:
+        raise HostFault("\n".join(wrong))
+    check_after(back.root, [change for change in there if change.folder not in skipped])

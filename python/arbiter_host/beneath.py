@@ -9,6 +9,7 @@ import errno
 import os
 import resource
 import stat
+import sys
 from collections.abc import Iterator
 from contextlib import contextmanager, suppress
 
@@ -40,6 +41,12 @@ def open_more_files() -> None:
     with suppress(OSError, ValueError):
         _, most = resource.getrlimit(resource.RLIMIT_NOFILE)
         resource.setrlimit(resource.RLIMIT_NOFILE, (most, most))
+
+
+def most_files() -> int:
+    """The most files that this process may have open."""
+    _, most = resource.getrlimit(resource.RLIMIT_NOFILE)
+    return sys.maxsize if most == resource.RLIM_INFINITY else most
 
 
 class Root:
@@ -127,6 +134,12 @@ class Root:
                 yield descriptor
             finally:
                 os.close(descriptor)
+
+    def status(self, folder: str, file: str) -> os.stat_result | None:
+        """Owner and mode of a file; None where it cannot be told."""
+        with suppress(HostFault), self.opened(folder, file, os.O_RDONLY) as descriptor:
+            return os.fstat(descriptor)
+        return None
 
     def read(self, folder: str, file: str, most: int = MAX_TEXT) -> str:
         """The text of a file, at most so many bytes. The kernel gives a page at a time."""

@@ -9,16 +9,14 @@ from __future__ import annotations
 import json
 import os
 import re
-import sys
 import time
 from collections.abc import Callable, Iterable, Sequence
-from contextlib import suppress
 from dataclasses import asdict, dataclass, field, replace
 from fractions import Fraction
 from typing import Any, NamedTuple
 
 from arbiter import Columns, Host, Row
-from arbiter_host import apply, awake, demands, units, weights
+from arbiter_host import apply, awake, beneath, demands, output, units, weights
 from arbiter_host.apply import Back, By, Change, Settings
 from arbiter_host.awake import Tasks
 from arbiter_host.beneath import Gone, Identity, Root
@@ -41,8 +39,8 @@ MOST_FAILED = 2
 # Rounds, and their nanoseconds, that may be missed before one. After more of both the clock has
 # jumped, or nothing ran for long.
 MOST_MISSED, LONGEST_MISSED = 5, 5 * 10**9
-# Remarks that are remembered, so that each is told once.
-MOST_TOLD = 10000
+# Files that are open beside those of the groups.
+SPARE_FILES = 64
 # Quota over burst, where a limit has a burst.
 BURST_PART = 10
 # A quota stands that is up to this part of it above the limit of the rule; half as much is written
@@ -113,6 +111,10 @@ class Round(NamedTuple):
     told: dict[str, dict[str, Any]]
 
 
+class Stopped(Exception):
+    """A signal that came while a round was told."""
+
+
 class WriteFault(HostFault):
     """A fault of a writing, which ends the loop. One of a reading may pass."""
 
@@ -153,12 +155,35 @@ def own_folder() -> str:
     return f"{HOST_TREE}{path.group(1)}" if path else ""
 
 
-def check_owner(top: str, nodes: Sequence[Node], is_forced: bool) -> None:
+def own_group() -> Identity | None:
+    """The group in which this process runs, by whatever path it is reached."""
+    try:
+        found = os.stat(own_folder())
+    except OSError:
+        return None
+    return found.st_dev, found.st_ino
+
+
+def of_kubelet(path: str) -> str:
+    """The part of a path down to a group that has a name as kubelet's; empty without one."""
+    parts = path.split("/")
+    return next(("/".join(parts[:place + 1]) for place, part in enumerate(parts)
+                 if KUBELET.fullmatch(part)), "")
+
+
+def is_trusted(folder: str) -> bool:
+    """Whether a group is root's or this user's. Others may give theirs any name."""
+    try:
+        return os.lstat(folder).st_uid in (0, os.geteuid())
+    except OSError:
+        return False
+
+
+def check_owner(top: str, nodes: Sequence[Node]) -> None:
     """A fault where kubelet owns a group: it writes limits itself, and would undo these."""
-    if is_forced:
-        return
     for folder in [top, *(node.folder for node in nodes)]:
-        if any(KUBELET.fullmatch(part) for part in folder.split("/")):
+        found = of_kubelet(folder)
+        if found and is_trusted(found):
             raise HostFault(f"{shown(folder)}: kubelet owns the limits there, and would write over"
                             " these (--force)")
 
@@ -173,6 +198,12 @@ def own_settings(group: Group, old: Settings) -> None:
     group.weight, group.quota, group.period = old.weight or 1, old.quota, old.period
 
 
+def with_burst(settings: Settings, burst: int) -> Settings:
+    """Settings with a burst that somebody set, as far as their quota lets it be."""
+    most = burst if settings.quota is None else settings.quota
+    return replace(settings, burst=min(burst, most))
+
+
 class Loop:
     """The rounds over one tree. `record` is None where nothing is written."""
 
@@ -181,24 +212,17 @@ class Loop:
                  clock: Callable[[], int] = time.monotonic_ns) -> None:
         self.engine, self.root, self.host = engine, root, host
         self.top, self.record = os.path.realpath(top), record
-        self.ways, self.clock, self.own = ways, clock, own_folder()
+        self.ways, self.clock, self.own = ways, clock, own_group()
         # The groups that are open, by their paths.
         self.groups: dict[str, Kept] = {}
         # The number of tasks of each leaf at the last reading.
         self.tasks: dict[str, int] = {}
-        self.told: set[str] = set()
+        self.tell = output.Remarks().tell
         # Whether it was told that limits are rounded up.
         self.has_rounded = False
+        # Whether no group was kubelet's when the loop began.
+        self.is_checked = ways.is_forced
         self.rounds = 0
-
-    def tell(self, notes: Iterable[str]) -> None:
-        """Tells remarks, each once."""
-        for note in notes:
-            if note not in self.told:
-                if len(self.told) >= MOST_TOLD:
-                    self.told.clear()
-                self.told.add(note)
-                print(f"arbiterctl: warning: {shown(note)}", file=sys.stderr, flush=True)
 
     def counters(self, folder: str) -> tuple[Reading, int]:
         """The counters of a group that is open, and when they were read."""
@@ -213,6 +237,10 @@ class Loop:
     def take_up(self, node: Node) -> None:
         """Opens a group that is new, and reads what stands in it."""
         path, folder = node.group.path, apply.folder_of(node.group, self.root)
+        if len(self.groups) >= beneath.most_files() - SPARE_FILES:
+            self.tell([f"more than {len(self.groups)} groups: the others are left alone, since each"
+                       " takes an open file (ulimit -n)"])
+            return
         try:
             self.root.keep(folder, node.group.identity)
             stands = apply.current(self.root, folder, takes_idle=True)
@@ -231,19 +259,27 @@ class Loop:
         """Closes a group that went, or that has children now or none any more. What stood is put
         back, in the group and in the model."""
         kept = self.groups[path]
-        self.put_back([kept])
+        try:
+            self.put_back([kept])
+        except HostFault as fault:
+            if not self.is_of_others(kept):
+                raise
+            self.tell([fault.message])
         self.root.let_go(self.groups.pop(path).folder)
         group = model.groups.get(path)
         if group is not None and group.identity == kept.identity:
             own_settings(group, kept.old)
 
     def look(self, kept: Kept, path: str) -> None:
-        """Reads what stands in a group. A weight that somebody set is the operator's. A limit that
-        somebody set is left alone from then on."""
+        """Reads what stands in a group. A weight or a burst that somebody set is the operator's. A
+        limit that somebody set is left alone from then on."""
         now = apply.current(self.root, kept.folder, takes_idle=True)
         if now.weight != kept.stands.weight:
             kept.old = replace(kept.old, weight=now.weight)
             kept.stands = replace(kept.stands, weight=now.weight)
+        if now.maximum == kept.stands.maximum and now.burst != kept.stands.burst:
+            kept.old = with_burst(kept.old, now.burst)
+            kept.stands = replace(kept.stands, burst=now.burst)
         if now != kept.stands:
             if kept.is_leaf and not kept.is_left:
                 self.tell([f"{path}: somebody set {apply.told(now)}: its limit is left alone"])
@@ -252,8 +288,14 @@ class Loop:
         kept.target = kept.stands
 
     def is_held(self, node: Node) -> bool:
-        """Whether a group may be written. The loop's own is not: it would stop itself."""
-        if not node.children and node.folder == self.own:
+        """Whether a group may be written. The loop's own is not: it would stop itself. Kubelet's
+        are not that came since the loop began."""
+        kubelets = "" if self.ways.is_forced else of_kubelet(node.folder[len(self.top):])
+        if kubelets and is_trusted(self.top + kubelets):
+            self.tell([f"{kubelets[1:]}: kubelet owns the limits there: it is left alone"
+                       " (--force)"])
+            return False
+        if not node.children and node.group.identity == self.own:
             self.tell([f"{node.group.path}: this loop runs there: it is left alone"])
             return False
         return self.ways.has_weights or not node.children
@@ -261,7 +303,9 @@ class Loop:
     def read(self) -> tuple[Model, dict[str, Used]]:
         """The groups as they stand, and what each leaf used since the last reading of it."""
         model, nodes = tree(self.top, self.host, self.ways.depth)
-        check_owner(self.top, nodes, self.ways.is_forced)
+        if not self.is_checked:
+            check_owner(self.top, nodes)
+            self.is_checked = True
         self.tell(model.notes)
         there = {node.group.path: node for node in nodes if self.is_held(node)}
         self.tasks = {path: node.measured.tasks or 1 for path, node in there.items()}
@@ -413,12 +457,27 @@ class Loop:
         return len(changed)
 
     def set(self, kept: Kept) -> None:
-        """Writes the target of a group. One that is gone is dropped by the next reading."""
+        """Writes the target of a group. One that is gone is dropped by the next reading. One that
+        somebody set since it was read is left to that: the kernel may refuse the target then."""
         change = Change(kept.folder, kept.stands, kept.target)
-        with suppress(Gone):
+        try:
             for step in apply.steps_of(change, kept.stands, By.FILES):
+                apply.check_stands(step, self.root)
                 apply.do(step, self.root)
-            kept.stands = kept.target
+                kept.stands = apply.after_step(kept.stands, kept.target, step)
+        except (Gone, apply.Meanwhile):
+            kept.target = kept.stands
+        except HostFault as fault:
+            kept.target = kept.stands
+            if not self.is_of_others(kept):
+                raise
+            self.tell([f"{fault.message}: its owner may have set it meanwhile"])
+
+    def is_of_others(self, kept: Kept) -> bool:
+        """Whether users that are not trusted may set the limit of a group. What they set there must
+        end no loop."""
+        found = self.root.status(kept.folder, "cpu.max")
+        return found is None or found.st_uid not in (0, os.geteuid()) or bool(found.st_mode & 0o022)
 
     def undo_text(self) -> str:
         """What stood in each group, and what it may hold by this loop."""
@@ -429,19 +488,39 @@ class Loop:
                            "groups": groups}, indent=1) + "\n"
 
     def put_back(self, groups: Iterable[Kept]) -> None:
-        """Puts back what stood; what somebody else set stays, and is told."""
-        back = Back(self.root, By.FILES)
+        """Puts back what stood; what somebody else set stays, and is told. A fault of one group is
+        told after the others were put back."""
+        back, wrong = Back(self.root, By.FILES), []
         for kept in groups:
-            now = apply.standing(self.root, kept.folder)
-            if now is None:
-                continue
-            wanted = apply.wanted_back(now, kept.old, kept.written)
-            if wanted != kept.old:
-                self.tell([f"{kept.folder}: somebody set {apply.told(now)}: it is left alone"])
-            if wanted != now:
-                back.changes.append(Change(kept.folder, now, wanted))
-        if self.record is not None:
-            apply.undo(back, [])
+            try:
+                self.take_back(back, kept)
+            except HostFault as fault:
+                wrong.append(fault.message)
+        try:
+            if self.record is not None:
+                apply.undo(back, [])
+        except HostFault as fault:
+            wrong.append(fault.message)
+        self.tell(back.left)
+        if wrong:
+            raise HostFault("\n".join(wrong))
+
+    def take_back(self, back: Back, kept: Kept) -> None:
+        """Takes the change of a group to what stood in it."""
+        now = apply.standing(self.root, kept.folder)
+        if now is None:
+            return
+        old, written = kept.old, kept.written
+        if (now.maximum in [each.maximum for each in written]
+                and now.burst not in [each.burst for each in [old, *written]]):
+            # A burst alone was set: the limit is this loop's, and is taken back.
+            old = with_burst(old, now.burst)
+            written = [*written, replace(kept.stands, burst=now.burst)]
+        wanted = apply.wanted_back(now, old, written)
+        if wanted != old:
+            self.tell([f"{kept.folder}: somebody set {apply.told(now)}: it is left alone"])
+        if wanted != now:
+            back.changes.append(Change(kept.folder, now, wanted))
 
     def round(self, missed: int = 0, is_jump: bool = False) -> Line:
         """One round: reads, asks, writes. Returns the line that tells it."""
@@ -487,7 +566,7 @@ def tried(loop: Loop, times: Times, failed: int, missed: int,
     except HostFault as fault:
         if failed + 1 >= MOST_FAILED or isinstance(fault, WriteFault):
             raise
-        print(f"arbiterctl: warning: {shown(fault.message)}", file=sys.stderr, flush=True)
+        output.warn(fault.message)
         return failed + 1
     emit(line)
     return 0
@@ -507,12 +586,14 @@ def run(loop: Loop, times: Times, wait: Callable[[float], bool],
             passed = loop.clock() - begun
             missed = max(passed // times.interval - turn, 0)
             if missed:
-                print(f"arbiterctl: warning: {missed} rounds missed", file=sys.stderr, flush=True)
+                output.warn(f"{missed} rounds missed")
             if times.whole is not None and passed >= times.whole or times.is_once and turn > 1:
                 return
             failed = tried(loop, times, failed, missed, emit)
             if times.is_once and loop.record is None:
                 return
             turn += 1 + missed
+    except Stopped:
+        pass
     finally:
         loop.end()

@@ -153,6 +153,13 @@ def bounded(file: BinaryIO) -> bytes:
     return bytes(data)
 
 
+def check_trusted(path: str, found: os.stat_result) -> None:
+    """A fault where another user may say what a file holds."""
+    if found.st_uid not in (0, os.geteuid()) or found.st_mode & 0o002:
+        raise HostFault(f"{names.shown(path)}: other users may change this file, and what it sets;"
+                        " nothing is changed (chown it once it is looked at)")
+
+
 def check_file(path: str, found: os.stat_result, is_plain: bool) -> None:
     """A fault where a file is no plain one but has to be, or is too long to be read."""
     is_regular = stat.S_ISREG(found.st_mode)
@@ -162,13 +169,15 @@ def check_file(path: str, found: os.stat_result, is_plain: bool) -> None:
         raise HostFault(f"{names.shown(path)}: {TOO_LONG}")
 
 
-def opened_bytes(path: str, is_plain: bool) -> bytes:
+def opened_bytes(path: str, is_plain: bool, is_trusted: bool) -> bytes:
     """The bytes of a file. What has to be plain is opened in a way that waits for nobody."""
     if is_plain:
         check_file(path, os.stat(path), True)
     flags = os.O_RDONLY | os.O_CLOEXEC | (os.O_NONBLOCK if is_plain else 0)
     with os.fdopen(os.open(path, flags), "rb") as file:
         check_file(path, os.fstat(file.fileno()), is_plain)
+        if is_trusted:
+            check_trusted(path, os.fstat(file.fileno()))
         return bounded(file)
 
 
@@ -184,13 +193,14 @@ def in_utf8(path: str, data: bytes) -> bytes:
     return data
 
 
-def file_bytes(path: str, is_plain: bool = False) -> bytes:
-    """The bytes of a file; `-` is standard input, unless the file has to be plain."""
+def file_bytes(path: str, is_plain: bool = False, is_trusted: bool = False) -> bytes:
+    """The bytes of a file; `-` is standard input, unless the file has to be plain. With
+    `is_trusted` a file is root's or this user's."""
     try:
         if path == "-" and not is_plain:
             data = bounded(sys.stdin.buffer) if sys.stdin else b""
         else:
-            data = opened_bytes(path, is_plain)
+            data = opened_bytes(path, is_plain, is_trusted)
     except OSError as error:
         raise HostFault(f"{names.shown(path)}: {strerror(error)}") from error
     except ValueError as error:

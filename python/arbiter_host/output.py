@@ -3,12 +3,15 @@ from __future__ import annotations
 
 import os
 import sys
-from collections.abc import Sequence
+from collections.abc import Iterable, Sequence
 from contextlib import suppress
 from typing import Any
 
 from arbiter_host import names
 from arbiter_host.faults import HostFault, strerror
+
+# Remarks that are remembered, and those that are told at a time.
+MOST_TOLD, MOST_AT_ONCE = 10000, 100
 
 
 def emit(lines: str) -> None:
@@ -81,6 +84,25 @@ def say(words: str) -> None:
 def warn(words: str) -> None:
     """Prints a warning on standard error."""
     say(f"warning: {words}")
+
+
+class Remarks:
+    """Remarks of a command that runs for long: each is told once, and few of them at a time, since
+    whoever names groups could fill a log with them."""
+
+    def __init__(self) -> None:
+        self.told: set[str] = set()
+
+    def tell(self, notes: Iterable[str]) -> None:
+        """Tells those that are new."""
+        new = [note for note in dict.fromkeys(notes) if note not in self.told]
+        if len(self.told) + len(new) > MOST_TOLD:
+            self.told.clear()
+        self.told.update(new[:MOST_TOLD])
+        for note in new[:MOST_AT_ONCE]:
+            warn(note)
+        if len(new) > MOST_AT_ONCE:
+            warn(f"remarks that are not shown: {len(new) - MOST_AT_ONCE}")
 
 
 def tell(fault: HostFault) -> None:

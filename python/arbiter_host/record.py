@@ -9,6 +9,7 @@ import errno
 import fcntl
 import os
 import stat
+import time
 from collections.abc import Iterator
 from contextlib import ExitStack, contextmanager, suppress
 
@@ -20,6 +21,10 @@ FOLDER = "/run/arbiter"
 LOCK = "hold.lock"
 FLAGS = os.O_NOFOLLOW | os.O_CLOEXEC
 PLACE, FOLDERS = os.O_PATH | FLAGS, os.O_RDONLY | os.O_DIRECTORY | FLAGS
+# How often a lock is tried, and the seconds between.
+TURNS, PATIENCE = 5, 0.1
+# Bytes of the path of a tree.
+MOST_TOP = 4096
 # Links on the way to a folder, as the kernel has it.
 MOST_LINKS = 40
 
@@ -122,23 +127,54 @@ def checked_own(path: str, descriptor: int) -> int:
     return descriptor
 
 
-def lock(path: str) -> list[int]:
-    """Locks a folder against a second loop. The lock stands while the descriptors are open."""
+def locked(file: int, how: int) -> bool:
+    """Locks a file, unless another process has it locked."""
+    try:
+        fcntl.flock(file, how | fcntl.LOCK_NB)
+        return True
+    except BlockingIOError:
+        return False
+
+
+def locked_soon(file: int) -> bool:
+    """Locks a file for this process alone. One that asks who holds it has it for a moment."""
+    for _ in range(TURNS):
+        if locked(file, fcntl.LOCK_EX):
+            return True
+        time.sleep(PATIENCE)
+    return False
+
+
+def lock(path: str, top: str = "") -> list[int]:
+    """Locks a folder against a second loop. The lock stands while the descriptors are open. Its
+    file has the top of the tree that is held."""
     folder = own_folder(path)
     name = os.path.join(path, LOCK)
     try:
         with faults(name):
             file = os.open(LOCK, os.O_RDWR | os.O_CREAT | FLAGS, 0o600, dir_fd=folder)
-        try:
-            fcntl.flock(file, fcntl.LOCK_EX | fcntl.LOCK_NB)
-        except OSError as error:
-            os.close(file)
-            raise HostFault(f"{shown(name)}: another loop holds this host; nothing is changed"
-                            ) from error
+            if not locked_soon(file):
+                os.close(file)
+                raise HostFault(f"{shown(name)}: another loop holds this host; nothing is changed")
+            os.ftruncate(file, 0)
+            os.write(file, os.fsencode(top))
     except HostFault:
         os.close(folder)
         raise
     return [folder, file]
+
+
+def holder(path: str) -> str | None:
+    """The top of the tree that a loop holds by the lock of a folder; None where none runs, or where
+    this user cannot tell."""
+    try:
+        file = os.open(os.path.join(path, LOCK), os.O_RDONLY | os.O_NONBLOCK | FLAGS)
+    except OSError:
+        return None
+    try:
+        return None if locked(file, fcntl.LOCK_SH) else os.fsdecode(os.read(file, MOST_TOP))
+    finally:
+        os.close(file)
 
 
 def write_part(folder: int, name: str, text: str, mode: int = 0o600, is_synced: bool = False

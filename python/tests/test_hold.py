@@ -299,7 +299,8 @@ def test_a_clock_that_jumps(world, engine, folder, capsys):
 def test_own_group_is_left_alone(world, engine, folder, capsys, monkeypatch):
     """The group that the loop runs in is not limited. It is that of /proc/self/cgroup."""
     loop = world.loop(engine, folder / "undo")
-    loop.own = str(world.tree / "a")
+    found = os.stat(world.tree / "a")
+    loop.own = found.st_dev, found.st_ino
     (line, stood), _ = world.run(loop, lambda: None, lambda: None)
     assert sorted(line["groups"]) == ["b", "c"] and stood["a"] == FREE
     assert capsys.readouterr().err.count("a: this loop runs there") == 1

@@ -18,7 +18,7 @@ from arbiter_host import apply, awake, beneath, gauges, hold, notify, weights
 from arbiter_host.apply import Settings
 from arbiter_host.faults import HostFault
 from arbiter_host.model import Group, Model
-from arbiter_host.subcommands.hold import Waits
+from arbiter_host.subcommands.hold import Signals, Waits
 from places import PACKAGE
 from test_hold import FREE, World, content, limit, said, started
 
@@ -387,7 +387,7 @@ def test_watchdog_in_a_long_wait(folder):
         told = notify.Notifier(given)
         assert given == {} and told.every == Fraction(3, 100)
         begun = time.monotonic()
-        assert Waits(told)(0.3) is False
+        assert Waits(told, Signals())(0.3) is False
         assert time.monotonic() - begun >= 0.29
         # (a busy machine wakes it late)
         assert 2 <= len(received(at)) <= 12

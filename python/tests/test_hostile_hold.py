@@ -1,4 +1,4 @@
-"""Hold beside others: owners of groups, what is set meanwhile, readers that stop, other commands."""
+"""Hold beside others: owners of groups, settings meanwhile, readers that stop, other commands."""
 import errno
 import fcntl
 import json
@@ -37,7 +37,7 @@ def give(path):
 
 
 class Kernel(beneath.Root):
-    """A tree that refuses a quota below the burst, as the kernel does, and each file of `refused`."""
+    """A tree that refuses a quota below the burst, as the kernel does, and files of `refused`."""
 
     refused = ()
 
@@ -73,18 +73,26 @@ def at_end(loop, action):
 
 @as_root
 def test_a_tenant_names_a_group_as_kubelets(world, engine, folder, capsys):
-    """The loop goes on, and begins: a group of a tenant is none of kubelet's. Root's that comes
-    later is left alone."""
-    world.add("b/kubepods")
-    give(world.tree / "b/kubepods")
+    """It is none of kubelet's: the loop begins, goes on, and holds it. Root's that comes later is
+    left alone."""
+    def tenants(name):
+        world.add(name)
+        give(world.tree / name)
+
+    def kubelets():
+        world.add("kubepods.slice")
+        world.add("kubepods.slice/pod")
+
+    tenants("b/kubepods")
     loop = world.loop(engine, folder / "undo")
-    lines = world.run(loop, lambda: world.add("kubepods.slice"), lambda: None,
-                      lambda: world.add("a/kubepods-x"), lambda: None)
-    assert [sorted(line["groups"]) for line, _ in lines] == [list("ac")] * 3 + [["c"]]
+    lines = world.run(loop, kubelets, lambda: None,
+                      lambda: tenants("a/kubepods-x"), lambda: None)
+    assert [sorted(line["groups"]) for line, _ in lines] == [
+        ["a", "b/kubepods", "c"]] * 2 + [["b/kubepods", "c"], ["a/kubepods-x", "b/kubepods", "c"]]
     assert {world.maximum(path) for path in world.counters} == {FREE}
-    err = capsys.readouterr().err
-    for name in ("b/kubepods", "kubepods.slice", "a/kubepods-x"):
-        assert err.count(f"warning: {name}: its name is one of kubelet's") == 1
+    assert capsys.readouterr().err == (
+        "arbiterctl: warning: kubepods.slice: kubelet owns the limits there: it is left alone"
+        " (--force)\n")
 
 
 def test_own_group_by_another_path(world, engine, folder, monkeypatch):
@@ -290,14 +298,14 @@ def test_who_asks_for_the_lock_stops_no_loop(folder):
 
 def test_a_real_tree_by_another_path(folder, monkeypatch):
     """A tree is the host's if its device is: there is one lock for all paths to it."""
-    (folder / "elsewhere").mkdir()
-    root = beneath.Root(str(folder / "elsewhere"))
-    assert not holding.is_real(root)
-    monkeypatch.setattr(holding.hold, "HOST_TREE", str(folder))
-    (folder / "link").symlink_to(folder / "elsewhere")
-    assert holding.is_real(beneath.Root(str(folder / "link")))
-    monkeypatch.setattr(holding.hold, "HOST_TREE", "/proc")
-    assert not holding.is_real(root)
+    root = beneath.Root(str(folder))
+    for place, is_real in ((hold.HOST_TREE, False), ("/proc", False), (folder / "none", False),
+                           (folder, True), (folder.parent, True)):
+        monkeypatch.setattr(holding.hold, "HOST_TREE", str(place))
+        assert holding.is_real(root) == is_real, place
+    (folder / "other").mkdir()
+    monkeypatch.setattr(holding.hold, "HOST_TREE", str(folder / "other"))
+    assert holding.is_real(root)
 
 
 # Apply and undo
@@ -353,15 +361,19 @@ def test_undo_goes_on_after_a_fault(folder, tree):
     assert weights(tree) == [9, 100, 100] and [step.folder for step in done] == ["b", "c"]
 
 
-def test_undo_after_all_groups_went(ctl, folder, tree):
-    """There is nothing to undo where the tree is there; a root without a tree is the wrong one."""
-    apply.make(beneath.Root(str(tree)), new(9), By.FILES, str(folder / "u"), [])
+def test_undo_after_all_groups_of_a_loop_went(ctl, folder, world, engine):
+    """There is nothing to undo, so a service may begin again: groups that are held come and go. A
+    root without a tree is the wrong one."""
+    text = []
+    world.run(world.loop(engine, folder / "undo"), lambda: None,
+              lambda: text.append((folder / "undo").read_text()))
+    (folder / "u").write_text(text[0])
     for name in "abc":
-        shutil.rmtree(tree / name)
+        shutil.rmtree(world.tree / name)
     out, err = ctl.run("undo", folder / "u", "--yes")
     assert out == "# no change\n" and err.count("the group is gone, nothing of it is undone") == 3
     for name in ("cpu.stat", "cgroup.controllers"):
-        (tree / name).unlink()
+        (world.tree / name).unlink()
     assert "none of the groups of" in ctl.run("undo", folder / "u", "--yes", status=1)[1]
 
 

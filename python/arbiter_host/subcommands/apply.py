@@ -2,12 +2,13 @@
 from __future__ import annotations
 
 import argparse
-import sys
+import os
+import shlex
 import time
 from collections.abc import Iterable, Iterator, Sequence
 from contextlib import contextmanager, suppress
 
-from arbiter_host import apply, beneath, change, engine, exports, load, names
+from arbiter_host import apply, beneath, change, engine, exports, load, names, output, record
 from arbiter_host.exports import files
 from arbiter_host.faults import HostFault, UsageFault
 from arbiter_host.output import emit
@@ -39,7 +40,7 @@ def printing(root: beneath.Root) -> Iterator[list[apply.Step]]:
 def warn(found: Iterable[str]) -> None:
     """Tells what is left alone."""
     for words in found:
-        print(f"arbiterctl: warning: {names.shown(words)}", file=sys.stderr)
+        output.warn(words)
 
 
 def way_of(options: argparse.Namespace) -> apply.By:
@@ -64,10 +65,10 @@ def write_form(options: argparse.Namespace, asked: exports.Asked) -> None:
     found = exports.documents(options.form, asked)
     warn(asked.told)
     if not found:
-        print("arbiterctl: no change: nothing is written", file=sys.stderr)
+        output.say("no change: nothing is written")
         return
     for path in files.write(options.to, found):
-        print(f"arbiterctl: wrote {names.shown(path)}", file=sys.stderr)
+        output.say(f"wrote {path}")
 
 
 def run_apply(options: argparse.Namespace) -> None:
@@ -90,10 +91,22 @@ def run_apply(options: argparse.Namespace) -> None:
     set_host(options, apply.changes(models[0], after, root), root, way)
 
 
+def check_no_loop(root: beneath.Root, folders: Iterable[str]) -> None:
+    """A fault where a loop of `hold` has limits in a group: they would be taken for the operator's
+    own, and an undo would bring them back for good."""
+    top = record.holder(record.FOLDER)
+    for folder in folders:
+        path = os.path.join(root.path, folder)
+        if top is not None and f"{path}/".startswith(f"{top.rstrip('/')}/"):
+            raise HostFault(f"{path}: arbiterctl hold runs on {top}: what stands there is its own;"
+                            " nothing is changed. End it first, as by systemctl stop arbiter-hold")
+
+
 def set_host(options: argparse.Namespace, asked: tuple[list[apply.Change], list[str]],
              root: beneath.Root, way: apply.By) -> None:
     """Prints the steps of some changes; with --yes makes them."""
     found, left = asked
+    check_no_loop(root, [each.folder for each in found] if options.yes else [])
     steps = apply.planned_steps(found, way)
     warn([*left, *(apply.passing(steps) if options.persistent else [])])
     if not options.yes or not found:
@@ -102,18 +115,19 @@ def set_host(options: argparse.Namespace, asked: tuple[list[apply.Change], list[
     undo = options.undo or f"arbiter-undo-{time.strftime('%Y%m%d-%H%M%S')}.json"
     with printing(root) as done:
         apply.make(root, found, way, undo, done)
-        print(f"arbiterctl: done and read back; to undo: arbiterctl undo {names.shown(undo)} --yes",
-              file=sys.stderr)
+        output.say(f"done and read back; to undo: arbiterctl undo {shlex.quote(undo)} --yes")
 
 
 def run_undo(options: argparse.Namespace) -> None:
     """Prints the steps back; with --yes makes them."""
     name = names.shown(options.file)
-    back = apply.read_undo(load.file_bytes(options.file), name, options.force)
+    content = load.file_bytes(options.file, is_trusted=True)
+    back = apply.read_undo(content, name, options.force)
     try:
         if not options.yes:
             print_steps(back.root, back.steps())
             return
+        check_no_loop(back.root, [each.folder for each in back.changes])
         with printing(back.root) as done:
             apply.undo(back, done)
     finally:
@@ -161,7 +175,8 @@ DETAILS = (
     "Nothing outside --root is opened for writing, no symbolic link is followed below it, and no"
     " file is made there. Each group is open from the first reading to the last writing. If BEFORE"
     " is a tree, a group that was made again since it was read is refused. A unit is set only if"
-    " its group is the folder that changes.",
+    " its group is the folder that changes. A file that somebody sets between the reading and the"
+    " writing ends it there. A group that `hold` holds is refused.",
     "The JSON of pods and that of their node, side by side, are one source.",
     "With --as the change is written as files: `dropin` of units, `kubectl-patch` of what owns"
     " pods, `compose` overrides, a play of `ansible`, `slurm` limits of users, or a `shell` script."
@@ -170,7 +185,8 @@ DETAILS = (
 )
 UNDO_DETAILS = (
     "A value that is neither what `apply` found nor what it wrote was set by somebody since. It is"
-    " told and left; --force sets it back too.",
+    " told and left; --force sets it back too. A group that cannot be written costs the others"
+    " nothing. A file that other users may change is refused.",
 )
 APPLY_EXAMPLES = (
     ("what would be done", "arbiterctl apply host.script --set web.service.weight=200"),

@@ -5,16 +5,15 @@ import argparse
 import json
 import os
 import signal
-import sys
 import time
-from contextlib import ExitStack
+from collections.abc import Iterator
+from contextlib import ExitStack, contextmanager
 from dataclasses import replace
 
 from arbiter import Host
 from arbiter_host import beneath, gauges, hold, load, output, record
 from arbiter_host.faults import HostFault, UsageFault
 from arbiter_host.model import MAX_CAPACITY, MAX_DEPTH
-from arbiter_host.names import shown
 from arbiter_host.notify import Notifier
 from arbiter_host.subcommands.base import Subcommand, found_engine
 
@@ -23,11 +22,45 @@ PERIOD, SLICE = 1000000, 1000
 PERIODS = (100000, PERIOD)
 
 
-class Waits:
-    """Waits between rounds. Signals are blocked while limits are written."""
+def stop(*_: object) -> None:
+    """What a signal does that comes while it is not blocked."""
+    raise hold.Stopped
 
-    def __init__(self, notifier: Notifier) -> None:
-        self.notifier = notifier
+
+class Signals:
+    """The signals that end the loop, but for those that its caller ignores. They are blocked while
+    limits are written."""
+
+    def __init__(self) -> None:
+        self.all = [each for each in SIGNALS if signal.getsignal(each) is not signal.SIG_IGN]
+
+    @contextmanager
+    def blocked(self) -> Iterator[None]:
+        """Blocks them."""
+        before = signal.pthread_sigmask(signal.SIG_BLOCK, self.all)
+        handlers = [(each, signal.signal(each, stop)) for each in self.all]
+        try:
+            yield
+        finally:
+            for each, handler in handlers:
+                signal.signal(each, handler)
+            signal.pthread_sigmask(signal.SIG_SETMASK, before)
+
+    @contextmanager
+    def let_in(self) -> Iterator[None]:
+        """Lets them in for a while. One that comes is a `Stopped`."""
+        try:
+            signal.pthread_sigmask(signal.SIG_UNBLOCK, self.all)
+            yield
+        finally:
+            signal.pthread_sigmask(signal.SIG_BLOCK, self.all)
+
+
+class Waits:
+    """Waits between rounds."""
+
+    def __init__(self, notifier: Notifier, signals: Signals) -> None:
+        self.notifier, self.signals = notifier, signals
 
     def __call__(self, seconds: float) -> bool:
         """Waits, and tells the watchdog meanwhile. Returns whether a signal came."""
@@ -37,7 +70,7 @@ class Waits:
             self.notifier.alive()
             left = max(until - time.monotonic(), 0)
             part = left if every is None else min(left, float(every))
-            if signal.sigtimedwait(SIGNALS, part) is not None:
+            if signal.sigtimedwait(self.signals.all, part) is not None:
                 self.notifier.send("STOPPING=1")
                 return True
             if part == left:
@@ -47,13 +80,21 @@ class Waits:
 class Tells:
     """Tells rounds: as lines of JSON, in the file of --openmetrics, and to systemd."""
 
-    def __init__(self, host: Host, notifier: Notifier, file: gauges.File | None) -> None:
-        self.host, self.notifier, self.file = host, notifier, file
+    def __init__(self, host: Host, notifier: Notifier, file: gauges.File | None,
+                 signals: Signals) -> None:
+        self.host, self.notifier, self.file, self.signals = host, notifier, file, signals
         self.has_failed = False
 
     def __call__(self, line: hold.Line) -> None:
-        """Tells a round. A file that cannot be written ends no loop."""
-        output.emit(json.dumps(line) + "\n")
+        """Tells a round. A file that cannot be written ends no loop. A signal ends the telling, for
+        who reads the lines may have stopped."""
+        try:
+            with self.signals.let_in():
+                output.emit(json.dumps(line) + "\n")
+        except hold.Stopped:
+            output.drop_output()
+            self.notifier.send("STOPPING=1")
+            raise
         self.notifier.send("WATCHDOG=1", f"STATUS=round {line['round']}: {len(line['groups'])}"
                            f" groups, {line['unserved']} slices unserved")
         if self.file is None:
@@ -62,7 +103,7 @@ class Tells:
             self.file.put(gauges.text(line, self.host))
         except HostFault as fault:
             if not self.has_failed:
-                print(f"arbiterctl: warning: {shown(fault.message)}", file=sys.stderr, flush=True)
+                output.warn(fault.message)
             self.has_failed = True
 
 
@@ -77,10 +118,11 @@ def times_of(options: argparse.Namespace, period: int) -> hold.Times:
     return hold.Times(interval, whole, options.once)
 
 
-def locked(root: beneath.Root, undo: str, stack: ExitStack) -> record.Record:
+def locked(root: beneath.Root, options: argparse.Namespace, stack: ExitStack) -> record.Record:
     """The undo file, after no second loop was found."""
+    undo = options.undo
     where = record.FOLDER if is_real(root) else os.path.dirname(os.path.abspath(undo))
-    for descriptor in record.lock(where):
+    for descriptor in record.lock(where, os.path.realpath(options.source)):
         stack.callback(os.close, descriptor)
     found = record.Record(undo)
     stack.callback(found.close)
@@ -112,8 +154,16 @@ def machine(options: argparse.Namespace, root: beneath.Root) -> Host:
 
 
 def is_real(root: beneath.Root) -> bool:
-    """Whether a tree is that of this machine."""
-    return f"{root.path}/".startswith(f"{hold.HOST_TREE}/")
+    """Whether a tree is that of this machine, by whatever path it is reached."""
+    def device(path: str) -> int | None:
+        try:
+            return os.stat(path).st_dev
+        except OSError:
+            return None
+
+    there = device(root.path)
+    return (f"{root.path}/".startswith(f"{hold.HOST_TREE}/")
+            or there is not None and there == device(hold.HOST_TREE))
 
 
 def metrics(options: argparse.Namespace, stack: ExitStack) -> gauges.File | None:
@@ -134,13 +184,12 @@ def run(options: argparse.Namespace) -> None:
     ways = hold.Ways(options.force, options.weights, options.burst, depth_of(options))
     notifier = Notifier()
     with ExitStack() as stack:
-        kept = None if options.dry_run else locked(root, options.undo, stack)
+        kept = None if options.dry_run else locked(root, options, stack)
         stack.callback(root.close)
-        file = metrics(options, stack)
-        before = signal.pthread_sigmask(signal.SIG_BLOCK, SIGNALS)
-        stack.callback(signal.pthread_sigmask, signal.SIG_SETMASK, before)
+        file, signals = metrics(options, stack), Signals()
+        stack.enter_context(signals.blocked())
         loop = hold.Loop(engine, root, options.source, host, kept, ways)
-        hold.run(loop, times, Waits(notifier), Tells(host, notifier, file),
+        hold.run(loop, times, Waits(notifier, signals), Tells(host, notifier, file, signals),
                  lambda: notifier.send("READY=1"))
 
 
@@ -156,7 +205,7 @@ def add_words(parser: argparse.ArgumentParser) -> None:
     parser.add_argument("--for", dest="time", metavar="TIME", help="end after this time")
     parser.add_argument("--once", action="store_true",
                         help="one round: its limits stand for an interval")
-    parser.add_argument("--dry-run", action="store_true", help="print the rounds, write nothing")
+    parser.add_argument("--dry-run", action="store_true", help="print the rounds, change no group")
     parser.add_argument("--undo", metavar="FILE", default=f"{record.FOLDER}/hold-undo.json",
                         help="the undo file, which must be new, in a folder that only this user"
                         f" may change (default {record.FOLDER}/hold-undo.json)")
@@ -185,20 +234,22 @@ DETAILS = (
     " a group use the part d of a CPU. A group with children has the sum of theirs. The plan is"
     " that of the operator's own weights. A weight that somebody sets meanwhile is such a one.",
     "What stood is in the undo file, synced, before a group is first written. It is put back at the"
-    " end, at SIGTERM, SIGINT and SIGHUP, after two failed readings in a row and after a failed"
-    " writing. A jump of the clock over more than five rounds and five seconds is a failed reading."
-    " Then the undo file is removed. A loop that was killed is undone by `arbiterctl undo FILE"
-    " --yes`.",
+    " end, at SIGTERM, SIGINT and SIGHUP (not under nohup), after two failed readings in a row and"
+    " after a failed writing. Then the undo file is removed. A loop that was killed is undone by"
+    " `arbiterctl undo FILE --yes`. A jump of the clock over more than five rounds and five seconds"
+    " is a failed reading. A writing that fails in a group of another user ends no loop.",
     "Each round is a line of JSON: want, plan, used and limit of each group in slices, whether it"
     " is hungry, and what a hungry group lacked of the plan that stood (unserved). `missed` is the"
     " number of rounds missed before it. --openmetrics has the same in CPUs. Groups that come are"
     " held from their second reading on. Without --burst a burst is 0 while a limit below the"
     " group's own stands. A limit below 1 ms is rounded up. A group whose limit somebody else sets"
-    " meanwhile is left alone from then on, and so is the group in which the loop runs.",
+    " meanwhile is left alone from then on, and so is the group in which the loop runs. A burst"
+    " that somebody sets is the group's own from then on.",
     "One loop runs on a host: it locks hold.lock in /run/arbiter, or beside the undo file if --root"
-    " is elsewhere than /sys/fs/cgroup. Groups below kubepods are refused without --force, since"
-    " kubelet writes their limits itself. As a service it tells systemd by NOTIFY_SOCKET that it is"
-    " ready and alive. The Debian package has arbiter-hold.service, which is not enabled.",
+    " is another tree than the host's. `apply` and `undo` change no group that it holds. Groups"
+    " below kubepods are refused without --force, since kubelet writes their limits itself. Such as"
+    " come later are left alone. As a service it tells systemd by NOTIFY_SOCKET that it is ready"
+    " and alive. The Debian package has arbiter-hold.service, which is not enabled.",
 )
 EXAMPLES = (
     ("one round of a part of the tree, nothing written",

@@ -23,7 +23,6 @@ if TYPE_CHECKING:
 
 # Failed rounds in a row that end the command, and seconds that the command of an alert has.
 MOST_FAILED, SECONDS = 2, 60
-MOST_TOLD = 10000
 # A remark that is new in each round: the figures have it.
 THROTTLED = re.compile(r": throttled in [0-9]+ of [0-9]+ periods: ")
 MEASURED = ("throttled", "off")
@@ -73,8 +72,7 @@ class Watch:
         self.options, self.wanted = options, watch.conditions(options.alert)
         self.command = shlex.split(options.command) if options.command else []
         self.state, self.is_raised = watch.State(), False
-        # Remarks that were told: each is told once.
-        self.told: set[str] = set()
+        self.remarks = output.Remarks()
         self.figured: Figured | None = None
         if options.listen or options.textfile:
             from arbiter_host import metrics
@@ -94,13 +92,8 @@ class Watch:
             output.say(f"http://{where}:{port}/metrics")
 
     def tell_notes(self, notes: Sequence[str]) -> None:
-        """Tells what the source could not say, each once."""
-        for note in notes:
-            if note not in self.told and not THROTTLED.search(note):
-                if len(self.told) >= MOST_TOLD:
-                    self.told.clear()
-                self.told.add(note)
-                output.warn(note)
+        """Tells what the source could not say."""
+        self.remarks.tell(note for note in notes if not THROTTLED.search(note))
 
     def take(self, found: watch.Round) -> None:
         """Takes a round: metrics, its line, and the alerts that it raises."""
