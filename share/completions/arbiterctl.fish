@@ -459,7 +459,7 @@ complete -c arbiterctl -n '__fish_seen_subcommand_from hold' -l root -r -F -d 't
 complete -c arbiterctl -n '__fish_seen_subcommand_from hold' -l interval -x -d 'time of a round, at least the period (default 1s)'
 complete -c arbiterctl -n '__fish_seen_subcommand_from hold' -l for -x -d 'end after this time'
 complete -c arbiterctl -n '__fish_seen_subcommand_from hold' -l once -d 'one round: its limits stand for an interval'
-complete -c arbiterctl -n '__fish_seen_subcommand_from hold' -l dry-run -d 'print the rounds, write nothing'
+complete -c arbiterctl -n '__fish_seen_subcommand_from hold' -l dry-run -d 'print the rounds, change no group'
 complete -c arbiterctl -n '__fish_seen_subcommand_from hold' -l undo -r -F -d 'the undo file, which must be new, in a folder that only this user may change (default /run/arbiter/hold-undo.json)'
 complete -c arbiterctl -n '__fish_seen_subcommand_from hold' -l weights -d 'also write weights from the limits, which tell Linux how near each task is to a whole CPU'
 complete -c arbiterctl -n '__fish_seen_subcommand_from hold' -l burst -d 'give each limit a burst of a tenth of it'
