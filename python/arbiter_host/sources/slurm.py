@@ -6,6 +6,7 @@ allotted are its tasks. Slurm writes no weights and no limits.
 """
 from __future__ import annotations
 
+import functools
 import itertools
 import re
 from collections.abc import Iterator, Mapping, Sequence
@@ -36,11 +37,13 @@ MOST_NODES = 65536
 
 @dataclass
 class Step:
-    """A step, or a job without steps: CPUs allotted, and microseconds used and passed."""
+    """A step, or a job without steps: CPUs allotted on one node, microseconds used there and
+    passed, and the nodes."""
 
     cpus: int = 0
     used: int | None = None
     passed: int = 0
+    nodes: Sequence[str] = ()
 
 
 @dataclass
@@ -116,6 +119,7 @@ def ranged(part: str) -> Iterator[str]:
             yield f"{found.group(1)}{at:0{len(pair.group(1))}}{found.group(3)}"
 
 
+@functools.lru_cache(maxsize=1024)
 def hosts_of(text_: str) -> list[str]:
     """The nodes of Slurm's list of hosts."""
     named = itertools.chain.from_iterable(map(ranged, split_outside(text_)))
@@ -198,12 +202,16 @@ def rows_of(data: bytes, name: str) -> Iterator[tuple[int, dict[str, str]]]:
             raise HostFault(f"{name}:{at}: {len(cells)} cells and not {len(head)}")
 
 
-def step_of(row: dict[str, str]) -> Step:
-    """The figures of a row. One that runs and used nothing yet is not accounted yet."""
-    word = row.get("AllocCPUS", "")
-    step = Step(int(word) if word.isascii() and word.isdigit() and len(word) < 10 else 0)
+def step_of(row: dict[str, str], nodes: Sequence[str]) -> Step:
+    """The figures of a row on each of its nodes, to which they are shared out equally.
+
+    One that runs and used nothing yet is not accounted yet.
+    """
+    word, many = row.get("AllocCPUS", ""), max(len(nodes), 1)
+    cpus = int(word) if word.isascii() and word.isdigit() and len(word) < 10 else 0
+    step = Step(-(-cpus // many), nodes=nodes)
     if row.get("TotalCPU") and row.get("Elapsed"):
-        step.used, step.passed = time_of(row["TotalCPU"]), time_of(row["Elapsed"])
+        step.used, step.passed = time_of(row["TotalCPU"]) // many, time_of(row["Elapsed"])
         if step.used == 0 and row.get("State", "RUNNING").startswith("RUNNING"):
             step.used = None
     return step
@@ -219,14 +227,14 @@ def take_row(row: dict[str, str], jobs: dict[str, Job], aliases: Mapping[str, st
         return False
     name = aliases.get(found.group(1), found.group(1))
     job = jobs.setdefault(name, Job(name, is_raw=name.isdigit()))
-    step = step_of(row)
+    nodes = hosts_of(row.get("NodeList", "").replace("None assigned", "")) or job.nodes
+    step = step_of(row, nodes)
     if found.group(2):
         job.steps[found.group(2)] = step
         return True
     job.user, job.name = row.get("User") or job.user, row.get("JobName") or job.name
-    job.nodes = job.nodes or hosts_of(row.get("NodeList", "").replace("None assigned", ""))
-    spread = -(-step.cpus // max(len(job.nodes), 1))
-    job.whole = Step(job.whole.cpus or spread, step.used, step.passed)
+    job.nodes = job.nodes or nodes
+    job.whole = Step(job.whole.cpus or step.cpus, step.used, step.passed)
     return True
 
 
@@ -313,8 +321,9 @@ def tell(model: Model, jobs: Sequence[Job], left: int) -> None:
                            " CPUs, so what others leave idle does not reach it")
     wide = [each.title for each in jobs if len(each.nodes) > 1]
     if wide:
-        model.notes.append(f"on several nodes: {', '.join(wide[:5])}: CPUs that are not told by"
-                           " node are shared out equally, and usage is that of all nodes")
+        more = f" and {len(wide) - 5} more" if len(wide) > 5 else ""
+        model.notes.append(f"on several nodes: {', '.join(wide[:5])}{more}: usage, and CPUs that"
+                           " are not told by node, are shared out equally")
 
 
 def read(files: Sequence[tuple[str, bytes]], host: Host | None, node: str = "",
@@ -334,6 +343,9 @@ def read(files: Sequence[tuple[str, bytes]], host: Host | None, node: str = "",
     name = node_of(nodes, list(jobs.values()), node)
     model = Model(checked(host or host_of(nodes, name)), names_host=host is None)
     here = [each for each in jobs.values() if not each.nodes or name in each.nodes or not name]
+    for job in here:
+        job.steps = {key: step for key, step in job.steps.items()
+                     if not step.nodes or name in step.nodes or not name}
     check_count(sum(1 + len(each.steps) for each in here), f"{len(here)} jobs")
     has_usage = any(part == "sacct" for part, _, _ in parts)
     chosen = want or ("usage" if has_usage else "request")
