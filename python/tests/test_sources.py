@@ -430,6 +430,13 @@ def test_folders_that_are_no_tree(folder):
     trees.root2(folder / "unified")
     with pytest.raises(HostFault, match="/unified is one"):
         cgroup2.read(str(folder), EIGHT)
+    # A host with both has the controller in one of them.
+    trees.group1(folder / "cpu")
+    with pytest.raises(HostFault, match="/unified is one"):
+        cgroup2.read(str(folder), EIGHT)
+    trees.put(folder / "unified", cgroup_controllers="hugetlb")
+    with pytest.raises(HostFault, match="/cpu is one of v1"):
+        cgroup2.read(str(folder), EIGHT)
 
 
 def test_names_of_a_tree(folder, engine):

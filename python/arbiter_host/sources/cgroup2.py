@@ -89,11 +89,10 @@ def is_tree(folder: str) -> bool:
 
 def hint(folder: str) -> str:
     """Where else a tree may be: beside or below a folder that is none."""
-    if os.path.isfile(os.path.join(folder, "unified", "cgroup.controllers")):
-        return f"; {shown(folder)}/unified is one"
-    if cgroup1.is_tree(os.path.join(folder, "cpu")):
+    controllers = file_text(os.path.join(folder, "unified"), "cgroup.controllers")
+    if "cpu" not in (controllers or "").split() and cgroup1.is_tree(os.path.join(folder, "cpu")):
         return f"; {shown(folder)}/cpu is one of v1"
-    return ""
+    return "" if controllers is None else f"; {shown(folder)}/unified is one"
 
 
 def check_folder(folder: str) -> None:
