@@ -65,7 +65,11 @@ def targets(model: Model, names: Sequence[str], mapping: dict[str, str]) -> dict
     """The path that each column stands for; a fault names a column of no one group."""
     children, found = model.children(), {}
     for name in names:
-        groups = demands.matching(model, mapping.get(name, name))
+        try:
+            groups = demands.matching(model, mapping.get(name, name))
+        except HostFault as fault:
+            raise HostFault(f"column {shown(name)}: {fault.message}: --map"
+                            f" {shown(name)}=GROUP") from fault
         paths = [group.path for group in groups if not children[group.path]]
         if len(paths) != 1:
             why = "a group with children" if not paths else f"{len(paths)} groups"

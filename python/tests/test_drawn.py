@@ -356,7 +356,8 @@ def test_holes_of_a_series(ctl, folder, holes, wants):
 def test_unknown_column(ctl, folder):
     (folder / "d.csv").write_text("Time,nothing\n1,0.5\n")
     words = ["series", ROOT / "examples/pod.script", folder / "d.csv"]
-    assert "no group nothing" in ctl.run(*words, status=1)[1]
+    assert ctl.run(*words, status=1)[1].endswith(
+        "arbiterctl: column nothing: no group nothing: --map nothing=GROUP\n")
     out, _ = ctl.run(*words, "--map", "nothing=job", "--to", "csv")
     assert next(csv.DictReader(io.StringIO(out)))["group"] == "job"
 
