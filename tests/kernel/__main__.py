@@ -107,8 +107,9 @@ def arguments(words: list[str]) -> argparse.Namespace:
                         help="runs of each boot, one after another (default %(default)s)")
     parser.add_argument("--seconds", type=float, default=10, help="how long counters are watched")
     parser.add_argument("--settle", type=float, default=2, help="how long tasks run before that")
-    parser.add_argument("--shift", type=int, default=4, metavar="N",
-                        help="an instruction takes 2^N ns of the guest's time (default 4)")
+    parser.add_argument("--shift", type=int, metavar="N",
+                        help="an instruction takes 2^N ns of the guest's time (default 4, and 3"
+                        " with more than four processors)")
     parser.add_argument("--kvm", action="store_true", help="run in real time with /dev/kvm")
     parser.add_argument("--tcg", action="store_true", help="run in real time without it")
     parser.add_argument("--save", metavar="FILE", help="add each outcome to a file, as JSON lines")
@@ -135,15 +136,16 @@ def announced(found: list[Scenario], options: argparse.Namespace) -> str:
             if each.kernel in ("", name):
                 runs += options.repeats
                 seconds += options.repeats * cost(each) * (options.seconds + options.settle)
-    return (f"{runs} runs of {options.seconds:g} s in guests of Linux {' and '.join(kernels)}: about"
-            f" {max(round(seconds / 60), 1)} min of a processor. Nothing of this machine is changed;"
-            f" kernels are in {packages.cache_folder()}.")
+    return (f"{runs} runs of {options.seconds:g} s in guests of Linux {' and '.join(kernels)}:"
+            f" about {max(round(seconds / 60), 1)} min of a processor. Nothing of this machine is"
+            f" changed; kernels are in {packages.cache_folder()}.")
 
 
-def setting_of(options: argparse.Namespace) -> machine.Setting:
-    """How the guests run."""
-    real = options.kvm or options.tcg
-    return machine.Setting(None if real else options.shift, options.kvm)
+def setting_of(options: argparse.Namespace, board: machine.Board) -> machine.Setting:
+    """How a guest runs."""
+    if options.kvm or options.tcg:
+        return machine.Setting(None, options.kvm)
+    return machine.Setting(board.shift if options.shift is None else options.shift)
 
 
 def saved(options: argparse.Namespace, kernel: packages.Kernel, setting: machine.Setting,
@@ -178,11 +180,13 @@ def work(words: list[str]) -> int:
     print(announced(found, options), flush=True)
     planned.begin()
     kernels = [packages.kernel(name) for name in options.kernels.split(",")]
-    setting, outcomes = setting_of(options), []
+    outcomes: list[compare.Outcome] = []
     for kernel in kernels:
-        print(f"Linux {kernel.release}, {kernel.ticks} ticks a second; {setting.told}")
         fit = [each for each in found if each.kernel in ("", kernel.name)]
         for runs in batches(fit, options.repeats, options.boot):
+            setting = setting_of(options, runs[0][0].board)
+            print(f"Linux {kernel.release}, {kernel.ticks} ticks a second; {setting.told};"
+                  f" {len(runs)} runs", flush=True)
             for outcome in measured(kernel, setting, options, runs):
                 outcomes.append(outcome)
                 saved(options, kernel, setting, outcome)

@@ -261,7 +261,7 @@ def work(words: Sequence[str]) -> int:
                 for each in sources(options.sources) for way in ways
                 for repeat in range(options.first, options.first + options.repeats)]
         for batch in batches(jobs, options.boot):
-            for found in ran(kernel, batch, machine.Setting()):
+            for found in ran(kernel, batch, machine.Setting(batch[0].scenario.board.shift)):
                 print(shown(found), flush=True)
                 refused += bool(found["refusal"])
                 if options.save:

@@ -109,4 +109,5 @@ def shown_by(kernel: packages.Kernel, setting: machine.Setting) -> dict[str, Pha
     told = json.dumps({"top": layout.HOME, "steps": list(steps())}).encode()
     more = {**interpreter.files(), "steps.json": (0o100644, told),
             f"{interpreter.HOME}/{DRIVER.name}": (0o100644, DRIVER.read_bytes())}
-    return read(machine.run(kernel, machine.Board(), setting, work(), more, MEMORY), len(list(steps())))
+    lines = machine.run(kernel, machine.Board(), setting, work(), more, MEMORY)
+    return read(lines, len(list(steps())))

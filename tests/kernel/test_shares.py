@@ -206,6 +206,9 @@ def test_board_of_a_scenario():
     assert (eight.leaves["a"].tasks, eight.leaves["a"].cpus) == (8, 255)
     flat = of("#: --processors 8\nmkdir a\ndemand a 800\n")
     assert [len(each) for each in batches([eight, flat], 3, 12)] == [3, 3]
+    shifts = [main.setting_of(main.arguments(words), eight.board).shift
+              for words in ([], ["--shift", "5"], ["--tcg"])]
+    assert shifts == [3, 5, None] and machine.Board(4).shift == 4
 
 
 def test_features_are_set_and_set_back():
