@@ -1,23 +1,28 @@
 """Tables of docs/HOLD.md from the files of `kernel.held --save`.
 
-    PYTHONPATH=tests /usr/bin/python3 -m kernel.held_page FILE..
+    PYTHONPATH=tests /usr/bin/python3 -m kernel.held_page [--write] [FILE..]
 
-A cell has the group that was furthest off, in hundredths of a processor and in parts of its own
-share, and the part of the plan that was served. Of several runs it is the worst, and the mean.
+FILE is that of the kept runs, unless others are named. --write puts both tables into the page.
+A cell has the group that was furthest off, in hundredths of a processor: the mean of the runs, least
+to greatest. Then the part of the plan that was served, if that is not all, and the number of runs.
 """
 from __future__ import annotations
 
 import gzip
 import json
+import re
 import sys
 from collections.abc import Iterable, Iterator
 from pathlib import Path
+from statistics import fmean
 from typing import Any
 
 from kernel.held import WAYS
 from kernel.page import kernel_of, off
 
 Saved = dict[str, Any]
+RUNS = Path(__file__).with_name("runs") / "hold.jsonl.gz"
+PAGE = Path(__file__).resolve().parents[2] / "docs/HOLD.md"
 # The scenario whose demands change, which has a table of its own.
 STEP = "two-step"
 # The ways that have columns in docs/HOLD.md.
@@ -58,12 +63,24 @@ def served(runs: list[Saved]) -> float:
     return sum(parts) / len(parts)
 
 
+def mean(runs: list[Saved]) -> float:
+    """How far the group was off that was furthest off in each run, on the mean."""
+    return fmean(worst([saved]) for saved in runs)
+
+
+def spread(runs: list[Saved]) -> str:
+    """The group that was furthest off in each run: the mean, least to greatest."""
+    offs = [worst([saved]) for saved in runs]
+    middle, least, most = (f"{each:.1f}" for each in (mean(runs), min(offs), max(offs)))
+    return middle if least == most else f"{middle} ({least} to {most})"
+
+
 def cell(runs: list[Saved]) -> str:
     """The cell of a scenario and a way."""
     if not runs:
         return ""
-    many = f" ({len(runs)})" if len(runs) > 1 else ""
-    return f"{worst(runs):.1f}, {worst_part(runs):.0%}, {served(runs):.1%}{many}".replace("%", " %")
+    part = f"{served(runs):.1%}".replace("%", " %")
+    return ", ".join([spread(runs), *([part] if part != "100.0 %" else []), str(len(runs))])
 
 
 def of(found: list[Saved], scenario: str, way: str) -> list[Saved]:
@@ -83,7 +100,7 @@ def rows(found: list[Saved], title: str, ways: list[str]) -> Iterator[str]:
 
 def sums(found: list[Saved], title: str, ways: list[str]) -> Iterator[str]:
     """For each way, in the scenarios that have weights alone too: how often its worst group is
-    nearer and further by more than 0.5, the worst of all, and what is served."""
+    nearer and further on the mean by more than 0.5, the worst of all, and what is served."""
     yield f"| {title} | scenarios | nearer | further | worst | worst part | served |"
     yield "|---|---|---|---|---|---|---|"
     names = sorted({each["scenario"] for each in found})
@@ -92,8 +109,8 @@ def sums(found: list[Saved], title: str, ways: list[str]) -> Iterator[str]:
         both = [(one, two) for one, two in both if one and two]
         if not both:
             continue
-        nearer = sum(worst(two) < worst(one) - 0.5 for one, two in both)
-        further = sum(worst(two) > worst(one) + 0.5 for one, two in both)
+        nearer = sum(mean(two) < mean(one) - 0.5 for one, two in both)
+        further = sum(mean(two) > mean(one) + 0.5 for one, two in both)
         runs = [two for _, two in both]
         text = (f"| {way} | {len(both)} | {nearer} | {further} | {max(map(worst, runs)):.1f} |"
                 f" {max(map(worst_part, runs)):.0%} | {sum(map(served, runs)) / len(both):.1%} |")
@@ -134,10 +151,25 @@ def tables(found: list[Saved]) -> Iterator[str]:
             yield from ["", *rounds(saved)]
 
 
-def main() -> None:
-    """Prints the tables."""
-    print("\n".join(tables(read(sys.argv[1:]))))
+def written(page: str, found: list[Saved]) -> str:
+    """The page with both tables. A table is the lines from its first to its last bar."""
+    text = "\n".join(of_page(found))
+    for table in text.split("\n\n"):
+        head = table.partition(" |")[0]
+        page = re.sub(rf"^{re.escape(head)} \|.*\n(?:\|.*\n)+", lambda _: f"{table}\n", page,
+                      flags=re.MULTILINE)
+    return page
+
+
+def main(words: list[str]) -> None:
+    """Prints the tables, or writes them."""
+    files = [word for word in words if word != "--write"]
+    found = read(files or [str(RUNS)])
+    if "--write" in words:
+        PAGE.write_text(written(PAGE.read_text(encoding="utf-8"), found), encoding="utf-8")
+    else:
+        print("\n".join(tables(found)))
 
 
 if __name__ == "__main__":
-    main()
+    main(sys.argv[1:])

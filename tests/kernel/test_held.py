@@ -14,7 +14,6 @@ from support import ROOT
 PODS = scenario.read(__main__.SCENARIOS / "four-pods.script")
 # Weights 200 and 100 and 100 of 400 slices; x and y of p have a task each, those of q share 1 to 3.
 PODS_PLAN = {".": 400, "p": 200, "p/x": 100, "p/y": 100, "q": 100, "q/x": 75, "q/y": 25, "r": 100}
-RUNS = __main__.SCENARIOS.with_name("runs") / "hold.jsonl.gz"
 SETTING = machine.Setting(shift=4, seconds=900)
 
 
@@ -79,8 +78,8 @@ def saved(way, had, repeat=0):
 
 
 def test_table_by_hand(tmp_path):
-    """b is 10 of 50 off by weights; by limits 3 of 50, and 98.5 % are served. Refused runs are
-    left out."""
+    """b is 10 of 50 off by weights. By limits b is 3 of 50 off and then a 1 of 150; 98.5 and 99.5 %
+    are served. Refused runs are left out."""
     runs = [saved("weights", (140, 60)), saved("limits", (150, 47)), saved("limits", (149, 50), 1),
             {**saved("limits", (0, 0)), "refusal": "late"}]
     path = tmp_path / "runs.jsonl.gz"
@@ -89,15 +88,23 @@ def test_table_by_hand(tmp_path):
     found = held_page.read([str(path)])
     assert len(found) == 3
     rows = list(held_page.rows(found, "6.1", ["weights", "limits"]))
-    assert rows[2] == "| `s` | 10.0, 20 %, 100.0 % | 3.0, 6 %, 99.0 % (2) |"
+    assert rows[2] == "| `s` | 10.0, 1 | 2.0 (1.0 to 3.0), 99.0 %, 2 |"
     assert list(held_page.sums(found, "6.1", ["weights", "limits"]))[2:] == [
         "| weights | 1 | 0 | 0 | 10.0 | 20 % | 100.0 % |",
         "| limits | 1 | 1 | 0 | 3.0 | 6 % | 99.0 % |"]
 
 
+def test_tables_are_written_into_a_page():
+    """Each in the place of the one that begins as it does, and nothing else is changed."""
+    page = "one\n\n| Scenario | old |\n|---|---|\n| x | y |\n\ntwo\n\n| Way | old |\n|---|\n\nend\n"
+    found = [saved("weights", (140, 60))]
+    one, two = "\n".join(held_page.of_page(found)).split("\n\n")
+    assert held_page.written(page, found) == f"one\n\n{one}\n\ntwo\n\n{two}\n\nend\n"
+
+
 def test_page_has_the_tables_of_the_runs():
     """docs/HOLD.md has both tables, and says how many runs there are."""
-    found = held_page.read([str(RUNS)])
+    found = held_page.read([str(held_page.RUNS)])
     text = (ROOT / "docs/HOLD.md").read_text(encoding="utf-8")
     assert "\n".join(held_page.of_page(found)) in text
     assert f"{len(found)} runs" in text
@@ -107,7 +114,7 @@ def test_rounds_of_the_runs_are_by_the_rule(library):
     """The library gives the plan and the limits of each round that the runs have. Those of leaves
     that are not hungry may be a slice less: the runs had their eighth rounded down."""
     calls, count = Library(library), 0
-    for run in held_page.read([str(RUNS)]):
+    for run in held_page.read([str(held_page.RUNS)]):
         found = scenario.read(__main__.SCENARIOS / f"{run['scenario']}.script")
         for _, each in itertools.groupby(run["rounds"], key=lambda line: line["round"]):
             lines = list(each)
