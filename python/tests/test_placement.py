@@ -82,14 +82,15 @@ demand b 30
 
 
 def test_saved_runs_are_kept(tmp_path, monkeypatch):
-    """A saved run is kept with its host; refused runs and those of one CPU are not."""
+    """A saved run is kept with its host; refused or held runs and those of one CPU are not."""
     monkeypatch.setattr(kept, "KEPT", tmp_path / "kept.json.xz")
     lines = [{"path": path, "share": share, "had": had}
              for path, share, had in ((".", 55, 54), ("a", 25, 24.5), ("b", 30, 29.5))]
     for name, first in (("own", ""), ("single", "#: --processors 1\n")):
         (tmp_path / f"{name}.script").write_text(SCRIPT + first)
     run = {"scenario": "own", "release": "6.12", "refusal": "", "lines": lines}
-    runs = [run, {**run, "refusal": "others"}, {**run, "scenario": "single"}]
+    runs = [run, {**run, "refusal": "others"}, {**run, "scenario": "single"},
+            {**run, "way": "limits"}]
     (tmp_path / "saved.json").write_text("".join(json.dumps(each) + "\n" for each in runs))
     kept.main(["set", str(tmp_path / "saved.json")])
     kept.main(["set", str(tmp_path / "saved.json")])

@@ -2,9 +2,9 @@
 
     PYTHONPATH=tests python3 -m kernel.kept SET SAVED..
 
-SAVED are files that `./test --kernel --save` wrote, beside scripts that are no scenarios here.
-Their runs of several processors are added to kept_runs.json.xz under the name SET, each with its
-host. Series, naps and pinned tasks are left out.
+SAVED are files that `./test --kernel --save` or `kernel.held --save` wrote, beside scripts that are
+no scenarios here. Their runs of several processors are added to kept_runs.json.xz under the name
+SET, each with its host. Series, naps, pinned tasks and runs that were held by limits are left out.
 
 A file of `arbiterctl audit --anonymous` is taken too. Each interval of it is a run, with its plan
 in place of exact shares, and a host of its own. One with a group that was not measured is left out.
@@ -63,7 +63,7 @@ def runs_of(set_: str, path: Path, hosts: dict[str, Any],
         script = next(each for each in (folder / f"{said['scenario']}.script"
                                         for folder in folders) if each.exists())
         found = scenario.read(script)
-        if said["refusal"] or not is_kept(found):
+        if said["refusal"] or said.get("way", "weights") != "weights" or not is_kept(found):
             continue
         hosts[found.name] = host_of(found)
         yield {"set": set_, "host": found.name, "kernel": said["release"],
