@@ -64,8 +64,8 @@ DETAILS = (
     " in GROUP stands for any letters. Groups that are the same in both plans are counted alone.",
     "Of pods, KEY may also be request or limit: the weights and limits of the container, its pod,"
     " its class and kubepods follow by the formulas of kubelet and the runtime. Of units, also of"
-    " those in a tree of cgroup v2, it may be CPUWeight or CPUQuota, of containers of docker cpus or"
-    " cpu-shares. These changes are made first.",
+    " those in a tree of cgroup v2, it may be CPUWeight or CPUQuota, of containers of docker cpus"
+    " or cpu-shares. These changes are made first.",
     "The JSON of pods and that of their node, side by side, are one source.",
 )
 EXAMPLES = (
