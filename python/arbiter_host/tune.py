@@ -9,28 +9,26 @@ Settings that people own, such as requests, are raised one after another over ac
 from __future__ import annotations
 
 import bisect
-import itertools
 import signal
 from array import array
+from collections import Counter
 from collections.abc import Iterator, Mapping, Sequence
 from contextlib import contextmanager
 from dataclasses import dataclass, replace
 from fractions import Fraction
 from typing import Any, NamedTuple
 
-from arbiter import Columns, Refused, Unmet
+from arbiter import Columns, Unmet
 from arbiter.columns import U64
 from arbiter_host import backwards, demands, owned, progress, units
 from arbiter_host.engine import asking
 from arbiter_host.faults import HostFault, UsageFault
 from arbiter_host.model import Model, planned
-from arbiter_host.names import shown
+from arbiter_host.names import parent_path, shown
 from arbiter_host.owned import Owned, Range, Setting
 from arbiter_host.plan import Plan, Planned, plan
 from arbiter_host.units import Slices
 
-# Number of goals of which one's group is another's, or above it.
-GOAL_ABOVE = 29
 # At most so many weights are put back one by one, settings are raised one by one, and ways down the
 # tree are tried.
 MOST_BACK, MOST_RAISES, MOST_CLIMBS = 64, 200, 64
@@ -166,13 +164,9 @@ class Asked:
             return list(weights)
         was, library = self.before.columns, self.before.engine.library
         columns = Columns(was.parents, array(U64, weights), was.limits, was.demands)
-        try:
-            with ended_by_interrupt(), asking("tune"):
-                return library.tune(planned(self.before.model.host), columns, goals,
-                                    self.is_guaranteed)
-        except HostFault as fault:
-            is_above = isinstance(fault.__cause__, Refused) and fault.__cause__.number == GOAL_ABOVE
-            raise (nested(self.goals) if is_above else fault) from fault
+        with ended_by_interrupt(), asking("tune"):
+            return library.tune(planned(self.before.model.host), columns, goals,
+                                self.is_guaranteed)
 
     def answer(self, weights: Sequence[int]) -> list[int] | Unmet:
         """The library's answer from some weights on to the goals whose groups are not kept."""
@@ -192,16 +186,20 @@ class Asked:
         return Way(tuple(changes), found, self.amounts(found), told if changes else NO_CHANGE)
 
 
-def nested(goals: Sequence[Goal]) -> HostFault:
-    """The fault of goals of which one's group is another's, or above it."""
-    for one, other in itertools.permutations(goals, 2):
-        above, below = one.group.path, other.group.path
-        if above == below:
-            return UsageFault(f"--goal: {shown(above)} has two goals: name it once")
-        if below.startswith(f"{above}/"):
-            return UsageFault(f"--goal: {shown(above)} is above {shown(below)}: a goal of both"
-                              " cannot be asked for at once")
-    return HostFault("tune: goals of one group, or of one above another")
+def check_apart(goals: Sequence[Goal]) -> None:
+    """A fault that names a goal's group which is another goal's, or above it."""
+    paths = {goal.group.path for goal in goals}
+    twice = next((path for path, many in Counter(goal.group.path for goal in goals).items()
+                  if many > 1), None)
+    if twice is not None:
+        raise UsageFault(f"--goal: {shown(twice)} has two goals: name it once")
+    for path in paths:
+        higher = parent_path(path)
+        while higher not in paths and higher != ".":
+            higher = parent_path(higher)
+        if higher != ".":
+            raise UsageFault(f"--goal: {shown(higher)} is above {shown(path)}: a goal of both"
+                             " cannot be asked for at once")
 
 
 def weights_of(asked: Asked) -> list[int] | Unmet:
@@ -351,8 +349,12 @@ def is_short_above(asked: Asked) -> bool:
         for group in above(before, goal.group):
             sums[group.row] = sums.get(group.row, 0) + goal.amount
     parents = {goal.group.parent for goal in asked.goals}
-    return any(asked.amount(before, row) < amount for row, amount in sums.items()
-               if parents.isdisjoint({0, *(each.row for each in above(before, before.groups[row]))}))
+
+    def is_fixed(row: int) -> bool:
+        return parents.isdisjoint({0, *(each.row for each in above(before, before.groups[row]))})
+
+    return any(is_fixed(row) and asked.amount(before, row) < amount
+               for row, amount in sums.items())
 
 
 def found_above(asked: Asked) -> list[int] | None:
@@ -545,6 +547,7 @@ def goals_of(before: Plan, words: Sequence[str]) -> tuple[Goal, ...]:
         amount = slices.demand(thousandths)
         found += [Goal(groups[each.path], amount, thousandths)
                   for each in demands.matching(before.model, pattern)]
+    check_apart(found)
     return tuple(found)
 
 

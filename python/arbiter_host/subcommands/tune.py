@@ -5,7 +5,7 @@ import argparse
 from collections.abc import Sequence
 
 from arbiter import Unmet
-from arbiter_host import change, load, text, tune
+from arbiter_host import change, load, text, tune, units
 from arbiter_host.names import short, shown
 from arbiter_host.output import emit_json, emit_styled
 from arbiter_host.plan import plan
@@ -41,7 +41,7 @@ def name(path: str) -> str:
 
 def rounded(found: Tuned, unit: str) -> Lines:
     """The goals whose amounts are no whole number of slices."""
-    words = {f"{float(goal.asked):g}m is no whole number of slices:"
+    words = {f"{units.decimal(goal.asked)}m is no whole number of slices:"
              f" {text.amount(found.before, goal.amount, unit)} is asked for": ""
              for goal in found.goals if found.before.thousandths(goal.amount) != goal.asked}
     return list(words.items())
