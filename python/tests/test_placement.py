@@ -10,7 +10,7 @@ from arbiter_host import explain, placement
 from arbiter_host.balancer import Run
 from arbiter_host.model import Group, Model
 from arbiter_host.plan import plan
-from kernel import kept
+from kernel import kept, scenario
 
 # How far a firm group may be from its exact share, in CPUs, and a ranged one out of its range. More
 # than OFF is counted.
@@ -127,6 +127,35 @@ def test_audits_are_kept(tmp_path, monkeypatch):
          "demand": 700.5, "tasks": 3}]
     assert found["hosts"]["sent-2"]["groups"][0]["quota"] == 90000
     assert placement.shape_of(kept_host(found["hosts"]["sent-0"])).period == 0.1
+
+
+def test_hosts_drawn_by_a_seed(tmp_path):
+    """A seed gives the same hosts again, another gives others, and the model can be tried on each.
+    """
+    for seed, folder in (("7", "one"), ("7", "again"), ("8", "other")):
+        kept.main(["--draw", seed, str(tmp_path / folder)])
+    one, again, other = (sorted((tmp_path / folder).iterdir())
+                         for folder in ("one", "again", "other"))
+    assert [each.name for each in one] == [each.name for each in again] and len(one) == 10
+    assert [each.read_text() for each in one] == [each.read_text() for each in again]
+    texts = {each.read_text().partition("\n")[2] for each in (*one, *other)}
+    assert len(texts) == 20
+    found = [scenario.read(each) for each in (*one, *other)]
+    hosts = [kept.host_of(each) for each in found]
+    assert all(kept.is_kept(each) and each.unjudged for each in found)
+    for each in hosts:
+        assert placement.unknown_of(kept_host(each)) == ""
+        asked = sum(group["demand"] for group in each["groups"])
+        assert asked > 1000 * each["processors"] >= 2000
+    # Some have limits, groups below others, and tasks that sleep.
+    groups = [group for each in hosts for group in each["groups"]]
+    assert any(group["quota"] for group in groups) and any("/" in group["path"] for group in groups)
+    assert any(0 < group["demand"] % 1000 for group in groups)
+    with pytest.raises(FileExistsError):
+        kept.main(["--draw", "7", str(tmp_path / "one")])
+    for words in (["--draw", "../7", str(tmp_path)], ["--frob", "x"], []):
+        with pytest.raises(SystemExit):
+            kept.main(words)
 
 
 def test_rates_follow_the_proved_law():

@@ -1,10 +1,13 @@
 """Kept runs: what groups had in guests, with their hosts, to try a model against them.
 
     PYTHONPATH=tests python3 -m kernel.kept SET SAVED..
+    PYTHONPATH=tests python3 -m kernel.kept --draw SEED FOLDER
 
 SAVED are files that `./test --kernel --save` or `kernel.held --save` wrote, beside scripts that are
 no scenarios here. Their runs of several processors are added to kept_runs.json.xz under the name
 SET, each with its host. Series, naps, pinned tasks and runs that were held by limits are left out.
+
+With --draw ten hosts of a seed are written into a folder as scripts for `./test --kernel`.
 
 A file of `arbiterctl audit --anonymous` is taken too. Each interval of it is a run, with its plan
 in place of exact shares, and a host of its own. One with a group that was not measured is left out.
@@ -13,17 +16,21 @@ from __future__ import annotations
 
 import json
 import lzma
+import re
 import sys
 from collections.abc import Iterator
 from pathlib import Path
 from typing import Any
 
-from kernel import scenario
+from kernel import draw, scenario
 from kernel.__main__ import SCENARIOS
 from kernel.exact import usable
 from kernel.scenario import Scenario
 
 KEPT = Path(__file__).with_name("kept_runs.json.xz")
+# Hosts of a seed, and a seed that a file's name may have.
+DRAWN = 10
+SEED = re.compile(r"[A-Za-z0-9]{1,40}")
 
 
 def kept() -> dict[str, Any]:
@@ -121,8 +128,24 @@ def runs_in(set_: str, path: Path, hosts: dict[str, Any]) -> Iterator[dict[str, 
     return runs_of(set_, path, hosts, [SCENARIOS, path.parent])
 
 
+def write_drawn(seed: str, folder: Path) -> None:
+    """Writes the hosts of a seed as scripts. A file that is there is not replaced."""
+    if not SEED.fullmatch(seed):
+        raise SystemExit("--draw: a seed is a word of letters and digits")
+    folder.mkdir(exist_ok=True)
+    for name, text in draw.drawn(seed, DRAWN):
+        with (folder / f"{name}.script").open("x", encoding="utf-8") as file:
+            file.write(text)
+    print(f"{DRAWN} hosts: ./test --kernel --save {folder}/saved.json {folder}/*.script")
+
+
 def main(words: list[str]) -> None:
-    """Adds the runs of files."""
+    """Adds the runs of files, or draws hosts."""
+    if words[:1] == ["--draw"] and len(words) == 3:
+        write_drawn(words[1], Path(words[2]))
+        return
+    if len(words) < 2 or words[0].startswith("-"):
+        raise SystemExit(__doc__)
     set_, *files = words
     found = kept() if KEPT.exists() else {"sets": {}, "hosts": {}, "runs": []}
     for path in map(Path, files):
