@@ -169,19 +169,32 @@ def test_shell(ctl, folder):
 def test_shell_sets_units_by_systemctl(ctl, folder):
     found, _ = applied(ctl, folder, "shell", UNITS, "--cpus", "4", *SSH_CHANGE, "--persistent")
     assert found["arbiter.sh"].endswith(
-        "\nlook system.slice/ssh.service/cpu.weight 200\n"
+        "\nunit ssh.service system.slice/ssh.service\n"
+        "look system.slice/ssh.service/cpu.weight 200\n"
         "systemctl set-property -- ssh.service CPUWeight=300\n"
+        "unit ssh.service system.slice/ssh.service\n"
         "look system.slice/ssh.service/cpu.max '50000 100000'\n"
         "systemctl set-property -- ssh.service CPUQuota=150% CPUQuotaPeriodSec=100000us\n")
     # It stops at the property whose file holds something else.
     trees.root2(folder / "t")
     trees.group2(folder / "t" / SSH, 200, "70000 100000")
-    (folder / "systemctl").write_text("#!/bin/sh\necho \"$@\"\n")
-    (folder / "systemctl").chmod(0o755)
-    ended = subprocess.run(["bash", folder / "out/arbiter.sh", folder / "t"], capture_output=True,
-                           env={"PATH": f"{folder}:/usr/bin:/bin"}, text=True, check=False)
-    assert ended.returncode == 1 and "cpu.max holds 70000 100000, not 50000 100000" in ended.stderr
-    assert ended.stdout == "set-property -- ssh.service CPUWeight=300\n"
+
+    def ended(group):
+        (folder / "systemctl").write_text(
+            f'#!/bin/sh\n[ "$1" = show ] && exec echo {group}\necho "$@"\n')
+        (folder / "systemctl").chmod(0o755)
+        return subprocess.run(["bash", folder / "out/arbiter.sh", folder / "t"], text=True,
+                              env={"PATH": f"{folder}:/usr/bin:/bin"}, capture_output=True,
+                              check=False)
+
+    stopped = ended("/system.slice/ssh.service")
+    assert "cpu.max holds 70000 100000, not 50000 100000" in stopped.stderr
+    assert stopped.returncode == 1
+    assert stopped.stdout == "set-property -- ssh.service CPUWeight=300\n"
+    # A folder of a unit's name is not the unit: here it would be somebody's own.
+    other = ended("/user.slice/ssh.service")
+    assert (other.returncode, other.stdout) == (1, "")
+    assert "the unit ssh.service has the group /user.slice/ssh.service, not /system" in other.stderr
 
 
 # compose

@@ -22,6 +22,15 @@ put() { # FILE OLD NEW
   echo "$3" > "$root/$1"
 }
 """
+# Only where there are units.
+UNITS = """\
+# Ends the script if a unit has another group: a folder of its name may be anybody's.
+unit() { # UNIT FOLDER
+  local now
+  now=$(systemctl show --property=ControlGroup --value -- "$1")
+  [ "$now" = "/$2" ] || { echo "$0: the unit $1 has the group $now, not /$2" >&2; exit 1; }
+}
+"""
 
 
 def quoted(text: str) -> str:
@@ -36,20 +45,22 @@ def lines_of(step: apply.Step) -> list[str]:
     """A step as lines."""
     there = (f"{step.folder}/{step.file}", step.old)
     if step.unit:
-        return [" ".join(["look", *map(quoted, there)]), shlex.join(apply.command_of(step))]
+        return [" ".join(["unit", *map(quoted, (step.unit, step.folder))]),
+                " ".join(["look", *map(quoted, there)]), shlex.join(apply.command_of(step))]
     return [" ".join(["put", *map(quoted, (*there, step.new))])]
 
 
 def documents(asked: Asked) -> list[Document]:
     """One script."""
-    lines = []
+    lines, has_units = [], False
     changes, _ = apply.changes(asked.before, asked.after, asked.root)
     for group, change in zip(asked.groups(), changes):
         lines += [f"# {group.words}"]
         for step in apply.steps_of(change, change.before, asked.by):
             lines += lines_of(step)
+            has_units = has_units or bool(step.unit)
     asked.told += of_kubelet(asked)
     text = "".join(f"{line}\n" for line in lines)
     use = "# bash arbiter.sh [ROOT]\n"
-    return [Document("arbiter.sh", f"#!/bin/bash\n{head('shell')}{use}{BEGIN}{text}")
-            ] if lines else []
+    begin = f"#!/bin/bash\n{head('shell')}{use}{BEGIN}{UNITS if has_units else ''}"
+    return [Document("arbiter.sh", begin + text)] if lines else []
