@@ -8,6 +8,7 @@ from __future__ import annotations
 import errno
 import fcntl
 import os
+import shlex
 import stat
 import time
 from collections.abc import Iterator
@@ -219,7 +220,8 @@ class Record:
         if is_there(self.folder, self.name):
             os.close(self.folder)
             raise HostFault(f"the undo file {shown(self.path)}: File exists; nothing is changed."
-                            " If a loop was killed: arbiterctl undo it with --yes, remove it")
+                            " If a loop was killed: arbiterctl undo"
+                            f" {shlex.quote(self.path)} --yes, and remove it then")
 
     def put(self, text: str) -> None:
         """Puts a text in place of the last."""

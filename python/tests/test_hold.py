@@ -355,7 +355,7 @@ def test_folder_of_the_undo_file(folder, world):
         record.lock(str(folder))
     assert not (folder / "elsewhere").exists()
     (folder / "u").write_text("mine")
-    with pytest.raises(HostFault, match="File exists"):
+    with pytest.raises(HostFault, match=f"File exists; .*: arbiterctl undo {folder}/u --yes,"):
         record.Record(str(folder / "u"))
     record.lock(str(folder / "new"))
     assert (folder / "new").stat().st_mode & 0o777 == 0o700

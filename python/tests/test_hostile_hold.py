@@ -1,4 +1,5 @@
 """Hold beside others: owners of groups, settings meanwhile, readers that stop, other commands."""
+import argparse
 import errno
 import fcntl
 import json
@@ -348,6 +349,27 @@ def test_a_weight_set_between_reading_and_writing(folder, tree, monkeypatch):
     assert weights(tree) == [100, 77, 100]
     assert back.left == ["b: somebody set cpu.weight to 77 meanwhile: it is left (undo once more,"
                          " or --force)"]
+
+
+def test_an_interrupt_says_how_to_undo(folder, tree, monkeypatch, capsys):
+    """Ctrl-C between two steps: who typed it is told where the undo file is."""
+    real = apply.do
+
+    def do(step, root):
+        if step.folder == "b":
+            raise KeyboardInterrupt
+        real(step, root)
+
+    monkeypatch.setattr(apply, "do", do)
+    options = argparse.Namespace(persistent=False, yes=True, undo=str(folder / "u"))
+    with pytest.raises(KeyboardInterrupt):
+        applying.set_host(options, (new(9), []), beneath.Root(str(tree)), By.FILES)
+    assert capsys.readouterr().err == ("arbiterctl: interrupted after 1 of 3 steps; to undo:"
+                                       f" arbiterctl undo {folder / 'u'} --yes\n")
+    assert weights(tree) == [9, 100, 100]
+    monkeypatch.undo()
+    apply.undo(apply.read_undo((folder / "u").read_bytes(), "u"), [])
+    assert weights(tree) == [100] * 3
 
 
 def test_undo_goes_on_after_a_fault(folder, tree):

@@ -113,9 +113,14 @@ def set_host(options: argparse.Namespace, asked: tuple[list[apply.Change], list[
         print_steps(root, steps)
         return
     undo = options.undo or f"arbiter-undo-{time.strftime('%Y%m%d-%H%M%S')}.json"
+    back = f"to undo: arbiterctl undo {shlex.quote(undo)} --yes"
     with printing(root) as done:
-        apply.make(root, found, way, undo, done)
-        output.say(f"done and read back; to undo: arbiterctl undo {shlex.quote(undo)} --yes")
+        try:
+            apply.make(root, found, way, undo, done)
+        except KeyboardInterrupt:
+            output.say(f"interrupted after {len(done)} of {len(steps)} steps; {back}")
+            raise
+        output.say(f"done and read back; {back}")
 
 
 def run_undo(options: argparse.Namespace) -> None:
