@@ -64,7 +64,7 @@ def add_source_options(parser: argparse.ArgumentParser) -> None:
                        " found from its name and its first bytes)")
     group.add_argument("--want", choices=demands.WANTS, help="what the demands are taken from"
                        " (default: usage of cgroups and with --usage or --cgroup, request of pods,"
-                       " limit of containers, busy of units)")
+                       " limit of containers, busy of units, what a script or host file says)")
     group.add_argument("--scale", action="append", default=[], metavar="GROUP=1.5",
                        help="multiply the demands of a group and all below it; `.` is the host")
     group.add_argument("--interval", metavar="TIME", default="1s",
@@ -384,6 +384,16 @@ def check_measured(options: argparse.Namespace, kind: str) -> None:
         raise UsageFault(f"{which} belongs to pods and containers, and not to {kind}")
 
 
+def with_want(options: argparse.Namespace, kind: str, model: Model) -> Model:
+    """A model whose source says its demands; with --want those that are asked in their place."""
+    if options.want is not None:
+        if options.want not in ("limit", "busy"):
+            raise UsageFault(f"--want {options.want}: a {kind} has no readings and no requests: it"
+                             " takes limit or busy, or says its demands itself")
+        demands.set_demands(model, {}, options.want, Fraction(1))
+    return model
+
+
 def read_files(options: argparse.Namespace, kind: str, files: Sequence[tuple[str, bytes]],
                engine: Engine) -> Model:
     """Files of one kind."""
@@ -400,8 +410,8 @@ def read_files(options: argparse.Namespace, kind: str, files: Sequence[tuple[str
     if len(files) > 1:
         raise UsageFault(f"{len(files)} files: a {kind} is one")
     if kind == "script":
-        return read_script(options, name, data, engine)
-    return read_host_file(options, kind, name, data)
+        return with_want(options, kind, read_script(options, name, data, engine))
+    return with_want(options, "host file", read_host_file(options, kind, name, data))
 
 
 def opened(options: argparse.Namespace, paths: Sequence[str]) -> list[File]:

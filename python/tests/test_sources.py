@@ -470,6 +470,22 @@ def test_cgroup1_great_shares(folder):
     assert any("kept as 5000" in note for note in model.notes)
 
 
+@pytest.mark.parametrize("name, text", [
+    ("h.toml", '[host]\ncpus = 2\nslice = "1ms"\n[groups.a]\nmax = "30%"\ndemand = "1m"\n'
+     '[groups."b/c"]\ntasks = 1\n'),
+    ("h.script", "# arbiter run --processors 2 --slice 1000\nmkdir a\nwrite a cpu.max 30000\n"
+     "demand a 1\nmkdir b\nmkdir b/c\n# tasks 1\ndemand b/c 0\n"),
+])
+def test_want_of_what_says_its_demands(ctl, folder, name, text):
+    """A limit of 30 slices; two CPUs, 200 slices, of which one task can use 100."""
+    (folder / name).write_text(text)
+    for want, wants in (("limit", [30, 100]), ("busy", [200, 100])):
+        found = json.loads(ctl.run("explain", folder / name, "--want", want, "--json")[0])["groups"]
+        assert [each["wants"]["slices"] for each in found if each["group"] in ("a", "b/c")] == wants
+    _, err = ctl.run("explain", folder / name, "--want", "psi", status=2)
+    assert "--want psi: a" in err and "takes limit or busy, or says its demands itself" in err
+
+
 # files
 
 def test_packed_files_are_named(folder):
