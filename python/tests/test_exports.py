@@ -359,6 +359,17 @@ def test_another_class(ctl, folder, owner):
             == yaml.safe_load(text))
 
 
+def test_static_pods_are_refused(ctl, folder):
+    """Kubernetes has a mirror of them alone: no patch of it reaches kubelet."""
+    pods = cluster(folder)
+    report = next(each for each in pods["items"] if each["metadata"]["name"] == "proxy-1")
+    report["metadata"]["annotations"] = {"kubernetes.io/config.mirror": "7c9f"}
+    (folder / "pods.json").write_text(json.dumps(pods))
+    found, err = applied(ctl, folder, "kubectl-patch", folder / "pods.json", NODE, "--set",
+                         "prod/proxy-1/app.request=400m", status=1)
+    assert found == {} and "Pod prod/proxy-1 is a static pod: its file on the node says" in err
+
+
 def test_out_of_guaranteed(ctl, folder):
     """A request below the limit: the limit stays, and burstable has 500m more in its sum."""
     pods = cluster(folder)

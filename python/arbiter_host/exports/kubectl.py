@@ -22,6 +22,7 @@ from arbiter_host.faults import HostFault
 from arbiter_host.names import shown
 from arbiter_host.sources.data import loads, table, tables, text
 from arbiter_host.sources.kubernetes import is_pod, items_of
+from arbiter_host.sources.pods import MIRROR
 
 # What a name of an object may be, so that it can be a part of a file's name and of a command.
 NAME = re.compile(r"[a-z0-9]([-a-z0-9.]{0,251}[a-z0-9])?")
@@ -264,6 +265,10 @@ def documents(asked: Asked) -> list[Document]:
         target, name = target_of(pod, pods.items), text(container, "name")
         if not (NAME.fullmatch(target.namespace) and NAME.fullmatch(target.name)):
             asked.refuse(group.path, f"{target.words} is no name that Kubernetes takes")
+            continue
+        if text(table(pod, "metadata", "annotations"), MIRROR):
+            asked.refuse(group.path, f"{target.words} is a static pod: its file on the node says"
+                         " its requests and limits")
             continue
         check_class(asked, group, target)
         resources = changes(asked, group, container)
