@@ -192,11 +192,13 @@ def of_places(hosts: Sequence[Host], rule: str) -> tuple[list[str], list[Table],
     names = [pod["pod"] for pod in hosts[0].answer["pods"]] if hosts else []
     for place, name in enumerate(names):
         order = ranked(hosts, place, rule)
-        cannot = len(hosts) - len(order)
+        cannot = [f"{host.name}: {shown(host.answer['pods'][place]['why'])}" for host in hosts
+                  if "why" in host.answer["pods"][place]]
         whole = sum(host.answer["pods"][place]["gets"] == host.answer["pods"][place]["wants"]
                     and not host.answer["pods"][place]["lost"] for host in order)
         lines.append(f"{shown(name)}: hosts that give it all without a loss to others: {whole} of"
-                     f" {len(hosts)}" + (f"; that cannot take it: {cannot}" if cannot else ""))
+                     f" {len(hosts)}" + (f"; that cannot take it: {len(cannot)}, as {cannot[0]}"
+                                         if cannot else ""))
         tables.append(Table(f"Where {shown(name)} would go, the best first", heads,
                             [place_row(host, place) for host in order]))
         best[name] = [host.name for host in order]
