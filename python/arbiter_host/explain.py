@@ -330,6 +330,7 @@ def group_data(plan: Plan, group: Planned) -> dict[str, Any]:
         "quota_usec": own.quota if own else None, "period_usec": own.period if own else None,
         "burst_usec": own.burst if own else 0, "tasks": own.tasks if own else None,
         "asks_millicpu": float(own.demand) if own else None,
+        "request_millicpu": float(own.request) if own and own.request is not None else None,
         "gets": amounts(plan, group.gets), "wants": amounts(plan, group.want),
         "limit": amounts(plan, group.limit), "reason": reason.name, "words": reason.words,
         "cause": reason.cause, "active_weight": reason.active_weight or None,

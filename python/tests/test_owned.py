@@ -98,6 +98,14 @@ def test_a_class_that_changes_is_told(ctl):
     assert "kubepods/burstable/batch:report-x/report" in paths
 
 
+def test_requests_are_data(ctl):
+    """What a container requests stands beside what it asks for; other groups have none."""
+    out, _ = ctl.run("explain", PODS, NODE, "--want", "busy", "--json", "--cpus", "2")
+    found = {each["group"]: (each["request_millicpu"], each["asks_millicpu"])
+             for each in json.loads(out)["groups"]}
+    assert (found[f"{WEB}/nginx"], found[WEB], found["."]) == ((250, 2000), (None, 0), (None, None))
+
+
 def test_more_than_the_node_has_is_told(ctl):
     """3200m are requested of 3500m; 550m more are not there."""
     words = ("compare", PODS, NODE, "--set")
