@@ -257,14 +257,16 @@ class Meanwhile(HostFault):
 
 
 def check_stands(step: Step, root: Root) -> None:
-    """A fault where a file holds something else than when its step was made. What systemd writes
-    is its own."""
-    if step.unit:
-        return
+    """A fault where a file holds something else than when its step was made."""
     now = " ".join(root.read(step.folder, step.file).split())
     if now != step.old:
         raise Meanwhile(f"{shown(step.folder)}: somebody set {step.file} to {shown(now[:40])}"
                         " meanwhile")
+
+
+def of_units(steps: Sequence[Step]) -> set[str]:
+    """The folders of units: systemd writes all files of one when it sets a property."""
+    return {step.folder for step in steps if step.unit}
 
 
 def after_step(stands: Settings, wanted: Settings, step: Step) -> Settings:
@@ -386,9 +388,11 @@ def make(root: Root, found: Sequence[Change], by: By, undo: str, done: list[Step
     check_host(root, found)
     check_units(steps)
     write_synced(undo, undo_text(root, found, by))
+    systemds = of_units(steps)
     try:
         for step in steps:
-            check_stands(step, root)
+            if step.folder not in systemds:
+                check_stands(step, root)
             do(step, root)
             done.append(step)
         check_after(root, found)
@@ -489,10 +493,12 @@ def undo(back: Back, done: list[Step]) -> None:
     A group that goes meanwhile, and a file that somebody sets meanwhile, are told in `back.left`. A
     fault of one group is raised after the others were undone.
     """
-    by_files, wrong, skipped = false_units(back.steps()), [], set()
-    for step in back.steps(by_files):
+    steps, wrong, skipped = back.steps(false_units(back.steps())), [], set()
+    systemds = of_units(steps)
+    for step in steps:
         try:
-            check_stands(step, back.root)
+            if step.folder not in systemds:
+                check_stands(step, back.root)
             do(step, back.root)
             done.append(step)
         except Gone:
