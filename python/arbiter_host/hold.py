@@ -272,7 +272,8 @@ class Loop:
 
     def look(self, kept: Kept, path: str) -> None:
         """Reads what stands in a group. A weight or a burst that somebody set is the operator's. A
-        limit that somebody set is left alone from then on."""
+        limit that somebody set is left alone from then on. One that is as before the loop is
+        written again: systemd gives its units their own limits back at a daemon-reload."""
         now = apply.current(self.root, kept.folder, takes_idle=True)
         if now.weight != kept.stands.weight:
             kept.old = replace(kept.old, weight=now.weight)
@@ -280,7 +281,12 @@ class Loop:
         if now.maximum == kept.stands.maximum and now.burst != kept.stands.burst:
             kept.old = with_burst(kept.old, now.burst)
             kept.stands = replace(kept.stands, burst=now.burst)
-        if now != kept.stands:
+        is_back = (now.maximum == kept.old.maximum != kept.stands.maximum
+                   and now.burst in (kept.old.burst, kept.stands.burst))
+        if is_back and not kept.is_left:
+            self.tell([f"{path}: its own limit was set again: it is written anew"])
+            kept.stands = now
+        elif now != kept.stands:
             if kept.is_leaf and not kept.is_left:
                 self.tell([f"{path}: somebody set {apply.told(now)}: its limit is left alone"])
             kept.old, kept.stands = replace(now, weight=kept.old.weight), now

@@ -250,6 +250,19 @@ def test_somebody_sets_a_limit(world, engine, folder, capsys):
     assert capsys.readouterr().err.count("a: somebody set") == 1
 
 
+def test_own_limit_is_set_again(world, engine, folder, capsys):
+    """systemd does so at a daemon-reload: it is written anew, and what stood is back at the end."""
+    def reload():
+        for path in "abc":
+            (world.tree / path / "cpu.max").write_text(f"{FREE}\n")
+
+    lines = world.run(world.loop(engine, folder / "undo"), lambda: None, reload, lambda: None)
+    assert [stood["a"] for _, stood in lines] == [limit(50)] * 3
+    assert [world.maximum(path) for path in "abc"] == [FREE] * 3
+    said = capsys.readouterr().err
+    assert said.count("own limit was set again") == 3 and "somebody" not in said
+
+
 def test_an_older_reading_and_two_failed_ones(world, engine, folder, capsys):
     """One costs a round in which nothing is written; two in a row put back what stood."""
     def older():
