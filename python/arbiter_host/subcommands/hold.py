@@ -28,11 +28,12 @@ def stop(*_: object) -> None:
 
 
 class Signals:
-    """The signals that end the loop, but for those that its caller ignores. They are blocked while
-    limits are written."""
+    """The signals that end the loop; a hangup that the caller ignores, as nohup does, ends none.
+    They are blocked while limits are written."""
 
     def __init__(self) -> None:
-        self.all = [each for each in SIGNALS if signal.getsignal(each) is not signal.SIG_IGN]
+        is_ignored = signal.getsignal(signal.SIGHUP) is signal.SIG_IGN
+        self.all = [each for each in SIGNALS if each != signal.SIGHUP or not is_ignored]
 
     @contextmanager
     def blocked(self) -> Iterator[None]:
