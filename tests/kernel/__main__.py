@@ -124,7 +124,9 @@ def arguments(words: list[str]) -> argparse.Namespace:
 
 def cost(each: Scenario) -> float:
     """Seconds of a processor for a second of a scenario's guest, about."""
-    return ONE_GUEST if each.processors == 1 else SEVERAL * max(each.processors / 4, 1)
+    if each.processors == 1:
+        return ONE_GUEST
+    return SEVERAL * max(each.processors / 4, 1) * 2 ** (machine.Board().shift - each.board.shift)
 
 
 def announced(found: list[Scenario], options: argparse.Namespace) -> str:

@@ -3,8 +3,8 @@
     PYTHONPATH=tests /usr/bin/python3 -m kernel.held_page [--write] [FILE..]
 
 FILE is that of the kept runs, unless others are named. --write puts both tables into the page.
-A cell has the group that was furthest off, in hundredths of a processor: the mean of the runs, least
-to greatest. Then the part of the plan that was served, if that is not all, and the number of runs.
+A cell has the group that was furthest off, in hundredths of a processor: the mean of the runs
+(least to greatest). Then the part of the plan that was served, if it is not all, and the number of runs.
 """
 from __future__ import annotations
 

@@ -176,12 +176,12 @@ def test_spread_tasks_keep_to_one_processor_each():
 
 
 def test_runs_are_announced():
-    """2 kernels, 5 repeats, 12 s: one processor at half, two at one, eight at two."""
+    """2 kernels, 5 repeats, 12 s: one processor at half, two at one, eight at four."""
     options = main.arguments(["x"])
     found = [of(f"#: --processors {number}\nmkdir a\ndemand a 100\n") for number in (1, 2, 8)]
     for count, start in ((1, "10 runs of 10 s in guests of Linux 6.1 and 6.12: about 1 min of"),
                          (2, "20 runs of 10 s in guests of Linux 6.1 and 6.12: about 3 min of"),
-                         (3, "30 runs of 10 s in guests of Linux 6.1 and 6.12: about 7 min of")):
+                         (3, "30 runs of 10 s in guests of Linux 6.1 and 6.12: about 11 min of")):
         assert main.announced(found[:count], options).startswith(start)
 
 
