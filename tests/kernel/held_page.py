@@ -4,7 +4,8 @@
 
 FILE is that of the kept runs, unless others are named. --write puts both tables into the page.
 A cell has the group that was furthest off, in hundredths of a processor: the mean of the runs
-(least to greatest). Then the part of the plan that was served, if it is not all, and the number of runs.
+(least to greatest). Then the part of the plan that was served, if it is not all, and the number
+of runs.
 """
 from __future__ import annotations
 
