@@ -67,7 +67,8 @@ def test_a_pod_weighs_on_its_class(ctl, folder):
     assert (by["n2"]["gets"], by["n2"]["lost"]) == (132, 132)
     out, _ = ctl.run("fleet", "place", folder / "job.json", "--hosts", CLUSTER, *NEEDS)
     assert ("job.json: hosts that give it all without a loss to others: 1 of 2; that cannot take"
-            " it: 1, as n1: it requests 1000m, and 3500m less the 3200m of others are there\n") in out
+            " it: 1, as n1: it requests 1000m, and 3500m less the 3200m of others are there\n"
+            ) in out
 
 
 def test_other_questions_of_a_cluster(ctl):

@@ -522,7 +522,8 @@ def test_keys_of_top(letters, view):
 
 
 def test_top_folds_from_what_is_shown(engine):
-    """Where 40 rows have room for the pods alone, one `-` leaves the host; idle groups count not."""
+    """Where 40 rows have room for the pods alone, one `-` leaves the host. Idle groups count not.
+    """
     found = plan(engine, wide_host(111))
     assert top.folded(found, explain.View(), 200, explain.table)[0] == 2
     depth, lines = top.folded(found, explain.View(), 40, explain.table)

@@ -81,8 +81,9 @@ def test_groups_of_conditions():
     """A path, its end, a title, or a pattern of either, as `--set` takes them."""
     figures = watch.Figures("kubepods/a:web/app", "a/web/app", Fraction(0), Fraction(1), None, None,
                             False, True)
-    for group, is_of in {"": True, "app": True, "a/web/app": True, "a/web/*": True, "*web/app": True,
-                         "kubepods/*": True, "web": False, "b/*": False, "pp": False}.items():
+    for group, is_of in {"": True, "app": True, "a/web/app": True, "a/web/*": True,
+                         "*web/app": True, "kubepods/*": True, "web": False, "b/*": False,
+                         "pp": False}.items():
         one, = watch.conditions(f"{group}:lack" if group else "lack")
         assert one.is_of(figures) == is_of, group
         assert len(watch.missing([figures], [one])) == (not is_of)
