@@ -234,6 +234,22 @@ def test_a_clock_that_goes_back(folder, engine):
         intervals.audited(engine, found, None, set(), lambda: None)
 
 
+def test_a_look_that_takes_too_long(folder, engine):
+    """With 20 s for a look and 15 s for all there are two looks, and an interval of 20 s."""
+    world = World(folder)
+    ticks = iter(range(0, 400, 20))
+
+    def clock():
+        world.now = float(next(ticks))
+        world.put(round(world.now / 5))
+        return world.now
+
+    found = looks.live(str(world.top), ONE, 64, watch.Times(Fraction(5), Fraction(15)), clock,
+                       lambda _: None)
+    audit = intervals.audited(engine, found, None, set(), lambda: None)
+    assert len(found) == 2 and audit.intervals[0].seconds >= 20
+
+
 def test_live_by_the_command(ctl, folder):
     """A tree that does not change has no usage, which is told."""
     copies(folder, 1)
@@ -426,6 +442,16 @@ def test_limits_and_tasks_of_a_range(serve):
     assert [each.model.groups["web"].quota for each in found] == [50000, 50000, 70000]
     assert [each.tasks for each in found] == [{"web": 3}, {"web": 3}, {"web": 4}]
     assert (found[0].model is found[1].model, notes) == (True, [])
+
+
+def test_tasks_of_the_source(engine):
+    """Where none were counted the tasks are those of the source: 5 of 2 CPUs are wanted by one."""
+    model = Model(TWO)
+    model.add(Group("a", tasks=1))
+    seen = [looks.Look("", Fraction(at), model, {"a": {"": looks.Counted(
+        Reading(usec(0.5 * at), 0, 0, usec(0.9 * at)))}}) for at in (0, 1)]
+    cells = intervals.audited(engine, seen, None, set(), lambda: None).intervals[0].cells
+    assert (cells["a"].demand, cells["a"].tasks, cells["a"].planned) == (5000, 1, 1000)
 
 
 def test_while_the_server_was_away(ctl, serve):
@@ -712,6 +738,8 @@ def test_both_files_or_none(ctl, folder):
     (["C0", "EMPTY", "--interval", "10s"], 1, "no cgroup tree"),
     (["C0", "C1", "--interval", "0"], 2, "--interval: above 0"),
     (["C0", "C1", "--for", "1s"], 2, "name one"),
+    (["C0", "C1", "--interval", "10s", "--own"], 2, "--own: audit takes what was measured"),
+    (["C0", "C1", "--interval", "10s", "--scale", "web=2"], 2, "--scale: audit takes"),
     (["C0", "--for", "10ms", "--interval", "1s"], 1, "one look alone"),
     (["C0", "C1", "--interval", "10s", "--want", "request"], 1, "--want request: nothing was read"),
     (["C0", "--prometheus", "http://127.0.0.1:1"], 2, "--prometheus takes SOURCE, --start and"),
@@ -760,3 +788,7 @@ def test_too_many_looks(folder, monkeypatch):
     monkeypatch.setattr(looks, "MOST_COUNTED", 5)
     with pytest.raises(HostFault, match="3 looks at 2 groups are too many"):
         looks.of_copies([str(folder / f"copy-{at}") for at in range(3)], TWO, 64, Fraction(1))
+    # Before the first interval is waited for.
+    with pytest.raises(HostFault, match="61 looks at 2 groups are too many"):
+        looks.live(str(folder / "copy-0"), TWO, 64, watch.Times(Fraction(1), Fraction(60)),
+                   lambda: 0.0, lambda _: None)

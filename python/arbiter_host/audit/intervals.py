@@ -213,7 +213,8 @@ def interval_of(engine: Engine, one: Look, two: Look, want: str | None,
         if isinstance(span, str):
             holes[path] = span
         else:
-            known[path] = asking_of(model.groups[path], span, two.tasks.get(path), model, want)
+            tasks = two.tasks.get(path, model.groups[path].tasks)
+            known[path] = asking_of(model.groups[path], span, tasks, model, want)
     gone = one.counted.keys() - two.counted.keys() - model.groups.keys() - {"."}
     parents = one.model.children()
     holes |= {path: CAME for path in gone if not parents.get(path)}

@@ -94,9 +94,14 @@ def added(looks: list[Look], found: Look) -> None:
     if looks and settings_of(looks[-1].model) == settings_of(found.model):
         found.model = looks[-1].model
     looks.append(found)
-    if len(looks) * len(found.model.groups) > MOST_COUNTED:
-        raise HostFault(f"{len(looks)} looks at {len(found.model.groups)} groups are too many: take"
-                        " a longer interval, or --depth-read")
+    check_count(len(looks), found)
+
+
+def check_count(many: int, found: Look) -> None:
+    """A fault where so many looks at the groups of one are too many."""
+    if many * len(found.model.groups) > MOST_COUNTED:
+        raise HostFault(f"{many} looks at {len(found.model.groups)} groups are too many: take a"
+                        " longer --interval or --step, or --depth-read")
 
 
 def named(looks: list[Look]) -> list[Look]:
@@ -130,14 +135,26 @@ def of_copies(folders: Sequence[str], host: Host, depth: int, interval: Fraction
 
 def live(folder: str, host: Host, depth: int, times: watch.Times, clock: Callable[[], float],
          sleep: Callable[[float], None]) -> list[Look]:
-    """The looks at a tree of this machine until the end of some time."""
+    """The looks at a tree of this machine until the end of some time.
+
+    On a busy machine a look may take longer than that: then another one follows it.
+    """
     looks: list[Look] = []
-    with progress.bar("looks", int((times.whole or 0) / times.interval) + 1) as tick:
+    whole = times.whole or Fraction(0)
+    many = int(whole / times.interval) + 1
+
+    def take() -> None:
+        found = look(folder, host, depth, True)
+        check_count(many, found)
+        found.at = Fraction(clock()).limit_denominator(MICROSECONDS)
+        if looks and found.at <= looks[-1].at:
+            raise HostFault("the clock went back between two looks: begin again")
+        added(looks, found)
+
+    with progress.bar("looks", many) as tick:
         for _ in watch.turns(times, clock, sleep, False):
-            found = look(folder, host, depth, True)
-            found.at = Fraction(clock()).limit_denominator(MICROSECONDS)
-            if looks and found.at <= looks[-1].at:
-                raise HostFault("the clock went back between two looks: begin again")
-            added(looks, found)
+            take()
             tick()
+    if many > 1 and len(looks) < 2:
+        take()
     return named(looks)

@@ -24,6 +24,8 @@ from arbiter_host.subcommands.base import (Subcommand, add_reading_options, foun
 from arbiter_host.subcommands.series import add_prometheus_options
 
 LIVE_INTERVAL, STEP = "5s", "1m"
+# Options of sources that say nothing of what was used over time, with their defaults.
+OTHERS = {"own": False, "scale": [], "usage": None, "cgroup": None, "samples": 2}
 
 
 def host_of(options: argparse.Namespace) -> Callable[[Host], Host]:
@@ -70,6 +72,9 @@ def of_trees(options: argparse.Namespace) -> list[Look]:
 
 def audited(options: argparse.Namespace) -> Told:
     """The audit that the options ask for, after its notes were told."""
+    for key, default in OTHERS.items():
+        if getattr(options, key) != default:
+            raise UsageFault(f"--{key}: audit takes what was measured over time alone")
     options.has_interval = options.interval is not None
     options.interval = options.interval or LIVE_INTERVAL
     load.check_options(options)
@@ -162,7 +167,8 @@ DETAILS = (
     " as '{node=\"n1\"}'. They belong to a group by namespace, pod and container, by id, or by the"
     " label of --label. --step is 1m without one.",
     "A tree is read each 5 s unless --interval says else. Of copies --interval has to say how long"
-    " after one the next was made.",
+    " after one the next was made. To make one: `find . -name 'cpu.*' -exec cp --parents -t COPY"
+    " {} +` in /sys/fs/cgroup. With cgroup.threads in it placement is tried too.",
     "The plan has a period of 1 s and slices of 1 ms, unless --period or --slice are given.",
 )
 EXAMPLES = (
