@@ -78,8 +78,8 @@ def add_source_options(parser: argparse.ArgumentParser) -> None:
     group.add_argument("--depth-read", type=int, default=MAX_DEPTH, metavar="N",
                        help="leave out groups more than N below the top, 1 to 64 (default 64)")
     group.add_argument("--usage", metavar="FILE", help="what pods or containers used, as `kubectl"
-                       " top pods -A --containers`, metrics-server or `docker stats --no-stream"
-                       " --format json` prints it; `-` is standard input")
+                       " top pods -A --containers`, metrics-server or `docker stats --no-stream`"
+                       " prints it; `-` is standard input")
     group.add_argument("--cgroup", metavar="DIR", help="the tree of cgroups in which pods or"
                        " containers are measured, such as /sys/fs/cgroup")
     group.add_argument("--node", default="", metavar="NAME", help="the node whose pods are read")

@@ -78,6 +78,19 @@ def test_usage_of_docker(ctl):
     assert "batch-night.slice/job: nothing read for --want usage" in err
 
 
+def test_usage_in_the_table_of_docker(ctl, folder):
+    """`docker stats --no-stream` as it is: blanks in heads, two of them or more between columns."""
+    (folder / "stats").write_text(
+        "CONTAINER ID   NAME      CPU %     MEM USAGE / LIMIT     MEM %     PIDS\r\n"
+        "010101010101   web       125.37%   192MiB / 15.6GiB      1.20%     9\r\n"
+        "020202020202   renamed   0.05%     64MiB / 15.6GiB       0.40%     3\r\n"
+        "030303030303   --        --        -- / --               --        --\r\n\r\n")
+    words = (FIXTURES / "docker.json", "--cpus", "8", "--usage", folder / "stats")
+    assert demands_of(ctl, *words)[0] == {"web:latest": "1253700000n", "db:latest": "500000n"}
+    (folder / "stats").write_text("ID  NAME  CPU %\nx  web  1%  2\n")
+    assert "stats:2: 4 columns and not 3" in ctl.run("explain", *words, status=1)[1]
+
+
 def test_usage_of_podman(ctl, folder):
     """`podman stats --no-stream --format json` is one list, with other keys."""
     (folder / "stats").write_text(json.dumps([

@@ -2,8 +2,10 @@
 
     kubectl top pods -A --containers
     kubectl get --raw /apis/metrics.k8s.io/v1beta1/pods
-    docker stats --no-stream --format json
-    podman stats --no-stream --format json
+    docker stats --no-stream
+    podman stats --no-stream
+
+The last two print a table, or JSON by `--format json`.
 """
 from __future__ import annotations
 
@@ -24,6 +26,8 @@ MOST_ENTRIES = 200000
 MOST_TOLD = 5
 # Columns of `kubectl top pods`, and the names that entries have for them.
 COLUMNS = {"NAMESPACE": "namespace", "POD": "pod", "NAME": "name", "CPU(cores)": "cpu"}
+# A column of `docker stats` that tells its table, and what separates columns.
+CPU_PART, GAP = "CPU %", re.compile(r"\s{2,}")
 PERCENT = re.compile(r"([0-9]{1,12}(?:\.[0-9]{1,12})?)%")
 
 
@@ -65,19 +69,36 @@ def columns_of(head: str, name: str) -> list[str]:
     found = [COLUMNS.get(each, "") for each in words]
     if "cpu" not in found or "name" not in found:
         raise HostFault(f"{name}:1: no usage as `kubectl top pods -A --containers`, metrics-server"
-                        " or `docker stats --no-stream --format json` prints it")
+                        " or `docker stats --no-stream` prints it")
     if "pod" not in found:
         # Without --containers NAME is the pod.
         found[found.index("name")] = "pod"
     return found
 
 
+def of_table(lines: Sequence[str], begin: int, name: str) -> Iterator[Used]:
+    """The entries of the table of `docker stats` from a line on. One without an amount is left
+    out."""
+    heads = GAP.split(lines[begin].strip())
+    for number, line in enumerate(lines[begin + 1:], begin + 2):
+        cells = GAP.split(line.strip())
+        if line.strip() and len(cells) != len(heads):
+            raise HostFault(f"{name}:{number}: {len(cells)} columns and not {len(heads)}")
+        row = {head: cell[:MAX_TEXT] for head, cell in zip(heads, cells)}
+        if row.get(CPU_PART, "--") != "--":
+            yield Used(amount_of(row[CPU_PART], f"{name}:{number}"), "", "", row.get("NAME", ""),
+                       row.get("CONTAINER ID", row.get("ID", "")))
+
+
 def of_text(data: bytes, name: str) -> Iterator[Used]:
-    """The entries of `kubectl top pods`."""
+    """The entries of `kubectl top pods`, or of the table of `docker stats`."""
     lines = data.decode("utf-8-sig", errors="replace").split("\n")
     begin = next((at for at, line in enumerate(lines) if line.strip()), None)
     if begin is None:
         raise HostFault(f"{name}: empty: it names no container")
+    if CPU_PART in GAP.split(lines[begin].strip()):
+        yield from of_table(lines, begin, name)
+        return
     columns = columns_of(lines[begin], name)
     for number, line in enumerate(lines[begin + 1:], begin + 2):
         words = line.split()
