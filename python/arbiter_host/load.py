@@ -465,7 +465,16 @@ def of_files(options: argparse.Namespace, files: Sequence[File], engine: Engine)
         raise HostFault(f"{names.shown(files[0][0])}: Is a directory")
     else:
         model = read_files(options, kind, found, engine)
+        check_known(options, found[0][0], model)
     return finished(options, model)
+
+
+def check_known(options: argparse.Namespace, name: str, model: Model) -> None:
+    """A fault where a file was taken for a script, and no line of it makes a group."""
+    if options.kind is None and not options.strict and model.refused and not model.groups:
+        raise HostFault(f"{name}: no source that is known (--help names them): as a script it has"
+                        f" {len(model.refused)} refused lines and no group, the first:"
+                        f" {names.shown(names.cut(model.refused[0], 200))}")
 
 
 @dataclass(frozen=True)

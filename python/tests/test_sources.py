@@ -506,6 +506,18 @@ def test_files_of_powershell(ctl, folder, form):
             == ctl.run(*words, FIXTURES / "pods.json", FIXTURES / "node.json")[0])
 
 
+def test_what_is_no_source_has_no_plan(ctl):
+    """A table that kubectl prints is no script of a host without groups, unless it is called one.
+    """
+    given = b"NAMESPACE   NAME\nkube-system coredns\n"
+    out, err = ctl.run("explain", "-", given=given, status=1)
+    assert out == "" and err.endswith(
+        "arbiterctl: -: no source that is known (--help names them): as a script it has 2 refused"
+        " lines and no group, the first: -:1: error 80 BadCommand: NAMESPACE   NAME\n")
+    assert "0.00 of 1.00 CPUs" in ctl.run("explain", "-", "--from", "script", given=given)[0]
+    assert "0.00 of 1.00 CPUs" in ctl.run("explain", "-", given=b"# none\n")[0]
+
+
 def test_wide_text_that_is_none_is_left(folder):
     """Bytes with the mark that are no UTF-16 are read as they are, and refused."""
     (folder / "h.toml").write_bytes(b"\xff\xfe\x00\xd8")
