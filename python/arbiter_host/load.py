@@ -222,7 +222,8 @@ def kind_of_json(data: bytes) -> str:
         return "slurm"
     if re.search(rb'"HostConfig"\s*:', data):
         return "docker"
-    if re.search(rb'"kind"\s*:\s*"(Pod|PodList|Node|NodeList|List)"', data):
+    if re.search(rb'"kind"\s*:\s*"(Pod|PodList|Node|NodeList|List|Deployment|StatefulSet|DaemonSet'
+                 rb'|ReplicaSet)"', data):
         return "kubernetes"
     return "json"
 

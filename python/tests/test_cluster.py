@@ -6,6 +6,7 @@ import json
 from pathlib import Path
 
 import pytest
+import yaml
 from arbiter_host.fleet import hosts
 
 FIXTURES = Path(__file__).parent / "fixtures"
@@ -69,6 +70,27 @@ def test_a_pod_weighs_on_its_class(ctl, folder):
     assert ("job.json: hosts that give it all without a loss to others: 1 of 2; that cannot take"
             " it: 1, as n1: it requests 1000m, and 3500m less the 3200m of others are there\n"
             ) in out
+
+
+def test_one_more_pod_of_a_deployment(ctl, folder):
+    """Its template is one pod: 1000m for n2 alone. Its patch is that of the Deployment."""
+    spec = next(each for each in json.loads(CLUSTER.read_text())["items"]
+                if each["metadata"]["name"] == "job-1")["spec"]
+    maker = {"apiVersion": "apps/v1", "kind": "Deployment",
+             "metadata": {"name": "jobs", "namespace": "team"}, "spec": {"template": {"spec": spec}}}
+    (folder / "made.json").write_text(json.dumps(maker))
+    found = json.loads(ctl.run("fleet", "place", folder / "made.json", "--hosts", CLUSTER, *NEEDS,
+                               "--json")[0])
+    by = {host["host"]: host["pods"][0] for host in found["hosts"]}
+    assert "3500m less the 3200m" in by["n1"]["why"] and by["n2"]["gets"] == 100
+    name, = (each["name"] for each in spec["containers"])
+    out, _ = ctl.run("apply", folder / "made.json", "--cpus", "2", "--set",
+                     f"team/jobs/{name}.request=500m", "--as", "kubectl-patch", "--to", "-")
+    assert yaml.safe_load(out) == {
+        "apiVersion": "apps/v1", "kind": "Deployment",
+        "metadata": {"name": "jobs", "namespace": "team"},
+        "spec": {"template": {"spec": {"containers": [
+            {"name": name, "resources": {"requests": {"cpu": "500m"}}}]}}}}
 
 
 def test_other_questions_of_a_cluster(ctl):

@@ -29,6 +29,8 @@ from arbiter_host.sources.scheduling import NodeFacts, node_facts
 from arbiter_host.sources.usage import Used, of_metrics, some
 
 ENDED = ("Succeeded", "Failed")
+# Kinds that make pods of a template.
+MAKERS = ("Deployment", "StatefulSet", "DaemonSet", "ReplicaSet")
 # A request of so many thousandths has the greatest shares; no greater one weighs more.
 MOST_REQUEST = units.MAX_SHARES * 1000 // 1024
 
@@ -47,14 +49,25 @@ class Wish:
     want: str = "request"
 
 
+def made_by(maker: dict[str, Any]) -> dict[str, Any]:
+    """One pod that an object makes of its template, by the object's name."""
+    metadata, template = table(maker, "metadata"), table(maker, "spec", "template")
+    owner = {"kind": text(maker, "kind"), "name": text(metadata, "name"), "controller": True}
+    return {"kind": "Pod", "spec": table(template, "spec"),
+            "metadata": {"name": text(metadata, "name"), "namespace": text(metadata, "namespace"),
+                         "ownerReferences": [owner]}}
+
+
 def items_of(found: Any, name: str) -> list[dict[str, Any]]:
-    """The objects of a file: a list's items, or the one object."""
+    """The objects of a file: a list's items, or the one object. What makes pods stands for one."""
     if isinstance(found, list):
         return [each for each in found if isinstance(each, dict)]
     if isinstance(found, dict) and isinstance(found.get("items"), list):
         return tables(found, "items")
     if isinstance(found, dict) and found.get("kind") in ("Pod", "Node"):
         return [found]
+    if isinstance(found, dict) and found.get("kind") in MAKERS:
+        return [made_by(found)]
     raise HostFault(f"{name}: no pods or node as kubectl prints them with -o json")
 
 
