@@ -71,6 +71,9 @@ def targets(model: Model, names: Sequence[str], mapping: dict[str, str]) -> dict
             raise HostFault(f"column {shown(name)}: {fault.message}: --map"
                             f" {shown(name)}=GROUP") from fault
         paths = [group.path for group in groups if not children[group.path]]
+        if not paths and len(groups) == 1 and model.owned is not None:
+            # (a pod stands for its containers)
+            paths = [each for each in model.owned.meant(groups[0].path) if not children[each]]
         if len(paths) != 1:
             why = "a group with children" if not paths else f"{len(paths)} groups"
             raise HostFault(f"column {shown(name)} is {why}: --map {shown(name)}=GROUP")

@@ -353,6 +353,19 @@ def test_holes_of_a_series(ctl, folder, holes, wants):
     assert found == wants
 
 
+def test_a_pod_stands_for_its_one_container(ctl, folder):
+    """As with `--set`. Two containers are too many for one column."""
+    (folder / "d.csv").write_text("time,prod/api-0\n1,0.7\n")
+    cluster = PACKAGE / "tests/fixtures/cluster.json"
+    out, _ = ctl.run("series", cluster, folder / "d.csv", "--node", "n2", "--to", "csv")
+    row, = csv.DictReader(io.StringIO(out))
+    assert row["group"].endswith("prod:api-0/main") and row["wants"] == "0.7"
+    (folder / "d.csv").write_text("time,prod/web-7c9f\n1,0.7\n")
+    words = ["series", cluster, folder / "d.csv", "--node", "n1"]
+    assert ("column prod/web-7c9f is 2 groups: --map prod/web-7c9f=GROUP"
+            in ctl.run(*words, status=1)[1])
+
+
 def test_unknown_column(ctl, folder):
     (folder / "d.csv").write_text("Time,nothing\n1,0.5\n")
     words = ["series", ROOT / "examples/pod.script", folder / "d.csv"]
