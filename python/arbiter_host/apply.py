@@ -8,23 +8,23 @@ from __future__ import annotations
 
 import json
 import os
-import secrets
 import shlex
 import subprocess
 from collections.abc import Container, Iterator, Sequence
-from contextlib import suppress
+from contextlib import closing
 from dataclasses import asdict, dataclass, field, replace
 from enum import Enum
 from fractions import Fraction
 from typing import Any
 
 from arbiter_host import units
-from arbiter_host.beneath import Gone, Identity, Root, check_path, parts_of
+from arbiter_host.beneath import Gone, Identity, Root, parts_of
 from arbiter_host.faults import HostFault, strerror
 from arbiter_host.model import Group, Model, check_settings
 from arbiter_host.names import NOWHERE, raw_path, shown
 from arbiter_host.sources import cgroup2, data
 from arbiter_host.sources.systemd import UNIT
+from arbiter_host.whole import any_place, faults
 
 SECONDS = 60
 VERSION = 1
@@ -295,37 +295,14 @@ def undo_text(root: Root, found: Sequence[Change], by: By) -> str:
                        "groups": groups}, indent=1) + "\n"
 
 
-def write_new(path: str, text: str) -> None:
-    """Writes a new file, and returns when it is on the disk."""
-    descriptor = os.open(path, os.O_WRONLY | os.O_CREAT | os.O_EXCL | os.O_CLOEXEC, 0o600)
-    with os.fdopen(descriptor, "w", encoding="utf-8") as file:
-        file.write(text)
-        file.flush()
-        os.fsync(file.fileno())
-
-
 def write_synced(path: str, text: str) -> None:
-    """Writes a new file that has its name when it is whole, and returns when both are on the disk.
+    """Writes a new undo file, and returns when it and its name are on the disk.
 
     A fault or a kill leaves no file of this name that is cut.
     """
-    check_path(path)
-    part = f"{path}.{secrets.token_hex(8)}"
-    try:
-        try:
-            write_new(part, text)
-            os.link(part, path, follow_symlinks=False)
-        finally:
-            with suppress(FileNotFoundError):
-                os.unlink(part)
-        folder = os.open(os.path.dirname(os.path.abspath(path)), os.O_RDONLY | os.O_DIRECTORY)
-        try:
-            os.fsync(folder)
-        finally:
-            os.close(folder)
-    except OSError as error:
-        raise HostFault(f"the undo file {shown(path)}: {strerror(error)}; nothing is changed"
-                        ) from error
+    with faults(path, kind="the undo file "), closing(any_place(path)) as place:
+        place.put(text.encode(), is_new=True)
+        os.fsync(place.folder)
 
 
 def check_after(root: Root, found: Sequence[Change]) -> None:

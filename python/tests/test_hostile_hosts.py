@@ -452,7 +452,7 @@ def test_a_kill_while_the_undo_file_is_written(folder, tree, monkeypatch):
 
     with monkeypatch.context() as patched:
         patched.setattr(os, "fsync", fsync)
-        patched.setattr(os, "unlink", lambda _: None)
+        patched.setattr(os, "unlink", lambda *_, **__: None)
         with pytest.raises(Kill):
             apply.write_synced(str(folder / "u"), "whole")
     apply.write_synced(str(folder / "u"), "whole")

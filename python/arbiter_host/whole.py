@@ -1,0 +1,224 @@
+"""Writes files whole or not at all, in folders that other users cannot change.
+
+A file is written beside its name, under a name that nobody reads, and gets its own when it is
+whole. No link is followed at either name. A file that another wrote is not replaced.
+"""
+from __future__ import annotations
+
+import errno
+import os
+import secrets
+import stat
+from collections.abc import Callable, Iterator
+from contextlib import ExitStack, contextmanager, suppress
+from dataclasses import dataclass, field
+
+from arbiter_host.beneath import check_path
+from arbiter_host.faults import HostFault, strerror
+from arbiter_host.names import shown
+
+FLAGS = os.O_NOFOLLOW | os.O_CLOEXEC
+PLACE, FOLDERS = os.O_PATH | FLAGS, os.O_RDONLY | os.O_DIRECTORY | FLAGS
+# Links on the way to a folder, as the kernel has it.
+MOST_LINKS = 40
+# Bytes at the beginning of a file that may hold its mark.
+HEAD = 200
+# Ends of a line that tells a fault.
+CHANGED, WRITTEN = "; nothing is changed", "; nothing is written"
+
+
+@contextmanager
+def faults(path: str, end: str = CHANGED, kind: str = "") -> Iterator[None]:
+    """Errors of the system as faults that name a file, in one line."""
+    try:
+        yield
+    except OSError as error:
+        raise HostFault(f"{kind}{shown(path)}: {strerror(error)}{end}") from error
+
+
+def check_way(path: str, descriptor: int) -> None:
+    """A fault where another user may change which file a name of a folder stands for.
+
+    In a sticky folder users change names of their own files alone.
+    """
+    found = os.fstat(descriptor)
+    is_free = found.st_mode & 0o022 and not found.st_mode & stat.S_ISVTX
+    if found.st_uid not in (0, os.geteuid()) or is_free:
+        raise HostFault(f"{shown(path)}: other users may change this folder{CHANGED}")
+
+
+def check_own(path: str, descriptor: int) -> None:
+    """A fault where a folder is not this user's alone to change."""
+    found = os.fstat(descriptor)
+    if found.st_uid != os.geteuid() or found.st_mode & 0o022:
+        raise HostFault(f"{shown(path)}: other users may change this folder{CHANGED}")
+
+
+def link_text(path: str, descriptor: int) -> str:
+    """What a link holds; empty for what is none. Anybody makes links in a sticky folder, so a link
+    has to be this user's or root's."""
+    found = os.fstat(descriptor)
+    if not stat.S_ISLNK(found.st_mode):
+        return ""
+    if found.st_uid not in (0, os.geteuid()):
+        raise HostFault(f"{shown(path)}: a link of another user{CHANGED}")
+    return os.readlink("", dir_fd=descriptor)
+
+
+def descended(path: str, opened: ExitStack) -> int:
+    """Opens a folder, part by part from the root on, as a place. A fault where another user may
+    change a folder or a link on the way."""
+    def step(name: str, above: int = -1) -> int:
+        found = os.open(name, PLACE, dir_fd=above)
+        opened.callback(os.close, found)
+        return found
+
+    names, links, here, where = path.split("/")[::-1], 0, step("/"), "/"
+    while names:
+        check_way(where, here)
+        name = names.pop() or "."
+        below, whole = step(name, here), os.path.join(where, name)
+        link = link_text(whole, below)
+        if not link:
+            here, where = below, os.path.normpath(whole)
+            continue
+        links += 1
+        if links > MOST_LINKS:
+            raise OSError(errno.ELOOP, os.strerror(errno.ELOOP))
+        names += link.split("/")[::-1]
+        if link.startswith("/"):
+            here, where = step("/"), "/"
+    check_way(where, here)
+    return here
+
+
+def checked_own(path: str, descriptor: int) -> int:
+    """A folder that was opened, if it is this user's alone to change; else it is closed."""
+    try:
+        check_own(path, descriptor)
+    except HostFault:
+        os.close(descriptor)
+        raise
+    return descriptor
+
+
+def own_folder(path: str) -> int:
+    """Opens a folder that is this user's alone to change, below folders that are so or root's. It
+    is made where there is none."""
+    check_path(path)
+    above, name = os.path.split(os.path.abspath(path))
+    with faults(path), ExitStack() as opened:
+        place = descended(above, opened)
+        if name:
+            with suppress(FileExistsError):
+                os.mkdir(name, 0o700, dir_fd=place)
+        descriptor = os.open(name or "/", FOLDERS, dir_fd=place)
+    return checked_own(path, descriptor)
+
+
+def collected_folder(path: str) -> int:
+    """Opens a folder of a textfile collector, which is this user's alone to change. Those above it
+    may be the collector's, as Debian has them: who changes them hides metrics, and no more."""
+    check_path(path)
+    with faults(path):
+        descriptor = os.open(os.path.abspath(path), FOLDERS)
+    return checked_own(path, descriptor)
+
+
+def is_ours(folder: int, name: str, mark: str) -> bool:
+    """Whether a name is free, or that of a plain file that has a mark at its beginning."""
+    try:
+        descriptor = os.open(name, os.O_RDONLY | os.O_NONBLOCK | FLAGS, dir_fd=folder)
+    except FileNotFoundError:
+        return True
+    try:
+        is_plain = stat.S_ISREG(os.fstat(descriptor).st_mode)
+        return is_plain and mark.encode() in os.read(descriptor, HEAD)
+    finally:
+        os.close(descriptor)
+
+
+def unread_name() -> str:
+    """A name that nobody reads, and no other writer takes."""
+    return f".{secrets.token_hex(8)}.part"
+
+
+@dataclass(frozen=True)
+class Place:
+    """Where a file is written: a folder that is open, and the file's name there."""
+
+    folder: int
+    name: str
+    mode: int = 0o600
+    # Whether the file is on the disk before it gets its name.
+    is_synced: bool = True
+    # The name that it has until it is whole. A loop has one: what a kill leaves is then replaced.
+    part: str = field(default_factory=unread_name)
+
+    def check_ours(self, path: str, mark: str, words: str) -> None:
+        """A fault where a file has the name that has no such mark."""
+        if not is_ours(self.folder, self.name, mark):
+            raise HostFault(f"{shown(path)}: is there, and {words}")
+
+    def open_new(self) -> int:
+        """Opens a new file to be written. A plain one of its name was left by a kill."""
+        flags = os.O_WRONLY | os.O_CREAT | os.O_EXCL | FLAGS
+        try:
+            return os.open(self.part, flags, self.mode, dir_fd=self.folder)
+        except FileExistsError:
+            if not stat.S_ISREG(os.lstat(self.part, dir_fd=self.folder).st_mode):
+                raise
+        os.unlink(self.part, dir_fd=self.folder)
+        return os.open(self.part, flags, self.mode, dir_fd=self.folder)
+
+    @contextmanager
+    def waiting(self, data: bytes) -> Iterator[None]:
+        """Writes the file under the name that nobody reads. After a fault, as on a full disk, it is
+        not there."""
+        descriptor = self.open_new()
+        try:
+            with os.fdopen(descriptor, "wb") as file:
+                os.fchmod(descriptor, self.mode)
+                file.write(data)
+                file.flush()
+                if self.is_synced:
+                    os.fsync(descriptor)
+            yield
+        except BaseException:
+            with suppress(OSError):
+                os.unlink(self.part, dir_fd=self.folder)
+            raise
+
+    def give_name(self, is_new: bool = False) -> None:
+        """Gives a file that waits its name. If it is to be new, a name that is taken is a fault."""
+        if is_new:
+            os.link(self.part, self.name, src_dir_fd=self.folder, dst_dir_fd=self.folder,
+                    follow_symlinks=False)
+            os.unlink(self.part, dir_fd=self.folder)
+        else:
+            os.rename(self.part, self.name, src_dir_fd=self.folder, dst_dir_fd=self.folder)
+
+    def put(self, data: bytes, is_new: bool = False) -> None:
+        """Writes the file, in place of the last or as a new one."""
+        with self.waiting(data):
+            self.give_name(is_new)
+
+    def close(self) -> None:
+        """Closes the folder."""
+        os.close(self.folder)
+
+
+def place_of(path: str, opens: Callable[[str], int] = own_folder, mode: int = 0o600,
+             is_synced: bool = True) -> Place:
+    """The place of a path, whose folder is opened."""
+    check_path(path)
+    above, name = os.path.split(os.path.abspath(path))
+    return Place(opens(above), name, mode, is_synced)
+
+
+def any_place(path: str) -> Place:
+    """The place of a path whose folder others may change. It is for a new file alone, which
+    replaces none."""
+    check_path(path)
+    above, name = os.path.split(path)
+    return Place(os.open(above or ".", os.O_RDONLY | os.O_DIRECTORY | os.O_CLOEXEC), name)
