@@ -8,15 +8,15 @@ from __future__ import annotations
 import os
 from collections.abc import Iterator
 from contextlib import suppress
+from dataclasses import replace
 from fractions import Fraction
 from typing import Any
 
 from arbiter import Host
-from arbiter_host import record, units
-from arbiter_host.beneath import check_path
-from arbiter_host.exports.files import is_ours
+from arbiter_host import units
 from arbiter_host.faults import HostFault
-from arbiter_host.names import label, shown
+from arbiter_host.names import label
+from arbiter_host.whole import CHANGED, collected_folder, faults, place_of
 
 # What the file begins with.
 MARK = "# TYPE arbiter_hold_"
@@ -68,35 +68,27 @@ class File:
     """A file that has the last round, and its folder, which stays open."""
 
     def __init__(self, path: str) -> None:
-        check_path(path)
+        place = place_of(path, collected_folder, mode=0o644, is_synced=False)
         self.path = os.path.abspath(path)
-        self.name = os.path.basename(self.path)
-        self.part = f".{self.name}.part"
-        self.folder = record.collected_folder(os.path.dirname(self.path))
+        self.place = replace(place, part=f".{place.name}.part")
         try:
-            self.check()
+            with faults(self.path):
+                self.place.check_ours(self.path, MARK,
+                                      f"has no metrics of arbiterctl hold{CHANGED}")
         except HostFault:
-            os.close(self.folder)
+            self.close()
             raise
-
-    def check(self) -> None:
-        """A fault where the name is that of another file."""
-        with record.faults(self.path):
-            if not is_ours(self.folder, self.name, MARK):
-                raise HostFault(f"{shown(self.path)}: is there, and has no metrics of arbiterctl"
-                                " hold; nothing is changed")
 
     def put(self, content: str) -> None:
         """Puts a text in place of the last. Everybody may read it."""
-        with record.faults(self.path):
-            record.write_part(self.folder, self.part, content, 0o644)
-            os.rename(self.part, self.name, src_dir_fd=self.folder, dst_dir_fd=self.folder)
+        with faults(self.path):
+            self.place.put(content.encode())
 
     def remove(self) -> None:
         """Removes the file."""
-        with record.faults(self.path), suppress(FileNotFoundError):
-            os.unlink(self.name, dir_fd=self.folder)
+        with faults(self.path), suppress(FileNotFoundError):
+            os.unlink(self.place.name, dir_fd=self.place.folder)
 
     def close(self) -> None:
         """Closes the folder."""
-        os.close(self.folder)
+        self.place.close()
