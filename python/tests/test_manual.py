@@ -172,7 +172,7 @@ def example_command(command, folder):
         command = command.replace(":9101", ":0") + " --once --interval 10ms"
     if command.startswith("arbiterctl audit") and "--for" in command:
         tree = f" {folder}/cgroup" if "cgroup" not in command else ""
-        command = busy(command.replace("60s", "300ms --interval 100ms") + tree, folder)
+        command = busy(command.replace("60s", "1s --interval 500ms") + tree, folder)
     if "fleet" in command:
         command += " --workers 0"
     if "apply" in command or "hold" in command:

@@ -18,7 +18,7 @@ from arbiter_host.sources import cgroup2, cgroups
 from arbiter_host.sources.cgroups import Node, Wish
 
 # Groups times looks. A look at a group takes about a kilobyte.
-MOST_COUNTED = 1_000_000
+MOST_COUNTED = 400_000
 MICROSECONDS = 10**6
 
 
