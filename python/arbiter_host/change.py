@@ -1,10 +1,9 @@
 """Changes of a model by words such as `web.weight=200` and `prod/web/app.request=500m`."""
 from __future__ import annotations
 
-import sys
 from collections.abc import Sequence
 
-from arbiter_host import demands, names, owned
+from arbiter_host import demands, names, output, owned
 from arbiter_host.faults import HostFault, UsageFault
 from arbiter_host.model import Group, Model, check_settings
 from arbiter_host.owned import Owned, Setting
@@ -112,5 +111,5 @@ def changed(model: Model, words: Sequence[str]) -> Model:
 def told(before: Model, after: Model) -> Model:
     """The model after a change, whose new notes are printed on standard error."""
     for note in [each for each in after.notes if each not in before.notes]:
-        print(f"arbiterctl: warning: --set: {names.shown(note)}", file=sys.stderr)
+        output.warn(f"--set: {note}")
     return after

@@ -18,7 +18,7 @@ from fractions import Fraction
 from typing import TYPE_CHECKING, BinaryIO, Protocol
 
 from arbiter import Host, Library
-from arbiter_host import demands, names, units
+from arbiter_host import demands, names, output, units
 from arbiter_host.engine import Engine
 from arbiter_host.faults import HostFault, RefusedLines, UsageFault, strerror
 from arbiter_host.model import MAX_DEPTH, Model, checked
@@ -543,6 +543,6 @@ def of_bytes(options: argparse.Namespace, path: str, data: bytes, engine: Engine
 def warn(model: Model, source: str) -> None:
     """Prints the notes and the refused lines of a model on standard error."""
     for line in model.refused:
-        print(f"arbiterctl: {names.shown(line)}", file=sys.stderr)
+        output.say(line)
     for note in model.notes:
-        print(f"arbiterctl: warning: {source}: {names.shown(note)}", file=sys.stderr)
+        output.warn(f"{source}: {note}")

@@ -11,7 +11,6 @@ import hashlib
 import itertools
 import json
 import random
-import sys
 import time
 from collections import deque
 from collections.abc import Callable, Sequence
@@ -19,7 +18,7 @@ from dataclasses import dataclass, field
 from typing import Any
 
 from arbiter import Library
-from arbiter_host import load, names
+from arbiter_host import load, output
 from arbiter_host.engine import Engine
 from arbiter_host.faults import HostFault
 from arbiter_host.fleet import forms, pieces, work
@@ -454,7 +453,7 @@ class Gatherer:
         """Tells what went wrong, at most twenty times."""
         self.counts.warnings.append(words)
         if len(self.counts.warnings) <= 20:
-            print(f"arbiterctl: warning: {names.shown(words)}", file=sys.stderr)
+            output.warn(words)
 
     def show(self) -> None:
         """Shows how far the run is."""

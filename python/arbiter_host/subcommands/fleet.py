@@ -4,7 +4,6 @@ from __future__ import annotations
 import argparse
 import base64
 import os
-import sys
 import time
 from collections.abc import Callable
 from dataclasses import replace
@@ -21,7 +20,7 @@ from arbiter_host.fleet.pool import Here, Pool
 from arbiter_host.fleet.processes import Processes
 from arbiter_host.fleet.store import Store
 from arbiter_host.model import Group, Model
-from arbiter_host.output import emit_json, write_file
+from arbiter_host.output import emit_json, say, warn, write_file
 from arbiter_host.subcommands.base import Subcommand, add_reading_options
 from arbiter_host.subcommands.series import add_prometheus_options, mapped
 
@@ -106,7 +105,7 @@ def fleet_of(options: argparse.Namespace) -> hosts.Fleet:
     if fleet.is_cluster:
         options.kind = options.kind or "kubernetes"
     for note in fleet.notes:
-        print(f"arbiterctl: warning: {names.shown(word)}: {note}", file=sys.stderr)
+        warn(f"{word}: {note}")
     return fleet
 
 
@@ -171,10 +170,9 @@ def gathered(options: argparse.Namespace, asked: Asked, store: Store) -> Gathere
 def tell_end(gatherer: Gatherer, seconds: float) -> None:
     """Prints what came about, on standard error."""
     counts = gatherer.counts
-    print(f"arbiterctl: {seconds:.1f} seconds, {gatherer.pool.words}; batches: {counts.batches},"
-          f" lost: {counts.lost}; answers checked again here: {counts.checked}, refused:"
-          f" {counts.refused}; workers' processor seconds: {counts.processor:.1f}",
-          file=sys.stderr)
+    say(f"{seconds:.1f} seconds, {gatherer.pool.words}; batches: {counts.batches},"
+        f" lost: {counts.lost}; answers checked again here: {counts.checked}, refused:"
+        f" {counts.refused}; workers' processor seconds: {counts.processor:.1f}")
 
 
 def written(options: argparse.Namespace, found: report.Report) -> None:

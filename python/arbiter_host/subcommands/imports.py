@@ -2,14 +2,13 @@
 from __future__ import annotations
 
 import argparse
-import sys
 from collections.abc import Callable
 from dataclasses import replace
 
 from arbiter import Library
 from arbiter_host import change, engine, load
 from arbiter_host.model import Model
-from arbiter_host.output import write_file
+from arbiter_host.output import say, write_file
 from arbiter_host.sources import hostfile, script
 from arbiter_host.subcommands.base import Subcommand, add_reading_options, source_name
 
@@ -32,7 +31,7 @@ def run(options: argparse.Namespace) -> None:
     load.warn(replace(model, notes=[]) if held else model, source_name(options.source))
     write_file(options.output, WRITERS[options.to](model, by.library))
     told = f"; warnings: {len(model.notes)} (lines '# !')" if model.notes and held else ""
-    print(f"arbiterctl: groups: {len(model.groups)}{told}", file=sys.stderr)
+    say(f"groups: {len(model.groups)}{told}")
 
 
 def add_import_words(parser: argparse.ArgumentParser) -> None:
