@@ -11,16 +11,18 @@ import time
 import urllib.error
 import urllib.parse
 import urllib.request
-from collections.abc import Sequence
+from collections.abc import Callable, Sequence
 from dataclasses import dataclass
 from datetime import datetime, timezone
 from fractions import Fraction
-from typing import Any
+from typing import Any, TypeVar
 
 from arbiter import Host
 from arbiter_host import units
-from arbiter_host.faults import HostFault
+from arbiter_host.faults import HostFault, UsageFault
 from arbiter_host.names import cut, shown
+
+Found = TypeVar("Found")
 
 TIMES = ("time", "period", "timestamp", "date", "datetime", "_time", "ts")
 EMPTY = ("", "nan", "null", "none", "undefined", "-")
@@ -214,19 +216,30 @@ def fetched(url: str) -> Any:
                         ) from error
 
 
+def check_server(url: str) -> None:
+    """A fault where an address is not one of HTTP."""
+    if not url.startswith(SCHEMES):
+        raise UsageFault(f"{shown(url)}: not http:// or https://")
+
+
+def of_range(url: str, words: dict[str, str], parsed: Callable[[Any], Found]) -> Found:
+    """What is parsed of the answer to a range query. Words are `query`, `start`, `end` and `step`.
+    """
+    check_server(url)
+    where = f"{url.rstrip('/')}/api/v1/query_range?{urllib.parse.urlencode(words)}"
+    try:
+        return parsed(fetched(where))
+    except (KeyError, TypeError, ValueError, AttributeError, OverflowError) as error:
+        raise HostFault(f"{shown(url)}: no answer to a range query") from error
+
+
 def read_prometheus(url: str, words: dict[str, str], label: str, unit: str, host: Host,
                     keep_holes: bool = False) -> list[Sample]:
-    """The samples of a range query. Words are `query`, `start`, `end` and `step`.
+    """The samples of a range query.
 
     A series without a value asks for nothing, or for what it asked before if holes are kept.
     """
-    if not url.startswith(SCHEMES):
-        raise HostFault(f"{shown(url)}: not http:// or https://", 2)
-    where = f"{url.rstrip('/')}/api/v1/query_range?{urllib.parse.urlencode(words)}"
-    try:
-        found = series_of(fetched(where), label)
-    except (KeyError, TypeError, ValueError, AttributeError) as error:
-        raise HostFault(f"{shown(url)}: no answer to a range query") from error
+    found = of_range(url, words, lambda answer: series_of(answer, label))
     times = sorted({at for values in found.values() for at, _ in values})
     holes = {} if keep_holes else dict.fromkeys(found, Fraction(0))
     by_time: dict[float, dict[str, Fraction]] = {at: dict(holes) for at in times}

@@ -3,7 +3,6 @@ from __future__ import annotations
 
 import math
 import re
-import urllib.parse
 from collections.abc import Hashable, Iterator, Mapping, Sequence
 from dataclasses import dataclass, field, replace
 from fractions import Fraction
@@ -54,8 +53,7 @@ class Asked:
 
     def check(self) -> None:
         """A fault where words of it are refused."""
-        if not self.url.startswith(samples.SCHEMES):
-            raise UsageFault(f"{shown(self.url)}: not http:// or https://")
+        samples.check_server(self.url)
         if self.selector and not SELECTOR.fullmatch(self.selector):
             raise UsageFault("--query: a selector of series, such as '{node=\"n1\"}'")
 
@@ -64,11 +62,7 @@ class Asked:
         query = metric.replace(USAGE, USAGE + self.selector)
         query = query if USAGE in metric else metric + self.selector
         words = {"query": query, "start": self.start, "end": self.end, "step": self.step}
-        where = f"{self.url.rstrip('/')}/api/v1/query_range?{urllib.parse.urlencode(words)}"
-        try:
-            return dict(self.parsed(samples.fetched(where)))
-        except (KeyError, TypeError, ValueError, AttributeError, OverflowError) as error:
-            raise HostFault(f"{shown(self.url)}: no answer to a range query") from error
+        return samples.of_range(self.url, words, lambda answer: dict(self.parsed(answer)))
 
     def parsed(self, answer: Any) -> Iterator[tuple[Labels, Values]]:
         """The series of an answer. A value that is no number is left out."""

@@ -5,8 +5,8 @@ import csv
 import functools
 import io
 import os
-import urllib.parse
 from collections.abc import Callable, Iterable, Sequence
+from typing import Any
 
 from arbiter_host import load, samples
 from arbiter_host.faults import HostFault
@@ -90,20 +90,17 @@ def table(path: str) -> Callable[[str], Lines]:
 def prometheus(url: str, words: dict[str, str], host_label: str,
                label: str) -> Callable[[str], Lines]:
     """The samples of each host, from a range query whose series have labels of host and group."""
-    if not url.startswith(("http://", "https://")):
-        raise HostFault(f"{shown(url)}: not http:// or https://", 2)
-    where = f"{url.rstrip('/')}/api/v1/query_range?{urllib.parse.urlencode(words)}"
-    cells: list[tuple[float, str, str, str]] = []
-    try:
-        for each in samples.fetched(where)["data"]["result"]:
+    def parsed(answer: Any) -> list[tuple[float, str, str, str]]:
+        cells: list[tuple[float, str, str, str]] = []
+        for each in answer["data"]["result"]:
             host, group = each["metric"].get(host_label), each["metric"].get(label)
             if not isinstance(host, str) or not isinstance(group, str):
                 raise HostFault(f"{shown(url)}: a series without the labels {host_label} and"
                                 f" {label}")
             cells += [(samples.instant(at), host, group, str(value))
                       for at, value in each["values"]]
-    except (KeyError, TypeError, ValueError, AttributeError) as error:
-        raise HostFault(f"{shown(url)}: no answer to a range query") from error
-    cells.sort(key=lambda cell: cell[0])
+        return sorted(cells, key=lambda cell: cell[0])
+
+    cells = samples.of_range(url, words, parsed)
     return of_cells(((str(int(at)), host, group, value) for at, host, group, value in cells),
                     shown(url))
