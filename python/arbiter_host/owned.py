@@ -73,3 +73,18 @@ class Owned(Protocol):
 
     def model(self) -> Model:
         """The model. Its groups stand in the same order whatever the settings are."""
+
+
+class Lone:
+    """A source each of whose groups has settings of its own alone."""
+
+    def has(self, path: str) -> bool:
+        """Whether a group of the model has such settings."""
+        raise NotImplementedError
+
+    def meant(self, path: str) -> list[str]:
+        """The group itself, if it has settings."""
+        return [path] if self.has(path) else []
+
+    def joined(self, _: Owned) -> None:
+        """None: it takes no groups of another."""

@@ -12,7 +12,7 @@ from arbiter_host import demands, names, units
 from arbiter_host.demands import Measured
 from arbiter_host.faults import HostFault
 from arbiter_host.model import MAX_CAPACITY, Group, Model, check_count, checked
-from arbiter_host.owned import NONE, Owned, Range, Setting
+from arbiter_host.owned import NONE, Lone, Range, Setting
 from arbiter_host.sources import systemd
 from arbiter_host.sources.beside import Place
 from arbiter_host.sources.data import loads, number, table, text
@@ -151,7 +151,7 @@ def nano_of(setting: Setting, host: Host) -> int:
 
 
 @dataclass(frozen=True)
-class Source:
+class Source(Lone):
     """Containers as they were read. `--cpus` and `--cpu-shares` of them can be changed."""
 
     library: Library
@@ -221,10 +221,6 @@ class Source:
         """Whether a group is a container."""
         return path in self.built[1]
 
-    def meant(self, path: str) -> list[str]:
-        """The group itself, if it has settings."""
-        return [path] if self.has(path) else []
-
     def changed(self, settings: Sequence[Setting]) -> Source:
         """The same with other CPUs and shares."""
         running = list(self.running)
@@ -233,10 +229,6 @@ class Source:
             running[place] = {**running[place],
                               "HostConfig": config_with(running[place], setting, self.host)}
         return replace(self, running=tuple(running))
-
-    def joined(self, _: Owned) -> None:
-        """None: it takes no groups of another."""
-        return None
 
     def ranges(self, path: str) -> list[Range]:
         """The shares and the CPUs that can be asked for of a container."""

@@ -16,7 +16,7 @@ from arbiter_host.demands import Measured, Reading
 from arbiter_host.faults import HostFault
 from arbiter_host.model import MAX_DEPTH, Group, Model, checked
 from arbiter_host.names import shown
-from arbiter_host.owned import NONE, Owned, Range, Setting
+from arbiter_host.owned import NONE, Lone, Range, Setting
 
 NOT_SET = ("", "[not set]", "infinity", "18446744073709551615")
 SECOND = 10**6
@@ -186,7 +186,7 @@ def check(setting: Setting) -> None:
 
 
 @dataclass(frozen=True)
-class Source:
+class Source(Lone):
     """Units as they were read. `CPUWeight=` and `CPUQuota=` of them can be changed."""
 
     host: Host
@@ -221,20 +221,12 @@ class Source:
         """Whether a group is a unit that was printed."""
         return path in self.found
 
-    def meant(self, path: str) -> list[str]:
-        """The group itself, if it has settings."""
-        return [path] if self.has(path) else []
-
     def changed(self, settings: Sequence[Setting]) -> Source:
         """The same with other weights and quotas."""
         found = dict(self.found)
         for setting in settings:
             found[setting.path] = changed_unit(found[setting.path], setting)
         return replace(self, found=found)
-
-    def joined(self, _: Owned) -> None:
-        """None: it takes no groups of another."""
-        return None
 
     def ranges(self, path: str) -> list[Range]:
         """The weights and the quotas that can be asked for of a unit."""

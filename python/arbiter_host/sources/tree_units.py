@@ -10,7 +10,7 @@ from dataclasses import dataclass, replace
 from arbiter_host import units
 from arbiter_host.model import Group, Model, check_settings
 from arbiter_host.names import raw_path
-from arbiter_host.owned import Owned, Range, Setting
+from arbiter_host.owned import Lone, Range, Setting
 from arbiter_host.sources import systemd
 
 
@@ -26,7 +26,7 @@ def change(group: Group, setting: Setting, notes: list[str]) -> None:
 
 
 @dataclass(frozen=True)
-class Source:
+class Source(Lone):
     """A tree as it was read, and the settings of its units that were changed since."""
 
     tree: Model
@@ -51,19 +51,11 @@ class Source:
         folder = raw_path(path)
         return path in self.tree.groups and bool(folder and systemd.unit_of(folder))
 
-    def meant(self, path: str) -> list[str]:
-        """The group itself, if it is a unit."""
-        return [path] if self.has(path) else []
-
     def changed(self, settings: Sequence[Setting]) -> Source:
         """The same with other weights and quotas."""
         for setting in settings:
             systemd.check(setting)
         return replace(self, settings=(*self.settings, *settings))
-
-    def joined(self, _: Owned) -> None:
-        """None: it takes no groups of another."""
-        return None
 
     def ranges(self, path: str) -> list[Range]:
         """The weights and the quotas that can be asked for of a unit."""
