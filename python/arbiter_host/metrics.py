@@ -2,14 +2,12 @@
 from __future__ import annotations
 
 import ipaddress
-import os
-import secrets
 import socket
 import socketserver
 import threading
 import time
 from collections.abc import Callable, Iterable, Sequence
-from contextlib import suppress
+from contextlib import closing, suppress
 from typing import Any
 from wsgiref.simple_server import WSGIRequestHandler, WSGIServer, make_server
 
@@ -17,13 +15,13 @@ from prometheus_client import CollectorRegistry, generate_latest, make_wsgi_app
 from prometheus_client.core import GaugeMetricFamily
 from prometheus_client.registry import Collector
 
-from arbiter_host.beneath import check_path
-from arbiter_host.exports.files import is_ours
 from arbiter_host.faults import HostFault, UsageFault, strerror
 from arbiter_host.names import shown
-from arbiter_host.record import FLAGS, collected_folder
 from arbiter_host.watch import Alert, Figures
+from arbiter_host.whole import collected_folder, faults, place_of
 
+# What the first lines of the file hold.
+MARK = "# HELP arbiter_"
 # Seconds for which a reader may hold others up, however slowly it asks and takes.
 SECONDS = 5
 # The names of the metrics of groups, their values, and what they say.
@@ -82,28 +80,10 @@ def registry_of(figured: Figured) -> CollectorRegistry:
 def put_file(path: str, registry: CollectorRegistry) -> None:
     """Writes the metrics to a file whole, or not at all. Everybody may read it. Another file is not
     replaced."""
-    check_path(path)
-    above, name = os.path.split(os.path.abspath(path))
-    part = f".{secrets.token_hex(8)}.part"
-    folder = collected_folder(above)
-    try:
-        if not is_ours(folder, name, "# HELP arbiter_"):
-            raise HostFault(f"{shown(path)}: is there, and has no metrics of arbiterctl")
-        descriptor = os.open(part, os.O_WRONLY | os.O_CREAT | os.O_EXCL | FLAGS, 0o644,
-                             dir_fd=folder)
-        try:
-            with os.fdopen(descriptor, "wb") as file:
-                os.fchmod(descriptor, 0o644)
-                file.write(generate_latest(registry))
-            os.rename(part, name, src_dir_fd=folder, dst_dir_fd=folder)
-        except OSError:
-            with suppress(OSError):
-                os.unlink(part, dir_fd=folder)
-            raise
-    except OSError as error:
-        raise HostFault(f"{shown(path)}: {strerror(error)}") from error
-    finally:
-        os.close(folder)
+    with closing(place_of(path, collected_folder, mode=0o644, is_synced=False)) as place:
+        with faults(path, ""):
+            place.check_ours(path, MARK, "has no metrics of arbiterctl")
+            place.put(generate_latest(registry))
 
 
 class Handler(WSGIRequestHandler):
