@@ -134,6 +134,20 @@ class Asked:
         return [place for place, goal in enumerate(self.goals) if goal.group.row not in self.kept]
 
     @property
+    def depth(self) -> int:
+        """The depth of the deepest group of a goal."""
+        return max(goal.group.depth for goal in self.goals)
+
+    @property
+    def sums(self) -> dict[int, int]:
+        """What the goals at a row and below it ask for in all, for each row of goals and above."""
+        found: dict[int, int] = {}
+        for goal in self.goals:
+            for group in (goal.group, *above(self.before, goal.group)):
+                found[group.row] = found.get(group.row, 0) + goal.amount
+        return found
+
+    @property
     def weights(self) -> list[int]:
         """The weight of each row."""
         return [group.weight for group in self.before.groups]
@@ -263,23 +277,19 @@ def goals_at(asked: Asked, depth: int, extras: Mapping[int, int]) -> list[tuple[
     One above goals' groups has to get their sum, and is to get some slices more where it asks for
     them.
     """
-    sums: dict[int, int] = {}
-    for goal in asked.goals:
-        for group in (goal.group, *above(asked.before, goal.group)):
-            if group.depth == depth and group.row not in asked.kept:
-                sums[group.row] = sums.get(group.row, 0) + goal.amount
     found = []
-    for row, amount in sums.items():
+    for row, amount in asked.sums.items():
         group = asked.before.groups[row]
-        most = group.want if group.limit is None else min(group.want, group.limit)
-        found.append((row, max(amount, min(amount + extras.get(row, 0), most))))
+        if group.depth == depth and row not in asked.kept:
+            most = group.want if group.limit is None else min(group.want, group.limit)
+            found.append((row, max(amount, min(amount + extras.get(row, 0), most))))
     return found
 
 
 def descended(asked: Asked, extras: Mapping[int, int]) -> list[int] | Planned:
     """Weights that are asked for from the top down, or the group that falls short."""
     groups, weights = asked.before.groups, asked.weights
-    for depth in range(1, max(goal.group.depth for goal in asked.goals) + 1):
+    for depth in range(1, asked.depth + 1):
         goals = goals_at(asked, depth, extras)
         found = asked.ask(weights, goals)
         if isinstance(found, Unmet):
@@ -325,7 +335,7 @@ def kept_below(asked: Asked, found: list[int]) -> list[int]:
     """Weights that meet all goals, of which those of one depth stay as they are where greater ones
     above them meet all goals so too."""
     groups, now = asked.before.groups, asked.weights
-    for depth in range(max(goal.group.depth for goal in asked.goals), 1, -1):
+    for depth in range(asked.depth, 1, -1):
         rows = {row for row, weight in enumerate(found)
                 if weight != now[row] and groups[row].depth == depth}
         kept = replace(asked, kept=asked.kept | rows)
@@ -344,17 +354,13 @@ def has_requests(before: Plan) -> bool:
 def is_short_above(asked: Asked) -> bool:
     """Whether a group above goals' groups has less than they ask for in all, and no weight of a
     goal's group gives it more: none is a sibling of it, or of a group above it."""
-    before, sums = asked.before, dict[int, int]()
-    for goal in asked.goals:
-        for group in above(before, goal.group):
-            sums[group.row] = sums.get(group.row, 0) + goal.amount
-    parents = {goal.group.parent for goal in asked.goals}
+    before, parents = asked.before, {goal.group.parent for goal in asked.goals}
 
     def is_fixed(row: int) -> bool:
         return parents.isdisjoint({0, *(each.row for each in above(before, before.groups[row]))})
 
     return any(is_fixed(row) and asked.amount(before, row) < amount
-               for row, amount in sums.items())
+               for row, amount in asked.sums.items())
 
 
 def found_above(asked: Asked) -> list[int] | None:
