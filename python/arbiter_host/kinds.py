@@ -7,6 +7,7 @@ from __future__ import annotations
 
 import math
 from collections.abc import Mapping
+from contextlib import suppress
 from dataclasses import dataclass, replace
 from fractions import Fraction
 
@@ -62,15 +63,22 @@ class Kind:
     # The settings that weigh a group and that limit it.
     keys = ("request", "limit")
 
+    @property
+    def own(self) -> list[str]:
+        """The groups that have settings."""
+        return [path for path in self.model.groups if self.owned.has(path)]
+
+    def matching(self, word: str) -> set[str]:
+        """The groups that a pattern means; none where it has no match."""
+        with suppress(HostFault):
+            return {group.path for group in demands.matching(self.model, word)}
+        return set()
+
     def named(self, word: str) -> list[str]:
         """The groups that a column of measurements names."""
-        own = [path for path in self.model.groups if self.owned.has(path)]
-        last = [path for path in own if names.last_name(path) == word]
-        try:
-            return last or [path for path in own if path in {
-                group.path for group in demands.matching(self.model, word)}]
-        except HostFault:
-            return []
+        last = [path for path in self.own if names.last_name(path) == word]
+        paths = set() if last else self.matching(word)
+        return last or [path for path in self.own if path in paths]
 
     def seen(self) -> dict[str, Use]:
         """The use of each group that was read with the source."""
@@ -125,17 +133,12 @@ class Pods(Kind):
         """The containers that a column names: itself, or those of a pod."""
         if word in self.source.named:
             return self.source.named[word]
-        try:
-            paths = {group.path for group in demands.matching(self.model, word)}
-        except HostFault:
-            return []
-        return [path for path in self.model.groups if self.source.has(path)
-                and (path in paths or names.parent_path(path) in paths)]
+        paths = self.matching(word)
+        return [path for path in self.own if path in paths or names.parent_path(path) in paths]
 
     def seen(self) -> dict[str, Use]:
         """The use of each container that `--usage` or `--cgroup` says."""
-        places = {path: self.source.built[1][path] for path in self.model.groups
-                  if self.source.has(path)}
+        places = {path: self.source.built[1][path] for path in self.own}
         return seen_of(self.model, places, self.source.known, self.source.seconds)
 
     def title(self, path: str) -> str:
