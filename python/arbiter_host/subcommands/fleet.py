@@ -22,7 +22,7 @@ from arbiter_host.fleet.store import Store
 from arbiter_host.model import Group, Model
 from arbiter_host.output import emit_json, say, warn, write_file
 from arbiter_host.subcommands.base import Subcommand, add_reading_options
-from arbiter_host.subcommands.series import add_prometheus_options, mapped
+from arbiter_host.subcommands.series import add_prometheus_options, mapped, range_words
 
 ACTIONS = ("plan", "series", "place", "what-if")
 MOST_WORKERS = 1024
@@ -84,9 +84,7 @@ def job_of(options: argparse.Namespace) -> Job:
 def demands_of(options: argparse.Namespace) -> Callable[[str], Lines]:
     """The samples of each host of a series."""
     if options.prometheus:
-        words = {key: getattr(options, key) for key in ("query", "start", "end", "step")}
-        if not all(words.values()) or len(options.source) > 1:
-            raise UsageFault("--prometheus takes --query, --start, --end and --step, and no file")
+        words = range_words(options, len(options.source) > 1)
         return demands.prometheus(options.prometheus, words, options.host_label, options.label)
     if len(options.source) != 2:
         raise UsageFault("series takes the hosts, and a folder or a table of demands or"

@@ -3,17 +3,17 @@ from __future__ import annotations
 
 import argparse
 
-from arbiter_host import change, load, names, recommend, samples, text
-from arbiter_host.faults import UsageFault
+from arbiter_host import change, load, recommend, samples, text
+from arbiter_host.kinds import Use, kind_of
 from arbiter_host.model import Model
 from arbiter_host.names import cut, short, shown
 from arbiter_host.output import emit_json, emit_styled
-from arbiter_host.kinds import Use, kind_of
 from arbiter_host.recommend import Proposal, Recommendation
 from arbiter_host.subcommands.backwards import aligned
 from arbiter_host.subcommands.base import (Subcommand, add_reading_options, found_engine,
                                            source_name)
-from arbiter_host.subcommands.series import add_prometheus_options, mapped
+from arbiter_host.subcommands.series import (add_prometheus_options, file_samples, mapped,
+                                             range_words)
 
 
 
@@ -21,16 +21,10 @@ def history_of(options: argparse.Namespace, model: Model) -> list[samples.Sample
     """The samples of the files and of Prometheus. An empty cell is no sample."""
     found: list[samples.Sample] = []
     for path in options.history:
-        data, name = load.file_bytes(path), names.shown(path)
-        is_csv = options.csv or path.lower().endswith((".csv", ".tsv"))
-        found += (samples.read_csv(data, name, options.unit, model.host, 0, True) if is_csv
-                  else samples.read_pairs(data, name, options.unit, model.host))
+        found += file_samples(options, path, model.host, True)
     if options.prometheus:
-        words = {key: getattr(options, key) for key in ("query", "start", "end", "step")}
-        if not all(words.values()):
-            raise UsageFault("--prometheus takes --query, --start, --end and --step")
-        found += samples.read_prometheus(options.prometheus, words, options.label, options.unit,
-                                         model.host, True)
+        found += samples.read_prometheus(options.prometheus, range_words(options), options.label,
+                                         options.unit, model.host, True)
     return found
 
 

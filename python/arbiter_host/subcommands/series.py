@@ -26,22 +26,37 @@ def sample_periods(options: argparse.Namespace, period: int) -> int:
     return count
 
 
+def range_words(options: argparse.Namespace, has_file: bool | None = None) -> dict[str, str]:
+    """The words of a range query. A fault where one is missing, or where a file is named too.
+
+    Without `has_file` files may be named.
+    """
+    words = {key: getattr(options, key) for key in ("query", "start", "end", "step")}
+    if not all(words.values()) or has_file:
+        raise UsageFault("--prometheus takes --query, --start, --end and --step"
+                         + ("" if has_file is None else ", and no file"))
+    return words
+
+
+def file_samples(options: argparse.Namespace, path: str, host: Host,
+                 keep_holes: bool) -> list[samples.Sample]:
+    """The samples of a file: CSV, or lines of pairs."""
+    data, name = load.file_bytes(path), names.shown(path)
+    if options.csv or path.lower().endswith((".csv", ".tsv")):
+        return samples.read_csv(data, name, options.unit, host, 0, keep_holes)
+    return samples.read_pairs(data, name, options.unit, host)
+
+
 def read_samples(options: argparse.Namespace, host: Host) -> list[samples.Sample]:
     """The samples of the file or of Prometheus."""
+    keep_holes = options.holes == "keep"
     if options.prometheus:
-        words = {key: getattr(options, key) for key in ("query", "start", "end", "step")}
-        missing = [key for key, value in words.items() if not value]
-        if missing or options.demands:
-            raise UsageFault("--prometheus takes --query, --start, --end and --step, and no file")
-        return samples.read_prometheus(options.prometheus, words, options.label, options.unit, host,
-                                       options.holes == "keep")
+        return samples.read_prometheus(options.prometheus,
+                                       range_words(options, bool(options.demands)), options.label,
+                                       options.unit, host, keep_holes)
     if not options.demands:
         raise UsageFault("a file of demands, or --prometheus")
-    data, name = load.file_bytes(options.demands), names.shown(options.demands)
-    is_csv = options.csv or options.demands.lower().endswith((".csv", ".tsv"))
-    if is_csv:
-        return samples.read_csv(data, name, options.unit, host, 0, options.holes == "keep")
-    return samples.read_pairs(data, name, options.unit, host)
+    return file_samples(options, options.demands, host, keep_holes)
 
 
 def mapped(words: Sequence[str]) -> dict[str, str]:
