@@ -1,7 +1,6 @@
 """Looks at all groups of a host: of copies of a tree, or of a tree that is read again and again."""
 from __future__ import annotations
 
-import os
 from collections.abc import Callable, Hashable, Mapping, Sequence
 from dataclasses import dataclass, field
 from fractions import Fraction
@@ -12,7 +11,7 @@ from arbiter_host import awake, progress, units, watch
 from arbiter_host.awake import Tasks
 from arbiter_host.demands import Reading, rise
 from arbiter_host.faults import HostFault
-from arbiter_host.model import Group, Model, checked
+from arbiter_host.model import Model
 from arbiter_host.names import shown
 from arbiter_host.sources import cgroup2, cgroups
 from arbiter_host.sources.cgroups import Node, Wish
@@ -71,12 +70,7 @@ def counted_of(node: Node, is_live: bool) -> Counted:
 
 def look(folder: str, host: Host, depth: int, is_live: bool = False) -> Look:
     """One look at a tree of cgroups. Its time is set by who asks."""
-    version, top = cgroup2.version_of(folder), os.path.realpath(folder)
-    model, root = Model(checked(host)), Node(top, Group("."))
-    model.notes += version.told(top)
-    root.measured.readings.append(version.reading(top))
-    walk = cgroups.Walk(version, model, Wish(depth=depth))
-    walk.below(root)
+    root, walk = cgroups.walked(cgroup2.version_of(folder), folder, host, Wish(depth=depth))
     if not walk.nodes:
         raise HostFault(f"{shown(folder)}: no groups with the cpu controller are below it")
     # Of two trees nothing but the path tells whether a group is the same.
@@ -85,8 +79,8 @@ def look(folder: str, host: Host, depth: int, is_live: bool = False) -> Look:
         for node in [root, *walk.nodes] if node.measured.readings[0].usage is not None}
     tasks = {node.group.path: node.measured.tasks for node in walk.nodes
              if node.measured.tasks is not None}
-    notes, model.notes = model.notes, []
-    return Look("", Fraction(0), model, found, tasks, notes)
+    notes, walk.model.notes = walk.model.notes, []
+    return Look("", Fraction(0), walk.model, found, tasks, notes)
 
 
 def added(looks: list[Look], found: Look) -> None:

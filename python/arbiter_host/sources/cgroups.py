@@ -188,7 +188,7 @@ class Walk:
             child.measured.tasks = self.version.tasks(folder)
 
 
-def sample(top: str, root: Node, walk: Walk) -> Fraction:
+def sample(root: Node, walk: Walk) -> Fraction:
     """Reads the counters again, after each interval or in each later copy.
 
     Returns the seconds from one reading to the next.
@@ -197,8 +197,8 @@ def sample(top: str, root: Node, walk: Walk) -> Fraction:
 
     def take(at: int) -> None:
         for node in nodes:
-            later = walk.wish.later[at] if walk.wish.later else top
-            folder = os.path.join(later, os.path.relpath(node.folder, top))
+            later = walk.wish.later[at] if walk.wish.later else root.folder
+            folder = os.path.join(later, os.path.relpath(node.folder, root.folder))
             node.measured.readings.append(walk.version.reading(folder))
 
     return repeated(walk.wish, take)
@@ -270,18 +270,23 @@ def tell_slices(model: Model) -> None:
                                    f" {int(exact)} are kept")
 
 
-def read(version: Version, folder: str, host: Host, wish: Wish) -> Model:
-    """The model of a tree."""
-    model = Model(checked(host))
+def walked(version: Version, folder: str, host: Host, wish: Wish) -> tuple[Node, Walk]:
+    """The top of a tree, which was read, and the walk over all groups below it."""
+    root, model = Node(os.path.realpath(folder), Group(".")), Model(checked(host))
     model.notes += version.told(folder)
-    top = os.path.realpath(folder)
-    root = Node(top, Group("."))
-    root.measured.readings.append(version.reading(top))
+    root.measured.readings.append(version.reading(root.folder))
     walk = Walk(version, model, wish)
     walk.below(root)
+    return root, walk
+
+
+def read(version: Version, folder: str, host: Host, wish: Wish) -> Model:
+    """The model of a tree."""
+    root, walk = walked(version, folder, host, wish)
+    model = walk.model
     if not walk.nodes:
         model.notes.append("no groups with the cpu controller are below this folder")
-    seconds = sample(top, root, walk) if needs_samples(wish) else wish.seconds
+    seconds = sample(root, walk) if needs_samples(wish) else wish.seconds
     tell_gone(walk)
     found = {node.group.path: node.measured for node in walk.nodes}
     demands.set_demands(model, found, wish.want, seconds)
