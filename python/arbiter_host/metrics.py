@@ -22,8 +22,10 @@ from arbiter_host.whole import collected_folder, faults, place_of
 
 # What the first lines of the file hold.
 MARK = "# HELP arbiter_"
-# Seconds for which a reader may hold others up, however slowly it asks and takes.
+# Seconds in which a reader has to ask, and those in which it has to take the answer.
 SECONDS = 5
+# The key of a request's environment that has the time of its reader.
+TIME = "arbiter.time"
 # The names of the metrics of groups, their values, and what they say.
 GROUPS: tuple[tuple[str, Callable[[Figures], Any], str], ...] = (
     ("arbiter_plan_gets_cpus", lambda each: each.plan / 1000, "CPUs that the plan gives a group."),
@@ -92,11 +94,31 @@ class Handler(WSGIRequestHandler):
     def log_message(self, format: str, *words: Any) -> None:
         """Logs nothing."""
 
+    def get_environ(self) -> dict[str, Any]:
+        """What is asked, with the time of the reader."""
+        return {**super().get_environ(), TIME: self.server.time}  # type: ignore[attr-defined]
 
-def cut_off(request: socket.socket) -> None:
-    """Ends what a reader sends and takes. One that is closed has ended."""
-    with suppress(OSError):
-        request.shutdown(socket.SHUT_RDWR)
+
+class Patience:
+    """The time that a reader has. One that takes longer is cut off."""
+
+    def __init__(self, request: socket.socket) -> None:
+        self.request, self.timer = request, threading.Timer(0, self.cut_off)
+
+    def cut_off(self) -> None:
+        """Ends what a reader sends and takes. One that is closed has ended."""
+        with suppress(OSError):
+            self.request.shutdown(socket.SHUT_RDWR)
+
+    def begin(self) -> None:
+        """The time begins."""
+        self.timer = threading.Timer(SECONDS, self.cut_off)
+        self.timer.daemon = True
+        self.timer.start()
+
+    def end(self) -> None:
+        """The time ends."""
+        self.timer.cancel()
 
 
 class Server(WSGIServer):
@@ -109,14 +131,13 @@ class Server(WSGIServer):
         self.setup_environ()
 
     def process_request(self, request: Any, client_address: Any) -> None:
-        """Answers one request. A reader that takes too long is cut off."""
-        ending = threading.Timer(SECONDS, cut_off, [request])
-        ending.daemon = True
-        ending.start()
+        """Answers one request, of a reader that has some time."""
+        self.time = Patience(request)
+        self.time.begin()
         try:
             super().process_request(request, client_address)
         finally:
-            ending.cancel()
+            self.time.end()
 
     def handle_error(self, request: Any, client_address: Any) -> None:
         """A reader that went away is no fault of the server."""
@@ -161,7 +182,11 @@ def guarded(registry: CollectorRegistry) -> Callable[..., Any]:
         if environ["PATH_INFO"] != "/metrics" or environ["REQUEST_METHOD"] != "GET":
             start("404 Not Found", [("Content-Type", "text/plain")])
             return [b"/metrics\n"]
-        return app(environ, start)
+        # What making the answer takes is none of the reader's time.
+        environ[TIME].end()
+        found = app(environ, start)
+        environ[TIME].begin()
+        return found
 
     return answer
 

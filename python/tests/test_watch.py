@@ -314,17 +314,17 @@ def test_a_reader_that_says_nothing_holds_nobody_up_for_long(served):
 ])
 def test_names_of_a_browser(host, is_answered):
     """A name of somebody's domain that begins as a loopback address is none."""
-    told = []
+    told, (one, _) = [], socket.socketpair()
     metrics.guarded(metrics.registry_of(metrics.Figured()))(
-        {"HTTP_HOST": host, "PATH_INFO": "/metrics", "REQUEST_METHOD": "GET", "QUERY_STRING": ""},
-        lambda status, _: told.append(status[:3]))
+        {"HTTP_HOST": host, "PATH_INFO": "/metrics", "REQUEST_METHOD": "GET", "QUERY_STRING": "",
+         metrics.TIME: metrics.Patience(one)}, lambda status, _: told.append(status[:3]))
     assert told == ["200" if is_answered else "403"]
 
 
 def test_a_slow_reader_is_cut_off(monkeypatch, capfd):
     """One that asks letter by letter, and one that takes nothing of a long answer: neither holds
     the next one up for long, or leaves a word in the log."""
-    monkeypatch.setattr(metrics, "SECONDS", 2)
+    monkeypatch.setattr(metrics, "SECONDS", 3)
     figured = metrics.Figured()
     # (an answer of some megabytes fits into no socket)
     figured.put([watch.Figures(f"{at}" * 40, "", Fraction(0), Fraction(0), Fraction(0), Fraction(0),
@@ -340,7 +340,7 @@ def test_a_slow_reader_is_cut_off(monkeypatch, capfd):
                     letters.sendall(b"G")
                     time.sleep(0.1)
             assert asked(f"127.0.0.1:{where[1]}")[0] == 200
-    assert time.monotonic() - begun < 25
+    assert time.monotonic() - begun < 60
     assert capfd.readouterr().err == ""
 
 
