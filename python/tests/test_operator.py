@@ -104,10 +104,13 @@ def test_refusals_name_line_number_name_and_range(ctl, folder, subcommand, statu
 
 
 def test_random_bytes(ctl, folder):
-    """Bytes that are no script are refused line by line, and end a strict run with status 4."""
+    """Bytes that are no script are refused line by line where they are called one, and end a strict
+    run with status 4. Else one line says that they are no source."""
     (folder / "s").write_bytes(random.Random(7).randbytes(20000))
-    _, err = ctl.run("explain", folder / "s")
+    _, err = ctl.run("explain", folder / "s", "--from", "script")
     assert err.count(": error 8") > 20
+    out, err = ctl.run("explain", folder / "s", status=1)
+    assert out == "" and err.count("\n") == 1 and "no source that is known" in err
     assert ctl.run("explain", "--strict", folder / "s", status=4)[0] == ""
 
 
