@@ -262,7 +262,7 @@ def test_live_by_the_command(ctl, folder):
 
 def cell(used=0, planned=0, demand=0):
     """A cell, in thousandths of a CPU."""
-    return Cell(Fraction(used), Fraction(demand), Fraction(planned), 0, 0, False, 1)
+    return Cell(Fraction(used), Fraction(planned), Fraction(demand), 0, 0, False, 1)
 
 
 def interval(host=ONE, seconds=1, groups=(), **cells):

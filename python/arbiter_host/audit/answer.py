@@ -9,7 +9,7 @@ from typing import Any
 
 from arbiter_host import text, units
 from arbiter_host.audit.causes import Outlooks, cause_of
-from arbiter_host.audit.intervals import Audit, Cell, Interval
+from arbiter_host.audit.intervals import Audit, Cell, Interval, Off
 from arbiter_host.demands import mean
 from arbiter_host.model import Group
 from arbiter_host.names import parent_path, short, shown
@@ -40,24 +40,10 @@ class Row:
         return [cell for cell in self.cells if cell]
 
     @property
-    def used(self) -> Fraction:
-        """What it used as a mean, in thousandths of a CPU."""
-        return mean([cell.used for cell in self.seen])
-
-    @property
-    def planned(self) -> Fraction:
-        """The plan as a mean, in thousandths of a CPU."""
-        return mean([cell.planned for cell in self.seen])
-
-    @property
-    def off(self) -> Fraction:
-        """What it used as a mean less the plan."""
-        return self.used - self.planned
-
-    @property
-    def part(self) -> Fraction | None:
-        """That as a part of the plan; None where nothing was planned."""
-        return self.off / self.planned if self.planned else None
+    def average(self) -> Off:
+        """What it used and the plan, as means."""
+        seen = self.seen
+        return Off(mean([cell.used for cell in seen]), mean([cell.planned for cell in seen]))
 
     @property
     def most(self) -> Cell:
@@ -134,14 +120,15 @@ def head(found: Told) -> Iterator[str]:
 
 def cells_of(row: Row) -> list[str]:
     """The cells of a row."""
-    return [cpus(row.used), cpus(row.planned), points(row.off), percent(row.part),
-            points(row.most.off), percent(row.most.part), str(len(row.seen)), row.cause,
+    average, most = row.average, row.most
+    return [cpus(average.used), cpus(average.planned), points(average.off), percent(average.part),
+            points(most.off), percent(most.part), str(len(row.seen)), row.cause,
             short(shown(row.path))]
 
 
 def busy(found: Told) -> list[Row]:
     """The rows of groups that used something, or were planned something."""
-    return [row for row in found.rows if row.used or row.planned]
+    return [row for row in found.rows if row.average.used or row.average.planned]
 
 
 def foot(found: Told) -> Iterator[str]:
@@ -158,10 +145,10 @@ def number(value: Fraction | None) -> float | None:
     return None if value is None else round(float(value), 6)
 
 
-def off_data(used: Fraction, planned: Fraction, part: Fraction | None) -> dict[str, Any]:
+def off_data(found: Off) -> dict[str, Any]:
     """What was used and planned, in CPUs, and off in hundredths of one and as a part."""
-    return {"used_cpus": number(used / 1000), "plan_cpus": number(planned / 1000),
-            "off_hundredths": number((used - planned) / HUNDREDTH), "off_part": number(part)}
+    return {"used_cpus": number(found.used / 1000), "plan_cpus": number(found.planned / 1000),
+            "off_hundredths": number(found.off / HUNDREDTH), "off_part": number(found.part)}
 
 
 def column(cells: Sequence[Cell | None], key: str) -> list[Any]:
@@ -185,9 +172,7 @@ def row_data(row: Row, intervals: Sequence[Interval]) -> dict[str, Any]:
     return {"group": row.path, "title": row.group.title, "weight": row.group.weight,
             "quota_usec": row.group.quota, "period_usec": row.group.period,
             "intervals": len(row.seen), "holes": {str(key): why for key, why in holes.items()},
-            "mean": off_data(row.used, row.planned, row.part),
-            "worst": {"interval": row.worst,
-                      **off_data(row.most.used, row.most.planned, row.most.part)},
+            "mean": off_data(row.average), "worst": {"interval": row.worst, **off_data(row.most)},
             "cause": row.cause, **cells_data(row.cells)}
 
 

@@ -22,12 +22,28 @@ CAME, FELL, STILL, AWAY = ("groups that came or went", "groups whose counters fe
 
 
 @dataclass(frozen=True)
-class Cell:
-    """One leaf in one interval. Amounts are thousandths of a CPU."""
+class Off:
+    """What was used and planned, in thousandths of a CPU, and how far off that is."""
 
     used: Fraction
-    demand: Fraction
     planned: Fraction
+
+    @property
+    def off(self) -> Fraction:
+        """What was used less the plan."""
+        return self.used - self.planned
+
+    @property
+    def part(self) -> Fraction | None:
+        """Off as a part of the plan; None where nothing was planned."""
+        return self.off / self.planned if self.planned else None
+
+
+@dataclass(frozen=True)
+class Cell(Off):
+    """One leaf in one interval. Amounts are thousandths of a CPU."""
+
+    demand: Fraction
     # Its periods, and those in which it was throttled.
     periods: int
     throttled: int
@@ -35,16 +51,6 @@ class Cell:
     hungry: bool
     tasks: int | None
     may_be_hungry: bool = False
-
-    @property
-    def off(self) -> Fraction:
-        """What it used less its plan."""
-        return self.used - self.planned
-
-    @property
-    def part(self) -> Fraction | None:
-        """Off as a part of the plan; None where nothing was planned."""
-        return self.off / self.planned if self.planned else None
 
 
 @dataclass(frozen=True)
@@ -99,7 +105,7 @@ class Asking:
         """The cell of a leaf with its plan."""
         span, risen = self.span, self.span.risen
         waited = want is None and not self.hungry and span.waits and not span.two
-        return Cell(span.used, self.demand, planned, risen.periods or 0, risen.throttled or 0,
+        return Cell(span.used, planned, self.demand, risen.periods or 0, risen.throttled or 0,
                     self.hungry, self.tasks, waited)
 
 
