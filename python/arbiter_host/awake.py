@@ -33,6 +33,8 @@ class Round(NamedTuple):
     passed: int
     used: int
     waited: int
+    # Whether it was throttled at a limit of its own.
+    is_throttled: bool = False
 
 
 def task(number: int) -> Task | None:
@@ -61,13 +63,15 @@ def rises(before: Tasks, now: Tasks) -> Iterator[Task]:
 
 
 def is_hungry(before: Tasks, now: Tasks, found: Round) -> bool:
-    """Whether a group would have used more in a round in which it was not throttled.
+    """Whether a group would have used more in a round. It would if it was throttled.
 
-    Not if its tasks waited for less than a tenth of the round. Else if a task was awake for 19 of
-    20 parts of it, and waited for one. Where tasks that were there at both readings used less than
-    half of what was used, it is a guess: whether tasks waited for half of the round.
+    Else not if its tasks waited for less than a tenth of the round. Else if a task was awake for 19
+    of 20 parts of it, and waited for one. Where tasks that were there at both readings used less
+    than half of what was used, it is a guess: whether tasks waited for half of the round.
     """
     passed = found.passed
+    if found.is_throttled:
+        return True
     if 10 * 1000 * found.waited < passed:
         return False
     seen = list(rises(before, now))

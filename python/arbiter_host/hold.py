@@ -130,9 +130,10 @@ def used_between(leaf: Kept, now: Reading, at: int, tasks: Tasks) -> Used:
                         " written")
     throttled = demands.rise(leaf.reading.throttled, now.throttled)
     waited = demands.rise(leaf.reading.pressure, now.pressure)
-    hungry = (leaf.stands.quota is not None and bool(throttled)
-              or awake.is_hungry(leaf.tasks, tasks, awake.Round(passed, rise, waited or 0)))
-    return Used(units.thousandths_of_usage(rise, Fraction(passed, 10**9)), hungry)
+    found = awake.Round(passed, rise, waited or 0,
+                        leaf.stands.quota is not None and bool(throttled))
+    return Used(units.thousandths_of_usage(rise, Fraction(passed, 10**9)),
+                awake.is_hungry(leaf.tasks, tasks, found))
 
 
 def tree(top: str, host: Host, depth: int = MAX_DEPTH) -> tuple[Model, list[Node]]:

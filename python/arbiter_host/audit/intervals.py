@@ -148,9 +148,9 @@ def is_hungry(group: Group, span: Span) -> bool:
     """Whether a leaf would have used more, as `hold` decides it: it was throttled, or a task of it
     was always awake and waited."""
     risen = span.risen
-    found = awake.Round(int(span.seconds * 10**9), risen.usage or 0, risen.pressure or 0)
-    return (group.quota is not None and bool(risen.throttled)
-            or awake.is_hungry(span.one, span.two, found))
+    found = awake.Round(int(span.seconds * 10**9), risen.usage or 0, risen.pressure or 0,
+                        group.quota is not None and bool(risen.throttled))
+    return awake.is_hungry(span.one, span.two, found)
 
 
 def asking_of(group: Group, span: Span, tasks: int | None, model: Model,
