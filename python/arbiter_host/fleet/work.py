@@ -60,8 +60,8 @@ def result(job: Job, item: Item, by: Engine) -> str:
 
 @contextmanager
 def uncollected() -> Iterator[None]:
-    """Lets Python's search for cycles rest. A batch makes many objects, nearly none in a cycle, and
-    is short: the search took a sixth of its time."""
+    """Lets Python's search for cycles rest. A batch is short, and makes many objects, of which
+    nearly none is in a cycle."""
     is_searching = gc.isenabled()
     gc.disable()
     try:
