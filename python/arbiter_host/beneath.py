@@ -163,6 +163,12 @@ class Root:
                 os.ftruncate(descriptor, len(line))
 
 
+def is_of_others(found: os.stat_result, bits: int = 0) -> bool:
+    """Whether a file is another user's than root's or this one's, or its mode has bits that let
+    others change it."""
+    return found.st_uid not in (0, os.geteuid()) or bool(found.st_mode & bits)
+
+
 def check_path(path: str) -> None:
     """A fault where a text is no path that the system can hold."""
     try:

@@ -175,7 +175,7 @@ def of_kubelet(path: str) -> str:
 def is_trusted(folder: str) -> bool:
     """Whether a group is root's or this user's. Others may give theirs any name."""
     try:
-        return os.lstat(folder).st_uid in (0, os.geteuid())
+        return not beneath.is_of_others(os.lstat(folder))
     except OSError:
         return False
 
@@ -484,7 +484,7 @@ class Loop:
         """Whether users that are not trusted may set the limit of a group. What they set there must
         end no loop."""
         found = self.root.status(kept.folder, "cpu.max")
-        return found is None or found.st_uid not in (0, os.geteuid()) or bool(found.st_mode & 0o022)
+        return found is None or beneath.is_of_others(found, 0o022)
 
     def undo_text(self) -> str:
         """What stood in each group, and what it may hold by this loop."""

@@ -13,7 +13,7 @@ from collections.abc import Callable, Iterator
 from contextlib import ExitStack, contextmanager, suppress
 from dataclasses import dataclass, field
 
-from arbiter_host.beneath import check_path
+from arbiter_host.beneath import check_path, is_of_others
 from arbiter_host.faults import HostFault, strerror
 from arbiter_host.names import shown
 
@@ -42,8 +42,7 @@ def check_way(path: str, descriptor: int) -> None:
     In a sticky folder users change names of their own files alone.
     """
     found = os.fstat(descriptor)
-    is_free = found.st_mode & 0o022 and not found.st_mode & stat.S_ISVTX
-    if found.st_uid not in (0, os.geteuid()) or is_free:
+    if is_of_others(found, 0 if found.st_mode & stat.S_ISVTX else 0o022):
         raise HostFault(f"{shown(path)}: other users may change this folder{CHANGED}")
 
 
@@ -60,7 +59,7 @@ def link_text(path: str, descriptor: int) -> str:
     found = os.fstat(descriptor)
     if not stat.S_ISLNK(found.st_mode):
         return ""
-    if found.st_uid not in (0, os.geteuid()):
+    if is_of_others(found):
         raise HostFault(f"{shown(path)}: a link of another user{CHANGED}")
     return os.readlink("", dir_fd=descriptor)
 
