@@ -5,7 +5,7 @@ import itertools
 import os
 import re
 import unicodedata
-from collections.abc import Container
+from collections.abc import Container, Sequence
 
 from arbiter_host.faults import HostFault
 
@@ -174,6 +174,11 @@ def raw_path(path: str) -> str | None:
     found = [raw_name(each) for each in path.split("/")]
     known = [each for each in found if each is not None]
     return "/".join(known) if len(known) == len(found) else None
+
+
+def few(words: Sequence[str], most: int = 5) -> str:
+    """The first of some words, and a mark where there are more."""
+    return ", ".join([*words[:most], *([".."] if len(words) > most else [])])
 
 
 def joined(parent: str, name: str) -> str:

@@ -99,10 +99,8 @@ def without_waiting(items: Sequence[dict[str, Any]], notes: list[str]) -> list[d
 
 def several(what: str, nodes: Iterable[str]) -> HostFault:
     """A fault where one node is meant, with the names of some."""
-    found = sorted(nodes)
-    rest = ", .." if len(found) > 5 else ""
-    return HostFault(f"{what} ({', '.join(map(shown, found[:5]))}{rest}): choose one by --node, or"
-                     " ask all by `fleet`")
+    found = list(map(shown, sorted(nodes)))
+    return HostFault(f"{what} ({names.few(found)}): choose one by --node, or ask all by `fleet`")
 
 
 def pods_on(items: Sequence[dict[str, Any]], node: str, notes: list[str]) -> list[Pod]:

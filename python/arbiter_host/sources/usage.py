@@ -17,13 +17,12 @@ from typing import Any, NamedTuple
 
 from arbiter_host import units
 from arbiter_host.faults import HostFault
-from arbiter_host.names import cut, shown
+from arbiter_host.names import cut, few, shown
 from arbiter_host.sources.data import MAX_BYTES, MAX_TEXT, loads, table, tables, text
 from arbiter_host.sources.pods import quantity
 
-# Containers that a file may name, and names of them that are told.
+# Containers that a file may name.
 MOST_ENTRIES = 200000
-MOST_TOLD = 5
 # Columns of `kubectl top pods`, and the names that entries have for them.
 COLUMNS = {"NAMESPACE": "namespace", "POD": "pod", "NAME": "name", "CPU(cores)": "cpu"}
 # A column of `docker stats` that tells its table, and what separates columns.
@@ -184,5 +183,4 @@ def read(data: bytes, name: str) -> list[Used]:
 
 def some(titles: Sequence[str]) -> str:
     """The number of some names, with the first of them."""
-    rest = ", .." if len(titles) > MOST_TOLD else ""
-    return f"{len(titles)}: {', '.join(titles[:MOST_TOLD])}{rest}"
+    return f"{len(titles)}: {few(titles)}"

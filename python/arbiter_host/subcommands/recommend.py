@@ -6,7 +6,7 @@ import argparse
 from arbiter_host import change, load, recommend, samples, text
 from arbiter_host.kinds import Use, kind_of
 from arbiter_host.model import Model
-from arbiter_host.names import cut, short, shown
+from arbiter_host.names import cut, few, short, shown
 from arbiter_host.output import emit_json, emit_styled
 from arbiter_host.recommend import Proposal, Recommendation
 from arbiter_host.subcommands.backwards import aligned
@@ -94,8 +94,8 @@ def lines_of(found: Recommendation, count: int) -> list[tuple[str, str]]:
               " the plan", ""),
              *totals_line(found),
              (f"short when each uses this at once: {len(short_)}"
-              + (f" ({', '.join(short_[:3])}{', ..' if len(short_) > 3 else ''})" if short_
-                 else ""), "red" if short_ else ""), ("", ""), *zip(aligned(rows, 0), styles)]
+              + (f" ({few(short_, 3)})" if short_ else ""), "red" if short_ else ""),
+             ("", ""), *zip(aligned(rows, 0), styles)]
     if any(each.is_throttled for each in found.proposals):
         lines.append(("* throttled at its limit: it wanted more than it used", ""))
     return lines
