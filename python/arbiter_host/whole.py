@@ -1,7 +1,8 @@
 """Writes files whole or not at all, in folders that other users cannot change.
 
 A file is written beside its name, under a name that nobody reads, and gets its own when it is
-whole. No link is followed at either name. A file that another wrote is not replaced.
+whole. No link is followed at either name. What has the name is looked at first, so that no file of
+another program is replaced.
 """
 from __future__ import annotations
 

@@ -62,7 +62,7 @@ class Written:
                 os.fsync(folder)
 
 
-def place_of(to: str, documents: Sequence[Document]) -> tuple[str, list[Document]]:
+def placed(to: str, documents: Sequence[Document]) -> tuple[str, list[Document]]:
     """The folder, and the files below it. A path that is no folder is that of one file."""
     if to.endswith("/") or os.path.isdir(to):
         return to, list(documents)
@@ -79,7 +79,7 @@ def write(to: str, documents: Sequence[Document]) -> list[str]:
     if to == "-" and len(documents) == 1:
         emit(documents[0].text)
         return []
-    where, found = place_of(to, documents)
+    where, found = placed(to, documents)
     with ExitStack() as opened:
         written = Written(where, opened)
         for each in found:
