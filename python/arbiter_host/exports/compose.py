@@ -85,13 +85,18 @@ def keys_of(asked: Asked, group: Differing, config: dict[str, Any]) -> dict[str,
     return found
 
 
+def service_of(container: dict[str, Any]) -> tuple[str, str]:
+    """The project and the service that the labels of a container name; empty for none."""
+    labels = table(container, "Config", "Labels")
+    return text(labels, f"{LABELS}project"), text(labels, f"{LABELS}service")
+
+
 def services(asked: Asked) -> Iterator[tuple[str, str, Differing, dict[str, Any]]]:
     """The project and service of each container that changes, and its keys."""
     containers = by_group(asked)
     for group in asked.groups():
         container = containers.get(last_name(group.before.place), {})
-        labels = table(container, "Config", "Labels")
-        project, service = (text(labels, f"{LABELS}{key}") for key in ("project", "service"))
+        project, service = service_of(container)
         if not (NAME.fullmatch(project) and NAME.fullmatch(service)):
             asked.refuse(group.path, f"no service of compose ({LABELS}project and .service are"
                          " not among its labels)")
@@ -103,8 +108,7 @@ def check_replicas(asked: Asked, found: dict[tuple[str, str], dict[str, Any]]) -
     """Refuses a service some of whose containers keep their settings."""
     changed = {last_name(each.before.place) for each in asked.groups()}
     for scope, container in by_group(asked).items():
-        labels = table(container, "Config", "Labels")
-        service = (text(labels, f"{LABELS}project"), text(labels, f"{LABELS}service"))
+        service = service_of(container)
         is_group = any(last_name(each.place) == scope for each in asked.before.groups.values())
         if is_group and scope not in changed and service in found:
             asked.refuse(text(container, "Name").strip("/"),
