@@ -154,6 +154,11 @@ def quota_of_thousandths(thousandths: int, period: int = DEFAULT_PERIOD) -> int 
     return None if thousandths == 0 else max(thousandths * period // 1000, MIN_QUOTA)
 
 
+def bounded_limit(quota: int, period: int) -> tuple[int, int]:
+    """The quota and the period that are nearest to some and that the kernel takes."""
+    return min(max(quota, MIN_QUOTA), MAX_QUOTA), min(max(period, MIN_PERIOD), MAX_PERIOD)
+
+
 def weight_of_shares(library: Library, shares: int, conversion: str) -> int:
     """`cpu.weight` of `cpu.shares`, by a name of CONVERSIONS."""
     bounded = min(max(shares, MIN_SHARES), MAX_SHARES)

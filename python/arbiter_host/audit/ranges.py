@@ -168,8 +168,7 @@ class Found:
         for labels, path in self.leaves.items():
             quota, period = (self.count(key, labels, at) for key in ("quota", "period"))
             if quota and period:
-                found[path] = (min(max(quota, units.MIN_QUOTA), units.MAX_QUOTA),
-                               min(max(period, units.MIN_PERIOD), units.MAX_PERIOD))
+                found[path] = units.bounded_limit(quota, period)
         return found
 
 

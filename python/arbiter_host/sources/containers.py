@@ -67,9 +67,8 @@ def set_limit(group: Group, config: dict[str, Any], notes: list[str]) -> None:
         quota, period = nano * units.DEFAULT_PERIOD // NANO, units.DEFAULT_PERIOD
     if quota <= 0:
         return
-    bounded = min(max(period, units.MIN_PERIOD), units.MAX_PERIOD)
-    taken = min(max(quota, units.MIN_QUOTA), units.MAX_QUOTA)
-    if (bounded, taken) != (period, quota):
+    taken, bounded = units.bounded_limit(quota, period)
+    if (taken, bounded) != (quota, period):
         notes.append(f"{group.path}: quota {quota} of {period}: {taken} of {bounded} is taken")
     group.quota, group.period = taken, bounded
 
