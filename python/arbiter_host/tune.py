@@ -574,10 +574,10 @@ def tune(before: Plan, words: Sequence[str], is_guaranteed: bool = False,
 def payers(found: Tuned, way: Way) -> list[tuple[str, int]]:
     """The groups without children and without a goal at or above them that get less, and how many
     slices less."""
-    above = {goal.group.path for goal in found.goals}
-    below = tuple(f"{path}/" for path in above)
+    paths = {goal.group.path for goal in found.goals}
+    below = tuple(f"{path}/" for path in paths)
     return [(path, lost) for path, lost in backwards.payers(found.before, way.plan, "")
-            if path not in above and not path.startswith(below)]
+            if path not in paths and not path.startswith(below)]
 
 
 def words_of(way: Way) -> list[str]:
