@@ -102,6 +102,13 @@ def checked_own(path: str, descriptor: int) -> int:
     return descriptor
 
 
+def folder_in(above: int, name: str) -> int:
+    """Opens a folder of another one. It is made where there is none."""
+    with suppress(FileExistsError):
+        os.mkdir(name, 0o700, dir_fd=above)
+    return os.open(name, FOLDERS, dir_fd=above)
+
+
 def own_folder(path: str) -> int:
     """Opens a folder that is this user's alone to change, below folders that are so or root's. It
     is made where there is none."""
@@ -109,10 +116,7 @@ def own_folder(path: str) -> int:
     above, name = os.path.split(os.path.abspath(path))
     with faults(path), ExitStack() as opened:
         place = descended(above, opened)
-        if name:
-            with suppress(FileExistsError):
-                os.mkdir(name, 0o700, dir_fd=place)
-        descriptor = os.open(name or "/", FOLDERS, dir_fd=place)
+        descriptor = folder_in(place, name) if name else os.open("/", FOLDERS)
     return checked_own(path, descriptor)
 
 
@@ -156,7 +160,7 @@ class Place:
     part: str = field(default_factory=unread_name)
 
     def check_ours(self, path: str, mark: str, words: str) -> None:
-        """A fault where a file has the name that has no such mark."""
+        """A fault where the name is that of a file without a mark."""
         if not is_ours(self.folder, self.name, mark):
             raise HostFault(f"{shown(path)}: is there, and {words}")
 

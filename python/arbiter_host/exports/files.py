@@ -6,14 +6,14 @@ from __future__ import annotations
 
 import os
 from collections.abc import Sequence
-from contextlib import ExitStack, suppress
+from contextlib import ExitStack
 
 from arbiter_host.beneath import check_path, parts_of
 from arbiter_host.exports.base import MARK, Document
 from arbiter_host.faults import UsageFault
 from arbiter_host.names import shown
 from arbiter_host.output import emit
-from arbiter_host.whole import FOLDERS, WRITTEN, Place, check_own, faults, own_folder
+from arbiter_host.whole import WRITTEN, Place, check_own, faults, folder_in, own_folder
 
 
 class Written:
@@ -36,9 +36,7 @@ class Written:
         whole = "/".join(names)
         if whole not in self.folders:
             above = self.folder(names[:-1])
-            with suppress(FileExistsError):
-                os.mkdir(names[-1], 0o700, dir_fd=above)
-            self.keep(whole, os.open(names[-1], FOLDERS, dir_fd=above))
+            self.keep(whole, folder_in(above, names[-1]))
             check_own(os.path.join(self.path, whole), self.folders[whole])
         return self.folders[whole]
 
