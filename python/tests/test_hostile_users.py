@@ -8,7 +8,8 @@ import time
 from pathlib import Path
 
 import pytest
-from arbiter_host import gauges, metrics, names, record
+from arbiter_host import apply, gauges, metrics, names, record
+from arbiter_host.audit import written
 from arbiter_host.exports import files
 from arbiter_host.exports.base import MARK, Document
 from arbiter_host.faults import HostFault
@@ -31,12 +32,32 @@ def textfile(folder):
     metrics.put_file(f"{folder}/x.prom", metrics.registry_of(metrics.Figured()))
 
 
+def audit(folder):
+    written.put([written.Document(f"{folder}/audit.json", "{}", "{")])
+
+
+def kept(folder, kind, name):
+    """Writes a file as a loop does in each round."""
+    file = kind(f"{folder}/{name}")
+    try:
+        file.put("text")
+    finally:
+        file.close()
+
+
 # Each writes below a folder, or opens it to write there later.
 WRITERS = {
     "lock": lambda folder: closed(record.lock(str(folder))),
     "undo": lambda folder: record.Record(f"{folder}/undo.json").close(),
     "gauges": lambda folder: gauges.File(f"{folder}/x.prom").close(),
-    "export": export, "textfile": textfile,
+    "export": export, "textfile": textfile, "audit": audit,
+}
+# Each writes a file below a folder.
+PUTS = {
+    "undo of hold": lambda folder: kept(folder, record.Record, "undo.json"),
+    "undo of apply": lambda folder: apply.write_synced(f"{folder}/undo.json", "text"),
+    "gauges": lambda folder: kept(folder, gauges.File, "x.prom"),
+    "export": export, "textfile": textfile, "audit": audit,
 }
 COLLECTED = ("gauges", "textfile")
 each_writer = pytest.mark.parametrize("write", WRITERS.values(), ids=list(WRITERS))
@@ -143,7 +164,7 @@ def full(folder, monkeypatch):
     return folder
 
 
-def refuse(*_):
+def refuse(*_, **__):
     raise OSError(errno.ENOSPC, os.strerror(errno.ENOSPC))
 
 
@@ -156,6 +177,33 @@ def test_a_full_disk(full):
         assert list(full.iterdir()) == []
     kept.close()
     file.close()
+
+
+@pytest.mark.parametrize("put", PUTS.values(), ids=list(PUTS))
+@pytest.mark.parametrize("calls", [("rename", "link"), ("fchmod",)])
+def test_nothing_is_left_behind(folder, monkeypatch, put, calls):
+    """A file that cannot be finished or named is not there, under no name."""
+    for call in calls:
+        monkeypatch.setattr(os, call, refuse)
+    with pytest.raises(HostFault, match="No space left"):
+        put(folder)
+    assert [path for path in folder.rglob("*") if not path.is_dir()] == []
+    monkeypatch.undo()
+    put(folder)
+    found, = [path for path in folder.rglob("*") if not path.is_dir()]
+    everybody = put in (PUTS["gauges"], PUTS["textfile"])
+    assert found.stat().st_mode & 0o777 == (0o644 if everybody else 0o600)
+
+
+@pytest.mark.parametrize("name, put", [("undo.json.part", "undo of hold"),
+                                       (".x.prom.part", "gauges")])
+def test_what_a_killed_loop_left(folder, name, put):
+    """It is replaced and not written through: another name of it keeps what it has."""
+    (folder / "mine").write_text("mine")
+    os.link(folder / "mine", folder / name)
+    PUTS[put](folder)
+    assert (folder / "mine").read_text() == "mine" and not (folder / name).exists()
+    assert len(list(folder.iterdir())) == 2
 
 
 @as_root
