@@ -421,6 +421,23 @@ def wanted_back(now: Settings, old: Settings, written: Sequence[Settings]) -> Se
     return wanted
 
 
+def with_burst(settings: Settings, burst: int) -> Settings:
+    """Settings with a burst, as far as their quota lets it be."""
+    most = burst if settings.quota is None else settings.quota
+    return replace(settings, burst=min(burst, most))
+
+
+def restored(now: Settings, old: Settings, written: Sequence[Settings]) -> Settings:
+    """What is to stand in a group again that a loop has held: the operator's own settings, but each
+    that somebody set since. A limit that was set has the group's own burst, and the other way
+    round."""
+    ours = [old, *written]
+    weight = old.weight if now.weight in [each.weight for each in ours] else now.weight
+    limit = old if now.maximum in [each.maximum for each in ours] else now
+    burst = old.burst if now.burst in [each.burst for each in ours] else now.burst
+    return with_burst(replace(limit, weight=weight), burst)
+
+
 def take_back(back: Back, entry: dict[str, Any], is_forced: bool) -> bool:
     """Takes an entry of an undo file. Returns whether its group is there."""
     folder, old = str(entry.get("folder", "")), settings_from(entry)
@@ -433,7 +450,10 @@ def take_back(back: Back, entry: dict[str, Any], is_forced: bool) -> bool:
     except Gone:
         back.left.append(f"{folder}: the group is gone, nothing of it is undone")
         return False
-    wanted = old if is_forced else wanted_back(now, old, written)
+    wanted = old
+    if not is_forced:
+        # (each setting of a loop stands for itself, since it takes bursts away)
+        wanted = (restored if "earlier" in entry else wanted_back)(now, old, written)
     if wanted != old:
         back.left.append(f"{folder}: holds {told(now)}, which is neither what `apply` found"
                          f" ({told(old)}) nor what it wrote: what differs is left (--force)")

@@ -199,12 +199,6 @@ def own_settings(group: Group, old: Settings) -> None:
     group.weight, group.quota, group.period = old.weight or 1, old.quota, old.period
 
 
-def with_burst(settings: Settings, burst: int) -> Settings:
-    """Settings with a burst that somebody set, as far as their quota lets it be."""
-    most = burst if settings.quota is None else settings.quota
-    return replace(settings, burst=min(burst, most))
-
-
 class Loop:
     """The rounds over one tree. `record` is None where nothing is written."""
 
@@ -280,7 +274,7 @@ class Loop:
             kept.old = replace(kept.old, weight=now.weight)
             kept.stands = replace(kept.stands, weight=now.weight)
         if now.maximum == kept.stands.maximum and now.burst != kept.stands.burst:
-            kept.old = with_burst(kept.old, now.burst)
+            kept.old = apply.with_burst(kept.old, now.burst)
             kept.stands = replace(kept.stands, burst=now.burst)
         is_back = (now.maximum == kept.old.maximum != kept.stands.maximum
                    and now.burst in (kept.old.burst, kept.stands.burst))
@@ -290,7 +284,8 @@ class Loop:
         elif now != kept.stands:
             if kept.is_leaf and not kept.is_left:
                 self.tell([f"{path}: somebody set {apply.told(now)}: its limit is left alone"])
-            kept.old, kept.stands = replace(now, weight=kept.old.weight), now
+            back = apply.restored(now, kept.old, [kept.stands])
+            kept.old, kept.stands = replace(back, weight=kept.old.weight), now
             kept.is_left = kept.is_leaf
         kept.target = kept.stands
 
@@ -517,14 +512,8 @@ class Loop:
         now = apply.standing(self.root, kept.folder)
         if now is None:
             return
-        old, written = kept.old, kept.written
-        if (now.maximum in [each.maximum for each in written]
-                and now.burst not in [each.burst for each in [old, *written]]):
-            # A burst alone was set: the limit is this loop's, and is taken back.
-            old = with_burst(old, now.burst)
-            written = [*written, replace(kept.stands, burst=now.burst)]
-        wanted = apply.wanted_back(now, old, written)
-        if wanted != old:
+        wanted = apply.restored(now, kept.old, kept.written)
+        if wanted != kept.old:
             self.tell([f"{kept.folder}: somebody set {apply.told(now)}: it is left alone"])
         if wanted != now:
             back.changes.append(Change(kept.folder, now, wanted))

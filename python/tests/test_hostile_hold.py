@@ -178,6 +178,43 @@ def test_a_burst_that_somebody_sets(folder, engine, own, burst, wanted, is_at_en
     assert (world.tree / "a/cpu.max.burst").read_text().strip() == str(wanted)
 
 
+@pytest.mark.parametrize("maximum, wanted", [
+    ("70000 100000", 30000), ("20000 100000", 20000), (FREE, 30000)])
+@pytest.mark.parametrize("is_at_end", [False, True])
+def test_a_limit_that_somebody_sets_has_the_burst(folder, engine, maximum, wanted, is_at_end):
+    """The group's own burst, which the loop had taken away, comes back as far as it fits."""
+    world = World(folder, [("a", 100, "90000 100000"), ("b", 300, FREE)])
+    (world.tree / "a/cpu.max.burst").write_text("30000\n")
+    loop = world.loop(engine, folder / "undo")
+
+    def put():
+        assert (world.tree / "a/cpu.max.burst").read_text() == "0\n"
+        (world.tree / "a/cpu.max").write_text(f"{maximum}\n")
+
+    at_end(loop, put if is_at_end else lambda: None)
+    lines = world.run(loop, lambda: None, lambda: None if is_at_end else put(), lambda: None)
+    assert [stood["a"] for _, stood in lines] == (
+        [limit(50)] * 3 if is_at_end else [limit(50)] + [maximum] * 2)
+    assert world.maximum("a") == maximum
+    assert (world.tree / "a/cpu.max.burst").read_text().strip() == str(wanted)
+
+
+def test_undo_of_a_loop_that_was_killed(folder, engine):
+    """Its undo file brings back each setting that nobody set since."""
+    world = World(folder, [("a", 100, "90000 100000"), ("b", 300, FREE)])
+    (world.tree / "a/cpu.max.burst").write_text("30000\n")
+    loop = world.loop(engine, folder / "undo")
+    loop.end = lambda: None
+    world.run(loop, lambda: None)
+    (world.tree / "a/cpu.max").write_text("70000 100000\n")
+    (world.tree / "b/cpu.max.burst").write_text("5000\n")
+    back = apply.read_undo((folder / "undo").read_bytes(), "undo")
+    apply.undo(back, [])
+    assert [apply.current(back.root, name) for name in "ab"] == [
+        Settings(100, 70000, 100000, 30000), Settings(300, None, 100000, 5000)]
+    assert [each.split(":")[0] for each in back.left] == ["a", "b"]
+
+
 def test_more_groups_than_files(world, engine, folder, monkeypatch, capsys):
     """Those that cannot be open are left alone, and the loop goes on."""
     monkeypatch.setattr(beneath, "most_files", lambda: hold.SPARE_FILES + 2)
