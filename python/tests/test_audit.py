@@ -224,7 +224,8 @@ def test_a_group_made_again_is_another(folder, engine):
 
 def test_a_clock_that_goes_back(folder, engine):
     world = World(folder)
-    clock = iter([0.0, 0.0, 5.0, 0.0, 1.0, 5.0, 5.0])
+    # (each look asks once for each of three groups, and once for itself)
+    clock = iter([0, 0, 5, 5, 5, 5, 0, 0, 1, 1, 1, 1])
     with pytest.raises(HostFault, match="the clock went back between two looks"):
         looks.live(str(world.top), ONE, 64, watch.Times(Fraction(5), Fraction(15)),
                    lambda: next(clock), lambda _: None)
@@ -234,10 +235,32 @@ def test_a_clock_that_goes_back(folder, engine):
         intervals.audited(engine, found, None, set(), lambda: None)
 
 
+def test_each_group_has_its_own_time(folder, engine):
+    """A look that takes 2 s: a is read 1 s after the root, and b after another. Each has used what
+    it had until then, in the 10 s since it was read last."""
+    world, calls = World(folder), []
+
+    def clock():
+        calls.append(None)
+        return world.now + len(calls)
+
+    found = [looks.look(str(world.top), ONE, 64, clock)]
+    world.now, before = 10.0, len(calls)
+    world.put(2)
+    calls.clear()
+    found.append(looks.look(str(world.top), ONE, 64, clock))
+    assert before == len(calls) == 3
+    found[1].at = Fraction(12)
+    cells = intervals.audited(engine, found, None, set(), lambda: None).intervals[0].cells
+    assert [found[1].counted[path][key].at for path in ".ab"
+            for key in found[1].counted[path]] == [11, 12, 13]
+    assert (cells["a"].used, cells["b"].used) == (200, 800)
+
+
 def test_a_look_that_takes_too_long(folder, engine):
     """With 20 s for a look and 15 s for all there are two looks, and an interval of 20 s."""
     world = World(folder)
-    ticks = iter(range(0, 400, 20))
+    ticks = iter(range(0, 1000, 20))
 
     def clock():
         world.now = float(next(ticks))

@@ -14,8 +14,9 @@ from arbiter_host.faults import HostFault
 from arbiter_host.model import Model
 from arbiter_host.names import shown
 from arbiter_host.sources import cgroup2, cgroups
-from arbiter_host.sources.cgroups import Node, Wish
+from arbiter_host.sources.cgroups import Node, Version, Wish
 
+Clock = Callable[[], float]
 # Groups times looks. A look at a group takes about a kilobyte.
 MOST_COUNTED = 400_000
 MICROSECONDS = 10**6
@@ -61,22 +62,34 @@ def settings_of(model: Model) -> list[tuple[object, ...]]:
             for path, each in model.groups.items()]
 
 
-def counted_of(node: Node, is_live: bool) -> Counted:
-    """What was counted of a group of a tree. What its tasks did is known on the host alone."""
-    threads = cgroups.file_text(node.folder, "cgroup.threads") if is_live else None
-    did = {} if node.children or threads is None else awake.tasks(threads[:awake.MOST_TEXT])
-    return Counted(node.measured.readings[0], did)
+def counted_of(node: Node, version: Version, clock: Clock | None) -> Counted:
+    """What was counted of a group of a tree. On the host itself that is read with its time, and
+    with what its tasks did."""
+    if clock is None:
+        return Counted(node.measured.readings[0])
+    reading, at = version.reading(node.folder), now_by(clock)
+    threads = None if node.children else cgroups.file_text(node.folder, "cgroup.threads")
+    return Counted(reading, awake.tasks((threads or "")[:awake.MOST_TEXT]), at)
 
 
-def look(folder: str, host: Host, depth: int, is_live: bool = False) -> Look:
-    """One look at a tree of cgroups. Its time is set by who asks."""
-    root, walk = cgroups.walked(cgroup2.version_of(folder), folder, host, Wish(depth=depth))
+def now_by(clock: Clock) -> Fraction:
+    """The seconds of a clock."""
+    return Fraction(clock()).limit_denominator(MICROSECONDS)
+
+
+def look(folder: str, host: Host, depth: int, clock: Clock | None = None) -> Look:
+    """One look at a tree of cgroups; with a clock at one of this host. The time of the look is set
+    by who asks."""
+    version = cgroup2.version_of(folder)
+    root, walk = cgroups.walked(version, folder, host, Wish(depth=depth))
     if not walk.nodes:
         raise HostFault(f"{shown(folder)}: no groups with the cpu controller are below it")
     # Of two trees nothing but the path tells whether a group is the same.
-    found: dict[str, dict[Hashable, Counted]] = {
-        node.group.path: {node.group.identity if is_live else "": counted_of(node, is_live)}
-        for node in [root, *walk.nodes] if node.measured.readings[0].usage is not None}
+    found: dict[str, dict[Hashable, Counted]] = {}
+    for node in [root, *walk.nodes]:
+        counted = counted_of(node, version, clock)
+        if counted.reading.usage is not None:
+            found[node.group.path] = {node.group.identity if clock else "": counted}
     tasks = {node.group.path: node.measured.tasks for node in walk.nodes
              if node.measured.tasks is not None}
     notes, walk.model.notes = walk.model.notes, []
@@ -127,7 +140,7 @@ def of_copies(folders: Sequence[str], host: Host, depth: int, interval: Fraction
     return named(looks)
 
 
-def live(folder: str, host: Host, depth: int, times: watch.Times, clock: Callable[[], float],
+def live(folder: str, host: Host, depth: int, times: watch.Times, clock: Clock,
          sleep: Callable[[float], None]) -> list[Look]:
     """The looks at a tree of this machine until the end of some time.
 
@@ -138,9 +151,9 @@ def live(folder: str, host: Host, depth: int, times: watch.Times, clock: Callabl
     many = int(whole / times.interval) + 1
 
     def take() -> None:
-        found = look(folder, host, depth, True)
+        found = look(folder, host, depth, clock)
         check_count(many, found)
-        found.at = Fraction(clock()).limit_denominator(MICROSECONDS)
+        found.at = now_by(clock)
         if looks and found.at <= looks[-1].at:
             raise HostFault("the clock went back between two looks: begin again")
         added(looks, found)
