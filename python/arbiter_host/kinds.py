@@ -194,7 +194,7 @@ class Units(Kind):
 
     want: str
 
-    noun, keys = "unit", ("CPUWeight", "CPUQuota")
+    noun, keys = "unit", systemd.KEYS
     options = "--history, --later or --prometheus"
 
     def seen(self) -> dict[str, Use]:

@@ -282,10 +282,10 @@ def as_metrics(series: Series) -> str:
 
 
 def stairs(values: Sequence[float], x: Callable[[float], float],
-           y: Callable[[float], float]) -> list[svg.Point]:
-    """The corners of a line that stays at each value for one sample."""
+           y: Callable[[float], float], begin: int = 0) -> list[svg.Point]:
+    """The corners of a line that stays at each value for one sample, from a sample on."""
     found: list[svg.Point] = []
-    for place, value in enumerate(values):
+    for place, value in enumerate(values, begin):
         found += [(x(place), y(value)), (x(place + 1), y(value))]
     return found
 
@@ -299,6 +299,13 @@ def runs(holds: Sequence[bool]) -> Iterator[tuple[int, int]]:
         elif not held and begun is not None:
             yield begun, place
             begun = None
+
+
+def gapped(values: Sequence[float | None], x: Callable[[float], float],
+           y: Callable[[float], float]) -> Iterator[list[svg.Point]]:
+    """The corners of such lines, one for each run of samples that have a value."""
+    for begin, end in runs([each is not None for each in values]):
+        yield stairs([each or 0.0 for each in values[begin:end]], x, y, begin)
 
 
 def panel(series: Series, place: int, top: float) -> Iterator[str]:
@@ -327,10 +334,8 @@ def panel(series: Series, place: int, top: float) -> Iterator[str]:
     for values, colour in ((wants, svg.WANTS), (gets, svg.GETS)):
         edge = [(x(0), y(0)), *stairs(values, x, y), (x(len(cells)), y(0))]
         yield svg.shape(edge, "none", 0, colour)
-    for begin, end in runs([each is not None for each in limits]):
-        part = [each or 0.0 for each in limits[begin:end]]
-        yield svg.shape([(px + begin * WIDE / len(cells), py) for px, py in stairs(part, x, y)],
-                        svg.LIMIT, 1.5, "none", "5 3")
+    for points in gapped(limits, x, y):
+        yield svg.shape(points, svg.LIMIT, 1.5, "none", "5 3")
     yield from strips(cells, top, x)
 
 

@@ -66,20 +66,22 @@ def steps(most: float, about: int) -> list[float]:
     return [round(place * step, 6) for place in range(int(most / step + 1e-9) + 1)]
 
 
+def head(width_: float, height: float, title: str, space: str = "", typeface: str = "") -> str:
+    """The beginning of a picture."""
+    wide_, tall = number(width_), number(height)
+    return (f'<svg{space} width="{wide_}" height="{tall}" viewBox="0 0 {wide_} {tall}"{typeface}'
+            f' role="img" aria-label={quoteattr(shown(title))}>')
+
+
 def inside(width_: float, height: float, title: str, parts: Sequence[str]) -> str:
     """A picture inside a page, whose letters and ground it has."""
-    size = f"{number(width_)} {number(height)}"
-    head = (f'<svg width="{number(width_)}" height="{number(height)}" viewBox="0 0 {size}"'
-            f" role=\"img\" aria-label={quoteattr(shown(title))}>")
-    return "\n".join([head, *parts, "</svg>"])
+    return "\n".join([head(width_, height, title), *parts, "</svg>"])
 
 
 def document(width_: float, height: float, title: str, parts: Sequence[str]) -> str:
     """A whole picture."""
-    size = f'{number(width_)} {number(height)}'
-    head = (f'<svg xmlns="http://www.w3.org/2000/svg" width="{number(width_)}"'
-            f' height="{number(height)}" viewBox="0 0 {size}" font-family="{TYPEFACE}" role="img"'
-            f" aria-label={quoteattr(shown(title))}>")
+    begin = head(width_, height, title, ' xmlns="http://www.w3.org/2000/svg"',
+                 f' font-family="{TYPEFACE}"')
     ground = box((0, 0), (width_, height), "#ffffff")
-    return "\n".join([head, f"<title>{escape(shown(title))}</title>", ground, *parts,
+    return "\n".join([begin, f"<title>{escape(shown(title))}</title>", ground, *parts,
                       "</svg>"]) + "\n"

@@ -10,7 +10,7 @@ from arbiter_host.audit.answer import Row, Told
 from arbiter_host.audit.intervals import Interval
 from arbiter_host.html import rendered
 from arbiter_host.names import cut, short, shown
-from arbiter_host.series import runs, stairs
+from arbiter_host.series import gapped
 
 MARK = "<title>Audit"
 # Groups whose use is drawn.
@@ -31,10 +31,9 @@ def height_of(value: float, most: float) -> float:
 def lines_of(values: Sequence[float | None], colour: str, dash: str, most: float) -> Iterator[str]:
     """A line of stairs, with a gap where nothing was measured."""
     step = (WIDTH - LEFT - RIGHT) / len(values)
-    for begin, end in runs([each is not None for each in values]):
-        points = stairs([each or 0.0 for each in values[begin:end]], lambda at: LEFT + step * at,
-                        lambda value: height_of(value, most))
-        yield svg.shape([(x + step * begin, y) for x, y in points], colour, 1.5, "none", dash)
+    for points in gapped(values, lambda at: LEFT + step * at,
+                         lambda value: height_of(value, most)):
+        yield svg.shape(points, colour, 1.5, "none", dash)
 
 
 def axes(intervals: Sequence[Interval], most: float) -> Iterator[str]:

@@ -22,6 +22,8 @@ NOT_SET = ("", "[not set]", "infinity", "18446744073709551615")
 SECOND = 10**6
 # A quota of systemd is a number of hundredths of a percent of one CPU.
 QUOTA = re.compile(r"([0-9]{1,9})(?:\.([0-9]{1,2}))?%")
+# The settings that people own.
+KEYS = ("CPUWeight", "CPUQuota")
 # Greatest quota that systemd can write, in hundredths of a percent.
 MOST_QUOTA = 10**9
 UNIT = re.compile(r"[A-Za-z0-9:_.\\@-]+\.(service|slice|scope)")
@@ -197,7 +199,7 @@ class Source(Lone):
     readings: tuple[dict[str, dict[str, str]], ...]
     has_left_out: bool = False
 
-    keys = ("CPUWeight", "CPUQuota")
+    keys = KEYS
 
     @functools.cached_property
     def built(self) -> Model:

@@ -32,7 +32,7 @@ class Source(Lone):
     tree: Model
     settings: tuple[Setting, ...] = ()
 
-    keys = ("CPUWeight", "CPUQuota")
+    keys = systemd.KEYS
 
     def model(self) -> Model:
         """The model."""
