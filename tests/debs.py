@@ -4,7 +4,8 @@
 
 It is no part of ./test: it needs root, lintian, debootstrap and Debian's archive, and takes some
 minutes. ARBITER_BASE names a root that debootstrap made before, which is copied. A root has no
-kit, no file of this folder, and Debian's packages alone.
+kit, no file of this folder, and Debian's packages alone. The service is tried in a guest, which
+needs what ./test --kernel does.
 """
 import json
 import os
@@ -14,6 +15,7 @@ from pathlib import Path
 
 import pytest
 
+from kernel import packages, real_unit
 from stand_in import version
 from support import ROOT, same
 
@@ -21,7 +23,8 @@ SECONDS = 1800
 SUITE, ARCHIVE = "bookworm", "http://deb.debian.org/debian"
 NAMES = ("arbiter", "arbiter-host", "libarbiter-dev", "libarbiter1")
 # What the packages depend on, and what a program over the library is made with.
-NEEDED = ("python3", "python3-jinja2", "python3-rich", "python3-yaml", "gcc", "libc6-dev", "pkgconf")
+NEEDED = ("python3", "python3-jinja2", "python3-rich", "python3-yaml", "gcc", "libc6-dev",
+          "pkgconf", "systemd")
 # Where dpkg and apt keep their books.
 BOOKS = ("proc", "sys", "dev", "tmp", "debs", "var/log", "var/cache", "var/lib/apt", "var/lib/dpkg",
          "etc/ld.so.cache")
@@ -122,7 +125,8 @@ def test_contents(debs):
                for path in debs}
     assert "libc6 (>= " in depends["arbiter"] and "libc6 (>= " in depends["libarbiter1"]
     assert f"libarbiter1 (= {version()})" in depends["libarbiter-dev"]
-    for needed in ("python3:any (>= 3.11", "python3-jinja2", "python3-rich", "python3-yaml", "libarbiter1"):
+    for needed in ("python3:any (>= 3.11", "python3-jinja2", "python3-rich", "python3-yaml",
+                   "libarbiter1"):
         assert needed in depends["arbiter-host"], needed
 
 
@@ -156,7 +160,7 @@ def test_program_runs(installed):
 
 
 def test_arbiterctl_runs(installed):
-    """A tree of cgroups is imported and explained, by the library and by the program."""
+    """A tree of cgroups is imported and explained, by the library that is installed."""
     group = installed / "srv/cgroup/web.service"
     group.mkdir(parents=True)
     (group.parent / "cgroup.controllers").write_text("cpu\n")
@@ -167,12 +171,11 @@ def test_arbiterctl_runs(installed):
     script = within(installed, "arbiterctl", "import", "cgroup", "/srv/cgroup", "--want", "busy",
                     "--cpus", "2", "--interval", "10ms", user="65534:65534")
     assert "write web.service cpu.weight 200\n" in script, script
-    for words, engine in (([], "libarbiter.so.1"),
-                          (["--library", "none"], "program /usr/bin/arbiter")):
-        found = json.loads(within(installed, "arbiterctl", "explain", "--json", "-", *words,
-                                  given=script.encode(), user="65534:65534"))
-        assert found["engine"].endswith(engine) and found["check"] == "accepted", found["engine"]
-        same([each["gets"]["slices"] for each in found["groups"]], [50, 50], "the plan")
+    found = json.loads(within(installed, "arbiterctl", "explain", "--json", "-",
+                              given=script.encode(), user="65534:65534"))
+    assert found["engine"].endswith("libarbiter.so.1"), found["engine"]
+    same(found["check"], "accepted", "the check")
+    same([each["gets"]["slices"] for each in found["groups"]], [50, 50], "the plan")
     same(within(installed, "arbiterctl", "--version"), f"arbiterctl {version()}\n", "--version")
     same(within(installed, "python3", "-c", "import arbiter_host as a; print(a.__version__)"),
          f"{version()}\n", "the package")
@@ -205,6 +208,52 @@ def test_unit_is_not_enabled(installed):
     """The service that holds a plan is there, and nothing begins it."""
     assert (installed / "lib/systemd/system/arbiter-hold.service").is_file()
     assert not list((installed / "etc/systemd").rglob("arbiter-hold.service"))
+
+
+@pytest.fixture(scope="module")
+def told(installed):
+    """What the service did under systemd: the root, booted in a guest."""
+    if packages.missing():
+        pytest.skip(packages.missing())
+    return real_unit.shown_by(packages.kernel("6.12"), installed)
+
+
+FREE = {"a": "100 max 100000", "b": "300 max 100000"}
+# Guarantees of 25 and 75 of 100 slices by weights 100 and 300 are the limits of groups that sleep.
+# A 128th above them is written.
+HELD = {"a": "100 25195 100000", "b": "300 75585 100000"}
+
+
+@pytest.mark.parametrize("name, state, result, files", [
+    ("before", "inactive dead", "success", FREE),
+    ("held", "active running", "success", HELD),
+    ("reloaded", "active running", "success", HELD),
+    ("stopped", "inactive dead", "success", FREE),
+    ("killed", "activating auto-restart", "signal", FREE),
+    ("held again", "active running", "success", HELD),
+    ("stood still", "activating auto-restart", "watchdog", FREE),
+    ("end", "inactive dead", "success", FREE)])
+def test_service_under_systemd(told, name, state, result, files):
+    """It is ready when it has written, and holds after a daemon-reload. What stood is back after a
+    stop, a kill and a loop that stood still, without an undo file; after these it begins again."""
+    step = told.steps[name]
+    same(" ".join(step.properties[key] for key in ("ActiveState", "SubState")), state, name)
+    same(step.properties["Result"], result, name)
+    same(step.files, files, name)
+    same(step.has_undo, files == HELD, name)
+
+
+def test_service_says_why_it_failed(told):
+    """A tree that is not there is named in the journal."""
+    same(told.steps["no tree"].properties["Result"], "exit-code", "the end")
+    assert any("work.slice/none" in line for line in told.said), told.said
+
+
+def test_service_begins_again(told):
+    """systemd began it once after the kill, and shows its rounds; nothing else was seen."""
+    same(told.steps["held again"].properties["NRestarts"], "1", "restarts")
+    assert told.steps["held"].properties["StatusText"].startswith("round ")
+    same(told.lacks, [], "lacks")
 
 
 def test_purge_leaves_nothing(installed, before):

@@ -432,6 +432,8 @@ def test_unit_says_how_it_runs():
                                    " $OPTIONS ${TREE}"]
     assert option("EnvironmentFile") == ["/etc/default/arbiter-hold"]
     assert "/etc/default/arbiter-hold" in option("ConditionPathExists")
+    # its rounds are not wanted there, its faults are
+    assert (option("StandardOutput"), option("StandardError")) == (["null"], ["journal"])
     rules = (UNIT.parents[1] / "debian/rules").read_text()
     assert "dh_installsystemd --no-enable --no-start" in rules
 
