@@ -1,4 +1,4 @@
-"""`arbiterctl hold` and `undo` on the real files of a guest, by the guest's Python."""
+"""`arbiterctl hold`, `undo` and `audit` on the real files of a guest, by the guest's Python."""
 from __future__ import annotations
 
 import json
@@ -42,6 +42,8 @@ def undone(undo: str) -> list[str]:
 
 def steps() -> Iterator[dict[str, Any]]:
     """The steps in order. A command with `kill` is killed when a file holds a text."""
+    yield {"name": "audit", "words": ["audit", layout.HOME, "--for", "8s", "--interval", "4s",
+                                      "--json"]}
     yield {"name": "dry run", "words": held("none", "--once", "--dry-run")}
     yield {"name": "hold", "words": held("one", "--for", "9s")}
     for name, group, more in (("first", "b", []), ("last", "pod/y", ["--weights", "--burst"])):

@@ -1,4 +1,5 @@
-"""`arbiterctl hold` in a guest: what it writes, a kill, `undo`, and groups that come and go.
+"""`arbiterctl hold` in a guest: what it writes, a kill, `undo`, and groups that come and go. And
+what `audit` says.
 
 Skipped where the packages, a kernel or the library are not there; also without KVM.
 """
@@ -41,11 +42,23 @@ def rounds_of(phase):
     return [json.loads(line) for line in phase.said if line.startswith("{")]
 
 
-@pytest.mark.parametrize("name", ["made", "dry run", "hold", "undone first", "undone last",
+@pytest.mark.parametrize("name", ["made", "audit", "dry run", "hold", "undone first", "undone last",
                                   "churn"])
 def test_what_stood_is_there(phases, name):
     """Before, after each end of a loop, and after `undo` of a loop that was killed."""
     assert (phases[name].status, settings_of(phases[name])) == (0, OLD)
+
+
+def test_audit_of_real_files(phases):
+    """The task of a has a processor to itself, and wants no more than it used. pod/x and the others
+    use nothing."""
+    found = json.loads("\n".join(line for line in phases["audit"].said
+                                 if not line.startswith("arbiterctl: ")))
+    groups = {each["group"]: each for each in found["groups"]}
+    assert found["check"] == "accepted" and set(groups) == set(real_hold.GUARANTEES)
+    assert 0.9 <= groups["a"]["mean"]["used_cpus"] <= 1.01
+    assert abs(groups["a"]["worst"]["off_hundredths"]) <= 1
+    assert all(groups[path]["mean"]["used_cpus"] == 0 for path in ("b", "pod/x", "pod/y"))
 
 
 def test_rounds_on_real_files(phases):
