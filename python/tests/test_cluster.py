@@ -77,7 +77,8 @@ def test_one_more_pod_of_a_deployment(ctl, folder):
     spec = next(each for each in json.loads(CLUSTER.read_text())["items"]
                 if each["metadata"]["name"] == "job-1")["spec"]
     maker = {"apiVersion": "apps/v1", "kind": "Deployment",
-             "metadata": {"name": "jobs", "namespace": "team"}, "spec": {"template": {"spec": spec}}}
+             "metadata": {"name": "jobs", "namespace": "team"},
+             "spec": {"template": {"spec": spec}}}
     (folder / "made.json").write_text(json.dumps(maker))
     found = json.loads(ctl.run("fleet", "place", folder / "made.json", "--hosts", CLUSTER, *NEEDS,
                                "--json")[0])
