@@ -183,6 +183,7 @@ def test_command_of_an_alert(ctl, folder):
     (["--after", "0"], "--after: 1 to"), (["--interval", "0"], "--interval: above 0"),
     (["--for", "x"], "--for: 'x' is no time"), (["--listen", "0.0.0.0:1"], "not a loopback"),
     (["--command", ""], "--command: it is empty"), (["--command", " "], "--command: it is empty"),
+    (["--listen", ""], "--listen: it is empty"), (["--textfile", ""], "--textfile: it is empty"),
 ])
 def test_words_that_are_refused(ctl, folder, words, told):
     (folder / "s.script").write_bytes(STARVES)

@@ -147,12 +147,15 @@ def run(options: argparse.Namespace) -> None:
         raise UsageFault("--after: 1 to 1000000")
     load.check_options(options)
     times_of(options)
+    for name in ("command", "listen", "textfile"):
+        # (as of a variable of a script that is not set)
+        given = getattr(options, name)
+        if given is not None and not given.strip():
+            raise UsageFault(f"--{name}: it is empty")
     try:
         watching = Watch(options)
     except ValueError as error:
         raise UsageFault(f"--command: {error}") from error
-    if options.command is not None and not watching.command:
-        raise UsageFault("--command: it is empty")
     read, is_tree = reader(options, watching.wanted)
     watching.begin()
     watching.rounds(read, is_tree)
