@@ -1,6 +1,7 @@
 """A host and its groups, in microseconds and thousandths of a CPU."""
 from __future__ import annotations
 
+from collections.abc import Sequence
 from dataclasses import dataclass, field, replace
 from fractions import Fraction
 from typing import TYPE_CHECKING
@@ -160,6 +161,15 @@ class Model:
         """The same model, whose groups can be changed."""
         groups = {path: replace(group) for path, group in self.groups.items()}
         return replace(self, groups=groups, notes=list(self.notes), refused=list(self.refused))
+
+
+def told_bound(found: Sequence[str], where: str = "CPUs") -> list[str]:
+    """What is told of groups that keep to CPUs of their own; nothing of none."""
+    if not found:
+        return []
+    more = f" and {len(found) - 5} more" if len(found) > 5 else ""
+    return [f"bound to {where}: {', '.join(found[:5])}{more}: each keeps to its own CPUs, so what"
+            " others leave idle does not reach it"]
 
 
 def check_count(many: int, what: str) -> None:

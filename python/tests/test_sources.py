@@ -488,6 +488,26 @@ def test_want_of_what_says_its_demands(ctl, folder, name, text):
 
 # files
 
+def test_groups_with_cpus_of_their_own_are_told(engine, folder):
+    """The plan knows no such bounds: of a tree, of units and of containers the groups are named."""
+    trees.root2(folder)
+    for name, cpus in (("a", "0-1"), ("b", ""), ("c", "3")):
+        trees.group2(folder / name)
+        trees.put(folder / name, cpuset_cpus=cpus)
+    told = "bound to CPUs: {}: each keeps to its own CPUs, so what others leave idle does not"
+    tree = cgroup2.read(str(folder), EIGHT, cgroups.Wish(Fraction(1, 1000))).notes
+    assert sum(each.startswith(told.format("a, c")) for each in tree) == 1
+    units_ = b"Id=a.service\nControlGroup=/a.service\nAllowedCPUs=0-1\n\nId=b.service\n" \
+        b"ControlGroup=/b.service\nAllowedCPUs=\n"
+    assert [each.startswith(told.format("a.service"))
+            for each in systemd.read([("u", units_)], EIGHT).notes] == [True]
+    raw = [{"Id": f"{at}", "Name": f"/c{at}", "HostConfig": {"CpusetCpus": "0" if at < 7 else ""}}
+           for at in range(8)]
+    notes = containers.read([("d", json.dumps(raw).encode())], EIGHT, engine.library).notes
+    named = ", ".join(f"system.slice/c{at}" for at in range(5)) + " and 2 more"
+    assert [each.startswith(told.format(named)) for each in notes] == [True]
+
+
 def test_packed_files_are_named(folder):
     """One line says what unpacks them."""
     (folder / "pods.json.gz").write_bytes(gzip.compress(b"{}"))

@@ -37,6 +37,7 @@ class Files:
         else:
             bounds = (units.MIN_WEIGHT, units.MAX_WEIGHT)
             set_number(node, "weight", number_in(weight), bounds, "cpu.weight", notes)
+        node.is_bound = bool((file_text(node.handle, "cpuset.cpus") or "").strip())
         self.maximum(node, file_text(node.handle, "cpu.max"), notes)
         if burst is not None:
             most = units.MAX_QUOTA if node.group.quota is None else node.group.quota

@@ -17,7 +17,7 @@ from arbiter import Host
 from arbiter_host import beneath, demands, names, progress, units
 from arbiter_host.demands import Measured, Reading
 from arbiter_host.faults import HostFault, strerror
-from arbiter_host.model import MAX_DEPTH, OWN, Group, Model, checked
+from arbiter_host.model import MAX_DEPTH, OWN, Group, Model, checked, told_bound
 
 MAX_FILE = 1 << 20
 
@@ -32,6 +32,8 @@ class Node:
     handle: int = -1
     children: list[Node] = field(default_factory=list)
     measured: Measured = field(default_factory=Measured)
+    # Whether it keeps to CPUs of its own.
+    is_bound: bool = False
 
 
 class Version(Protocol):
@@ -286,6 +288,7 @@ def read(version: Version, folder: str, host: Host, wish: Wish) -> Model:
     model = walk.model
     if not walk.nodes:
         model.notes.append("no groups with the cpu controller are below this folder")
+    model.notes += told_bound([node.group.path for node in walk.nodes if node.is_bound])
     seconds = sample(root, walk) if needs_samples(wish) else wish.seconds
     tell_gone(walk)
     found = {node.group.path: node.measured for node in walk.nodes}

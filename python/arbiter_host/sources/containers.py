@@ -11,7 +11,7 @@ from arbiter import Host, Library
 from arbiter_host import demands, names, units
 from arbiter_host.demands import Measured
 from arbiter_host.faults import HostFault
-from arbiter_host.model import MAX_CAPACITY, Group, Model, check_count, checked
+from arbiter_host.model import MAX_CAPACITY, Group, Model, check_count, checked, told_bound
 from arbiter_host.owned import NONE, Lone, Range, Setting
 from arbiter_host.sources import systemd
 from arbiter_host.sources.beside import Place
@@ -175,6 +175,8 @@ class Source(Lone):
         taken: dict[str, set[str]] = {}
         places = {add(model, container, self.library, self.wish, taken): place
                   for place, container in enumerate(self.running)}
+        model.notes += told_bound([path for path, place in places.items() if text(
+            table(self.running[place], "HostConfig"), "CpusetCpus")])
         if self.wish.want == "request" or self.wish.want in demands.OF_USE and not self.known:
             raise HostFault(f"--want {self.wish.want} needs --usage or --cgroup: containers have"
                             " limit and busy", 2)

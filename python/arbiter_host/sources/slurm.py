@@ -18,7 +18,7 @@ from arbiter import Host
 from arbiter_host import demands, names, units
 from arbiter_host.demands import Measured, Reading
 from arbiter_host.faults import HostFault, NoHost
-from arbiter_host.model import Group, Model, check_count, checked
+from arbiter_host.model import Group, Model, check_count, checked, told_bound
 from arbiter_host.names import NOWHERE, shown
 from arbiter_host.sources.data import MAX_BYTES, loads, number, table, tables, text
 
@@ -314,11 +314,7 @@ def tell(model: Model, jobs: Sequence[Job], left: int) -> None:
     """Tells what is left out, and which jobs keep to cores of their own."""
     if left:
         model.notes.append(f"jobs and steps that do not run, left out: {left}")
-    bound = [each.title for each in jobs if each.is_bound]
-    if bound:
-        more = f" and {len(bound) - 5} more" if len(bound) > 5 else ""
-        model.notes.append(f"bound to cores: {', '.join(bound[:5])}{more}: each keeps to its own"
-                           " CPUs, so what others leave idle does not reach it")
+    model.notes += told_bound([each.title for each in jobs if each.is_bound], "cores")
     wide = [each.title for each in jobs if len(each.nodes) > 1]
     if wide:
         more = f" and {len(wide) - 5} more" if len(wide) > 5 else ""

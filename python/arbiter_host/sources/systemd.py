@@ -14,7 +14,7 @@ from arbiter import Host
 from arbiter_host import demands, names, units
 from arbiter_host.demands import Measured, Reading
 from arbiter_host.faults import HostFault
-from arbiter_host.model import MAX_DEPTH, Group, Model, checked
+from arbiter_host.model import MAX_DEPTH, Group, Model, checked, told_bound
 from arbiter_host.names import shown
 from arbiter_host.owned import NONE, Lone, Range, Setting
 
@@ -212,6 +212,8 @@ class Source(Lone):
                                       tasks=whole(self.found[path].get("TasksCurrent", "")))
         if self.has_left_out:
             model.notes.append("units without a group are left out")
+        model.notes += told_bound([path for path in model.groups
+                                   if self.found.get(path, {}).get("AllowedCPUs")])
         demands.set_demands(model, measured, self.want, self.seconds)
         return model
 
