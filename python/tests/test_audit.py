@@ -110,6 +110,15 @@ def test_table(ctl, folder):
     assert [line.split()[-1] for line in lines[6:8]] == ["batch", "web"]
 
 
+@pytest.mark.parametrize("off, planned, words", [
+    (Fraction(-1, 10), 500, ("0.0", "0%")), (Fraction(6, 10), 500, ("+0.1", "0%")),
+    (-10, 500, ("-1.0", "-2%")), (250, 500, ("+25.0", "+50%")), (10, 0, ("+1.0", "-"))])
+def test_amounts_in_words(off, planned, words):
+    """What is rounded to nothing has no sign."""
+    found = cell(planned + off, planned)
+    assert (answer.points(found.off), answer.percent(found.part)) == words
+
+
 def test_another_rule_for_demands(ctl, folder):
     """By what was used nothing is off but what is above a limit. By psi each wait counts."""
     words = [*copies(folder), "--interval", "10s", "--cpus", "2", "--want"]

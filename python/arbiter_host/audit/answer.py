@@ -88,7 +88,8 @@ def cpus(thousandths: Fraction) -> str:
 
 def points(thousandths: Fraction) -> str:
     """Hundredths of a CPU, with a sign."""
-    return f"{float(thousandths) / HUNDREDTH:+.1f}"
+    value = round(float(thousandths) / HUNDREDTH, 1)
+    return f"{value:+.1f}" if value else "0.0"
 
 
 def percent(part: Fraction | None) -> str:
