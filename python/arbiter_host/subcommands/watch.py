@@ -186,8 +186,8 @@ DETAILS = (
     "Each round is a line of JSON. Of a tree it has what each group used since the round before,"
     " and how many of its periods were throttled. Its demands are taken by --want (default psi),"
     " and planned. Of files there is the plan alone.",
-    "GROUP is a path, its end, a title or a pattern with `*`. Groups with children are compared where"
-    " GROUP names them without `*`, and by throttled. A GROUP that is not there is told.",
+    "GROUP is a path, its end, a title or a pattern with `*`. Groups with children are compared"
+    " where GROUP names them without `*`, and by throttled. A GROUP that is not there is told.",
     "An alert ends the command with status 5. With --command, --listen or --textfile it goes on,"
     " and status 5 stands at the end that --for or --once makes. A command is run when an alert"
     " begins, and again after it was away for a round. It has 60 seconds.",
