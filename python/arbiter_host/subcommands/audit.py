@@ -149,27 +149,28 @@ def add_words(parser: argparse.ArgumentParser) -> None:
 
 
 DETAILS = (
-    "In each interval the demand of a group without children is what it used. One that was"
-    " throttled at its limit, or that had a task that was always awake and waited, wanted more: its"
-    " demand is that of --want psi. --want takes another rule for all groups. The plan is that of"
-    " these demands, with the settings of the interval's end.",
+    "In each interval a group without children is taken to want what it used. One that was"
+    " throttled at its limit wants more. So does one with a task that was always awake and waited."
+    " Where its tasks cannot be seen, that is a guess: tasks waited for half of the interval. What"
+    " they want is that of --want psi. --want takes another rule for all groups.",
+    "The plan is that of these demands, with the settings of the interval's end. It has a period of"
+    " 1 s and slices of 1 ms, unless --period or --slice are given.",
     "Off is what a group used less its plan. The table has the mean, and the interval in which it"
     " was greatest. The groups that were most off stand first.",
     "The likely cause is the first that holds in that interval. `less than a slice`: off is."
     " `placement`: what the group used is in its range by where tasks run, as of explain."
-    " `phase of periods`: it or a group above has a limit, and off is at most one quota of that in"
-    " the interval. `demand that moved`: the demand differs by more than off from that of the"
-    " interval before or after. Else it is `not explained`.",
-    "A group that came or went, whose counters fell, or of which there is no new sample is left out"
-    " of that interval, which is told.",
-    "--prometheus reads the counters of cAdvisor, container_cpu_usage_seconds_total and those of"
+    " `phase of periods`: it or a group above has a limit, and off is at most one quota of that."
+    " `demand that moved`: the demand differs by more than off from that of the interval before or"
+    " after. Else it is `not explained`.",
+    "A group is left out of an interval in which it came or went, or its counters fell. So it is"
+    " where there is no new sample. Both are told.",
+    "--prometheus reads the counters of cAdvisor: container_cpu_usage_seconds_total, and those of"
     " throttled periods, pressure, threads and limits. --query is a selector of their series, such"
     " as '{node=\"n1\"}'. They belong to a group by namespace, pod and container, by id, or by the"
     " label of --label. --step is 1m without one.",
     "A tree is read each 5 s unless --interval says else. Of copies --interval has to say how long"
     " after one the next was made. To make one: `find . -name 'cpu.*' -exec cp --parents -t COPY"
     " {} +` in /sys/fs/cgroup. With cgroup.threads in it placement is tried too.",
-    "The plan has a period of 1 s and slices of 1 ms, unless --period or --slice are given.",
 )
 EXAMPLES = (
     ("this machine for a minute", "arbiterctl audit --for 60s"),
