@@ -12,8 +12,7 @@ from arbiter_host.fleet import answers
 from arbiter_host.fleet.job import Job
 from arbiter_host.model import Model
 
-# Least and most samples of one piece, unless fewer are left.
-LEAST_SAMPLES, MOST_SAMPLES = 4, 10000
+# Most periods of one sample.
 MOST_PERIODS = 86400000
 
 
