@@ -64,7 +64,7 @@ def scripts(draw):
 def answered(program, text):
     """The numbers of the refused lines by the program, and the certified rows at the end."""
     asked = [(number, line) for number, line in enumerate(text.split("\n")[:-1], 1)
-             if not script.is_blank(line.encode())]
+             if not re.match("[ \t]*(#|$)", line)]
     given_ = "".join(f"{line}\ndemand . 0\n" for _, line in asked) + "cert\n"
     said = program.run(["run", "--processors", "2"], given_.encode()).out.decode()
     answers, found = [], []

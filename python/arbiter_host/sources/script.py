@@ -54,12 +54,6 @@ def head_host(lines: list[bytes]) -> Host | None:
     return None
 
 
-def is_blank(line: bytes) -> bool:
-    """Whether a line is a comment or has no word."""
-    stripped = line.strip(b" \t")
-    return not stripped or stripped.startswith(b"#")
-
-
 def words_of(line: bytes) -> list[str]:
     """The words of a line that was not refused."""
     return [word for word in line.decode().replace("\t", " ").split(" ") if word]
