@@ -7,7 +7,7 @@ from typing import Any, NamedTuple
 
 from arbiter_host import text
 from arbiter_host.model import MAX_DEPTH
-from arbiter_host.names import cut, last_name, padded, short, shown, tail, width
+from arbiter_host.names import cut, last_name, listed, padded, short, shown, tail, width
 from arbiter_host.placement import Outlook, Range
 from arbiter_host.plan import Plan, Planned, marks
 
@@ -182,8 +182,7 @@ def limiting(plan: Plan, unit: str) -> str:
     """The groups whose limits hold the total down."""
     found = [f"{'the host' if group.parent is None else short(shown(group.path))}"
              f" ({text.amount(plan, group.limit, unit)})" for group in plan.limiting]
-    more = f" and {len(found) - 8} more" if len(found) > 8 else ""
-    return ", ".join(found[:8]) + more if found else "the demands alone"
+    return listed(found, 8) or "the demands alone"
 
 
 def in_slices(plan: Plan, found: Range) -> tuple[int, int]:

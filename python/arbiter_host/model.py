@@ -167,9 +167,8 @@ def told_bound(found: Sequence[str], where: str = "CPUs") -> list[str]:
     """What is told of groups that keep to CPUs of their own; nothing of none."""
     if not found:
         return []
-    more = f" and {len(found) - 5} more" if len(found) > 5 else ""
-    return [f"bound to {where}: {', '.join(found[:5])}{more}: each keeps to its own CPUs, so what"
-            " others leave idle does not reach it"]
+    return [f"bound to {where}: {names.listed(found)}: each keeps to its own CPUs, so what others"
+            " leave idle does not reach it"]
 
 
 def check_count(many: int, what: str) -> None:

@@ -176,6 +176,12 @@ def raw_path(path: str) -> str | None:
     return "/".join(known) if len(known) == len(found) else None
 
 
+def listed(words: Sequence[str], most: int = 5) -> str:
+    """The first of some words, and how many more there are."""
+    more = f" and {len(words) - most} more" if len(words) > most else ""
+    return ", ".join(words[:most]) + more
+
+
 def few(words: Sequence[str], most: int = 5) -> str:
     """The first of some words, and a mark where there are more."""
     return ", ".join([*words[:most], *([".."] if len(words) > most else [])])

@@ -19,7 +19,7 @@ from arbiter_host import demands, names, units
 from arbiter_host.demands import Measured, Reading
 from arbiter_host.faults import HostFault, NoHost
 from arbiter_host.model import Group, Model, check_count, checked, told_bound
-from arbiter_host.names import NOWHERE, shown
+from arbiter_host.names import NOWHERE, listed, shown
 from arbiter_host.sources.data import MAX_BYTES, loads, number, table, tables, text
 
 # The folder of a job.
@@ -317,9 +317,8 @@ def tell(model: Model, jobs: Sequence[Job], left: int) -> None:
     model.notes += told_bound([each.title for each in jobs if each.is_bound], "cores")
     wide = [each.title for each in jobs if len(each.nodes) > 1]
     if wide:
-        more = f" and {len(wide) - 5} more" if len(wide) > 5 else ""
-        model.notes.append(f"on several nodes: {', '.join(wide[:5])}{more}: usage, and CPUs that"
-                           " are not told by node, are shared out equally")
+        model.notes.append(f"on several nodes: {listed(wide)}: usage, and CPUs that are not told by"
+                           " node, are shared out equally")
 
 
 def read(files: Sequence[tuple[str, bytes]], host: Host | None, node: str = "",
