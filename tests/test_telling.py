@@ -95,6 +95,16 @@ def test_goal_of_a_function():
     same(telling.said_of("bw_x::a::g", output), "")
 
 
+def test_method_of_a_type_of_another_module():
+    """It is told of below the module of its type, and is asked for by the end of its path."""
+    output = "fn bw_x::tree::Tree::find: no proof: `is`\nfn bw_x::tree::Tree::add: proved, may wait\n"
+    same(telling.end_of("bw_x::paths::Tree::find"), "Tree::find")
+    same(telling.end_of("bw_x::paths::found"), "bw_x::paths::found")
+    same(telling.said_of("bw_x::paths::Tree::find", output),
+         "fn bw_x::tree::Tree::find: no proof: `is`")
+    same(telling.said_of("bw_x::paths::Tree::add", output), "")
+
+
 def test_every_edit_has_a_place():
     """Each edit of the code is in a function or a module, and nine of ten have a neutral text."""
     tops = sorted({path.parents[1] for path in ROOT.glob("crates/*/must-fail/*.edit")})
