@@ -68,7 +68,7 @@ def add_source_options(parser: argparse.ArgumentParser) -> None:
     group.add_argument("--scale", action="append", default=[], metavar="GROUP=1.5",
                        help="multiply the demands of a group and all below it; `.` is the host")
     group.add_argument("--interval", metavar="TIME", default="1s",
-                       help="time from one reading to the next (default 1s)")
+                       help="time from one reading to the next (default 1s; watch 15s, audit 5s)")
     group.add_argument("--samples", type=int, default=2, metavar="N",
                        help="number of readings, 2 to 10000 (default 2)")
     group.add_argument("--later", action="append", default=[], metavar="DIR|FILE",
