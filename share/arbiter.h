@@ -191,8 +191,9 @@ uint32_t arbiter_least_processors(uint64_t processors, uint64_t period_us, uint6
  * goal. The weights are the least that are no less than `weights`; where none of these meet all goals, the least of all.
  * Where none do, `together` is 1 for goals that no such weights meet at once, and 0 for the others. *unmet is the place of one of
  * them, from 0, and `tuned` is `weights`.
- * Goals that ask for more than the plan serves in all are found with one plan. Else each raise of a weight makes at most 14 plans,
- * and one for each goal up to the one that falls short. Each raise is of 1 or more. */
+ * Where goals ask for more than the plan serves in all, these are the first that do, *unmet the last of them, and one plan is made.
+ * Else each raise of a weight makes at most 14 plans, and one for each goal up to the one that falls short. Each raise is of 1 or
+ * more. */
 uint32_t arbiter_tune(uint64_t processors, uint64_t period_us, uint64_t slice_us,
                       const uint32_t *parents, size_t parents_length, const uint64_t *weights, size_t weights_length,
                       const uint64_t *limits, size_t limits_length, const uint64_t *demands, size_t demands_length,

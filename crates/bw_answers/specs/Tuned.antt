@@ -10,7 +10,7 @@ use Rattle.bw_questions.specs.declared.tuned.measure.Measure.{Measure}
 use Rattle.bw_questions.specs.declared.tuned.measure.Measure.TheVariants.{Planned, Guaranteed}
 use Rattle.bw_questions.specs.declared.tuned.tuning.Tuning.{Tuning}
 use Rattle.bw_questions.specs.declared.tuned.tuning.Tuning.TheVariants.{Met, Unmet}
-use Rattle.bw_questions.specs.Tune.{AreGoals, IsTuning}
+use Rattle.bw_questions.specs.Tune.{AreGoals, IsTuning, NamesTheExcess}
 use Rattle.bw_questions.specs.Fault.{IsTuneRefused, tune_fault_number}
 use Rattle.bw_columns.specs.Asked.{Answers}
 use Rattle.bw_columns.specs.Certificates.{flag_number}
@@ -56,9 +56,11 @@ IsTold groups goals (Unmet conflict) weights together unmet =
     (weights ≡ weights_of groups.rows) × (together ≡ map flag_number conflict.together.items)
     × (unmet ≡ conflict.goal)
 
--- weights that meet all goals, the least ones, or goals that no weights meet at once, told
+-- weights that meet all goals, the least ones, or goals that no weights meet at once, told; where
+-- goals ask for more than is served in all, the first that do
 pub record IsTuningTold (measure : Measure) (groups : Groups) (goals : List Goal)
     (weights together : List ℕ) (unmet : ℕ) : Type 0 where
   pub tuning : Tuning
   pub held : IsTuning measure groups goals tuning
+  pub excess : NamesTheExcess groups goals tuning
   pub told : IsTold groups goals tuning weights together unmet

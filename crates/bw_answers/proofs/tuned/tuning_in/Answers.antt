@@ -8,6 +8,7 @@ returns-in_ok-tuning_columns-in-Ok-clause-told c =
     record {
       tuning = c.in-Ok.tuning;
       held = c.in-Ok.ensures.ok;
+      excess = c.in-Ok.ensures.excess;
       told = c.in_ok-tuning_columns-in-Ok.ensures;
     }
 
