@@ -1,6 +1,6 @@
 //! The planner's answers for a host and rows that are given by column: plan, certificate, verdict,
-//! limiting groups, figures, reasons, limits of a round, weights for several goals, questions about a
-//! group, refused row.
+//! limiting groups, figures, reasons, limits of a round, weights for several goals, questions about
+//! a group, refused row.
 #![tactic(auto)]
 
 mod asked_group;

@@ -19,15 +19,15 @@ fn are_fit(rows: usize, tuned: &[u64], goals: usize, goal_amounts: &[u64], toget
 /// The weights under which each goal is met at once, of the rows that
 /// [`crate::plan_call::arbiter_plan`] has.
 ///
-/// Goal k asks for at least `goal_amounts[k]` slices for the group `goal_groups[k]`: by the plan or,
-/// if `guaranteed` is not 0, whatever the groups ask for that are not under it. Only the weights of
-/// the goals' groups change.
+/// Goal k asks for at least `goal_amounts[k]` slices for the group `goal_groups[k]`: by the plan
+/// or, if `guaranteed` is not 0, whatever the groups ask for that are not under it. Only the
+/// weights of the goals' groups change.
 ///
-/// If the answer is 0, and there are such weights, `tuned` has the weight of each row, `together` is
-/// 0 for each goal, and `unmet` is the greatest number. The weights are the least of all that meet
-/// the goals and are no less than `weights`, or of all if none of these do. If there are no such
-/// weights, `together` is 1 for goals that no weights meet at once, `unmet` is the place of one of
-/// them, and `tuned` has `weights`. A refusal leaves all three unchanged.
+/// If the answer is 0, and there are such weights, `tuned` has the weight of each row, `together`
+/// is 0 for each goal, and `unmet` is the greatest number. The weights are the least of all that
+/// meet the goals and are no less than `weights`, or of all if none of these do. If there are no
+/// such weights, `together` is 1 for goals that no weights meet at once, `unmet` is the place of
+/// one of them, and `tuned` has `weights`. A refusal leaves all three unchanged.
 ///
 /// # Errors
 /// The numbers of `arbiter_plan`, with 50 also if `tuned` does not have the rows' length, or a

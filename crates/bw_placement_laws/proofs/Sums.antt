@@ -26,11 +26,6 @@ pub sum_both : (n a b : ℕ) (f g : ℕ → ℕ)
 sum_both zero a b f g = omega arith
 sum_both (suc n) a b f g = omega (arith, sum_both n a b f g)
 
-pub sum_plus : (n : ℕ) (f g : ℕ → ℕ)
-    → sum_below n (λ p. f p + g p) ≡ sum_below n f + sum_below n g
-sum_plus zero f g = omega arith
-sum_plus (suc n) f g = omega (arith, sum_plus n f g)
-
 -- Terms that are equal up to factors have sums that are so.
 pub sum_scaled : (n a b c : ℕ) (f g : ℕ → ℕ) → ((p : ℕ) → f p * a ≡ b * g p * c)
     → sum_below n f * a ≡ b * sum_below n g * c
@@ -59,6 +54,12 @@ on_one (suc n) task low = elim (cases_eq task n) [
       omega (arith, off, on_one n task (omega (arith, low, other)))
 ]
 
+-- One task more is counted beside the others.
+counted_more : (n task : ℕ) (tasks : List ℕ) → sum_below n (λ p. tasks_on p (task ∷ tasks))
+    ≡ sum_below n (λ p. cond (task == p) 1 0) + sum_below n (λ p. tasks_on p tasks)
+counted_more zero task tasks = omega arith
+counted_more (suc n) task tasks = omega (arith, counted_more n task tasks)
+
 -- Each task is counted on one processor.
 pub tasks_counted : (n : ℕ) (tasks : List ℕ) → All (λ p. p < n) tasks
     → sum_below n (λ p. tasks_on p tasks) ≡ length tasks
@@ -66,7 +67,7 @@ tasks_counted n [] all = sum_zero n
 tasks_counted n (task ∷ tasks) all =
     omega (
       arith,
-      sum_plus n (λ p. cond (task == p) 1 0) (λ p. tasks_on p tasks),
+      counted_more n task tasks,
       on_one n task (all 0 task (omega arith)),
       tasks_counted n tasks (λ k d below. all (suc k) d (omega (arith, below))),
     )
