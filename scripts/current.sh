@@ -2,6 +2,8 @@
 # Shared by ./arbiter, ./build and ./test: the native program, the C library, and whether they are
 # up to date. Paths are relative to the top of the repository, where the functions are called.
 
+. scripts/seen.sh
+
 program=crates/arbiter/out/arbiter
 # The C library without its ending, .so or .a.
 library=crates/bw_exports/out/libarbiter
@@ -44,28 +46,38 @@ END
   exit 2
 }
 
-# Sets `kit` to the line that `rt version` prints, read from the kit's file if it has one. Without
-# rt on the PATH it is the line of the stamp: no other kit is there.
-find_kit() {
-  local rt id
-  kit=''
+# Sets `kit_files` to rt and the file that tells what kit it is of, or to nothing without rt on the
+# PATH.
+find_kit_files() {
+  local rt
+  kit_files=()
   # hash searches the PATH without a process
   if hash rt 2>/dev/null; then
     rt=$(readlink -f "${BASH_CMDS[rt]}")
-    id=${rt%/*/*}/KIT-ID
-    if [ -f "$id" ]; then read -r kit <"$id"; else kit=$(rt version </dev/null); fi
+    kit_files=("${BASH_CMDS[rt]}" "${rt%/*/*}/KIT-ID")
+  fi
+}
+
+# Sets `kit` to the line that `rt version` prints, read from the kit's file if it has one. Without
+# rt it is the line of the stamp: no other kit is there.
+find_kit() {
+  kit=''
+  find_kit_files
+  if [ -f "${kit_files[1]-}" ]; then
+    read -r kit <"${kit_files[1]}"
+  elif [ "${#kit_files[@]}" != 0 ]; then
+    kit=$(rt version </dev/null)
   elif [ -f "$stamp" ]; then
     read -r kit <"$stamp"
   fi
 }
 
-# Sets `crate_lines` to the lines of crates.txt of the crate and of all crates below it, and
-# `folders` to the folders of their sources.
+# Sets `crates` to the crate and all crates below it, `crate_lines` to their lines of crates.txt,
+# and `folders` to the folders of their sources.
 find_crates() {
   local -A line_of=() seen=(["$crate"]=yes)
   local all line name part at
-  local crates=("$crate")
-  crate_lines=() folders=()
+  crates=("$crate") crate_lines=() folders=()
   mapfile -t all <crates.txt
   for line in "${all[@]}"; do
     line=${line%%#*}
@@ -105,35 +117,45 @@ stamp_now() (
   sources_now && cat -- "${made[@]}" | sha256sum
 )
 
-# Prints a hash of the kit's line, and of the inode, size and time of change of each file that a
-# stamp speaks of. The kernel alone sets that time. So an equal hash means equal files, unread.
-files_now() {
-  find_kit
+# Prints the names of all files that a stamp speaks of, and of their folders: there a file comes or
+# goes. It ends each by NUL.
+list_names() {
+  find_kit_files
   find_crates
-  {
-    printf '%s\n' "$kit" "${crate_lines[@]}" "${linked[@]}"
-    find -L "${folders[@]}" "${lists[@]}" "${made[@]}" "$stamp" -type f -printf '%p %i %s %C@\n'
-  } | sha256sum
+  find -L "${folders[@]}" -print0 && printf '%s\0' "${crates[@]/#/crates/}" "${kit_files[@]}" \
+    crates.txt "${lists[@]}" "${made[@]}" "$stamp" scripts/current.sh crates/bw_words/src/*.rt
+}
+
+# Looks at those files, before their hashes are compared. Fails if one is as new as the look: a
+# later change could have the same time.
+take_look() { # FOLDER
+  local newest
+  : >"$1/mark" && list_names >"$1/names" && (look "$1/names") >"$1/files" || return 1
+  newest=$(grep '^[0-9]' "$1/files" | LC_ALL=C sort | tail -n 1)
+  [[ ${newest%% *} < $(LC_ALL=C find "$1/mark" -printf '%C@') ]]
+}
+
+# Compares the hashes with the stamp. If they are equal, the look before them is kept.
+compare_hashes() {
+  local beside now kept=''
+  # a folder that cannot be written costs the hashes at each call, and nothing else
+  beside=$(mktemp -d "$stamp.XXXXXX" 2>/dev/null) && take_look "$beside" 2>/dev/null && kept=yes
+  now=$(stamp_now) && [ "$now" = "$(<"$stamp")" ] || now=''
+  if [ -n "$now" ] && [ -n "$kept" ]; then
+    mv -fT "$beside/names" "$stamp.names" && mv -fT "$beside/files" "$stamp.files"
+  fi
+  [ -z "$beside" ] || rm -rf -- "$beside"
+  [ -n "$now" ]
 }
 
 # Tests whether the made files are there, and made by this kit from these sources. The hashes are
-# compared only if a file is another than at the last comparison, which $stamp.files has.
+# compared only if a file is another than at the last comparison.
 is_current() {
-  local now files beside
-  [ -x "${made[0]}" ] && [ -f "$stamp" ] && files=$(files_now) || return 1
-  [ -f "$stamp.files" ] && [ "$files" = "$(<"$stamp.files")" ] && return
-  now=$(stamp_now) && [ "$now" = "$(<"$stamp")" ] || return 1
-  # a folder that cannot be written costs the hashes at each call, and nothing else
-  if beside=$(mktemp "$stamp.XXXXXX" 2>/dev/null); then
-    if ! { echo "$files" >"$beside" && mv -fT "$beside" "$stamp.files"; }; then
-      rm -f "$beside"
-    fi
-  fi
-  return 0
+  [ -x "${made[0]}" ] && [ -f "$stamp" ] && { is_as_seen "$stamp" || compare_hashes; }
 }
 
 forget_stamp() {
-  rm -f "$stamp" "$stamp.files"
+  rm -f "$stamp" "$stamp.names" "$stamp.files"
 }
 
 # Stamps the files that were just made, unless sources were changed meanwhile.

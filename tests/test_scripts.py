@@ -284,24 +284,79 @@ def test_runs_at_once(copy):
     copy.build()
     with concurrent.futures.ThreadPoolExecutor(8) as pool:
         same(set(pool.map(lambda _: copy.runs(), range(16))), {"native"}, "16 calls at once")
-    names = ["arbiter", "arbiter.sources", "arbiter.sources.files", "build.log"]
+    names = ["arbiter", "arbiter.sources", "arbiter.sources.files", "arbiter.sources.names",
+             "build.log"]
     same(sorted(os.listdir(f"{copy.top}/{OUT}")), names, "what is in out/")
 
 
 def test_hashes_once(copy):
-    """The second call reads no file: it hashes the list of them alone. A file that was written
-    since is read, as all are."""
+    """The second call reads no file. A file that was written since is read, as all are."""
     copy.build()
     path = sources("bw_stat")[1]
     copy.is_native("the first call")
     copy.log()
     copy.is_native("the second call")
-    same(copy.log(), ["sha256sum"], "what the second call hashed")
+    same(copy.log(), [], "what the second call hashed")
     copy.write(path, copy.read(path))
     copy.is_native("a file that was written as it was")
     same(len(copy.log()) > 2, True, "whether the files were hashed")
     copy.write(path, copy.read(path).upper())
     copy.is_checked("a file of the same length and another text")
+
+
+def test_costs_two_processes(copy):
+    """A call of an up-to-date program starts find and cmp, and no other process."""
+    copy.build()
+    copy.is_native("the first call")
+    needed = {"find", "cmp", "cat", "rt"}
+    for name in set(os.listdir(copy.bin)) - needed:
+        os.remove(f"{copy.bin}/{name}")
+    # (cat is what the program of this test calls)
+    copy.is_native("with two commands")
+
+
+@pytest.mark.parametrize("keep", [True, False], ids=["with its times", "with new times"])
+def test_copied_clone(copy, keep):
+    """A copy of the clone is native. A copy of a clone whose source was edited is not."""
+    copy.build()
+    copy.is_native("the first call")
+    path, first = sources("bw_plan")[0], copy.top
+    text = copy.read(path)
+    for number, (edited, runs) in enumerate(((text, "native"), (text.upper(), "checked"))):
+        copy.top = first
+        copy.write(path, edited)
+        copy.top = f"{copy.folder}/copy{number}"
+        call = shutil.copy2 if keep else shutil.copy
+        shutil.copytree(first, copy.top, copy_function=call)
+        same([copy.runs() for _ in range(2)], [runs, runs], f"the copy of a {runs} clone")
+
+
+COARSE = """#!/bin/sh
+{find} "$@" | sed -E 's/^([0-9]+)[.][0-9]+/\\1.0000000000/'
+"""
+
+
+def test_times_of_whole_seconds(copy):
+    """A file system may tell times of whole seconds. An edit of the same length is seen there too,
+    in the second in which the sources were hashed."""
+    copy.build()
+    copy.is_native("the first call")
+    os.remove(f"{copy.bin}/find")
+    copy.write("../bin/find", COARSE.format(find=shutil.which("find")))
+    os.chmod(f"{copy.bin}/find", 0o755)
+    path = sources("bw_plan")[0]
+    text = copy.read(path)
+    time.sleep(1 - time.time() % 1)
+    copy.write(path, text)
+    copy.is_native("a file that was written as it was")
+    copy.write(path, text.upper())
+    copy.is_checked("an edit in the same second")
+    copy.write(path, text)
+    time.sleep(1.1)
+    copy.is_native("a second later")
+    copy.log()
+    copy.is_native("and again")
+    same(copy.log(), [], "what was hashed")
 
 
 def test_builds_where_needed(copy):
