@@ -43,6 +43,7 @@ def test_docs_are_small():
     sizes = {str(path.relative_to(ROOT)): path.stat().st_size
              for path in (ROOT / "docs").rglob("*.md")}
     assert sum(sizes.values()) <= 260 * 1024, sorted(sizes.items(), key=lambda item: -item[1])
+    assert sizes["docs/KERNEL.md"] <= 6 * 1024, "who runs a host reads it in ten minutes"
 
 
 # Links

@@ -10,7 +10,6 @@ from fractions import Fraction
 
 import pytest
 import test_drawn
-import test_placement
 import test_prometheus
 import trees
 from arbiter import Host
@@ -20,7 +19,7 @@ from arbiter_host.audit.intervals import Cell, Interval
 from arbiter_host.demands import Reading
 from arbiter_host.faults import HostFault
 from arbiter_host.model import Group, Model
-from kernel import kept
+from kernel import firm, kept
 from places import PACKAGE
 
 FIXTURES = PACKAGE / "tests/fixtures"
@@ -564,7 +563,7 @@ def kept_audit(engine, name):
     """The audit of all kept runs of a host, an interval for each, and what each was off then."""
     found = kept.kept()
     runs = [run for run in found["runs"] if run["host"] == name]
-    model = test_placement.kept_host(found["hosts"][name])
+    model = firm.host_of(found["hosts"][name])
     model = model.with_host(looks.fine(model.host))
     seen = [kept_look(at, model, runs) for at in range(len(runs) + 1)]
     return intervals.audited(engine, seen, "psi", set(), lambda: None), [
@@ -584,11 +583,12 @@ def test_kept_runs_are_as_far_off(engine):
 
 
 @pytest.mark.parametrize("name, least, most", [
-    # one task against two or three, three and five with one each: 3 to 9
-    ("two-one-two", 3, 9), ("two-one-three", 3, 9), ("two-three-tasks", 3, 9), ("two-five", 3, 9),
-    # limits or idle time among the groups: up to 37
-    ("two-demands", 10, 37), ("two-pod", 5, 37), ("four-limits", 5, 37),
-    # a limit that binds alone, and as many tasks as CPUs: 0.3 to 1
+    # one task against two or three, three and five with one each: most within 5.4, all in 10.8
+    ("two-one-two", 3, 10.8), ("two-one-three", 3, 10.8), ("two-three-tasks", 3, 10.8),
+    ("two-five", 3, 10.8),
+    # idle time among the groups; beside and below limits
+    ("two-demands", 10, 14), ("two-pod", 5, 36.6), ("four-limits", 5, 24.1),
+    # a limit that binds, and as many tasks as CPUs: most within a point
     ("two-nested", 0, 1), ("trial-71-two-cpus-limit", 0, 1), ("trial-61-two-cpus-weights", 0, 1)])
 def test_rows_of_the_page(engine, name, least, most):
     """The group that was most off is as far off as the row of docs/KERNEL.md says."""

@@ -10,13 +10,10 @@ from arbiter_host import explain, placement
 from arbiter_host.balancer import Run
 from arbiter_host.model import Group, Model
 from arbiter_host.plan import plan
-from kernel import kept, scenario
+from kernel import firm, kept, scenario
 
-# How far a firm group may be from its exact share, in CPUs, and a ranged one out of its range. More
-# than OFF is counted.
+# How far a firm group may be from its exact share, in CPUs.
 FIRM_WITHIN = 0.03
-OFF = 0.01
-BESIDE = 0.003
 
 
 def host(processors, *groups):
@@ -28,47 +25,17 @@ def host(processors, *groups):
     return model
 
 
-def kept_host(found):
-    """The model of a kept host."""
-    model = Model(Host(found["processors"], found["period"], found["slice"]))
-    for each in found["groups"]:
-        model.add(Group(each["path"], each["weight"], each["quota"], each["period"],
-                        each["burst"], Fraction(each["demand"]), each["tasks"]))
-    return model
-
-
-def judged(set_):
-    """Of a set: firm groups and those of them off, ranged groups and those of them out."""
-    found = kept.kept()
-    outlooks = {run["host"]: placement.outlook(kept_host(found["hosts"][run["host"]]))
-                for run in found["runs"] if run["set"] == set_}
-    assert all(each.ranges for each in outlooks.values())
-    firm, off, ranged, out = 0, [], 0, []
-    for run in found["runs"]:
-        for path, (share, had) in run["groups"].items() if run["set"] == set_ else ():
-            range_ = outlooks[run["host"]].ranges[path]
-            where = (run["host"], run["kernel"], path, share, had, range_)
-            if range_.is_firm:
-                firm += 1
-                assert range_.low - OFF <= share <= range_.high + OFF, where
-                assert abs(had - share) <= FIRM_WITHIN, where
-                off += [where] * (abs(had - share) > OFF)
-            else:
-                ranged += 1
-                low, high = min(range_.low, share) - BESIDE, max(range_.high, share) + BESIDE
-                out += [where] * (not low <= had <= high)
-    return firm, off, ranged, out
-
-
 @pytest.mark.parametrize("set_, least_firm, most_off, least_ranged, most_out", [
     ("made", 16, 0, 150, 4), ("review", 30, 0, 90, 2), ("trial", 60, 0, 55, 1),
     ("chance", 14, 3, 80, 2), ("again", 0, 0, 140, 2), ("eight", 0, 0, 134, 9)])
 def test_kept_runs(set_, least_firm, most_off, least_ranged, most_out):
-    """Firm groups have their shares, and nearly all others are in their ranges."""
-    firm, off, ranged, out = judged(set_)
-    print(f"{set_}: {firm} firm, {len(off)} of them off; {ranged} ranged, {len(out)} of them out")
-    assert firm >= least_firm and len(off) <= most_off, off
-    assert ranged >= least_ranged and len(out) <= most_out, out
+    """Firm groups have their shares, and nearly all others are in their ranges. Both are those of
+    docs/kernel/firm.txt."""
+    found = firm.judged(set_)
+    assert len(found.firm) >= least_firm and len(found.off) <= most_off, found.off
+    assert all(each <= FIRM_WITHIN for each in found.firm)
+    assert found.ranged >= least_ranged and len(found.out) <= most_out, found.out
+    assert firm.row(set_, found) in firm.FILE.read_text(encoding="utf-8").splitlines()
 
 
 SCRIPT = """#: --processors 2 --tasks a=1
@@ -126,7 +93,7 @@ def test_audits_are_kept(tmp_path, monkeypatch):
         {"path": "g1/g2", "weight": 100, "quota": None, "period": 100000, "burst": 0,
          "demand": 700.5, "tasks": 3}]
     assert found["hosts"]["sent-2"]["groups"][0]["quota"] == 90000
-    assert placement.shape_of(kept_host(found["hosts"]["sent-0"])).period == 0.1
+    assert placement.shape_of(firm.host_of(found["hosts"]["sent-0"])).period == 0.1
 
 
 def test_hosts_drawn_by_a_seed(tmp_path):
@@ -144,7 +111,7 @@ def test_hosts_drawn_by_a_seed(tmp_path):
     hosts = [kept.host_of(each) for each in found]
     assert all(kept.is_kept(each) and each.unjudged for each in found)
     for each in hosts:
-        assert placement.unknown_of(kept_host(each)) == ""
+        assert placement.unknown_of(firm.host_of(each)) == ""
         asked = sum(group["demand"] for group in each["groups"])
         assert asked > 1000 * each["processors"] >= 2000
     # Some have limits, groups below others, and tasks that sleep.
@@ -179,8 +146,8 @@ def test_rates_follow_the_proved_law():
 
 def test_firm_and_ranged():
     """Two tasks each on two CPUs are firm. Three tasks on two CPUs are not."""
-    firm = placement.outlook(host(2, ("a", 100, 2000, 2), ("b", 300, 2000, 2)))
-    assert firm.are_firm and firm.ranges["a"].low <= 0.5 <= firm.ranges["a"].high
+    even = placement.outlook(host(2, ("a", 100, 2000, 2), ("b", 300, 2000, 2)))
+    assert even.are_firm and even.ranges["a"].low <= 0.5 <= even.ranges["a"].high
     ranged = placement.outlook(host(2, *((each, 100, 1000, 1) for each in "abc")))
     assert not ranged.are_firm and ranged.ranges["a"].low < 0.6 and ranged.ranges["a"].high > 0.7
 

@@ -6,8 +6,8 @@ from fractions import Fraction
 import pytest
 
 from kernel import __main__ as main
-from kernel import (compare, deliberate, exact, layout, machine, packages, page, planned,
-                    readings, real_apply, scenario, table)
+from kernel import (compare, deliberate, exact, kept, kinds, layout, machine, packages, page,
+                    planned, readings, real_apply, scenario, table)
 from kernel.__main__ import SCENARIOS, batches, sources
 from kernel.faults import KernelFault
 from support import ROOT
@@ -253,6 +253,58 @@ def test_page_of_counters_and_offsets():
         " 6.12: 7 to 8 / 0 / 0 / 0 / 20 |"]
     assert list(page.offset_rows(found)) == ["| `series-burst` a | 6.1 |  |",
                                              "| `series-burst` a | 6.12 | 3: +0.50, 50: +2.25 |"]
+
+
+@pytest.mark.parametrize("kind, text", [
+    ("even", "#: --processors 2\nmkdir a\nmkdir b\ndemand a 200\ndemand b 200\n"),
+    ("uneven", "#: --processors 2 --tasks a=1\nmkdir a\nmkdir b\ndemand a 100\ndemand b 200\n"),
+    ("nested", "#: --processors 2\nmkdir a\nmkdir a/x\ndemand a/x 100\n"),
+    ("nested", "mkdir a\nmkdir a/x\ndemand a/x 100\n"), ("even", "mkdir a\ndemand a 100\n"),
+    ("idle", "#: --processors 2\nmkdir a\nmkdir b\ndemand a 200\ndemand b 30\n"),
+    ("beside", "mkdir a\nwrite a cpu.max 50000\ndemand a 100\n"),
+    ("short", "mkdir a\nwrite a cpu.max 50000\nmkdir b\nwrite b cpu.max 5000 20000\ndemand a 100\n"
+     "demand b 100\n")])
+def test_kind_of_a_host(kind, text):
+    """By limits, by the time that groups are idle, by numbers of tasks, and by levels."""
+    assert kinds.kind_of_host(kept.host_of(of(text))) == kind
+
+
+def test_a_binding_limit_is_a_kind_of_its_own():
+    """One of 30 of 100 whose share is 29.7, since others used 1 %; not one of 60 with 50."""
+    host = kept.host_of(of("mkdir a\nwrite a cpu.max 30000\nmkdir b\nwrite b cpu.max 60000\n"
+                           "demand a 100\ndemand b 100\n"))
+    found = [kinds.seen("h", host, *each, -1.5).kind for each in (("a", 29.7), ("b", 50))]
+    assert found == ["limited", "beside"]
+
+
+def test_cells_by_hand():
+    """19 groups are too few for nine of ten. Of 20 with 1 to 20 points the 19th is within 19, and
+    20 of 40 is half. A worst one counts as that alone; a bound has no share."""
+    groups = [kinds.Seen("h", 2, "even", number, 40) for number in range(1, 21)]
+    assert kinds.cell(groups[:19]) == "(19.0, 48 %)" and kinds.cell(groups) == "19.0 (20.0, 50 %)"
+    assert kinds.cell([*groups, kinds.Seen("h", 2, "even", -30, 300, True)]) == "19.0 (30.0, 50 %)"
+    assert kinds.cell([kinds.Seen("h", 2, "even", 0.04, 50)]) == "(0.0, 1 %)"
+    assert kinds.cell([kinds.Seen("h", 1, "even", 0.05, 0, True)]) == "(0.1)"
+    assert kinds.cell([]) == ""
+
+
+def test_told_runs_are_read():
+    """The furthest of a row, with its exact share; a list of those within a bound; no series."""
+    text = ("| `two-pod` | y -1.84 to +0.10 (5) | within | y -36.62 to +5.62 (5) | out: pod 1 |\n"
+            "| `series-burst` a | 6.1 | 2: +0.45 |\n| `four-node-pinned` | queue -4.50 (2) | x |\n"
+            "Within 0.6 on both: `two-three`, `two-limit-least`.\n")
+    found = [(each.host, each.kind, each.off, each.share) for each in kinds.of_told_runs(text)]
+    assert found[:3] == [("two-pod", "beside", -1.84, 90), ("two-pod", "beside", -36.62, 90),
+                         ("two-three", "even", 0.6, 0)]
+    least = [("two-limit-least", kind, 0.6, 0) for kind in ("beside", "limited")]
+    assert sorted(found[3:]) == least
+
+
+def test_page_has_the_table_of_all_runs():
+    """docs/KERNEL.md and docs/kernel/hosts.txt have what the runs give."""
+    found = kinds.all_seen()
+    assert "\n".join(kinds.rows(found)) in kinds.PAGE.read_text(encoding="utf-8")
+    assert kinds.HOSTS.read_text(encoding="utf-8") == "\n".join(kinds.hosts(found)) + "\n"
 
 
 def test_runs_are_of_scenarios():
