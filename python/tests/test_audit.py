@@ -587,7 +587,7 @@ def test_kept_runs_are_as_far_off(engine):
     ("two-one-two", 3, 10.8), ("two-one-three", 3, 10.8), ("two-three-tasks", 3, 10.8),
     ("two-five", 3, 10.8),
     # idle time among the groups; beside and below limits
-    ("two-demands", 10, 14), ("two-pod", 5, 36.6), ("four-limits", 5, 24.1),
+    ("two-demands", 10, 15), ("two-pod", 5, 36.6), ("four-limits", 5, 24.1),
     # a limit that binds, and as many tasks as CPUs: most within a point
     ("two-nested", 0, 1), ("trial-71-two-cpus-limit", 0, 1), ("trial-61-two-cpus-weights", 0, 1)])
 def test_rows_of_the_page(engine, name, least, most):
