@@ -60,8 +60,35 @@ fn push_digit(n: u64, digit: u8) -> Option<u64>
     n.checked_mul(10)?.checked_add(u64::from(digit - b'0'))
 }
 
-// Reads digits in one pass. A number that is too great costs a second pass.
+// Number of digits that make no number above `u64::MAX`.
+const SHORT_DIGITS: usize = 19;
+
 fn digits_read(word: &[u8]) -> Result<u64, NumberFault>
+    ensures { result ≡ digits_read word.now }
+{
+    if word.len() <= SHORT_DIGITS {
+        return short_read(word);
+    }
+    long_read(word)
+}
+
+// Reads digits that are too few for a number that is too great.
+fn short_read(word: &[u8]) -> Result<u64, NumberFault>
+    requires { length word.now ≤ SHORT_DIGITS }
+    ensures { result ≡ digits_read word.now }
+{
+    let mut n: u64 = 0;
+    for b in word {
+        if !b.is_ascii_digit() {
+            return Err(NumberFault::BadForm);
+        }
+        n = n * 10 + u64::from(*b - b'0');
+    }
+    Ok(n)
+}
+
+// Reads digits in one pass. A number that is too great costs a second pass.
+fn long_read(word: &[u8]) -> Result<u64, NumberFault>
     ensures { result ≡ digits_read word.now }
 {
     let mut n: u64 = 0;

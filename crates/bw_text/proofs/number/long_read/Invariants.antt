@@ -1,7 +1,7 @@
--- What stands at each turn of the loop in `digits_read`.
+-- What stands at each turn of the loop in `long_read`.
 use Rattle.std.specs.Prelude.{◌<◌, ◌^◌}
 use Rattle.bw_text.proofs.Numbers.{IsReading}
-use Rattle.bw_text.proofs.number.digits_read.Given as goal
+use Rattle.bw_text.proofs.number.long_read.Given as goal
 
 abbrev pub invariant-loop-b : goal.invariant-loop-b
 invariant-loop-b l = IsReading l.word l.b-index l.n × (l.n < 2 ^ 64)

@@ -1,8 +1,8 @@
--- The goals of `digits_read` that are answered by hand.
+-- The goals of `long_read` that are answered by hand.
 use Rattle.std.proofs.Common.{◌≡◌, true, get_or, arith, refl}
 use Rattle.std.specs.Char.{is_ascii_digit}
 use Rattle.bw_text.proofs.Numbers.{reading_steps, all_read, too_great_read}
-use Rattle.bw_text.proofs.number.digits_read.Goals as goal
+use Rattle.bw_text.proofs.number.long_read.Goals as goal
 
 pub returns-in_default : goal.returns-in_default
 returns-in_default c =
