@@ -18,6 +18,8 @@ from pathlib import Path
 from statistics import fmean
 from typing import Any
 
+from kernel import scenario
+from kernel.__main__ import SCENARIOS
 from kernel.held import WAYS
 from kernel.page import kernel_of, off
 
@@ -89,6 +91,12 @@ def of(found: list[Saved], scenario: str, way: str) -> list[Saved]:
     return [each for each in found if each["scenario"] == scenario and each["way"] == way]
 
 
+def about(name: str) -> str:
+    """A scenario in words: its name, and its first line."""
+    script = SCENARIOS / f"{name}.script"
+    return f"`{name}`" + (f": {scenario.read(script).about}" if script.exists() else "")
+
+
 def rows(found: list[Saved], title: str, ways: list[str]) -> Iterator[str]:
     """The rows of a table of scenarios and ways."""
     yield f"| {title} | " + " | ".join(ways) + " |"
@@ -96,13 +104,13 @@ def rows(found: list[Saved], title: str, ways: list[str]) -> Iterator[str]:
     for name in sorted({each["scenario"] for each in found}):
         cells = [cell(of(found, name, way)) for way in ways]
         if any(cells):
-            yield f"| `{name}` | " + " | ".join(cells) + " |"
+            yield f"| {about(name)} | " + " | ".join(cells) + " |"
 
 
 def sums(found: list[Saved], title: str, ways: list[str]) -> Iterator[str]:
     """For each way, in the scenarios that have weights alone too: how often its worst group is
     nearer and further on the mean by more than 0.5, the worst of all, and what is served."""
-    yield f"| {title} | scenarios | nearer | further | worst | worst part | served |"
+    yield f"| {title} | scenarios, runs | nearer | further | worst | worst part | served |"
     yield "|---|---|---|---|---|---|---|"
     names = sorted({each["scenario"] for each in found})
     for way in ways:
@@ -113,8 +121,9 @@ def sums(found: list[Saved], title: str, ways: list[str]) -> Iterator[str]:
         nearer = sum(mean(two) < mean(one) - 0.5 for one, two in both)
         further = sum(mean(two) > mean(one) + 0.5 for one, two in both)
         runs = [two for _, two in both]
-        text = (f"| {way} | {len(both)} | {nearer} | {further} | {max(map(worst, runs)):.1f} |"
-                f" {max(map(worst_part, runs)):.0%} | {sum(map(served, runs)) / len(both):.1%} |")
+        text = (f"| {way} | {len(both)}, {sum(map(len, runs))} | {nearer} | {further} |"
+                f" {max(map(worst, runs)):.1f} | {max(map(worst_part, runs)):.0%} |"
+                f" {sum(map(served, runs)) / len(both):.1%} |")
         yield text.replace("%", " %")
 
 

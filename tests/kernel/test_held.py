@@ -90,8 +90,8 @@ def test_table_by_hand(tmp_path):
     rows = list(held_page.rows(found, "6.1", ["weights", "limits"]))
     assert rows[2] == "| `s` | 10.0, 1 | 2.0 (1.0 to 3.0), 99.0 %, 2 |"
     assert list(held_page.sums(found, "6.1", ["weights", "limits"]))[2:] == [
-        "| weights | 1 | 0 | 0 | 10.0 | 20 % | 100.0 % |",
-        "| limits | 1 | 1 | 0 | 3.0 | 6 % | 99.0 % |"]
+        "| weights | 1, 1 | 0 | 0 | 10.0 | 20 % | 100.0 % |",
+        "| limits | 1, 2 | 1 | 0 | 3.0 | 6 % | 99.0 % |"]
 
 
 def test_tables_are_written_into_a_page():
