@@ -569,6 +569,54 @@ def test_test_counts_all(copy):
     copy.installs(f"{copy.folder}/there", "after ./test")
 
 
+# The gate leaves a library of each crate. The kit tells its stamp.
+LEAVES = """for crate in crates/*; do
+  mkdir -p "$crate/out/rlib/${crate#crates/}.rlib" && : >"$crate/out/rlib/${crate#crates/}.rlib/format"
+done"""
+RTLIB = """class Crate:
+    def __init__(self, folder, root, known):
+        self.folder = folder
+
+    def stamp(self):
+        return f"stamp of {self.folder}"
+"""
+
+
+def library_after(copy, last="5 passed, 0 failed", during=LEAVES):
+    """What ./test asks the kit to prove for the library, and the stamp of bw_text at the link."""
+    with_gate(copy, last, during=during)
+    copy.write("../kit/toolchain/bin/while",
+               f"cat crates/bw_text/out/rlib/stamp >{copy.kit}/seen 2>/dev/null\n")
+    copy.log()
+    copy.call(["./test"], stdin=subprocess.DEVNULL)
+    called = [line for line in copy.log() if line.startswith(("rt all", "rt lib"))]
+    return [line.split()[1] for line in called], copy.read("../kit/seen")
+
+
+def test_test_links_over_the_gate(copy):
+    """The library is linked over the libraries that the gate left, which nobody takes later."""
+    copy.write("../kit/bin/rtlib.py", RTLIB)
+    same(library_after(copy), (["lib"], f"stamp of {copy.top}/crates/bw_text"), "the first run")
+    same(copy.there("crates/bw_text/out/rlib"), False, "what the gate left")
+    same(copy.there(f"{LIBRARY}.sources"), True, "the library's stamp")
+    same(library_after(copy)[0], ["lib"], "the second run")
+
+
+@pytest.mark.parametrize("last, during, rtlib, before", [
+    ("5 passed, 1 failed", LEAVES, RTLIB, False),
+    ("5 passed, 0 failed", f"{LEAVES}\necho late >>{sources('bw_text')[0]}", RTLIB, False),
+    ("5 passed, 0 failed", ":", RTLIB, False),
+    ("5 passed, 0 failed", LEAVES, "class Crate: pass\n", False),
+    ("5 passed, 0 failed", LEAVES, RTLIB, True),
+], ids=["a failure", "changed sources", "no libraries", "another kit", "earlier libraries"])
+def test_test_proves_the_library(copy, last, during, rtlib, before):
+    """Where the gate's libraries may not be these sources', all below the library is proved."""
+    copy.write("../kit/bin/rtlib.py", rtlib)
+    if before:
+        copy.write("crates/bw_text/out/rlib/bw_text.rlib/format", "earlier\n")
+    same(library_after(copy, last, during), (["all", "lib"], ""), "what is asked")
+
+
 WHOLE = "echo 'rt: ok; every proof and must-fail edit was done in this run'"
 
 

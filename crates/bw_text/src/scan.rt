@@ -28,7 +28,7 @@ pub fn len_before(text: &[u8], one: u8, other: u8) -> usize
     len_at_end(text, at, one, other)
 }
 
-// The same, where fewer than 16 bytes are left to be tested.
+// Number of bytes in front of the first of the two, where fewer than 16 are left to be tested.
 #[inline(always)]
 fn len_at_end(text: &[u8], at: usize, one: u8, other: u8) -> usize
     requires within { at ≤ length text.now }
@@ -45,7 +45,7 @@ fn len_at_end(text: &[u8], at: usize, one: u8, other: u8) -> usize
     len_by_one(text, at + NARROW, one, other)
 }
 
-// The same, byte by byte.
+// Number of bytes in front of the first of the two, tested one by one.
 #[inline(always)]
 fn len_by_one(text: &[u8], from: usize, one: u8, other: u8) -> usize
     requires within { from ≤ length text.now }
