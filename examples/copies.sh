@@ -10,6 +10,7 @@ group() {
   mkdir -p "$1"
   echo "$2" >"$1/cpu.weight"
   echo 'max 100000' >"$1/cpu.max"
+  echo 0 >"$1/cpu.max.burst"
   seq "$3" >"$1/cgroup.threads"
   echo "usage_usec $4" >"$1/cpu.stat"
   echo "some avg10=0.00 avg60=0.00 avg300=0.00 total=$5" >"$1/cpu.pressure"

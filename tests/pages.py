@@ -19,7 +19,7 @@ DOCS = ROOT / "docs"
 FENCE = re.compile(r"^```(\S*) ?(.*)$")
 KINDS = ("script", "certified", "command", "python")
 # Pages that have to have something to run.
-PAGES = ("USING.md", "EMBEDDING.md", "NODE.md", "TOOLS.md", "FLEET.md", "LAWS.md")
+PAGES = ("USING.md", "EMBEDDING.md", "NODE.md", "TOOLS.md", "FLEET.md", "LAWS.md", "HOLD.md")
 # test_library.py runs its examples that have files, up to their answers.
 EMBEDDING = "EMBEDDING.md"
 FILES = ("c", "toml", "rust")

@@ -20,8 +20,7 @@ PAGES = TOP_PAGES + [f"docs/{path.name}" for path in sorted((ROOT / "docs").glob
 SHORT = ("README.md", "docs/ARCHITECTURE.md", "docs/USING.md")
 GREATEST_WORDS = 30
 # Pages whose references to clauses and definitions are held to the sources, and how many they have.
-REFERRING = {"docs/PROVED.md": 20, "docs/ARCHITECTURE.md": 20, "docs/LAWS.md": 20,
-             "docs/HOLD.md": 10}
+REFERRING = {"docs/PROVED.md": 20, "docs/ARCHITECTURE.md": 20, "docs/LAWS.md": 20}
 REFERENCE = re.compile(r"`(?:(\w+)/)?((?:\w+/)*\w+\.(rt|antt)):(\w+)(?:\.(\w+))?`(?: of (\w+))?")
 LINK = re.compile(r"\]\(([^)#\s]+)(#[^)]*)?\)")
 # A heading of another page: [USING.md](USING.md), 'The files'
