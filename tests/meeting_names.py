@@ -3,7 +3,7 @@
 
     tests/meeting_names.py > tests/meeting_names.txt    searches them: some minutes
 
-A model of how crates/bw_tree finds a child: the key of a name at a seed, the hash of the kit's
+A model of how crates/bw_tree finds a group: the key of a path at a seed, the hash of the kit's
 table, and the table itself. Names that meet have the same first group of lanes and the same tag,
 so each look-up compares with each name before it.
 """
@@ -53,16 +53,25 @@ def seed_of(byte: int) -> int:
     return siphash(int.from_bytes(bytes([byte] * 8), "little"), b"\xff") % PRIME
 
 
-def value_of(seed: int, name: str, value: int = 1) -> int:
-    """The value at a seed of the polynomial of a name, or of what follows a value."""
-    for byte in name.encode():
-        value = (value * seed + byte) % PRIME
-    return value
+def value_with(seed: int, value: int, word: int) -> int:
+    """The value of a polynomial at a seed, with one more coefficient."""
+    return (value * seed + word) % PRIME
 
 
-def hash_of(seed: int, value: int, parent: int = 0) -> int:
-    """The 32 bits by which the table places a child of a group, from the value of its name."""
-    key = (value * seed + parent) & WORD
+def words_of(name: str) -> tuple[int, int]:
+    """The coefficients of a path of seven letters: four bytes, and three after a one."""
+    text = name.encode()
+    return int.from_bytes(text[:4], "big"), int.from_bytes(b"\x01" + text[4:], "big")
+
+
+def key_of(seed: int, name: str) -> int:
+    """The key of a path of seven letters."""
+    whole, last = words_of(name)
+    return value_with(seed, value_with(seed, value_with(seed, 1, whole), last), 0)
+
+
+def hash_of(key: int) -> int:
+    """The 32 bits by which the table places a key."""
     product = (0x243F6A8885A308D3 ^ key) * (0x9E3779B97F4A7C15 ^ 16)
     state = product & WORD ^ product >> 64
     return (state ^ state >> 32) & 0xFFFFFFFF
@@ -75,13 +84,15 @@ def name_of(number: int) -> str:
 
 def meeting(seed: int) -> Iterator[str]:
     """The names, in order, that meet the first one at a seed."""
-    place = hash_of(seed, value_of(seed, name_of(0))) & PLACE
-    for number in range(36**5):
-        stem = name_of(36 * number)[:-1]
-        before = value_of(seed, stem) * seed
-        for digit in DIGITS:
-            if hash_of(seed, (before + ord(digit)) % PRIME) & PLACE == place:
-                yield stem + digit
+    place = hash_of(key_of(seed, name_of(0))) & PLACE
+    ends = [(name_of(number)[4:], words_of(name_of(number))[1]) for number in range(36**3)]
+    for number in range(36**3):
+        stem = name_of(number * 36**3)
+        before = value_with(seed, 1, words_of(stem)[0])
+        for end, last in ends:
+            key = value_with(seed, value_with(seed, before, last), 0)
+            if hash_of(key) & PLACE == place:
+                yield stem[:4] + end
 
 
 class Table:
@@ -132,7 +143,7 @@ class Table:
 def steps(names: list[str], byte: int) -> int:
     """The steps of the table in which siblings are made, and each is looked up."""
     seed, table = seed_of(byte), Table()
-    hashes = [hash_of(seed, value_of(seed, name)) for name in names]
+    hashes = [hash_of(key_of(seed, name)) for name in names]
     for hashed in hashes:
         table.add(hashed)
     for hashed in hashes:

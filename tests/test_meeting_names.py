@@ -11,7 +11,7 @@ from concurrent.futures import ThreadPoolExecutor
 import meeting_names
 import pytest
 import runs
-from meeting_names import KNOWN_BYTE, hash_of, seed_of, value_of
+from meeting_names import KNOWN_BYTE, hash_of, key_of, seed_of
 from shapes import host, text_of
 
 from support import same
@@ -41,7 +41,7 @@ def test_names_meet(names):
     """The names are different, of one length, and in one place under the known key alone."""
     same((len(names), len(set(names)), {len(name) for name in names}),
          (meeting_names.NUMBER, meeting_names.NUMBER, {7}))
-    places = {byte: {hash_of(seed_of(byte), value_of(seed_of(byte), name)) & meeting_names.PLACE
+    places = {byte: {hash_of(key_of(seed_of(byte), name)) & meeting_names.PLACE
                      for name in names} for byte in [KNOWN_BYTE, *OTHER_BYTES]}
     same(len(places[KNOWN_BYTE]), 1)
     assert all(len(places[byte]) > len(names) * 0.9 for byte in OTHER_BYTES)

@@ -17,6 +17,7 @@ use Rattle.bw_tree.specs.Snapshot.{carried, carried_at, left_of, left_over}
 use Rattle.bw_tree.proofs.GroupLemmas.{above_same}
 use Rattle.bw_tree.specs.declared.node.Node.{Node}
 use Rattle.bw_tree.specs.Nodes.{IsNodeOf, AreNodesOf}
+use Rattle.bw_tree.specs.declared.path_hash.PathHash.{PathHash}
 use Rattle.bw_tree.proofs.IndexLemmas.{index_alike}
 use Rattle.bw_tree.proofs.NodeLemmas.{above_kept, nodes_alike}
 
@@ -212,19 +213,19 @@ module _ (t : TreeState) (cs : List ℕ) (ok : IsTree t) where
       }
 
 -- the index stays theirs
-pub index_carried : (gs : List (ℕ × GroupFields)) (cs : List ℕ) (index : ChildIndex)
-    → IsIndexOf gs index → IsIndexOf (carried gs cs) index
-index_carried gs cs index is =
-    index_alike gs (carried gs cs) index
+pub index_carried : (gs : List (ℕ × GroupFields)) (cs : List ℕ) (keys : ℕ → List ℕ → ℕ)
+    (index : ChildIndex) → IsIndexOf gs keys index → IsIndexOf (carried gs cs) keys index
+index_carried gs cs keys index is =
+    index_alike gs (carried gs cs) keys index
     (λ q p n. child_kept p n (group_at (carried gs cs) q) (group_at gs q)
     (look_carried gs cs q))
     (child_carried gs cs) is
 
 -- and so do the nodes
-pub nodes_carried : (gs : List (ℕ × GroupFields)) (cs : List ℕ) (nodes : List Node)
-    → AreNodesOf gs nodes → AreNodesOf (carried gs cs) nodes
-nodes_carried gs cs nodes =
-    nodes_alike (IsNodeOf gs) (IsNodeOf (carried gs cs)) gs (carried gs cs) nodes
+pub nodes_carried : (gs : List (ℕ × GroupFields)) (cs : List ℕ) (fronts : ℕ → PathHash)
+    (nodes : List Node) → AreNodesOf gs fronts nodes → AreNodesOf (carried gs cs) fronts nodes
+nodes_carried gs cs fronts nodes =
+    nodes_alike (IsNodeOf gs fronts) (IsNodeOf (carried gs cs) fronts) gs (carried gs cs) nodes
     (keys_carried gs cs)
     (λ p n is. record {
       children = is.children ∙ sym (count_carried gs cs p);
@@ -234,6 +235,7 @@ nodes_carried gs cs nodes =
                 (look_carried gs cs q) ∙ up,
             tt,
           )) n.depth p 0 tt is.depth;
+      front = is.front;
     })
 
 -- ---- one group after another

@@ -1,6 +1,7 @@
 -- The index of children, after each change of the groups.
 use Rattle.std.proofs.Common.{◌≡◌, ◌≢◌, ◌⊎◌, inl, inr, ℕ, ◌<◌, Bool, true, false, cond}
-use Rattle.std.proofs.Common.{◌&&◌, List, [], ◌∷◌, ◌++◌, Option, Some, None, refl, sym, ap, ◌∙◌}
+use Rattle.std.proofs.Common.{◌&&◌, ◌||◌, List, [], ◌∷◌, ◌++◌, Option, Some, None, refl}
+use Rattle.std.proofs.Common.{sym, ap, ◌∙◌}
 use Rattle.std.proofs.Common.{arith, eqb}
 use Rattle.std.proofs.lemmas.Bool.{and_parts, and_from, eq-eqb, ne_eqb, eqb-true}
 use Rattle.std.proofs.lemmas.Bool.Decides.{eqb_tells}
@@ -10,9 +11,9 @@ use Rattle.std.specs.Str.{bytes_eq}
 use Rattle.std.specs.Cmp.Lexicographic.{bytes_decides}
 use Rattle.std.specs.HashMap.{get}
 use Rattle.bw_tree.specs.declared.child_index.ChildIndex.{ChildIndex}
-use Rattle.bw_tree.specs.Keys.{key, text_at, NoneEmpty}
-use Rattle.bw_tree.specs.Children.{child_among, child_at, AnswersAs, IsAdded, IsTaken, AreNamed}
-use Rattle.bw_tree.specs.Children.{IsIndexOf}
+use Rattle.bw_tree.specs.Keys.{text_at, NoneEmpty}
+use Rattle.bw_tree.specs.Children.{child_among, child_at, AnswersAs, IsAdded, IsTaken, IsNamed}
+use Rattle.bw_tree.specs.Children.{AreNamed, IsIndexOf}
 use Rattle.bw_tree.specs.Groups.{GroupFields, TreeState, group_at, has_children, is_parent}
 use Rattle.bw_tree.specs.Groups.{is_child_named, is_child_of, is_child_at, child_of}
 use Rattle.bw_tree.specs.Groups.{IsTree, AllAfter, AreRising}
@@ -21,7 +22,7 @@ use Rattle.bw_tree.proofs.AnswerLemmas.{at_same, alike, added_at, taken_at}
 use Rattle.bw_tree.proofs.GroupLemmas.{child_push, child_push_old, look_push_same, look_push_other}
 use Rattle.bw_tree.proofs.SetLemmas.{child_set, look_set_same, look_set_other}
 use Rattle.bw_tree.proofs.RemoveLemmas.{was_other, rising_removed, look_removed_same}
-use Rattle.bw_tree.proofs.RemoveLemmas.{look_removed_other}
+use Rattle.bw_tree.proofs.RemoveLemmas.{look_removed_other, children_found}
 use Rattle.bw_model.proofs.CallerLemmas.{inside, bytes_eq-self}
 
 -- a child with a name has this parent and this name
@@ -93,39 +94,91 @@ mine_at gs id parent name is p n = by (group_at gs id) is
         ∙ ap (λ m. eqb parent p && bytes_eq m n) who.1
 
 -- the first of a key is found where it has the parent and the name
-first_found : (gs : List (ℕ × GroupFields)) (index : ChildIndex) (p q : ℕ) (n : List ℕ)
-    → get eqb index.first (key index.seed p n) ≡ Some q
-    → is_child_at gs q p n ≡ true → child_at gs index p n ≡ Some q
-first_found gs index p q n at is =
+first_found : (gs : List (ℕ × GroupFields)) (index : ChildIndex) (k p q : ℕ) (n : List ℕ)
+    → get eqb index.first k ≡ Some q
+    → is_child_at gs q p n ≡ true → child_at gs index k p n ≡ Some q
+first_found gs index k p q n at is =
     ap (λ o. child_among gs o (text_at index.others p n) p n) at
     ∙ ap (λ b. cond b (Some q) (text_at index.others p n)) is
 
 -- an index that answers as another is an index of the same groups
-pub index_same : (gs : List (ℕ × GroupFields)) (old new : ChildIndex) → IsIndexOf gs old
-    → AnswersAs old new → IsIndexOf gs new
-index_same gs old new is same =
+pub index_same : (gs : List (ℕ × GroupFields)) (keys : ℕ → List ℕ → ℕ) (old new : ChildIndex)
+    → IsIndexOf gs keys old → AnswersAs old new → IsIndexOf gs keys new
+index_same gs keys old new is same =
     record {
-      children = λ p n. alike gs old new same p n ∙ is.children p n;
+      children = λ p n. alike gs old new same (keys p n) p n ∙ is.children p n;
       none_empty = same.none_empty is.none_empty;
     }
 
 -- and of other groups, where these have the same children
-pub index_alike : (gs hs : List (ℕ × GroupFields)) (index : ChildIndex)
+pub index_alike : (gs hs : List (ℕ × GroupFields)) (keys : ℕ → List ℕ → ℕ) (index : ChildIndex)
     → ((q p : ℕ) (n : List ℕ) → is_child_at hs q p n ≡ is_child_at gs q p n)
     → ((p : ℕ) (n : List ℕ) → child_of hs p n ≡ child_of gs p n)
-    → IsIndexOf gs index → IsIndexOf hs index
-index_alike gs hs index same children is = record {
-  children = λ p n. at_same gs hs index p n (λ q. same q p n) ∙ is.children p n
+    → IsIndexOf gs keys index → IsIndexOf hs keys index
+index_alike gs hs keys index same children is = record {
+  children = λ p n. at_same gs hs index (keys p n) p n (λ q. same q p n) ∙ is.children p n
       ∙ sym (children p n);
   none_empty = is.none_empty;
 }
 
+-- a group without children has no child of any name
+pub no_child : (gs : List (ℕ × GroupFields)) (p : ℕ) (n : List ℕ) → has_children gs p ≡ false
+    → child_of gs p n ≡ None
+no_child [] p n none = refl
+no_child (e ∷ es) p n none = by (is_parent e.1.parent p) refl none (no_child es p n)
+  where
+    by : (b : Bool) → is_parent e.1.parent p ≡ b → (b || has_children es p) ≡ false
+        → (has_children es p ≡ false → child_of es p n ≡ None)
+        → cond (is_parent e.1.parent p && bytes_eq e.1.name n) (Some e.0) (child_of es p n) ≡ None
+    by true is none rest = cc
+    by false is none rest =
+        ap (λ b. cond (b && bytes_eq e.1.name n) (Some e.0) (child_of es p n)) is ∙ rest none
+
+-- and no group is its child
+not_child : (gs : List (ℕ × GroupFields)) (q p : ℕ) (n : List ℕ) → has_children gs p ≡ false
+    → is_child_at gs q p n ≡ false
+not_child gs q p n none = by (group_at gs q) refl
+  where
+    by : (o : Option GroupFields) → group_at gs q ≡ o → is_child_of o p n ≡ false
+    by None at = refl
+    by (Some h) at = onto (is_child_named h p n) refl
+      where
+        onto : (b : Bool) → is_child_named h p n ≡ b → is_child_named h p n ≡ false
+        onto false no_match = no_match
+        onto true match_is =
+            let clash : true ≡ false =
+            sym (children_found gs q p h at (named_is h p n match_is).0) ∙ none in
+            absurd (cc)
+
+-- the keys of the children of a group count only where it has children
+pub rekeyed : (gs : List (ℕ × GroupFields)) (old_keys keys : ℕ → List ℕ → ℕ) (index : ChildIndex)
+    → ((p : ℕ) (n : List ℕ) → has_children gs p ≡ true → keys p n ≡ old_keys p n)
+    → IsIndexOf gs old_keys index → IsIndexOf gs keys index
+rekeyed gs old_keys keys index same is = record {
+  children = λ p n. by p n (has_children gs p) refl;
+  none_empty = is.none_empty;
+}
+  where
+    among : (p : ℕ) (n : List ℕ) → has_children gs p ≡ false → (o : Option ℕ)
+        → child_among gs o (text_at index.others p n) p n ≡ text_at index.others p n
+    among p n none None = refl
+    among p n none (Some q) =
+        ap (λ b. cond b (Some q) (text_at index.others p n)) (not_child gs q p n none)
+
+    by : (p : ℕ) (n : List ℕ) (b : Bool) → has_children gs p ≡ b
+        → child_at gs index (keys p n) p n ≡ child_of gs p n
+    by p n true has = ap (λ k. child_at gs index k p n) (same p n has) ∙ is.children p n
+    by p n false none =
+        among p n none (get eqb index.first (keys p n))
+        ∙ sym (among p n none (get eqb index.first (old_keys p n)))
+        ∙ is.children p n
+
 -- one group more
-module _ (gs : List (ℕ × GroupFields)) (k parent : ℕ) (g : GroupFields) (old new : ChildIndex)
-    (is : IsIndexOf gs old) (absent : group_at gs k ≡ None)
+module _ (gs : List (ℕ × GroupFields)) (keys : ℕ → List ℕ → ℕ) (k parent : ℕ) (g : GroupFields)
+    (old new : ChildIndex) (is : IsIndexOf gs keys old) (absent : group_at gs k ≡ None)
     (up : g.parent ≡ Some parent)
     (free : (p : ℕ) (n : List ℕ) → is_child_named g p n ≡ true → child_of gs p n ≡ None)
-    (added : IsAdded old new parent g.name k) where
+    (added : IsAdded old new (keys parent g.name) parent g.name k) where
   named_so : (p : ℕ) (n : List ℕ) → is_child_named g p n ≡ (eqb parent p && bytes_eq g.name n)
   named_so p n = ap (λ o. is_parent o p && bytes_eq g.name n) up
 
@@ -133,7 +186,7 @@ module _ (gs : List (ℕ × GroupFields)) (k parent : ℕ) (g : GroupFields) (ol
       ≡ (eqb parent p && bytes_eq g.name n)
   mine p n = ap (λ o. is_child_of o p n) (look_push_same gs k g absent) ∙ named_so p n
 
-  only : (q : ℕ) → get eqb old.first (key old.seed parent g.name) ≡ Some q
+  only : (q : ℕ) → get eqb old.first (keys parent g.name) ≡ Some q
       → is_child_at (gs ++ (k, g) ∷ []) q parent g.name ≡ true → q ≡ k
   only q at there = by (eqb_tells q k)
     where
@@ -142,7 +195,8 @@ module _ (gs : List (ℕ × GroupFields)) (k parent : ℕ) (g : GroupFields) (ol
       by (inr apart) =
           let before = ap (λ o. is_child_of o parent g.name)
           (sym (look_push_other gs k q g apart.0)) ∙ there in
-          let wrong : Some q ≡ None = sym (first_found gs old parent q g.name at before)
+          let wrong : Some q ≡ None =
+          sym (first_found gs old (keys parent g.name) parent q g.name at before)
           ∙ is.children parent g.name ∙ free parent g.name (is_named g parent up) in
           absurd (cc)
 
@@ -158,41 +212,45 @@ module _ (gs : List (ℕ × GroupFields)) (k parent : ℕ) (g : GroupFields) (ol
           ∙ sym (ap (λ i. is_child_at gs i p n) same.1 ∙ ap (λ o. is_child_of o p n) absent)
       by (inr apart) = ap (λ o. is_child_of o p n) (look_push_other gs k q g apart.0)
 
-  pub index_push : IsIndexOf (gs ++ (k, g) ∷ []) new
+  pub index_push : IsIndexOf (gs ++ (k, g) ∷ []) keys new
   index_push = record {
     children =
-        λ p n. added_at (gs ++ (k, g) ∷ []) old new parent k g.name added p n (mine p n) only
-        ∙ ap (λ b. cond b (Some k) (child_at (gs ++ (k, g) ∷ []) old p n)) (sym (named_so p n))
+        λ p n. added_at (gs ++ (k, g) ∷ []) keys old new parent k g.name added p n (mine p n) only
+        ∙ ap (λ b. cond b (Some k) (child_at (gs ++ (k, g) ∷ []) old (keys p n) p n)) (sym
+        (named_so p n))
         ∙ onto p n (is_child_named g p n) refl (child_of gs p n) refl;
     none_empty = added.none_empty is.none_empty;
   }
     where
       onto : (p : ℕ) (n : List ℕ) (b : Bool) → is_child_named g p n ≡ b → (o : Option ℕ)
           → child_of gs p n ≡ o
-          → cond b (Some k) (child_at (gs ++ (k, g) ∷ []) old p n)
+          → cond b (Some k) (child_at (gs ++ (k, g) ∷ []) old (keys p n) p n)
           ≡ child_of (gs ++ (k, g) ∷ []) p n
       onto p n true match_is None found =
           sym (child_push gs k p n g found ∙ ap (λ b. cond b (Some k) None) match_is)
       onto p n true match_is (Some q) found =
           let wrong : Some q ≡ None = sym found ∙ free p n match_is in absurd (cc)
       onto p n false other None found =
-          at_same gs (gs ++ (k, g) ∷ []) old p n (same_else p n other) ∙ is.children p n ∙ found
+          at_same gs (gs ++ (k, g) ∷ []) old (keys p n) p n (same_else p n other) ∙ is.children p n
+          ∙ found
           ∙ sym (child_push gs k p n g found ∙ ap (λ b. cond b (Some k) None) other)
       onto p n false other (Some q) found =
-          at_same gs (gs ++ (k, g) ∷ []) old p n (same_else p n other) ∙ is.children p n ∙ found
+          at_same gs (gs ++ (k, g) ∷ []) old (keys p n) p n (same_else p n other) ∙ is.children p n
+          ∙ found
           ∙ sym (child_push_old gs k p q n g found)
 
 -- a setting changes neither a parent nor a name
 pub index_set
-    : (f : GroupFields → GroupFields) (gs : List (ℕ × GroupFields)) (id : ℕ) (index : ChildIndex)
+    : (f : GroupFields → GroupFields) (gs : List (ℕ × GroupFields)) (keys : ℕ → List ℕ → ℕ)
+    (id : ℕ) (index : ChildIndex)
     → ((g : GroupFields) → (f g).parent ≡ g.parent) → ((g : GroupFields) → (f g).name ≡ g.name)
-    → IsIndexOf gs index → IsIndexOf (changed_at f gs id) index
-index_set f gs id index parent name is = by (group_at gs id) refl
+    → IsIndexOf gs keys index → IsIndexOf (changed_at f gs id) keys index
+index_set f gs keys id index parent name is = by (group_at gs id) refl
   where
-    by : (o : Option GroupFields) → group_at gs id ≡ o → IsIndexOf (changed f gs id o) index
+    by : (o : Option GroupFields) → group_at gs id ≡ o → IsIndexOf (changed f gs id o) keys index
     by None at = is
     by (Some g) at =
-        index_alike gs (changed f gs id (Some g)) index same
+        index_alike gs (changed f gs id (Some g)) keys index same
         (λ p n. child_set id (f g) g (parent g) (name g) gs p n at) is
       where
         same : (q p : ℕ) (n : List ℕ) → is_child_at (set_value (eqb id) gs (f g)) q p n
@@ -251,12 +309,14 @@ module _ (t : TreeState) (id : ℕ) (g : GroupFields) (ok : IsTree t) (inner : i
           ap (child_of t.groups p) (sym gone.1) ∙ ok.named id p g at gone.0 in
           absurd (was.0 (inside (sym one ∙ two)))
 
-  pub index_removed : (parent : ℕ) (old new : ChildIndex) → g.parent ≡ Some parent
-      → IsIndexOf t.groups old → IsTaken old new parent g.name id
-      → IsIndexOf (remove_entry (eqb id) t.groups) new
-  index_removed parent old new up is taken = record {
+  pub index_removed : (parent : ℕ) (keys : ℕ → List ℕ → ℕ) (old new : ChildIndex)
+      → g.parent ≡ Some parent → IsIndexOf t.groups keys old
+      → IsTaken old new (keys parent g.name) parent g.name id
+      → IsIndexOf (remove_entry (eqb id) t.groups) keys new
+  index_removed parent keys old new up is taken = record {
     children =
-        λ p n. taken_at t.groups (remove_entry (eqb id) t.groups) old new parent id g.name taken p n
+        λ p n. taken_at t.groups (remove_entry (eqb id) t.groups) keys old new parent id g.name
+        taken p n
         (ap (λ o. is_child_of o p n) at ∙ named_so p n)
         (ap (λ o. is_child_of o p n) (look_removed_same id t.groups ok.rising))
         (λ q apart. ap (λ o. is_child_of o p n) (look_removed_other id t.groups q apart)) alone
@@ -298,30 +358,29 @@ abbrev pub either : Option ℕ → Option ℕ → Option ℕ
 either None o = o
 either (Some id) o = Some id
 
-pub record IsPartIndex (groups rest : List (ℕ × GroupFields)) (index : ChildIndex) : Type 0 where
-  pub children : (parent : ℕ) (name : List ℕ) → either (child_at groups index parent name)
-      (child_of rest parent name) ≡ child_of groups parent name
+pub record IsPartIndex (groups rest : List (ℕ × GroupFields)) (keys : ℕ → List ℕ → ℕ)
+    (index : ChildIndex) : Type 0 where
+  pub children : (parent : ℕ) (name : List ℕ)
+      → either (child_at groups index (keys parent name) parent name) (child_of rest parent name)
+      ≡ child_of groups parent name
   pub none_empty : NoneEmpty index.others
-  pub left : AreNamed groups rest
 
-pub part_start : (groups : List (ℕ × GroupFields)) (index : ChildIndex)
+pub part_start : (groups : List (ℕ × GroupFields)) (keys : ℕ → List ℕ → ℕ) (index : ChildIndex)
     → ((k : ℕ) → get eqb index.first k ≡ None)
     → ((p : ℕ) (n : List ℕ) → text_at index.others p n ≡ None)
-    → NoneEmpty index.others → AreNamed groups groups
-    → IsPartIndex groups groups index
-part_start groups index first others none_empty left = record {
+    → NoneEmpty index.others → IsPartIndex groups groups keys index
+part_start groups keys index first others none_empty = record {
   children =
       λ p n. ap (λ o. either o (child_of groups p n))
-      (ap (λ o. child_among groups o (text_at index.others p n) p n) (first (key index.seed p n))
+      (ap (λ o. child_among groups o (text_at index.others p n) p n) (first (keys p n))
       ∙ others p n);
   none_empty = none_empty;
-  left = left;
 }
 
-pub part_end : (groups : List (ℕ × GroupFields)) (index : ChildIndex) → IsPartIndex groups [] index
-    → IsIndexOf groups index
-part_end groups index is = record {
-  children = λ p n. sym (last (child_at groups index p n)) ∙ is.children p n;
+pub part_end : (groups : List (ℕ × GroupFields)) (keys : ℕ → List ℕ → ℕ) (index : ChildIndex)
+    → IsPartIndex groups [] keys index → IsIndexOf groups keys index
+part_end groups keys index is = record {
+  children = λ p n. sym (last (child_at groups index (keys p n) p n)) ∙ is.children p n;
   none_empty = is.none_empty;
 }
   where
@@ -330,52 +389,53 @@ part_end groups index is = record {
     last (Some id) = refl
 
 -- a group without a parent is no child
-pub part_skip : (groups : List (ℕ × GroupFields)) (e : ℕ × GroupFields)
+pub part_skip : (groups : List (ℕ × GroupFields)) (keys : ℕ → List ℕ → ℕ) (e : ℕ × GroupFields)
     (es : List (ℕ × GroupFields)) (index : ChildIndex) → e.1.parent ≡ None
-    → IsPartIndex groups (e ∷ es) index → IsPartIndex groups es index
-part_skip groups e es index top is = record {
+    → IsPartIndex groups (e ∷ es) keys index → IsPartIndex groups es keys index
+part_skip groups keys e es index top is = record {
   children =
-      λ p n. sym (ap (λ o. either (child_at groups index p n)
+      λ p n. sym (ap (λ o. either (child_at groups index (keys p n) p n)
       (cond (is_parent o p && bytes_eq e.1.name n) (Some e.0) (child_of es p n))) top)
       ∙ is.children p n;
   none_empty = is.none_empty;
-  left = is.left.1;
 }
 
 -- a group with a parent is noted
-pub part_step : (groups : List (ℕ × GroupFields)) (e : ℕ × GroupFields)
+pub part_step : (groups : List (ℕ × GroupFields)) (keys : ℕ → List ℕ → ℕ) (e : ℕ × GroupFields)
     (es : List (ℕ × GroupFields)) (parent : ℕ) (old new : ChildIndex)
-    → e.1.parent ≡ Some parent → IsPartIndex groups (e ∷ es) old
-    → IsAdded old new parent e.1.name e.0 → IsPartIndex groups es new
-part_step groups e es parent old new up is added = record {
+    → e.1.parent ≡ Some parent → IsNamed groups e parent → IsPartIndex groups (e ∷ es) keys old
+    → IsAdded old new (keys parent e.1.name) parent e.1.name e.0
+    → IsPartIndex groups es keys new
+part_step groups keys e es parent old new up named is added = record {
   children =
       λ p n. ap (λ o. either o (child_of es p n))
-      (added_at groups old new parent e.0 e.1.name added p n
-      (mine_at groups e.0 parent e.1.name (is.left.0 parent up).1 p n) only)
+      (added_at groups keys old new parent e.0 e.1.name added p n
+      (mine_at groups e.0 parent e.1.name named.child p n) only)
       ∙ onto p n (eqb parent p && bytes_eq e.1.name n) refl;
   none_empty = added.none_empty is.none_empty;
-  left = is.left.1;
 }
   where
-    only : (q : ℕ) → get eqb old.first (key old.seed parent e.1.name) ≡ Some q
+    only : (q : ℕ) → get eqb old.first (keys parent e.1.name) ≡ Some q
         → is_child_at groups q parent e.1.name ≡ true → q ≡ e.0
     only q at there =
         inside (sym (ap (λ o. either o (child_of (e ∷ es) parent e.1.name))
-        (first_found groups old parent q e.1.name at there))
-        ∙ is.children parent e.1.name ∙ (is.left.0 parent up).0)
+        (first_found groups old (keys parent e.1.name) parent q e.1.name at there))
+        ∙ is.children parent e.1.name ∙ named.found)
 
     onto : (p : ℕ) (n : List ℕ) (b : Bool) → (eqb parent p && bytes_eq e.1.name n) ≡ b
-        → either (cond (eqb parent p && bytes_eq e.1.name n) (Some e.0) (child_at groups old p n))
-        (child_of es p n) ≡ child_of groups p n
+        → either (cond (eqb parent p && bytes_eq e.1.name n) (Some e.0)
+        (child_at groups old (keys p n) p n)) (child_of es p n) ≡ child_of groups p n
     onto p n true here =
         let both = and_parts (eqb parent p) (bytes_eq e.1.name n) here in
-        ap (λ b. either (cond b (Some e.0) (child_at groups old p n)) (child_of es p n)) here
-        ∙ sym (is.left.0 parent up).0
+        ap (λ b. either (cond b (Some e.0) (child_at groups old (keys p n) p n)) (child_of es p n))
+        here
+        ∙ sym named.found
         ∙ ap (λ k. child_of groups k e.1.name) (eqb-true parent p both.0)
         ∙ ap (child_of groups p) ((bytes_decides e.1.name n).0 both.1)
     onto p n false other =
-        ap (λ b. either (cond b (Some e.0) (child_at groups old p n)) (child_of es p n)) other
-        ∙ ap (either (child_at groups old p n))
+        ap (λ b. either (cond b (Some e.0) (child_at groups old (keys p n) p n)) (child_of es p n))
+        other
+        ∙ ap (either (child_at groups old (keys p n) p n))
         (sym (ap (λ b. cond b (Some e.0) (child_of es p n))
         (ap (λ o. is_parent o p && bytes_eq e.1.name n) up ∙ other)))
         ∙ is.children p n
@@ -391,7 +451,11 @@ tree_named t ok = all t.groups ok.rising (λ id g at. at)
     all (e ∷ es) up found = (
       λ p is. let at =
           found e.0 e.1 (ap (λ b. cond b (Some e.1) (group_at es e.0)) (eq-eqb e.0 e.0 refl)) in
-          (ok.named e.0 p e.1 at is, ap (λ o. is_child_of o p e.1.name) at ∙ is_named e.1 p is),
+          record {
+            found = ok.named e.0 p e.1 at is;
+            child = ap (λ o. is_child_of o p e.1.name) at ∙ is_named e.1 p is;
+            there = (ok.parents e.0 p e.1 at is).1;
+          },
       all es up.1 (λ id g at. found id g (at_more e es id g up.0 at)),
     )
 

@@ -9,8 +9,10 @@ use Rattle.std.proofs.lemmas.Slice.Zip.{AllZip-long}
 use Rattle.std.specs.List.{AllZip, remove}
 use Rattle.std.specs.Map.{keys_of, remove_entry, set_value}
 use Rattle.bw_tree.specs.declared.node.Node.{Node}
+use Rattle.bw_tree.specs.declared.path_hash.PathHash.{PathHash}
 use Rattle.bw_tree.specs.Groups.{GroupFields, TreeState, group_at, has_group, has_children}
-use Rattle.bw_tree.specs.Groups.{is_parent, children_count, IsTree, AllAfter, AreRising}
+use Rattle.bw_tree.specs.Groups.{is_parent, children_count, IsTree, AllAfter, AllBefore}
+use Rattle.bw_tree.specs.Groups.{AreRising}
 use Rattle.bw_tree.specs.Nodes.{root_node, leaf_below, node_at, one_child_more, one_child_less}
 use Rattle.bw_tree.specs.Nodes.{IsNodeOf, AreNodesOf}
 use Rattle.bw_tree.specs.Tree.{changed, changed_at}
@@ -69,18 +71,20 @@ module _ (P : ℕ → Node → Type 0) where
       (all.0, node_removed es ns id i (stands_later e es id i at) all.1)
 
 -- there are as many nodes as groups
-pub as_many : (gs : Groups) (ns : List Node) → AreNodesOf gs ns → length ns ≡ length gs
-as_many gs ns =
-    AllZip-long (λ (e : ℕ × GroupFields) (n : Node). IsNodeOf gs e.0 n) gs ns
+pub as_many : (gs : Groups) (fronts : ℕ → PathHash) (ns : List Node) → AreNodesOf gs fronts ns
+    → length ns ≡ length gs
+as_many gs fronts ns =
+    AllZip-long (λ (e : ℕ × GroupFields) (n : Node). IsNodeOf gs fronts e.0 n) gs ns
 
 -- what is read at the place of a group is its node
-pub node_found : (gs : Groups) (ns : List Node) (id i : ℕ) (node : Node) → AreNodesOf gs ns
-    → position (eqb id) (keys_of gs) ≡ Some i → node ≡ get_or ns i node → IsNodeOf gs id node
-node_found gs ns id i node all place is =
+pub node_found : (gs : Groups) (fronts : ℕ → PathHash) (ns : List Node) (id i : ℕ) (node : Node)
+    → AreNodesOf gs fronts ns → position (eqb id) (keys_of gs) ≡ Some i
+    → node ≡ get_or ns i node → IsNodeOf gs fronts id node
+node_found gs fronts ns id i node all place is =
     let at = stands_at gs id i place in
-    let within : i < length ns = omega (arith, at.within, as_many gs ns all) in
-    subst (IsNodeOf gs id) (sym (is ∙ get_or_default ns i node root_node within))
-    (node_read (IsNodeOf gs) gs ns id i at all)
+    let within : i < length ns = omega (arith, at.within, as_many gs fronts ns all) in
+    subst (IsNodeOf gs fronts id) (sym (is ∙ get_or_default ns i node root_node within))
+    (node_read (IsNodeOf gs fronts) gs ns id i at all)
 
 module _ (P Q : ℕ → Node → Type 0) where
   -- other groups with the same ids
@@ -104,6 +108,16 @@ module _ (P Q : ℕ → Node → Type 0) where
     nodes_after (e ∷ es) (n ∷ ns) after all = (
       other e.0 n (λ same. omega (arith, after.0, same)) all.0,
       nodes_after es ns after.1 all.1,
+    )
+
+    pub nodes_before : (gs : Groups) (ns : List Node) → AllBefore id gs → Beside P gs ns
+        → Beside Q gs ns
+    nodes_before [] [] before all = tt
+    nodes_before [] (n ∷ ns) before all = all
+    nodes_before (e ∷ es) [] before all = all
+    nodes_before (e ∷ es) (n ∷ ns) before all = (
+      other e.0 n (λ same. omega (arith, before.0, same)) all.0,
+      nodes_before es ns before.1 all.1,
     )
 
     -- the node of one group changes
@@ -290,9 +304,31 @@ deep_enough gs depth steps id top at none = by (above gs steps id) refl
             ∙ above_top gs depth (steps - depth - 1) id top at none in
             absurd (cc)
 
+-- the fronts, with one that is set
+abbrev pub set_front : (ℕ → PathHash) → ℕ → PathHash → ℕ → PathHash
+set_front fronts k front q = cond (eqb q k) front (fronts q)
+
+-- it is the front of that group alone
+pub front_of_other : (fronts : ℕ → PathHash) (k : ℕ) (front : PathHash) (q : ℕ) → q ≢ k
+    → set_front fronts k front q ≡ fronts q
+front_of_other fronts k front q apart = ap (λ b. cond b front (fronts q)) (ne_eqb q k apart)
+
+-- the nodes say nothing of the front of a group that is to come
+pub fronted : (gs : Groups) (fronts : ℕ → PathHash) (k : ℕ) (front : PathHash) (ns : List Node)
+    → AllBefore k gs → AreNodesOf gs fronts ns → AreNodesOf gs (set_front fronts k front) ns
+fronted gs fronts k front ns =
+    nodes_before (IsNodeOf gs fronts) (IsNodeOf gs (set_front fronts k front)) k
+    (λ q n apart is. record {
+      children = is.children;
+      depth = is.depth;
+      front = is.front ∙ sym (front_of_other fronts k front q apart);
+    })
+    gs ns
+
 -- one group more
-module _ (gs : Groups) (k parent i : ℕ) (g : GroupFields) (up : g.parent ≡ Some parent)
-    (rising : AreRising gs) (absent : group_at gs k ≡ None) (apart : parent ≢ k)
+module _ (gs : Groups) (fronts : ℕ → PathHash) (k parent i : ℕ) (g : GroupFields)
+    (up : g.parent ≡ Some parent) (rising : AreRising gs) (absent : group_at gs k ≡ None)
+    (apart : parent ≢ k)
     (none : has_children gs k ≡ false) (at : StandsAt gs parent i) where
   old_way : (steps id top : ℕ) → above gs steps id ≡ Some top
       → above (gs ++ (k, g) ∷ []) steps id ≡ Some top
@@ -309,41 +345,46 @@ module _ (gs : Groups) (k parent i : ℕ) (g : GroupFields) (up : g.parent ≡ S
             tt,
           )
 
-  pub nodes_pushed : (ns : List Node) → AreNodesOf gs ns
-      → AreNodesOf (gs ++ (k, g) ∷ [])
-      (slice_set ns i (one_child_more (node_at ns i)) ++ leaf_below (node_at ns i) ∷ [])
+  pub nodes_pushed : (ns : List Node) → AreNodesOf gs fronts ns
+      → AreNodesOf (gs ++ (k, g) ∷ []) fronts
+      (slice_set ns i (one_child_more (node_at ns i)) ++ leaf_below (node_at ns i) (fronts k) ∷ [])
   nodes_pushed ns all =
-      node_push (IsNodeOf hs) gs _ (k, g) (leaf_below (node_at ns i))
-      (node_set (IsNodeOf gs) (IsNodeOf hs) parent other gs ns i (one_child_more (node_at ns i))
+      node_push (IsNodeOf hs fronts) gs _ (k, g) (leaf_below (node_at ns i) (fronts k))
+      (node_set (IsNodeOf gs fronts) (IsNodeOf hs fronts) parent other gs ns i (one_child_more
+      (node_at ns i))
       rising at own all)
       (record {
         children = sym (counted_by false gs k k g
             (ap (λ o. is_parent o k) up ∙ ne_eqb parent k apart) ∙ none_counted gs k none);
         depth = lowest;
+        front = refl;
       })
     where
       hs : Groups
       hs = gs ++ (k, g) ∷ []
 
-      other : (id : ℕ) (n : Node) → id ≢ parent → IsNodeOf gs id n → IsNodeOf hs id n
+      other : (id : ℕ) (n : Node) → id ≢ parent → IsNodeOf gs fronts id n → IsNodeOf hs fronts id n
       other id n else_where is = record {
         children = is.children ∙ sym (counted_by false gs id k g
             (ap (λ o. is_parent o id) up ∙ ne_eqb parent id (λ same. else_where (sym same))));
         depth = old_way n.depth id 0 is.depth;
+        front = is.front;
       }
 
-      own : IsNodeOf gs parent (node_at ns i) → IsNodeOf hs parent (one_child_more (node_at ns i))
+      own : IsNodeOf gs fronts parent (node_at ns i)
+          → IsNodeOf hs fronts parent (one_child_more (node_at ns i))
       own is =
           let more = counted_by true gs parent k g
           (ap (λ o. is_parent o parent) up ∙ eq-eqb parent parent refl) in
           record {
             children = omega (arith, is.children, more);
             depth = old_way (node_at ns i).depth parent 0 is.depth;
+            front = is.front;
           }
 
       lowest : above hs ((node_at ns i).depth + 1) k ≡ Some 0
       lowest =
-          let is = node_read (IsNodeOf gs) gs ns parent i at all in
+          let is = node_read (IsNodeOf gs fronts) gs ns parent i at all in
           let e : (node_at ns i).depth + 1 ≡ suc (node_at ns i).depth = omega arith in
           ap (λ n. above hs n k) e
           ∙ above_more hs (node_at ns i).depth k (Some parent)
@@ -351,17 +392,19 @@ module _ (gs : Groups) (k parent i : ℕ) (g : GroupFields) (up : g.parent ≡ S
           ∙ old_way (node_at ns i).depth parent 0 is.depth
 
 -- one group less
-module _ (gs : Groups) (id parent i j : ℕ) (g : GroupFields) (at : group_at gs id ≡ Some g)
-    (up : g.parent ≡ Some parent) (whole : AreRising gs) (lone : has_children gs id ≡ false)
+module _ (gs : Groups) (fronts : ℕ → PathHash) (id parent i j : ℕ) (g : GroupFields)
+    (at : group_at gs id ≡ Some g) (up : g.parent ≡ Some parent) (whole : AreRising gs)
+    (lone : has_children gs id ≡ false)
     (place : StandsAt gs id i) (higher : StandsAt (remove_entry (eqb id) gs) parent j) where
-  pub nodes_taken : (ns : List Node) → AreNodesOf gs ns
-      → AreNodesOf (remove_entry (eqb id) gs)
+  pub nodes_taken : (ns : List Node) → AreNodesOf gs fronts ns
+      → AreNodesOf (remove_entry (eqb id) gs) fronts
       (slice_set (remove ns i) j (one_child_less (node_at (remove ns i) j)))
   nodes_taken ns all =
-      others_left (IsNodeOf hs) id hs _ (look_removed_same id gs whole)
-      (node_set (IsNodeOf gs) (λ q n. q ≢ id → IsNodeOf hs q n) parent other hs (remove ns i) j
+      others_left (IsNodeOf hs fronts) id hs _ (look_removed_same id gs whole)
+      (node_set (IsNodeOf gs fronts) (λ q n. q ≢ id → IsNodeOf hs fronts q n) parent other hs
+      (remove ns i) j
       (one_child_less (node_at (remove ns i) j)) (rising_removed id gs whole) higher own
-      (node_removed (IsNodeOf gs) gs ns id i place all))
+      (node_removed (IsNodeOf gs fronts) gs ns id i place all))
     where
       hs : Groups
       hs = remove_entry (eqb id) gs
@@ -377,42 +420,47 @@ module _ (gs : Groups) (id parent i j : ℕ) (g : GroupFields) (at : group_at gs
                 absurd (cc),
           )
 
-      way : (n : Node) (q : ℕ) → q ≢ id → IsNodeOf gs q n → above hs n.depth q ≡ Some 0
+      way : (n : Node) (q : ℕ) → q ≢ id → IsNodeOf gs fronts q n → above hs n.depth q ≡ Some 0
       way n q w is = above_kept gs hs (λ k. k ≢ id) step n.depth q 0 w is.depth
 
-      other : (q : ℕ) (n : Node) → q ≢ parent → IsNodeOf gs q n → q ≢ id → IsNodeOf hs q n
+      other : (q : ℕ) (n : Node) → q ≢ parent → IsNodeOf gs fronts q n → q ≢ id
+          → IsNodeOf hs fronts q n
       other q n else_where is w = record {
         children = is.children ∙ left_by false gs id q g at
             (ap (λ o. is_parent o q) up ∙ ne_eqb parent q (λ same. else_where (sym same)));
         depth = way n q w is;
+        front = is.front;
       }
 
-      own : IsNodeOf gs parent (node_at (remove ns i) j)
-          → parent ≢ id → IsNodeOf hs parent (one_child_less (node_at (remove ns i) j))
+      own : IsNodeOf gs fronts parent (node_at (remove ns i) j)
+          → parent ≢ id → IsNodeOf hs fronts parent (one_child_less (node_at (remove ns i) j))
       own is w =
           let less = left_by true gs id parent g at
           (ap (λ o. is_parent o parent) up ∙ eq-eqb parent parent refl) in
           record {
             children = omega (arith, is.children, less);
             depth = way (node_at (remove ns i) j) parent w is;
+            front = is.front;
           }
 
   -- the parent of the group that is removed had a child
-  pub some_child : (ns : List Node) → AreNodesOf gs ns → 0 < (node_at (remove ns i) j).children
+  pub some_child : (ns : List Node) → AreNodesOf gs fronts ns
+      → 0 < (node_at (remove ns i) j).children
   some_child ns all =
-      let own = node_read (IsNodeOf gs) (remove_entry (eqb id) gs) (remove ns i) parent j higher
-      (node_removed (IsNodeOf gs) gs ns id i place all) in
+      let own = node_read (IsNodeOf gs fronts) (remove_entry (eqb id) gs)
+      (remove ns i) parent j higher
+      (node_removed (IsNodeOf gs fronts) gs ns id i place all) in
       let less = left_by true gs id parent g at
       (ap (λ o. is_parent o parent) up ∙ eq-eqb parent parent refl) in
       omega (arith, own.children, less)
 
   -- and its node is left
-  pub node_left : (ns : List Node) → AreNodesOf gs ns → j < length (remove ns i)
+  pub node_left : (ns : List Node) → AreNodesOf gs fronts ns → j < length (remove ns i)
   node_left ns all =
       let long : length (remove ns i) ≡ length (remove_entry (eqb id) gs) =
-      AllZip-long (λ (e : ℕ × GroupFields) (n : Node). IsNodeOf gs e.0 n)
+      AllZip-long (λ (e : ℕ × GroupFields) (n : Node). IsNodeOf gs fronts e.0 n)
       (remove_entry (eqb id) gs) (remove ns i)
-      (node_removed (IsNodeOf gs) gs ns id i place all) in
+      (node_removed (IsNodeOf gs fronts) gs ns id i place all) in
       omega (arith, higher.within, long)
 
 keys_changed : (f : GroupFields → GroupFields) (id : ℕ) (g : GroupFields) (gs : Groups)
@@ -426,20 +474,21 @@ keys_changed f id g (e ∷ es) = onto (eqb id e.0) (keys_changed f id g es)
     onto false rest = ap (λ (ks : List ℕ). e.0 ∷ ks) rest
 
 -- a group that is changed, and keeps its parent
-pub nodes_set : (f : GroupFields → GroupFields) (gs : Groups) (id : ℕ) (ns : List Node)
-    → ((g : GroupFields) → (f g).parent ≡ g.parent) → AreNodesOf gs ns
-    → AreNodesOf (changed_at f gs id) ns
-nodes_set f gs id ns same all = by (group_at gs id) refl
+pub nodes_set : (f : GroupFields → GroupFields) (gs : Groups) (fronts : ℕ → PathHash) (id : ℕ)
+    (ns : List Node) → ((g : GroupFields) → (f g).parent ≡ g.parent) → AreNodesOf gs fronts ns
+    → AreNodesOf (changed_at f gs id) fronts ns
+nodes_set f gs fronts id ns same all = by (group_at gs id) refl
   where
-    by : (o : _) → group_at gs id ≡ o → AreNodesOf (changed f gs id o) ns
+    by : (o : _) → group_at gs id ≡ o → AreNodesOf (changed f gs id o) fronts ns
     by None at = all
     by (Some g) at =
-        nodes_alike (IsNodeOf gs) (IsNodeOf (set_value (eqb id) gs (f g))) gs
+        nodes_alike (IsNodeOf gs fronts) (IsNodeOf (set_value (eqb id) gs (f g)) fronts) gs
         (set_value (eqb id) gs (f g)) ns (keys_changed f id (f g) gs)
         (λ p n is. record {
           children = is.children ∙ sym (count_set id (f g) g (same g) gs p at);
           depth = above_kept gs (set_value (eqb id) gs (f g)) (λ _. Unit {0})
               (λ q k w up. (stays g at q ∙ up, tt)) n.depth p 0 tt is.depth;
+          front = is.front;
         })
         all
       where

@@ -1,8 +1,12 @@
-//! Nodes of the tree: the number of children and the depth of each group, in their order.
+//! Nodes of the tree: the number of children, the depth and the front of each group, in their
+//! order.
 ghost use Rattle.std.specs.Prelude.{◌≡◌, ◌<◌, ◌+◌, ◌^◌, ◌++◌, [], ◌∷◌, length, slice_set};
 ghost use Rattle.std.specs.Prelude.{vec_len, vec_capacity};
 ghost use Rattle.bw_tree.specs.Nodes.{root_node, leaf_below, node_at, one_child_more};
 ghost use Rattle.bw_tree.specs.Nodes.{one_child_less};
+ghost use Rattle.bw_tree.specs.Keys.{with_bytes};
+
+use crate::path_hash::PathHash;
 
 // Node of a group in the tree.
 #[derive(Clone, Copy, Debug)]
@@ -11,6 +15,8 @@ pub(crate) struct Node {
     pub(crate) children: u32,
     // depth: number of groups above it, 0 for the root
     pub(crate) depth: u32,
+    // what the paths of its children begin with: its own path and `/`, nothing for the root
+    pub(crate) front: PathHash,
 }
 
 impl Node {
@@ -21,24 +27,37 @@ impl Node {
         Node {
             children: 0,
             depth: 0,
+            front: PathHash::empty(),
         }
     }
 }
 
-// Appends a leaf below the node at a place. The caller has reserved room for it.
-pub(crate) fn push_leaf(nodes: &mut Vec<Node>, above: usize)
+// Hash of the path of a child with this name, below the node at a place.
+pub(crate) fn path_below(nodes: &Vec<Node>, above: usize, seed: u64, name: &str) -> PathHash
+    requires { above < length nodes.now.items }
+    ensures { result ≡ with_bytes seed (node_at nodes.now.items above).front name.now }
+{
+    nodes[above].front.with_bytes(seed, name.as_bytes())
+}
+
+// Appends a leaf with this front below the node at a place. The caller has reserved room for it.
+pub(crate) fn push_leaf(nodes: &mut Vec<Node>, above: usize, front: PathHash)
     requires within { above < length nodes.old.items }
     requires few { (node_at nodes.old.items above).children + 1 < 2 ^ 32 }
     requires shallow { (node_at nodes.old.items above).depth + 1 < 2 ^ 32 }
     requires room { vec_len nodes.old < vec_capacity nodes.old }
     ensures { nodes.new.items
         ≡ slice_set nodes.old.items above (one_child_more (node_at nodes.old.items above))
-        ++ leaf_below (node_at nodes.old.items above) ∷ [] }
+        ++ leaf_below (node_at nodes.old.items above) front ∷ [] }
 {
     let node = &mut nodes[above];
     node.children += 1;
     let depth = node.depth + 1;
-    nodes.push_reserved(Node { children: 0, depth });
+    nodes.push_reserved(Node {
+        children: 0,
+        depth,
+        front,
+    });
 }
 
 // Takes one child from the node at a place.

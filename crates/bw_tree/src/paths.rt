@@ -9,11 +9,13 @@ ghost use Rattle.bw_tree.specs.Tree.{IsRefused, path_refusal};
 use crate::fault::TreeFault;
 use crate::group::GroupId;
 use crate::names::split_front;
+use crate::path_hash::PathHash;
 use crate::tree::Tree;
 use std::alloc::AllocError;
 
 impl Tree {
-    /// Finds the group at a path. Allocates nothing.
+    /// Finds the group at a path: by one hash of the whole path, then by a comparison of its names.
+    /// Allocates nothing.
     ///
     /// A path is `.` for the root, and for others the names from the root down, joined by `/`.
     ///
@@ -28,17 +30,18 @@ impl Tree {
         if path == "." {
             return Ok(0);
         }
-        if let Some(id) = self.hinted(path) {
+        if let Some(id) = self.keyed(path) {
             return Ok(id);
         }
         self.walk(path).ok_or(TreeFault::NotFound)
     }
 
-    // Group that a hint finds at a path, if it has this path.
-    fn hinted(&self, path: &str) -> Option<GroupId>
+    // First group of a path's key, if it has this path.
+    fn keyed(&self, path: &str) -> Option<GroupId>
         ensures { IfSome result (λ id. find_path self.now.groups path.now ≡ Some id) }
     {
-        let id = self.hints.likely(path)?;
+        let hash = PathHash::of_text(self.seed, path.as_bytes());
+        let id = self.children.first(hash.number(self.seed))?;
         if !self.is_spelled(id, path.as_bytes()) {
             return None;
         }

@@ -4,7 +4,7 @@ use Rattle.std.proofs.Common.{arith, rules}
 use Rattle.std.proofs.lemmas.Bool.Decides.{Decides-eqb}
 use Rattle.std.proofs.lemmas.Slice.Eq.{strip_suffix_is}
 use Rattle.bw_tree.specs.Groups.{IsTree, group_at}
-use Rattle.bw_tree.proofs.HintLemmas.{named_first, named_below}
+use Rattle.bw_tree.proofs.SpelledLemmas.{named_first, named_below}
 use Rattle.bw_tree.proofs.tree.Tree.+is_spelled.Goals as goal
 
 pub returns-then-parent-eq0 : goal.returns-then-parent-eq0

@@ -1,19 +1,37 @@
 -- The goals of `Tree::copy` that are answered by hand.
-use Rattle.std.proofs.Common.{sym, ap, subst, ◌∙◌}
-use Rattle.bw_tree.specs.Groups.{TreeState, IsTree}
+use Rattle.std.proofs.Common.{length, sym, ap, subst, ◌∙◌}
+use Rattle.bw_tree.specs.Groups.{TreeState, AreRising, IsTree}
 use Rattle.std.specs.List.{each_same}
 use Rattle.bw_tree.specs.Children.{AreNamed}
 use Rattle.bw_tree.specs.Nodes.{AreNodesOf}
 use Rattle.bw_tree.proofs.IndexLemmas.{tree_named, same_entries}
+use Rattle.bw_tree.proofs.NodeLemmas.{as_many}
 use Rattle.bw_tree.proofs.tree.Tree.copy.Goals as goal
 
-pub index_of-requires : goal.index_of-requires
-index_of-requires c =
+pub index_of-requires-clause-rising : goal.index_of-requires-clause-rising
+index_of-requires-clause-rising c =
+    let same = same_entries c.self.inside.groups.items c.in_ok-groups.groups.items
+    c.in_ok-groups.ensures.cases.0 in
+    subst AreRising (sym same) c.self.invariant.tree.rising
+
+pub index_of-requires-clause-named : goal.index_of-requires-clause-named
+index_of-requires-clause-named c =
     let t : TreeState =
     record { groups = c.self.inside.groups.items; next = c.self.inside.next_id } in
     let same = same_entries c.self.inside.groups.items c.in_ok-groups.groups.items
     c.in_ok-groups.ensures.cases.0 in
     subst (λ es. AreNamed es es) (sym same) (tree_named t c.self.invariant.tree)
+
+pub index_of-requires-clause-long : goal.index_of-requires-clause-long
+index_of-requires-clause-long c =
+    let same = same_entries c.self.inside.groups.items c.in_ok-groups.groups.items
+    c.in_ok-groups.ensures.cases.0 in
+    let beside = each_same c.self.inside.nodes.items c.in_ok-nodes.nodes.items
+    c.in_ok-nodes.ensures.cases.0 in
+    ap length beside
+    ∙ as_many c.self.inside.groups.items c.self.invariant.fronts c.self.inside.nodes.items
+    c.self.invariant.nodes
+    ∙ sym (ap length same)
 
 pub invariant_of-result : goal.invariant_of-result
 invariant_of-result c =
@@ -21,13 +39,15 @@ invariant_of-result c =
     c.in_ok-groups.ensures.cases.0 in
     let beside = each_same c.self.inside.nodes.items c.in_ok-nodes.nodes.items
     c.in_ok-nodes.ensures.cases.0 in
+    let nodes = subst (AreNodesOf c.in_ok-groups.groups.items c.self.invariant.fronts) (sym beside)
+    (subst (λ es. AreNodesOf es c.self.invariant.fronts c.self.inside.nodes.items) (sym same)
+    c.self.invariant.nodes) in
     record {
       tree = subst (λ es. IsTree (record { groups = es; next = c.self.inside.next_id })) (sym same)
           c.self.invariant.tree;
-      index = c.in_ok-children.ensures.index;
-      nodes = subst (AreNodesOf c.in_ok-groups.groups.items) (sym beside)
-          (subst (λ es. AreNodesOf es c.self.inside.nodes.items) (sym same)
-          c.self.invariant.nodes);
+      fronts = c.self.invariant.fronts;
+      index = c.in_ok-children.ensures.index c.self.invariant.fronts nodes;
+      nodes = nodes;
     }
 
 pub returns-clause-made : goal.returns-clause-made

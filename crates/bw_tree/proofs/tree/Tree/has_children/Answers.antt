@@ -9,7 +9,7 @@ pub index-requires : goal.index-requires
 index-requires c =
     let gs = c.self.inside.groups.items in
     let long : length c.self.inside.nodes.items ≡ length gs =
-    as_many gs c.self.inside.nodes.items c.self.invariant.nodes in
+    as_many gs c.self.invariant.fronts c.self.inside.nodes.items c.self.invariant.nodes in
     omega (arith, c.in-Some.ensures.within, long)
 
 pub returns-in-None : goal.returns-in-None
@@ -24,7 +24,8 @@ returns-in-None c =
 pub returns-in-Some : goal.returns-in-Some
 returns-in-Some c =
     let gs = c.self.inside.groups.items in
-    let own = node_found gs c.self.inside.nodes.items c.args.id c.in-Some.place c.index.result.now
+    let own = node_found gs c.self.invariant.fronts c.self.inside.nodes.items c.args.id
+    c.in-Some.place c.index.result.now
     c.self.invariant.nodes (sym c.place_of.ensures.place ∙ c.in-Some.is) c.index.ensures in
     ap (ltb 0) own.children
     ∙ count_has gs c.args.id

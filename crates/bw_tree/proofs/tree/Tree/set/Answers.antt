@@ -2,6 +2,7 @@
 use Rattle.std.proofs.Common.{◌≡◌, None, sym, subst}
 use Rattle.bw_tree.specs.Groups.{TreeState}
 use Rattle.bw_tree.specs.Children.{IsIndexedTree}
+use Rattle.bw_tree.specs.Keys.{child_key}
 use Rattle.bw_tree.proofs.IndexLemmas.{index_set}
 use Rattle.bw_tree.proofs.NodeLemmas.{nodes_set}
 use Rattle.bw_tree.specs.Tree.{setting_refusal, changed_by}
@@ -16,14 +17,17 @@ invariant_of-self c =
     let can = can_set t c.args.id
     (subst (λ s. setting_refusal s c.args.id ≡ None) (sym c.self.view_is)
     (sym c.in_default.ensures)) in
-    let kept = index_set (changed_by s) t.groups c.args.id c.self.inside.children (same_parent_by s)
-    (same_name_by s) c.self.invariant.index in
+    let kept = index_set (changed_by s) t.groups
+    (child_key c.self.inside.seed c.self.invariant.fronts) c.args.id c.self.inside.children
+    (same_parent_by s) (same_name_by s) c.self.invariant.index in
     subst (λ es. IsIndexedTree (record { groups = es; next = c.self.inside.next_id })
-    c.self.inside.children c.self.inside.nodes.items) (sym c.write_setting.ensures)
+    c.self.inside.seed c.self.inside.children c.self.inside.nodes.items)
+    (sym c.write_setting.ensures)
     (record {
       tree = setting_IsTree t c.args.id c.self.invariant.tree s can c.requires;
+      fronts = c.self.invariant.fronts;
       index = kept;
-      nodes = nodes_set (changed_by s) t.groups c.args.id c.self.inside.nodes.items
-          (same_parent_by s)
+      nodes = nodes_set (changed_by s) t.groups c.self.invariant.fronts c.args.id
+          c.self.inside.nodes.items (same_parent_by s)
           c.self.invariant.nodes;
     })
