@@ -77,7 +77,7 @@ number_at (suc (suc (suc (suc (suc (suc (suc (suc i)))))))) h = absurd (omega ar
 module _ (groups : Groups) (amounts : List ℕ) (certificate : Certified)
     (tree : AreTreeRows groups.rows) where
   -- a wrong length comes before all else
-  pub wrong_length : (AreOnePerRow groups amounts certificate → ⊥)
+  pub wrong_length : (AreOnePerRow groups.rows amounts certificate → ⊥)
       → IsRefused groups amounts certificate WrongLength 0
   wrong_length wrong = let b = bounds_exist groups certificate tree in record {
     bounds = b.0;

@@ -6,3 +6,4 @@ mod MarksKept
 mod Bounding
 mod Deciding
 mod SmallAmounts
+mod Upward

@@ -14,7 +14,7 @@ use Rattle.bw_model.proofs.CallerLemmas.{is_child_from_parent, strong}
 module _ (groups : Groups) (amounts : List ℕ) (valid : IsInstance groups)
     (each : length amounts ≡ length groups.rows)
     (limited : (g : ℕ) → g < length groups.rows → IsWithinLimit groups amounts g)
-    (summed : (g : ℕ) → g < length groups.rows → IsChildrenSum groups amounts g) where
+    (summed : (g : ℕ) → g < length groups.rows → IsChildrenSum groups.rows amounts g) where
   small_below : (g : ℕ) → ((p : ℕ) → p < g → get_or amounts p 0 ≤ MAX_CAPACITY)
       → g < length groups.rows → get_or amounts g 0 ≤ MAX_CAPACITY
   small_below zero earlier within =

@@ -1,6 +1,6 @@
 -- Tables that are gathered row by row.
 use Rattle.std.specs.Prelude.{◌≡◌, ℕ, ◌<◌, List, Some, None, length, sum_by, slice_index, unwrap_or}
-use Rattle.std.specs.Prelude.{cond, if◌then◌else◌}
+use Rattle.std.specs.Prelude.{cond, nat_lt, if◌then◌else◌}
 use Rattle.std.specs.List.{range_with_len}
 use Rattle.bw_model.specs.declared.row.Row.{Row}
 use Rattle.bw_model.specs.Groups.{Groups, parent_of, is_child, is_leaf, demand_of, limit_of}
@@ -26,3 +26,7 @@ abbrev pub bound_over : Groups → Certified → ℕ → ℕ → ℕ
 bound_over groups certificate below g =
     unwrap_or (if is_flagged certificate g then limit_of groups g else None)
     (if is_leaf groups.rows g then demand_of groups.rows g else below)
+
+-- f, but 0 before row k
+abbrev pub from_row : ℕ → (ℕ → ℕ) → ℕ → ℕ
+from_row k f c = cond (nat_lt c k) 0 (f c)

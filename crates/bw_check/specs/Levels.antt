@@ -4,14 +4,15 @@ use Rattle.std.specs.Prelude.{if◌then◌else◌}
 use Rattle.std.specs.Option.{option_map_or}
 use Rattle.bw_model.specs.declared.limits.TheConstants.{MAX_CAPACITY}
 use Rattle.bw_model.specs.declared.mark.Mark.{Mark}
-use Rattle.bw_model.specs.Groups.{Groups, parent_of}
+use Rattle.bw_model.specs.declared.row.Row.{Row}
+use Rattle.bw_model.specs.Groups.{parent_of}
 use Rattle.bw_model.specs.Certificate.{Certified, level_at}
 
 -- the level of a child's parent, where the parent shares something out
-abbrev pub level_above : Groups → List ℕ → Certified → ℕ → Option Mark
-level_above groups amounts certificate c =
+abbrev pub level_above : List Row → List ℕ → Certified → ℕ → Option Mark
+level_above rows amounts certificate c =
     option_map_or (λ g. if slice_index amounts g == 0 then None else level_at certificate g)
-    (parent_of groups.rows c) None
+    (parent_of rows c) None
 
 -- no amount is above the capacity of the largest host
 abbrev pub AreSmall : List ℕ → Type 0

@@ -5,8 +5,9 @@ ghost use Rattle.bw_model.specs.Plan.{IsPlan};
 ghost use Rattle.bw_check.specs.Verdict.{IsVerdict};
 ghost use Rattle.bw_check.specs.declared.verdict.Verdict.TheVariants.{Accepted};
 
-use crate::conditions::{OF_ROWS, are_free, are_one_per_row, first_group};
+use crate::conditions::{OF_ROWS, are_one_per_row, first_group};
 use crate::fault::CheckFault;
+use crate::one_pass::are_certified;
 use crate::tables::tables_of;
 use crate::verdict::Verdict;
 use bw_model::{Certificate, Instance};
@@ -37,10 +38,12 @@ pub fn check(
             group: 0,
         });
     }
-    let tables = tables_of(alloc, instance, amounts, certificate)?;
-    if are_free(instance, amounts, certificate, &tables) {
+    let (shape, rows) = (instance.shape(), instance.rows());
+    let shown = are_certified(alloc, shape, rows, amounts, certificate)?;
+    if shown {
         return Ok(Verdict::Accepted);
     }
+    let tables = tables_of(alloc, instance, amounts, certificate)?;
     for fault in OF_ROWS {
         if let Some(group) = first_group(instance, amounts, certificate, &tables, fault) {
             return Ok(Verdict::Refused { fault, group });

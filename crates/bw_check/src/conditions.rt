@@ -1,21 +1,20 @@
 //! One test for each fault, and the search for the first group that has it.
-ghost use Rattle.std.specs.Prelude.{◌≡◌, ◌<◌, ◌≤◌, ◌↔◌, IsTrue, length, slice_index};
+ghost use Rattle.std.specs.Prelude.{◌≡◌, ◌<◌, ◌≤◌, ◌↔◌, IsTrue, length};
 ghost use Rattle.bw_model.specs.Certificate.{certified_of};
-ghost use Rattle.bw_model.specs.Groups.{IsInstance};
+ghost use Rattle.bw_model.specs.Groups.{IsInstance, is_leaf, sum_of_children};
 ghost use Rattle.bw_check.specs.declared.fault.CheckFault.TheVariants.{LastMarkAbove};
-ghost use Rattle.bw_check.specs.Counts.{AreGathered};
 ghost use Rattle.bw_check.specs.Faults.{check_fault_number};
 ghost use Rattle.bw_check.specs.Levels.{AreSmall, IsFirst};
 ghost use Rattle.bw_check.specs.Tables.{AreTables};
 ghost use Rattle.bw_check.specs.Verdict.{AreOnePerRow, IsWithinLimit, IsWithinDemand};
-ghost use Rattle.bw_check.specs.Verdict.{IsChildrenSum, IsFlagLimited, HasLevel, IsFree, AreFree};
+ghost use Rattle.bw_check.specs.Verdict.{IsChildrenSum, IsFlagLimited, HasLevel, IsFree};
 ghost use Rattle.bw_check.specs.declared.fault.CheckFault.{CheckFault};
 
 use crate::fault::CheckFault;
 use crate::marks::{is_last_mark_kept, is_next_mark_kept};
+use crate::readers::{demand, limit};
 use crate::tables::Tables;
-use bw_model::limits::MAX_CAPACITY;
-use bw_model::{Certificate, Instance};
+use bw_model::{Certificate, HostShape, Instance, Row};
 
 /// The faults of single groups, in order.
 pub const OF_ROWS: [CheckFault; 8] = [
@@ -32,57 +31,78 @@ pub const OF_ROWS: [CheckFault; 8] = [
 /// Whether there is one amount, one flag and one level for each row.
 pub fn are_one_per_row(instance: &Instance, amounts: &[u64], certificate: &Certificate) -> bool
     ensures each { IsTrue result
-        ↔ AreOnePerRow instance.now amounts.now (certified_of certificate.now) }
+        ↔ AreOnePerRow instance.now.rows amounts.now (certified_of certificate.now) }
     ensures valid { IsInstance instance.now }
 {
     let count = instance.group_count() as usize;
     amounts.len() == count && certificate.tight.len() == count && certificate.levels.len() == count
 }
 
-fn is_within_limit(instance: &Instance, amounts: &[u64], g: u32) -> bool
-    requires one_each { length amounts.now ≡ length instance.now.rows }
-    requires within { g < length instance.now.rows }
-    ensures { IsTrue result ↔ IsWithinLimit instance.now amounts.now g }
+/// Whether the amount of a group is at most its limit.
+pub(crate) fn is_within_limit(shape: HostShape, rows: &[Row], amounts: &[u64], g: u32) -> bool
+    requires one_each { length amounts.now ≡ length rows.now }
+    requires within { g < length rows.now }
+    ensures { IsTrue result
+        ↔ IsWithinLimit (record { shape = shape; rows = rows.now }) amounts.now g }
 {
-    match instance.limit(g) {
+    match limit(shape, rows, g) {
         None => true,
         Some(limit) => amounts[g as usize] <= limit,
     }
 }
 
-fn is_within_demand(instance: &Instance, amounts: &[u64], g: u32) -> bool
-    requires one_each { length amounts.now ≡ length instance.now.rows }
-    requires within { g < length instance.now.rows }
-    ensures { IsTrue result ↔ IsWithinDemand instance.now amounts.now g }
+/// Whether the amount of a leaf is at most its demand.
+pub(crate) fn is_within_demand(rows: &[Row], amounts: &[u64], leaf: bool, g: u32) -> bool
+    requires one_each { length amounts.now ≡ length rows.now }
+    requires leaf { leaf ≡ is_leaf rows.now g }
+    requires within { g < length rows.now }
+    ensures { IsTrue result ↔ IsWithinDemand rows.now amounts.now g }
 {
-    !instance.is_leaf(g) || amounts[g as usize] <= instance.row(g).demand
+    !leaf || amounts[g as usize] <= demand(rows, g)
 }
 
-fn is_children_sum(instance: &Instance, amounts: &[u64], sums: &[u128], g: u32) -> bool
-    requires one_each { length amounts.now ≡ length instance.now.rows }
-    requires summed { AreGathered instance.now.rows (slice_index amounts.now)
-        (length instance.now.rows) sums.now }
-    requires within { g < length instance.now.rows }
-    ensures { IsTrue result ↔ IsChildrenSum instance.now amounts.now g }
+/// Whether the amount of an inner group is the sum of its children's.
+pub(crate) fn is_children_sum(rows: &[Row], amounts: &[u64], leaf: bool, sum: u128, g: u32) -> bool
+    requires one_each { length amounts.now ≡ length rows.now }
+    requires leaf { leaf ≡ is_leaf rows.now g }
+    requires sum { sum ≡ sum_of_children rows.now amounts.now g }
+    requires within { g < length rows.now }
+    ensures { IsTrue result ↔ IsChildrenSum rows.now amounts.now g }
 {
-    instance.is_leaf(g) || u128::from(amounts[g as usize]) == sums[g as usize]
+    let _rows = rows;
+    leaf || u128::from(amounts[g as usize]) == sum
 }
 
-fn is_flag_limited(instance: &Instance, certificate: &Certificate, g: u32) -> bool
-    requires flags_each { length certificate.now.tight.items ≡ length instance.now.rows }
-    requires within { g < length instance.now.rows }
-    ensures { IsTrue result ↔ IsFlagLimited instance.now (certified_of certificate.now) g }
+/// Whether a group has a limit, or no flag.
+pub(crate) fn is_flag_limited(
+    shape: HostShape,
+    rows: &[Row],
+    certificate: &Certificate,
+    g: u32,
+) -> bool
+    requires flags_each { length certificate.now.tight.items ≡ length rows.now }
+    requires within { g < length rows.now }
+    ensures { IsTrue result ↔ IsFlagLimited (record { shape = shape; rows = rows.now })
+        (certified_of certificate.now) g }
 {
-    !certificate.tight[g as usize] || instance.limit(g).is_some()
+    !certificate.tight[g as usize] || limit(shape, rows, g).is_some()
 }
 
-fn has_level(instance: &Instance, amounts: &[u64], certificate: &Certificate, g: u32) -> bool
-    requires one_each { length amounts.now ≡ length instance.now.rows }
-    requires levels_each { length certificate.now.levels.items ≡ length instance.now.rows }
-    requires within { g < length instance.now.rows }
-    ensures { IsTrue result ↔ HasLevel instance.now amounts.now (certified_of certificate.now) g }
+/// Whether a group has a level, or shares nothing out.
+pub(crate) fn has_level(
+    rows: &[Row],
+    amounts: &[u64],
+    certificate: &Certificate,
+    leaf: bool,
+    g: u32,
+) -> bool
+    requires one_per_row { AreOnePerRow rows.now amounts.now (certified_of certificate.now) }
+    requires leaf { leaf ≡ is_leaf rows.now g }
+    requires within { g < length rows.now }
+    ensures { IsTrue result ↔ HasLevel rows.now amounts.now (certified_of certificate.now) g }
 {
-    instance.is_leaf(g) || amounts[g as usize] == 0 || certificate.levels[g as usize].is_some()
+    let _rows = rows;
+    leaf || amounts[g as usize] == 0 || certificate.levels[g as usize].is_some()
 }
 
 // Whether a group is free of a fault. Marks are read only if the amounts are small.
@@ -101,24 +121,28 @@ fn is_free(
     ensures { IsTrue result ↔ IsFree instance.now amounts.now (certified_of certificate.now)
         tables.now.bounds.items fault g }
 {
+    let (shape, rows, leaf) = (instance.shape(), instance.rows(), instance.is_leaf(g));
     match fault {
         CheckFault::WrongLength => are_one_per_row(instance, amounts, certificate),
-        CheckFault::OverLimit => is_within_limit(instance, amounts, g),
-        CheckFault::OverDemand => is_within_demand(instance, amounts, g),
-        CheckFault::SumDiffers => is_children_sum(instance, amounts, &tables.sums, g),
-        CheckFault::FlagWithoutLimit => is_flag_limited(instance, certificate, g),
+        CheckFault::OverLimit => is_within_limit(shape, rows, amounts, g),
+        CheckFault::OverDemand => is_within_demand(rows, amounts, leaf, g),
+        CheckFault::SumDiffers => {
+            is_children_sum(rows, amounts, leaf, tables.sums[g as usize], g)
+        }
+        CheckFault::FlagWithoutLimit => is_flag_limited(shape, rows, certificate, g),
         CheckFault::NotGreatest => u128::from(amounts[0]) == tables.bounds[0],
-        CheckFault::LevelMissing => has_level(instance, amounts, certificate, g),
+        CheckFault::LevelMissing => has_level(rows, amounts, certificate, leaf, g),
         CheckFault::LastMarkAbove => {
-            is_last_mark_kept(instance, amounts, certificate, &tables.places, g)
+            is_last_mark_kept(rows, amounts, certificate, &tables.siblings.places, g)
         }
         CheckFault::NextMarkNotAbove => {
+            let bound = tables.bounds[g as usize];
             is_next_mark_kept(
-                instance,
+                rows,
                 amounts,
                 certificate,
-                &tables.places,
-                &tables.bounds,
+                &tables.siblings.places,
+                bound,
                 g,
             )
         }
@@ -145,55 +169,4 @@ pub fn first_group(
         }
     }
     None
-}
-
-// Whether a group is free of each fault. Marks are read only if its amount is small.
-fn is_free_of_all(
-    instance: &Instance,
-    amounts: &[u64],
-    certificate: &Certificate,
-    tables: &Tables,
-    g: u32,
-) -> bool
-    requires tables { AreTables instance.now amounts.now (certified_of certificate.now) tables.now }
-    requires within { g < length instance.now.rows }
-    ensures { IsTrue result → (fault : CheckFault) → IsFree instance.now amounts.now
-        (certified_of certificate.now) tables.now.bounds.items fault g }
-{
-    is_within_limit(instance, amounts, g)
-        && is_within_demand(instance, amounts, g)
-        && is_children_sum(instance, amounts, &tables.sums, g)
-        && is_flag_limited(instance, certificate, g)
-        && u128::from(amounts[0]) == tables.bounds[0]
-        && has_level(instance, amounts, certificate, g)
-        && amounts[g as usize] <= MAX_CAPACITY
-        && is_last_mark_kept(instance, amounts, certificate, &tables.places, g)
-        && is_next_mark_kept(
-            instance,
-            amounts,
-            certificate,
-            &tables.places,
-            &tables.bounds,
-            g,
-        )
-}
-
-/// Whether one pass over the rows shows that no group has a fault. If it does not,
-/// [`first_group`] finds the first.
-pub fn are_free(
-    instance: &Instance,
-    amounts: &[u64],
-    certificate: &Certificate,
-    tables: &Tables,
-) -> bool
-    requires tables { AreTables instance.now amounts.now (certified_of certificate.now) tables.now }
-    ensures { IsTrue result → AreFree instance.now amounts.now (certified_of certificate.now)
-        tables.now.bounds.items }
-{
-    for g in 0..instance.group_count() {
-        if !is_free_of_all(instance, amounts, certificate, tables, g) {
-            return false;
-        }
-    }
-    true
 }

@@ -6,6 +6,8 @@ mod conditions;
 mod fault;
 mod laws;
 mod marks;
+mod one_pass;
+mod readers;
 mod tables;
 mod verdict;
 

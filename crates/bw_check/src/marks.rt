@@ -1,25 +1,23 @@
 //! The marks of a child against its parent's level.
-ghost use Rattle.std.specs.Prelude.{◌≡◌, ℕ, ◌<◌, ◌≤◌, ◌↔◌, IsTrue, length, slice_index};
-ghost use Rattle.bw_model.specs.Certificate.{certified_of, AreBounds};
+ghost use Rattle.std.specs.Prelude.{◌≡◌, ◌<◌, ◌≤◌, ◌↔◌, IsTrue, length, slice_index};
+ghost use Rattle.bw_model.specs.Groups.{AreTreeRows, weight_of};
+ghost use Rattle.bw_model.specs.Certificate.{certified_of};
 ghost use Rattle.bw_check.specs.Counts.{ArePlaces};
 ghost use Rattle.bw_check.specs.Levels.{level_above};
 ghost use Rattle.bw_check.specs.Verdict.{AreOnePerRow, IsLastMarkKept, IsNextMarkKept};
 
+use crate::readers::{parent, weight};
 use bw_model::limits::MAX_CAPACITY;
-use bw_model::{Certificate, Instance, Mark, last_mark, next_mark};
+use bw_model::{Certificate, Mark, Row, last_mark, next_mark};
 
 // The level of a child's parent, or None if the parent has no level or nothing to share out.
-fn level_above(
-    instance: &Instance,
-    amounts: &[u64],
-    certificate: &Certificate,
-    c: u32,
-) -> Option<Mark>
-    requires one_per_row { AreOnePerRow instance.now amounts.now (certified_of certificate.now) }
-    requires within { c < length instance.now.rows }
-    ensures { result ≡ level_above instance.now amounts.now (certified_of certificate.now) c }
+fn level_above(rows: &[Row], amounts: &[u64], certificate: &Certificate, c: u32) -> Option<Mark>
+    requires tree { AreTreeRows rows.now }
+    requires one_per_row { AreOnePerRow rows.now amounts.now (certified_of certificate.now) }
+    requires within { c < length rows.now }
+    ensures { result ≡ level_above rows.now amounts.now (certified_of certificate.now) c }
 {
-    match instance.parent(c) {
+    match parent(rows, c) {
         None => None,
         Some(parent) => {
             if amounts[parent as usize] == 0 {
@@ -33,24 +31,25 @@ fn level_above(
 
 /// Whether the last mark of a child is at most its parent's level.
 pub fn is_last_mark_kept(
-    instance: &Instance,
+    rows: &[Row],
     amounts: &[u64],
     certificate: &Certificate,
     places: &[u32],
     c: u32,
 ) -> bool
-    requires one_per_row { AreOnePerRow instance.now amounts.now (certified_of certificate.now) }
-    requires places { ArePlaces instance.now.rows (length instance.now.rows) places.now }
+    requires tree { AreTreeRows rows.now }
+    requires one_per_row { AreOnePerRow rows.now amounts.now (certified_of certificate.now) }
+    requires places { ArePlaces rows.now (length rows.now) places.now }
     requires small { slice_index amounts.now c ≤ MAX_CAPACITY }
-    requires within { c < length instance.now.rows }
-    ensures { IsTrue result
-        ↔ IsLastMarkKept instance.now amounts.now (certified_of certificate.now) c }
+    requires within { c < length rows.now }
+    requires weighed { 0 < weight_of rows.now c }
+    ensures { IsTrue result ↔ IsLastMarkKept rows.now amounts.now (certified_of certificate.now) c }
 {
     let amount = amounts[c as usize];
-    match level_above(instance, amounts, certificate, c) {
+    match level_above(rows, amounts, certificate, c) {
         None => true,
         Some(level) => {
-            let weight = instance.weight(c);
+            let weight = weight(rows, c);
             let place = places[c as usize];
             amount == 0 || last_mark(amount, weight, place) <= level
         }
@@ -59,28 +58,29 @@ pub fn is_last_mark_kept(
 
 /// Whether the next mark of a child below its bound is above its parent's level.
 pub fn is_next_mark_kept(
-    instance: &Instance,
+    rows: &[Row],
     amounts: &[u64],
     certificate: &Certificate,
     places: &[u32],
-    bounds: &[u128],
+    bound: u128,
     c: u32,
 ) -> bool
-    requires one_per_row { AreOnePerRow instance.now amounts.now (certified_of certificate.now) }
-    requires places { ArePlaces instance.now.rows (length instance.now.rows) places.now }
-    requires bounds { length bounds.now ≡ length instance.now.rows }
+    requires tree { AreTreeRows rows.now }
+    requires one_per_row { AreOnePerRow rows.now amounts.now (certified_of certificate.now) }
+    requires places { ArePlaces rows.now (length rows.now) places.now }
     requires small { slice_index amounts.now c ≤ MAX_CAPACITY }
-    requires within { c < length instance.now.rows }
+    requires within { c < length rows.now }
+    requires weighed { 0 < weight_of rows.now c }
     ensures { IsTrue result
-        ↔ IsNextMarkKept instance.now amounts.now (certified_of certificate.now) bounds.now c }
+        ↔ IsNextMarkKept rows.now amounts.now (certified_of certificate.now) bound c }
 {
     let amount = amounts[c as usize];
-    match level_above(instance, amounts, certificate, c) {
+    match level_above(rows, amounts, certificate, c) {
         None => true,
         Some(level) => {
-            let weight = instance.weight(c);
+            let weight = weight(rows, c);
             let place = places[c as usize];
-            bounds[c as usize] <= u128::from(amount) || level < next_mark(amount, weight, place)
+            bound <= u128::from(amount) || level < next_mark(amount, weight, place)
         }
     }
 }

@@ -1,40 +1,56 @@
 //! Tables for the check, of one entry for each group, each made by one pass over the rows.
-ghost use Rattle.std.specs.Prelude.{◌≡◌, ◌+◌, ◌<◌, ◌≤◌, ◌^◌, length, slice_index, IfOk};
+ghost use Rattle.std.specs.Prelude.{◌≡◌, ℕ, ◌+◌, ◌<◌, ◌≤◌, ◌^◌, length, slice_index, IfOk};
+ghost use Rattle.std.specs.Prelude.{unwrap_or};
+ghost use Rattle.bw_model.specs.Groups.{AreTreeRows, is_leaf};
 ghost use Rattle.bw_model.specs.Certificate.{certified_of, AreBounds};
-ghost use Rattle.bw_check.specs.Counts.{AreGathered, ArePlaces, bound_over};
-ghost use Rattle.bw_check.specs.Tables.{AreTables};
+ghost use Rattle.bw_check.specs.Counts.{AreGathered, bound_over};
+ghost use Rattle.bw_check.specs.Tables.{AreSiblings, AreTables};
 ghost use Rattle.bw_check.specs.Verdict.{AreOnePerRow};
 
-use bw_model::{Certificate, Instance};
+use crate::readers::{demand, limit, parent};
+use bw_model::limits::MAX_GROUPS;
+use bw_model::{Certificate, HostShape, Instance, Row};
 use std::alloc::{AllocError, Global};
 
 /// One entry for each group.
 #[derive(Drop)]
-pub struct Tables {
+pub struct Siblings {
     /// The number of its siblings that were created before it.
     pub places: Vec<u32>,
+    /// The number of its children.
+    pub children: Vec<u32>,
+}
+
+/// One entry for each group.
+#[derive(Drop)]
+pub struct Tables {
+    pub siblings: Siblings,
     /// The sum of its children's amounts, in slices.
     pub sums: Vec<u128>,
     /// The most slices that it can be given, as the flags say.
     pub bounds: Vec<u128>,
 }
 
-// The place of each group among its siblings.
-fn places(alloc: Global, instance: &Instance) -> Result<Vec<u32>, AllocError>
-    ensures { IfOk result
-        (λ places. ArePlaces instance.now.rows (length instance.now.rows) places.items) }
+/// The place of each group among its siblings, and the number of its children.
+///
+/// # Errors
+/// `AllocError` if memory was refused.
+pub(crate) fn siblings_of(alloc: Global, rows: &[Row]) -> Result<Siblings, AllocError>
+    requires tree { AreTreeRows rows.now }
+    requires few { length rows.now ≤ MAX_GROUPS }
+    ensures { IfOk result (AreSiblings rows.now) }
 {
-    let count = instance.group_count();
+    let count = rows.len() as u32;
     let mut places = vec![in alloc; 0u32; count as usize]?;
     let mut children = vec![in alloc; 0u32; count as usize]?;
     for c in 0..count {
-        if let Some(parent) = instance.parent(c) {
+        if let Some(parent) = parent(rows, c) {
             let place = children[parent as usize];
             places[c as usize] = place;
             children[parent as usize] = place + 1;
         }
     }
-    Ok(places)
+    Ok(Siblings { places, children })
 }
 
 // The sum of the amounts of each group's children.
@@ -58,6 +74,28 @@ fn children_sums(
     Ok(sums)
 }
 
+/// The bound of a group by its flag or its demand. None says that it is its children's sum.
+pub(crate) fn own_bound(
+    shape: HostShape,
+    rows: &[Row],
+    certificate: &Certificate,
+    leaf: bool,
+    g: u32,
+) -> Option<u64>
+    requires flags_each { length certificate.now.tight.items ≡ length rows.now }
+    requires leaf { leaf ≡ is_leaf rows.now g }
+    requires within { g < length rows.now }
+    ensures { (below : ℕ) → bound_over (record { shape = shape; rows = rows.now })
+        (certified_of certificate.now) below g ≡ unwrap_or result below }
+{
+    if certificate.tight[g as usize] {
+        if let Some(limit) = limit(shape, rows, g) {
+            return Some(limit);
+        }
+    }
+    if leaf { Some(demand(rows, g)) } else { None }
+}
+
 // The bound of a group whose children's bounds have this sum.
 fn bound_of(instance: &Instance, certificate: &Certificate, below: u128, g: u32) -> u128
     requires within { g < length instance.now.rows }
@@ -65,15 +103,10 @@ fn bound_of(instance: &Instance, certificate: &Certificate, below: u128, g: u32)
     ensures value { result ≡ bound_over instance.now (certified_of certificate.now) below g }
     ensures small { result < below + 2 ^ 64 }
 {
-    if certificate.tight[g as usize] {
-        if let Some(limit) = instance.limit(g) {
-            return u128::from(limit);
-        }
-    }
-    if instance.is_leaf(g) {
-        u128::from(instance.row(g).demand)
-    } else {
-        below
+    let leaf = instance.is_leaf(g);
+    match own_bound(instance.shape(), instance.rows(), certificate, leaf, g) {
+        None => below,
+        Some(bound) => u128::from(bound),
     }
 }
 
@@ -111,11 +144,11 @@ pub fn tables_of(
     amounts: &[u64],
     certificate: &Certificate,
 ) -> Result<Tables, AllocError>
-    requires { AreOnePerRow instance.now amounts.now (certified_of certificate.now) }
+    requires { AreOnePerRow instance.now.rows amounts.now (certified_of certificate.now) }
     ensures { IfOk result (AreTables instance.now amounts.now (certified_of certificate.now)) }
 {
     Ok(Tables {
-        places: places(alloc, instance)?,
+        siblings: siblings_of(alloc, instance.rows())?,
         sums: children_sums(alloc, instance, amounts)?,
         bounds: bounds(alloc, instance, certificate)?,
     })

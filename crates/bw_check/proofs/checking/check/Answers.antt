@@ -1,7 +1,7 @@
 -- The goals of `check` that are answered by hand.
 use Rattle.std.proofs.Common.{◌≡◌, true, false, refl, sym, ◌∙◌, arith}
 use Rattle.bw_model.specs.Certificate.{certified_of, IsAccepted}
-use Rattle.bw_check.proofs.Verdicts.{free-IsCertified, refused-not-accepted}
+use Rattle.bw_check.proofs.Verdicts.{refused-not-accepted}
 use Rattle.bw_model.proofs.CallerLemmas.{certified-IsPlan}
 use Rattle.bw_check.proofs.Deciding.{wrong_length, refused_at, one_fault_more, small_at, all_free}
 use Rattle.bw_check.proofs.checking.check.Goals as goal
@@ -24,20 +24,22 @@ returns-then-not-are_one_per_row c =
       plan = λ e. cc;
     }
 
-pub returns-then-are_free : goal.returns-then-are_free
-returns-then-are_free c =
+pub are_certified-requires-clause-valid : goal.are_certified-requires-clause-valid
+are_certified-requires-clause-valid c =
+    rw (c.shape-shape.ensures, c.rows-rows.ensures.rows) c.are_one_per_row.ensures.valid
+
+pub returns-then-shown : goal.returns-then-shown
+returns-then-shown c =
     let groups = c.args.instance.now in
     let certificate = certified_of c.args.certificate.now in
-    let valid = c.are_one_per_row.ensures.valid in
-    let bounds = c.in_ok-tables.tables.bounds.items in
-    let certified = free-IsCertified groups c.args.amounts.now certificate bounds valid.tree
-    c.in_ok-tables.ensures.bounded (c.are_free.ensures c.if-are_free.true) in
+    let shown = c.in_ok-shown.ensures c.if-shown.true in
     let accepted : IsAccepted groups c.args.amounts.now certificate =
-    record { bounds = bounds; certified = certified } in
+    rw (c.shape-shape.ensures, c.rows-rows.ensures.rows) at shown in
     record {
       verdict = accepted;
       exact = (λ _. accepted, λ _. refl);
-      plan = λ _. certified-IsPlan groups c.args.amounts.now certificate bounds valid certified;
+      plan = λ _. certified-IsPlan groups c.args.amounts.now certificate accepted.bounds
+          c.are_one_per_row.ensures.valid accepted.certified;
     }
 
 pub returns-in-Some : goal.returns-in-Some

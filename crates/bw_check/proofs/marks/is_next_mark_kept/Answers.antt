@@ -8,33 +8,32 @@ use Rattle.bw_check.proofs.MarksKept.{each_above, from_above}
 use Rattle.bw_model.proofs.CallerLemmas.{is_lt-IsBelow}
 use Rattle.bw_check.proofs.marks.is_next_mark_kept.Goals as goal
 
-pub returns-else-bounds-c : goal.returns-else-bounds-c
-returns-else-bounds-c c =
-    let groups = c.args.instance.now in
+pub returns-else-bound-from : goal.returns-else-bound-from
+returns-else-bound-from c =
+    let rows = c.args.rows.now in
     let amounts = c.args.amounts.now in
     let certificate = certified_of c.args.certificate.now in
     let places = c.args.places.now in
-    let bounds = c.args.bounds.now in
     let claim : Mark → ℕ → Type 0 =
     λ level place. IsBelow (price_of level)
-    (next_mark (get_or amounts c.args.c 0) (weight_of groups.rows c.args.c) place) in
+    (next_mark (get_or amounts c.args.c 0) (weight_of rows c.args.c) place) in
     let price : price_of c.next_mark.result ≡ next_mark (get_or amounts c.args.c 0)
-    (weight_of groups.rows c.args.c) (get_or places c.args.c 0) =
+    (weight_of rows c.args.c) (get_or places c.args.c 0) =
     c.next_mark.ensures
     ∙ ap (λ (w : ℕ). next_mark (get_or amounts c.args.c 0) w (get_or places c.args.c 0))
-    c.weight-weight.ensures.value in
+    c.weight-weight.ensures in
     let ordered = is_lt-IsBelow c.in-Some.level c.next_mark.result in
-    let room : get_or amounts c.args.c 0 < get_or bounds c.args.c 0 =
-    omega (arith, c.from.ensures, c.if-bounds-c.false) in (
+    let room : get_or amounts c.args.c 0 < c.args.bound =
+    omega (arith, c.from.ensures, c.if-bound-from.false) in (
       λ e g other up shares is _.
-          each_above groups amounts certificate c.args.c places c.requires.places c.requires.within
+          each_above rows amounts certificate c.args.c places c.requires.places c.requires.within
           claim c.in-Some.level (sym c.in-Some.ensures)
           (subst (λ (p : MarkValue). IsBelow (price_of c.in-Some.level) p) price
           (ordered.0 (sym c.lt.ensures ∙ e)))
           g other up shares is,
       λ h. c.lt.ensures
           ∙ ordered.1 (subst (λ (p : MarkValue). IsBelow (price_of c.in-Some.level) p) (sym price)
-          (from_above groups amounts certificate c.args.c places c.requires.places c.requires.within
+          (from_above rows amounts certificate c.args.c places c.requires.places c.requires.within
           claim c.in-Some.level (sym c.in-Some.ensures)
           (λ g other up shares is. h g other up shares is room))),
     )

@@ -1,14 +1,13 @@
--- The goals of `bound_of` that are answered by hand.
-use Rattle.std.proofs.Common.{◌≡◌, ℕ, ◌<◌, Bool, true, false, cond, Option, None, length, refl, ap}
+-- The goals of `own_bound` that are answered by hand.
+use Rattle.std.proofs.Common.{◌≡◌, ℕ, ◌<◌, Bool, true, false, cond, Option, None, length, refl}
 use Rattle.std.proofs.Common.{sym, ◌∙◌, arith}
 use Rattle.std.proofs.lemmas.List.{get_or_default}
-use Rattle.bw_model.specs.declared.row.Row.{Row}
 use Rattle.bw_model.specs.Groups.{Groups, is_leaf, limit_of, demand_of}
 use Rattle.bw_model.specs.Certificate.{Certified, certified_of, is_flagged}
 use Rattle.bw_check.specs.Counts.{bound_over}
-use Rattle.bw_check.proofs.tables.bound_of.Goals as goal
-use Rattle.bw_check.proofs.tables.bound_of.Goals.{then-index+in_default, else-index}
-use Rattle.bw_check.proofs.tables.bound_of.Goals.{Joined-index}
+use Rattle.bw_check.proofs.tables.own_bound.Goals as goal
+use Rattle.bw_check.proofs.tables.own_bound.Goals.{then-index+in_default, else-index}
+use Rattle.bw_check.proofs.tables.own_bound.Goals.{Joined-index}
 
 no_limit : (b : Bool) (limit : Option ℕ) → limit ≡ None → cond b limit None ≡ None
 no_limit true limit e = e
@@ -28,9 +27,9 @@ module _ (groups : Groups) (certificate : Certified) (below g : ℕ)
 
 -- the group has no limit that is flagged
 none_of : (c : Joined-index) → cond (is_flagged (certified_of c.args.certificate.now) c.args.g)
-    (limit_of c.args.instance.now c.args.g) None ≡ None
+    (limit_of (record { shape = c.args.shape; rows = c.args.rows.now }) c.args.g) None ≡ None
 none_of c =
-    let groups = c.args.instance.now in
+    let groups : Groups = record { shape = c.args.shape; rows = c.args.rows.now } in
     let certificate = certified_of c.args.certificate.now in
     let tight = c.args.certificate.now.tight.items in
     let there : c.args.g < length tight = omega (arith, c.requires.within, c.requires.flags_each) in
@@ -43,20 +42,16 @@ none_of c =
           (sym flag ∙ w.if-index.false)
     ]
 
-pub returns-then-is_leaf-clause-value : goal.returns-then-is_leaf-clause-value
-returns-then-is_leaf-clause-value c =
-    let groups = c.args.instance.now in
-    let certificate = certified_of c.args.certificate.now in
-    let leaf : is_leaf groups.rows c.args.g ≡ true = sym c.is_leaf.ensures ∙ c.if-is_leaf.true in
-    let demand : c.from-then-is_leaf.result ≡ demand_of groups.rows c.args.g =
-    c.from-then-is_leaf.ensures ∙ ap (λ (row : Row). row.demand) c.row.ensures in
-    let none = none_of (goal.at.returns-then-is_leaf-clause-value c).Joined-index in
-    demand ∙ sym (at_leaf groups certificate c.args.below c.args.g none leaf)
+pub returns-then-leaf : goal.returns-then-leaf
+returns-then-leaf c below =
+    let groups : Groups = record { shape = c.args.shape; rows = c.args.rows.now } in
+    let leaf : is_leaf c.args.rows.now c.args.g ≡ true = sym c.requires.leaf ∙ c.if-leaf.true in
+    at_leaf groups (certified_of c.args.certificate.now) below c.args.g
+    (none_of (goal.at.returns-then-leaf c).Joined-index) leaf ∙ sym c.demand.ensures
 
-pub returns-else-is_leaf-clause-value : goal.returns-else-is_leaf-clause-value
-returns-else-is_leaf-clause-value c =
-    let groups = c.args.instance.now in
-    let certificate = certified_of c.args.certificate.now in
-    let inner : is_leaf groups.rows c.args.g ≡ false = sym c.is_leaf.ensures ∙ c.if-is_leaf.false in
-    let none = none_of (goal.at.returns-else-is_leaf-clause-value c).Joined-index in
-    sym (at_inner groups certificate c.args.below c.args.g none inner)
+pub returns-else-leaf : goal.returns-else-leaf
+returns-else-leaf c below =
+    let groups : Groups = record { shape = c.args.shape; rows = c.args.rows.now } in
+    let inner : is_leaf c.args.rows.now c.args.g ≡ false = sym c.requires.leaf ∙ c.if-leaf.false in
+    at_inner groups (certified_of c.args.certificate.now) below c.args.g
+    (none_of (goal.at.returns-else-leaf c).Joined-index) inner
