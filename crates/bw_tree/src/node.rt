@@ -15,7 +15,7 @@ pub(crate) struct Node {
     pub(crate) children: u32,
     // depth: number of groups above it, 0 for the root
     pub(crate) depth: u32,
-    // what the paths of its children begin with: its own path and `/`, nothing for the root
+    // start of the paths of its children: its own path and `/`, nothing for the root
     pub(crate) front: PathHash,
 }
 
