@@ -54,7 +54,7 @@ def worst(runs: list[Saved]) -> float:
 
 def worst_part(runs: list[Saved]) -> float:
     """The greatest difference of a group in parts of its own share."""
-    return max(abs(off(line)) / line["share"] for saved in runs for line in leaves(saved))
+    return max(abs(off(line)) / float(line["share"]) for saved in runs for line in leaves(saved))
 
 
 def served(runs: list[Saved]) -> float:
@@ -63,7 +63,7 @@ def served(runs: list[Saved]) -> float:
     for saved in runs:
         root = next(line for line in saved["lines"] if line["path"] == ".")
         parts.append(root["had"] / root["share"])
-    return sum(parts) / len(parts)
+    return float(sum(parts) / len(parts))
 
 
 def mean(runs: list[Saved]) -> float:

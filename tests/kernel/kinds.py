@@ -120,12 +120,18 @@ def of_kept_runs() -> Iterator[Seen]:
                            line["had"] - line["share"])
 
 
+def is_left_out(told: scenario.Scenario) -> bool:
+    """Whether a scenario is a series, or has tasks that are pinned."""
+    every = (1 << told.processors) - 1
+    return told.is_series or any(leaf.cpus != every or leaf.is_spread
+                                 for leaf in told.leaves.values())
+
+
 def of_told_runs(text: str) -> Iterator[Seen]:
     """The groups of runs.txt."""
     for name, rest in ROW.findall(text):
         told, host = of_scenario(name)
-        if told.is_series or any(leaf.cpus != (1 << told.processors) - 1 or leaf.is_spread
-                                 for leaf in told.leaves.values()):
+        if is_left_out(told):
             continue
         shares = exact.means(told, Fraction(1), 0, 1)
         for last, *offs in CELL.findall(rest):
@@ -137,6 +143,8 @@ def of_told_runs(text: str) -> Iterator[Seen]:
     for bound, names in WITHIN.findall(text):
         for name in re.findall(r"`([a-z-]+)`", names):
             told, host = of_scenario(name)
+            if is_left_out(told):
+                continue
             shares = exact.means(told, Fraction(1), 0, 1)
             kinds = {seen(name, host, path, float(shares[path]), 0) for path in told.leaves}
             yield from {Seen(name, one.column, one.kind, float(bound), 0, True) for one in kinds}
