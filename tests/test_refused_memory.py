@@ -17,8 +17,6 @@ from support import (CERTIFIED, NO_MEMORY, NO_THREAD, OUT_OF_MEMORY, Ended, refu
 ENDED = "ended out of memory"
 # A sweep that refuses fewer allocations than this tests nothing.
 LEAST_REFUSED = {"run": 100, "check": 30, "words": 20}
-# Allocations of the start of a thread: for what the thread is given, and for its stack.
-START_TAKES = 2
 # The commands that take memory. `rmdir`, `demand` and `write` take none, and are never refused.
 TAKE_MEMORY = ["mkdir", "read", "total", "plan", "cert", "period", "report"]
 
@@ -94,11 +92,10 @@ WIDE_LEAVES = [f"g{leaf % 2}/c{leaf}" for leaf in range(4096)]
 WIDE_REFUSED, LEAST_WIDE = 60, 20
 
 
-def sweep(program, refusing, job, words, given, allowed, wanted, at_most=()):
+def sweep(program, refusing, job, words, given, allowed, wanted):
     """Refuses each allocation of one run.
 
-    `allowed` has the kind of each answer that may come, `wanted` the kinds that have to come, and
-    `at_most` how often a kind may come.
+    `allowed` has the kind of each answer that may come, and `wanted` the kinds that have to come.
     """
     runs = refused_in_turn(program, refusing, words, given)
     kinds = collections.Counter(allowed.get(ended, "wrong") for ended in runs.values())
@@ -109,8 +106,6 @@ def sweep(program, refusing, job, words, given, allowed, wanted, at_most=()):
             f"{kinds['wrong']} wrong; allocation {number}: status {ended.status}, "
             f"{ended.out[-300:]!r}, {ended.err[:300]!r}")
     assert len(runs) >= LEAST_REFUSED[job]
-    for kind, most in at_most:
-        assert kinds[kind] <= most, kind
     assert not set(wanted) - set(kinds), "kinds that never came"
 
 
@@ -122,8 +117,8 @@ SCRIPTS = ["one processor", "four processors, every command", "four processors, 
 def test_run(program, refusing, name):
     """Each command of a script that takes memory has to be refused once.
 
-    On one processor a period starts one thread. It answers 70 only if the memory of that start is
-    refused.
+    A period answers 70 if the memory of a thread's start is refused. On one processor it starts no
+    thread, so it never does.
     """
     options, lines = {
         "one processor": ([], script_lines("counters.script")),
@@ -136,14 +131,14 @@ def test_run(program, refusing, name):
     refused = without_one_line(program, options, lines, NO_MEMORY, TAKE_MEMORY)
     for verb, answers in refused.values():
         allowed.setdefault(Ended(0, answers, b""), f"71 at {verb}")
-    for _, answers in without_one_line(program, options, lines, NO_THREAD, {"period"}).values():
+    starts = without_one_line(program, options, lines, NO_THREAD, {"period"}) if options else {}
+    for _, answers in starts.values():
         allowed.setdefault(Ended(0, answers, b""), "70 at period")
     allowed[OUT_OF_MEMORY] = ENDED
     verbs = [line.split()[0].decode() for line in lines]
-    wanted = [f"71 at {verb}" for verb in TAKE_MEMORY if verb in verbs]
-    at_most = [] if options else [("70 at period", verbs.count("period") * START_TAKES)]
-    wanted += [ENDED, "70 at period"]
-    sweep(program, refusing, "run", ["run", *options], script, allowed, wanted, at_most)
+    wanted = [ENDED, *(f"71 at {verb}" for verb in TAKE_MEMORY if verb in verbs)]
+    wanted += ["70 at period"] if options else []
+    sweep(program, refusing, "run", ["run", *options], script, allowed, wanted)
 
 
 def test_plan_in_pieces(program, refusing):

@@ -1,8 +1,8 @@
 """Starts of threads refused to the native program: all of them, and each alone.
 
 A `period` whose thread is refused answers so and changes nothing: the rest of the script is
-answered as if that line were not there. All other commands answer as ever, also where a tree is so
-large that `plan` asks for threads.
+answered as if that line were not there. On one processor it starts none. All other commands answer
+as ever, also where a tree is so large that `plan` asks for threads.
 """
 import functools
 import os
@@ -124,14 +124,14 @@ def without_periods(program, options, lines) -> bytes:
     return out
 
 
-@pytest.mark.parametrize("processors", ["1", "4", "64"])
+@pytest.mark.parametrize("processors", ["2", "4", "64"])
 def test_all_refused_by_bounds(program, bounds, processors):
     options = ["--processors", processors]
     ended = program.run(["run", *options], b"".join(PERIODS), preexec_fn=bounds)
     same(ended, (0, without_periods(program, options, PERIODS), b""))
 
 
-@pytest.mark.parametrize("processors", ["1", "4", "64"])
+@pytest.mark.parametrize("processors", ["2", "4", "64"])
 def test_all_refused(program, refusing, processors):
     options, script = ["--processors", processors], b"".join(PERIODS)
     ended, letters = refused_run(program, refusing, ["run", *options], script, REFUSE_START="each")
@@ -139,11 +139,21 @@ def test_all_refused(program, refusing, processors):
     assert letters.count(b"r") >= len(PERIOD_LINES) and b"s" not in letters, letters
 
 
+def test_one_processor(program, refusing, bounds):
+    """On one processor a period starts no thread, so none can be refused to it."""
+    options, script = ["--processors", "1"], b"".join(PERIODS)
+    served = (0, program.answers(options, script), b"")
+    same(program.run(["run", *options], script, preexec_fn=bounds), served, "by bounds")
+    words = ["run", *options]
+    same(refused_run(program, refusing, words, script, REFUSE_START="each"), (served, b""))
+    assert served[1].count(b"served ") == len(PERIOD_LINES)
+
+
 def start_refused(program, refusing, words, nth):
     return refused_run(program, refusing, words, b"".join(PERIODS), REFUSE_START=nth)
 
 
-@pytest.mark.parametrize("processors, step", [(1, 1), (4, 1), (64, 5)])
+@pytest.mark.parametrize("processors, step", [(2, 1), (4, 1), (64, 5)])
 def test_one_refused(program, refusing, processors, step):
     """Starts refused, each alone: its period answers so, and the next one serves."""
     options = ["--processors", str(processors)]
@@ -165,9 +175,9 @@ def test_one_refused(program, refusing, processors, step):
 
 def test_booked_after_serving(program, refusing):
     """A period whose thread is refused leaves no counter and no burst; served, it leaves both."""
-    script = b"".join(BOOKING)
-    same(program.run(["run"], script), (0, BOOKING_SERVED, b""), "served")
-    ended, _ = refused_run(program, refusing, ["run"], script, REFUSE_START=1)
+    script, words = b"".join(BOOKING), ["run", "--processors", "2"]
+    same(program.run(words, script), (0, BOOKING_SERVED, b""), "served")
+    ended, _ = refused_run(program, refusing, words, script, REFUSE_START=1)
     same(ended, (0, BOOKING_REFUSED, b""), "refused")
 
 

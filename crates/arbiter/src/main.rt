@@ -23,7 +23,7 @@ use std::sync::Wait;
 use std::thread::Threads;
 use told::{bad_arguments, check_ended, host_refused, no_job, run_ended};
 
-// Runs the script on standard input, with a thread for each processor at each `period`.
+// Runs the script on standard input, with a worker for each processor at each `period`.
 fn run_script<R: AllocGlobal + Input + Print + Threads + Wait + Clock + RandomSource + Sync>(
     rt: &R,
     shape: HostShape,

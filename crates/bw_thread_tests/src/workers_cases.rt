@@ -9,7 +9,7 @@ use bw_model::{HostShape, Instance, Row};
 use bw_plan::{Plan, plan};
 use bw_pool::{PoolCall, PoolReply, Short, SlicePool};
 use bw_ticket::{CallsSpent, Closed, Seat, TicketLock, close, open};
-use bw_workers::{Gate, ServeFault, Served, serve};
+use bw_workers::{Gate, NoGate, ServeFault, Served, serve};
 use crossbeam_utils::atomic::AtomicCell;
 use std::alloc::{AllocError, Global};
 use std::process::Abort;
@@ -101,6 +101,8 @@ pub(crate) struct Without(pub(crate) u32);
 
 impl Gate for Without {
     ghost used = { λ gate leaf. not (leaf == gate.0) };
+
+    const MAY_HOLD: bool = false;
 
     fn before(&self, worker: u32, nth: u64) {
         let _ = (worker, nth);
@@ -283,6 +285,8 @@ impl InTurn {
 impl Gate for InTurn {
     ghost used = { λ gate leaf. not (leaf == gate.unused) };
 
+    const MAY_HOLD: bool = false;
+
     fn before(&self, worker: u32, nth: u64) {
         self.called(worker, nth, 0);
     }
@@ -349,6 +353,31 @@ fn give_backs_are_not_told(rt: HostRuntime) -> Result<(), Fail> {
     let alloc = rt.alloc();
     if serve_with_a_give_back(&rt, alloc).is_err() {
         serve_with_a_give_back(&rt, alloc)?;
+    }
+    Ok(())
+}
+
+// Without a gate that may hold one, each worker ends before the next one begins.
+fn serve_in_seat_order<R: Threads + Wait + Clock + Abort + Sync>(
+    rt: &R,
+    alloc: Global,
+) -> Result<(), AllocError> {
+    let (instance, plan) = planned(rt, alloc, 2, &TWO_GROUPS)?;
+    let served = served(rt, alloc, &instance, &plan, &NoGate, &[40, 20, 20])?;
+    let mut last = 0;
+    for entry in served.history.iter() {
+        assert!(rt; last <= entry.seat);
+        last = entry.seat;
+    }
+    assert!(rt; last == 1);
+    Ok(())
+}
+
+#[test]
+fn one_after_another(rt: HostRuntime) -> Result<(), Fail> {
+    let alloc = rt.alloc();
+    if serve_in_seat_order(&rt, alloc).is_err() {
+        serve_in_seat_order(&rt, alloc)?;
     }
     Ok(())
 }

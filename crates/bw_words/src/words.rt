@@ -62,7 +62,7 @@ Commands of a script, one a line (P is a path: . for the root, else names joined
   total               the slices that can be served, and what limits them
   plan                the slices that each group gets in one period
   cert                the certified text of the plan, for `arbiter check`
-  period              serves one period by a thread for each processor, and counts it
+  period              serves one period by a worker for each processor, and counts it
   report              the counters of each group
 A refused line prints `error N NAME`, changes nothing, and the script goes on.";
 

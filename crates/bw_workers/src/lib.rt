@@ -1,10 +1,11 @@
-//! Workers that draw the slices of one period, a thread for each processor.
+//! Workers that draw the slices of one period, one for each processor.
 #![tactic(auto)]
 
 mod draws;
 mod fault;
 mod gate;
 mod serving;
+mod threads;
 mod worker;
 
 pub use fault::ServeFault;

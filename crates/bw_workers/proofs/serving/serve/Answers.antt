@@ -13,8 +13,8 @@ use Rattle.bw_workers.proofs.Carried.{carried}
 use Rattle.bw_workers.proofs.DrainedHistories.{drained_history, seats_ready}
 use Rattle.bw_workers.proofs.serving.serve.Goals as goal
 
-pub in_threads-requires-clause-ready : goal.in_threads-requires-clause-ready
-in_threads-requires-clause-ready g c κs within =
+pub run_workers-requires-clause-ready : goal.run_workers-requires-clause-ready
+run_workers-requires-clause-ready g c κs within =
     seats_ready c.in-Ok.made.0.lock_id
     (slices_per_processor c.args.instance.now.shape + 2 * length c.deref-2.result.now) _ _
     c.in-Ok.made.1.items

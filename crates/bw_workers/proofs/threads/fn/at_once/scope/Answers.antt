@@ -5,7 +5,7 @@ use Rattle.std.proofs.Common.{vec_len, sym, ap, ◌∙◌, subst}
 use Rattle.std.specs.Vec.Iter.{into_iter_items, into_iter_len}
 use Rattle.bw_workers.specs.Serving.{IsReady}
 use Rattle.bw_workers.proofs.DrainedHistories.{each_pushed}
-use Rattle.bw_workers.proofs.serving.fn.in_threads.scope.Goals as goal
+use Rattle.bw_workers.proofs.threads.fn.at_once.scope.Goals as goal
 
 pub loop-seat-preserved : goal.loop-seat-preserved
 loop-seat-preserved g c =

@@ -6,7 +6,7 @@ use Rattle.std.specs.Vec.Iter.{into_iter_items, into_iter_len}
 use Rattle.bw_model.specs.declared.limits.TheConstants.{MAX_GROUPS}
 use Rattle.bw_workers.specs.Serving.{IsReady}
 use Rattle.bw_workers.specs.Working.{IsLeaves}
-use Rattle.bw_workers.proofs.serving.fn.in_threads.scope.Given as goal
+use Rattle.bw_workers.proofs.threads.fn.at_once.scope.Given as goal
 
 abbrev pub invariant-loop-seat : goal.invariant-loop-seat
 invariant-loop-seat g l = let done = vec_len l.children in let rest = l.seat-iterator in record {

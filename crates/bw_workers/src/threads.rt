@@ -1,0 +1,244 @@
+//! The workers of all seats, each in a thread of its own.
+//!
+//! Every schedule of the draws is proved, so the cheapest is taken. Where threads meet, a ticket
+//! lock hands over at each draw, mostly by a sleep and a wake. So workers run at once only if the
+//! gate may hold one of them until another has drawn.
+ghost use Rattle.std.specs.Prelude.{◌≡◌, ◌+◌, ◌*◌, ◌≤◌, length, IfOk};
+ghost use Rattle.bw_model.specs.Host.{slices_per_processor};
+ghost use Rattle.bw_workers.specs.Working.{IsLeaves, IsDrainedSeat};
+ghost use Rattle.bw_workers.specs.Serving.{IsReady, AreReady, AreBack};
+
+use crate::fault::ServeFault;
+use crate::gate::Gate;
+use crate::worker::work;
+use bw_model::Instance;
+use bw_model::limits::MAX_GROUPS;
+use bw_pool::SlicePool;
+use bw_ticket::{Seat, TicketLock};
+use std::alloc::Global;
+use std::rt::Clock;
+use std::sync::Wait;
+use std::thread;
+use std::thread::{Promise, Threads, join_promised};
+
+// The promise of a worker's thread: the seat that it returns is drained.
+#[derive(Clone, Copy)]
+struct WorkerPromise<'a, G: Gate> {
+    lock: &'a TicketLock<SlicePool>,
+    instance: &'a Instance,
+    gate: &'a G,
+    number: u32,
+}
+
+impl<'a, G: Gate> Promise<Seat<SlicePool>> for WorkerPromise<'a, G> {
+    ghost use Rattle.bw_model.specs.Host.{slices_per_processor};
+    ghost use Rattle.bw_workers.specs.Working.{IsDrainedSeat};
+
+    ghost kept_by = { λ p seat. IsDrainedSeat (G.used p.gate.now) p.instance.now.rows
+        (slices_per_processor p.instance.now.shape) p.lock.now.lock_id p.number seat };
+}
+
+// The promise of the worker that is handed this seat.
+fn promise_of<'a, G: Gate>(
+    lock: &'a TicketLock<SlicePool>,
+    instance: &'a Instance,
+    gate: &'a G,
+    seat: &Seat<SlicePool>,
+) -> WorkerPromise<'a, G>
+    ensures lock { result.lock.now ≡ lock.now }
+    ensures instance { result.instance.now ≡ instance.now }
+    ensures gate { result.gate.now ≡ gate.now }
+    ensures number { result.number ≡ seat.now.number }
+{
+    WorkerPromise {
+        lock,
+        instance,
+        gate,
+        number: seat.number(),
+    }
+}
+
+// Spawns a worker for each seat, and returns the seats once all workers have ended.
+fn at_once<G: Gate, R: Threads + Wait + Clock + Sync>(
+    rt: &R,
+    alloc: Global,
+    lock: &TicketLock<SlicePool>,
+    seats: Vec<Seat<SlicePool>>,
+    instance: &Instance,
+    leaves: &[u32],
+    gate: &G,
+) -> Result<Vec<Seat<SlicePool>>, ServeFault>
+    requires ready { AreReady lock.now.lock_id
+        (slices_per_processor instance.now.shape + 2 * length leaves.now) seats.items }
+    requires leaves { IsLeaves instance.now.rows leaves.now }
+    requires few { length leaves.now ≤ MAX_GROUPS }
+    ensures { IfOk result (λ v. (length v.items ≡ length seats.items) ×
+        AreBack (G.used gate.now) instance.now.rows (slices_per_processor instance.now.shape)
+        lock.now.lock_id v.items) }
+{
+    thread::scope(
+        thread::scope_env(),
+        rt,
+        |scope| -> Result<Vec<Seat<SlicePool>>, ServeFault>
+            requires ready { AreReady lock.now.lock_id
+                (slices_per_processor instance.now.shape + 2 * length leaves.now) seats.items }
+            requires leaves { IsLeaves instance.now.rows leaves.now }
+            requires few { length leaves.now ≤ MAX_GROUPS }
+            ensures { IfOk result (λ v. (length v.items ≡ length seats.items) ×
+                AreBack (G.used gate.entry.now) instance.entry.now.rows
+                (slices_per_processor instance.entry.now.shape) lock.entry.now.lock_id
+                v.items) }
+        {
+            let count = seats.len();
+            let mut children = Vec::with_capacity(alloc, count)?;
+            for seat in seats {
+                let mine = Vec::from_slice(alloc, leaves)?;
+                let promise = promise_of(lock, instance, gate, &seat);
+                let run = move || -> Seat<SlicePool>
+                    requires { IsReady lock.now.lock_id
+                        (slices_per_processor instance.now.shape + 2 * length mine.items)
+                        seat.number seat ×
+                        IsLeaves instance.now.rows mine.items × (length mine.items ≤ MAX_GROUPS) }
+                    ensures { IsDrainedSeat (G.used gate.entry.now) instance.entry.now.rows
+                        (slices_per_processor instance.entry.now.shape)
+                        lock.entry.now.lock_id seat.number result }
+                { work(rt, lock, seat, instance, mine, gate) };
+                let Ok(child) = scope.spawn_with(promise, run) else {
+                    return Err(ServeFault::NotStarted);
+                };
+                children.push_reserved(child);
+            }
+            match join_promised(rt, children) {
+                Ok(seats) => Ok(seats),
+                Err(_) => Err(ServeFault::OutOfMemory),
+            }
+        },
+    )
+}
+
+// Works a seat in a thread of its own, which has ended at the return.
+fn in_a_thread<G: Gate, R: Threads + Wait + Clock + Sync>(
+    rt: &R,
+    alloc: Global,
+    lock: &TicketLock<SlicePool>,
+    seat: Seat<SlicePool>,
+    instance: &Instance,
+    leaves: &[u32],
+    gate: &G,
+) -> Result<Seat<SlicePool>, ServeFault>
+    requires ready { IsReady lock.now.lock_id
+        (slices_per_processor instance.now.shape + 2 * length leaves.now) seat.number seat }
+    requires leaves { IsLeaves instance.now.rows leaves.now }
+    requires few { length leaves.now ≤ MAX_GROUPS }
+    ensures { IfOk result (λ s. IsDrainedSeat (G.used gate.now) instance.now.rows
+        (slices_per_processor instance.now.shape) lock.now.lock_id seat.number s) }
+{
+    thread::scope(
+        thread::scope_env(),
+        rt,
+        |scope| -> Result<Seat<SlicePool>, ServeFault>
+            requires ready { IsReady lock.now.lock_id
+                (slices_per_processor instance.now.shape + 2 * length leaves.now)
+                seat.number seat }
+            requires leaves { IsLeaves instance.now.rows leaves.now }
+            requires few { length leaves.now ≤ MAX_GROUPS }
+            ensures { IfOk result (λ s. IsDrainedSeat (G.used gate.entry.now)
+                instance.entry.now.rows (slices_per_processor instance.entry.now.shape)
+                lock.entry.now.lock_id seat.number s) }
+        {
+            let mine = Vec::from_slice(alloc, leaves)?;
+            let promise = promise_of(lock, instance, gate, &seat);
+            let run = move || -> Seat<SlicePool>
+                requires { IsReady lock.now.lock_id
+                    (slices_per_processor instance.now.shape + 2 * length mine.items)
+                    seat.number seat ×
+                    IsLeaves instance.now.rows mine.items × (length mine.items ≤ MAX_GROUPS) }
+                ensures { IsDrainedSeat (G.used gate.entry.now) instance.entry.now.rows
+                    (slices_per_processor instance.entry.now.shape)
+                    lock.entry.now.lock_id seat.number result }
+            { work(rt, lock, seat, instance, mine, gate) };
+            let Ok(child) = scope.spawn_with(promise, run) else {
+                return Err(ServeFault::NotStarted);
+            };
+            Ok(child.join(rt))
+        },
+    )
+}
+
+// Works a seat: in the calling thread if it is the only one, and else in a thread of its own.
+fn worked<G: Gate, R: Threads + Wait + Clock + Sync>(
+    rt: &R,
+    alloc: Global,
+    lock: &TicketLock<SlicePool>,
+    seat: Seat<SlicePool>,
+    is_only: bool,
+    instance: &Instance,
+    leaves: &[u32],
+    gate: &G,
+) -> Result<Seat<SlicePool>, ServeFault>
+    requires ready { IsReady lock.now.lock_id
+        (slices_per_processor instance.now.shape + 2 * length leaves.now) seat.number seat }
+    requires leaves { IsLeaves instance.now.rows leaves.now }
+    requires few { length leaves.now ≤ MAX_GROUPS }
+    ensures { IfOk result (λ s. IsDrainedSeat (G.used gate.now) instance.now.rows
+        (slices_per_processor instance.now.shape) lock.now.lock_id seat.number s) }
+{
+    if is_only {
+        let mine = Vec::from_slice(alloc, leaves)?;
+        return Ok(work(rt, lock, seat, instance, mine, gate));
+    }
+    in_a_thread(rt, alloc, lock, seat, instance, leaves, gate)
+}
+
+// Works the seats one after another: the next thread is spawned once one is joined.
+fn one_by_one<G: Gate, R: Threads + Wait + Clock + Sync>(
+    rt: &R,
+    alloc: Global,
+    lock: &TicketLock<SlicePool>,
+    seats: Vec<Seat<SlicePool>>,
+    instance: &Instance,
+    leaves: &[u32],
+    gate: &G,
+) -> Result<Vec<Seat<SlicePool>>, ServeFault>
+    requires ready { AreReady lock.now.lock_id
+        (slices_per_processor instance.now.shape + 2 * length leaves.now) seats.items }
+    requires leaves { IsLeaves instance.now.rows leaves.now }
+    requires few { length leaves.now ≤ MAX_GROUPS }
+    ensures { IfOk result (λ v. (length v.items ≡ length seats.items) ×
+        AreBack (G.used gate.now) instance.now.rows (slices_per_processor instance.now.shape)
+        lock.now.lock_id v.items) }
+{
+    let count = seats.len();
+    let mut done = Vec::with_capacity(alloc, count)?;
+    for seat in seats {
+        let seat = worked(rt, alloc, lock, seat, count == 1, instance, leaves, gate)?;
+        done.push_reserved(seat);
+    }
+    Ok(done)
+}
+
+/// Works all seats, and returns them once all workers have ended: at once if the gate may hold one
+/// of them, and otherwise one after another.
+pub(crate) fn run_workers<G: Gate, R: Threads + Wait + Clock + Sync>(
+    rt: &R,
+    alloc: Global,
+    lock: &TicketLock<SlicePool>,
+    seats: Vec<Seat<SlicePool>>,
+    instance: &Instance,
+    leaves: &[u32],
+    gate: &G,
+) -> Result<Vec<Seat<SlicePool>>, ServeFault>
+    requires ready { AreReady lock.now.lock_id
+        (slices_per_processor instance.now.shape + 2 * length leaves.now) seats.items }
+    requires leaves { IsLeaves instance.now.rows leaves.now }
+    requires few { length leaves.now ≤ MAX_GROUPS }
+    ensures { IfOk result (λ v. (length v.items ≡ length seats.items) ×
+        AreBack (G.used gate.now) instance.now.rows (slices_per_processor instance.now.shape)
+        lock.now.lock_id v.items) }
+{
+    if G::MAY_HOLD {
+        at_once(rt, alloc, lock, seats, instance, leaves, gate)
+    } else {
+        one_by_one(rt, alloc, lock, seats, instance, leaves, gate)
+    }
+}
