@@ -4,6 +4,7 @@
 mod certifying;
 mod fault;
 mod groups;
+mod in_order;
 mod laws;
 mod line_words;
 mod reading;

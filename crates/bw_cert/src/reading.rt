@@ -5,10 +5,11 @@ ghost use Rattle.bw_cert.specs.Reading.{ReadsAs, head_of, host_in, certified_of,
 
 use crate::fault::CertFault;
 use crate::groups::{Certified, first_line, groups};
+use crate::in_order::instance_of;
 use crate::line_words::head_words;
 use crate::word_values::number;
 use bw_model::limits::MAX_GROUPS;
-use bw_model::{Certificate, HostShape, Instance, InstanceFault};
+use bw_model::{Certificate, HostShape, InstanceFault};
 use std::alloc::Global;
 
 // The host, and the number of groups that follow.
@@ -54,7 +55,7 @@ fn certified(alloc: Global, text: &[u8]) -> Result<Certified, CertFault>
     if !rest.is_empty() {
         return Err(CertFault::Trailing);
     }
-    let instance = match Instance::new(alloc, columns.rows, shape) {
+    let instance = match instance_of(alloc, columns.rows, shape) {
         Ok(instance) => instance,
         Err(InstanceFault::OutOfMemory) => return Err(CertFault::OutOfMemory),
         Err(fault) => return Err(CertFault::Instance(fault)),
