@@ -3,4 +3,5 @@ pub mod CallerLemmas
 mod Known
 mod Quiet
 mod Counted
+mod Digits
 mod Writing

@@ -1,6 +1,7 @@
 //! Appends text to an answer, whose buffer grows as needed. Where it has space, no call fails or
 //! allocates.
-ghost use Rattle.std.specs.Prelude.{◌≡◌, ◌≤◌, ◌<◌, ◌+◌, ◌++◌, [], ◌∷◌, codes, length, vec_len};
+ghost use Rattle.std.specs.Prelude.{◌≡◌, ◌≤◌, ◌<◌, ◌+◌, ◌/◌, ◌%◌, ◌++◌, [], ◌∷◌, codes, length};
+ghost use Rattle.std.specs.Prelude.{vec_len};
 ghost use Rattle.std.specs.Prelude.{OnOk, OnErr};
 ghost use Rattle.std.specs.Vec.{vec_capacity};
 ghost use Rattle.std.specs.Fmt.{decimal};
@@ -18,6 +19,64 @@ pub fn put(answer: &mut Vec<u8>, bytes: &[u8])
     let _ = answer.extend_from_slice(bytes);
 }
 
+/// Appends a number in decimal, 1 to 20 digits, for which the buffer has space.
+///
+/// Most numbers of an answer are short. They are written into the buffer, without a copy.
+pub fn put_digits(number: u64, answer: &mut Vec<u8>)
+    requires { vec_len answer.old + 20 ≤ vec_capacity answer.old }
+    ensures items { answer.new.items ≡ answer.old.items ++ decimal number }
+    ensures len { vec_len answer.new ≤ vec_len answer.old + 20 }
+    ensures room { vec_capacity answer.old ≤ vec_capacity answer.new }
+{
+    match number {
+        0..=99 => put_short(number, answer),
+        100..=9_999 => {
+            put_short(number / 100, answer);
+            put_two(number % 100, answer);
+        }
+        _ => put_long(number, answer),
+    }
+}
+
+// Appends a number of one digit or two.
+#[tactic(auto, using(crate::proofs::Digits::two_digits, std::proofs::lemmas::Fmt::decimal_digit))]
+fn put_short(number: u64, answer: &mut Vec<u8>)
+    requires short { number < 100 }
+    requires space { vec_len answer.old + 2 ≤ vec_capacity answer.old }
+    ensures items { answer.new.items ≡ answer.old.items ++ decimal number }
+    ensures len { vec_len answer.new ≤ vec_len answer.old + 2 }
+    ensures room { vec_capacity answer.old ≤ vec_capacity answer.new }
+{
+    match number {
+        0..=9 => answer.push_reserved(b'0' + number as u8),
+        _ => put_two(number, answer),
+    }
+}
+
+// Appends the two last digits of a number, also where the first of them is `0`.
+fn put_two(last: u64, answer: &mut Vec<u8>)
+    requires short { last < 100 }
+    requires space { vec_len answer.old + 2 ≤ vec_capacity answer.old }
+    ensures items { answer.new.items
+        ≡ answer.old.items ++ (48 + last / 10) ∷ (48 + last % 10) ∷ [] }
+    ensures len { vec_len answer.new ≡ vec_len answer.old + 2 }
+    ensures room { vec_capacity answer.old ≤ vec_capacity answer.new }
+{
+    answer.push_reserved(b'0' + (last / 10) as u8);
+    answer.push_reserved(b'0' + (last % 10) as u8);
+}
+
+// Appends a number of any length by one copy.
+fn put_long(number: u64, answer: &mut Vec<u8>)
+    requires { vec_len answer.old + 20 ≤ vec_capacity answer.old }
+    ensures items { answer.new.items ≡ answer.old.items ++ decimal number }
+    ensures len { vec_len answer.new ≤ vec_len answer.old + 20 }
+    ensures room { vec_capacity answer.old ≤ vec_capacity answer.new }
+{
+    let mut buffer = Buffer::new();
+    put(answer, buffer.format(number).as_bytes());
+}
+
 /// Appends a word and a number in decimal, 1 to 20 digits.
 ///
 /// # Errors
@@ -31,11 +90,9 @@ pub fn put_number(word: &[u8], number: u64, answer: &mut Vec<u8>) -> Result<(), 
     ensures err { OnErr result (answer.new.items ≡ answer.old.items) }
     ensures room { vec_capacity answer.old ≤ vec_capacity answer.new }
 {
-    let mut buffer = Buffer::new();
-    let digits = buffer.format(number).as_bytes();
-    answer.reserve(word.len() + digits.len())?;
+    answer.reserve(word.len() + 20)?;
     put(answer, word);
-    put(answer, digits);
+    put_digits(number, answer);
     Ok(())
 }
 

@@ -10,7 +10,7 @@ mod reading;
 mod sending;
 mod watched;
 
-pub use answer::{put, put_last_word, put_number, put_number_line, put_refusal};
+pub use answer::{put, put_digits, put_last_word, put_number, put_number_line, put_refusal};
 pub use fault::RunFault;
 pub use laws::reads_are_limited;
 pub use output::Output;
