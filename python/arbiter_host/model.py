@@ -163,11 +163,11 @@ class Model:
         return replace(self, groups=groups, notes=list(self.notes), refused=list(self.refused))
 
 
-def told_bound(found: Sequence[str], where: str = "CPUs") -> list[str]:
+def told_bound(found: Sequence[str]) -> list[str]:
     """What is told of groups that keep to CPUs of their own; nothing of none."""
     if not found:
         return []
-    return [f"bound to {where}: {names.listed(found)}: each keeps to its own CPUs, so what others"
+    return [f"bound to CPUs: {names.listed(found)}: each keeps to its own CPUs, so what others"
             " leave idle does not reach it"]
 
 

@@ -1,4 +1,4 @@
-"""Jobs of Slurm, in the documented forms of its commands: no Slurm was at hand."""
+"""Jobs of Slurm, in the forms of its commands; `test_real.py` reads what a real one printed."""
 import json
 from fractions import Fraction
 
@@ -42,8 +42,8 @@ def test_usage_by_hand():
         SIM: ("bob/sim/124", 250, 2, f"{top}/job_124")}
     assert model.notes == [
         "jobs and steps that do not run, left out: 2",
-        "bound to cores: alice/train/123: each keeps to its own CPUs, so what others leave idle"
-        " does not reach it",
+        "allotted cores of their own: alice/train/123: where Slurm binds tasks to them"
+        " (TaskPlugin), what others leave idle does not reach a job",
         "on several nodes: bob/sim/124: usage, and CPUs that are not told by node, are shared out"
         " equally",
         "alice:train:123/step_batch: nothing read for --want usage: no demand"]
@@ -64,9 +64,29 @@ def test_jobs_that_are_not_accounted_yet():
     assert {path: (each.demand, each.tasks) for path, each in model.groups.items()} == {
         "alice:train:9": (4000, 4)}
     assert model.notes == ["jobs whose use is not accounted yet: 1: the CPUs that they were"
-                           " allotted are taken"]
+                           " allotted are taken (`sstat -a --parsable2` has their use)"]
     asked = read(text, host=Host(8, 100000, 1000), want="usage")
     assert len(asked.groups) == 4 and not any(each.demand for each in asked.groups.values())
+
+
+STAT = "JobID|NTasks|TRESUsageInTot\n"
+
+
+def test_use_of_steps_that_run():
+    """sstat has what sacct has at their end: 8 s in 10 s on two nodes are 400m on each.
+
+    The 2 s of the whole job are those of a step that has ended, and no use of what runs.
+    """
+    text = HEAD + "".join(f"9{step}|x|eve|RUNNING|4|00:10|00:0{used}:00|n[1-2]\n"
+                          for step, used in (("", 2), (".batch", 0), (".0", 0)))
+    text = text.replace("00:02:00", "00:02.000")
+    used = STAT + "9.batch|1|energy=0,mem=1M\n9.0|4|fs/disk=1,cpu=00:00:08,mem=2G\n7.0|1|cpu=1:00\n"
+    words = {"host": Host(8, 100000, 1000), "node": "n1"}
+    told = read(text, used, **words)
+    assert {path.rpartition("/")[2]: each.demand for path, each in told.groups.items()} == {
+        "eve:x:9": 0, "step_batch": 0, "step_0": 400}
+    assert {path: each.demand for path, each in read(text, **words).groups.items()} == {
+        "eve:x:9": 2000}
 
 
 def test_steps_on_several_nodes():
@@ -109,7 +129,7 @@ def test_plan_of_jobs(ctl):
     found = {each["group"]: each["gets"]["slices"] for each in json.loads(out)["groups"]}
     assert found == {".": 200, TRAIN: 175, f"{TRAIN}/step_batch": 0, f"{TRAIN}/step_0": 175,
                      SIM: 25}
-    assert "bound to cores: alice/train/123" in err
+    assert "allotted cores of their own: alice/train/123" in err
     named, _ = ctl.run("need", "alice/train/123/0", "2cpu", JOBS, NODES, SACCT, "--cpus", "2")
     assert f"{TRAIN}/step_0 gets 1.75 of 3.01" in named
 
@@ -159,6 +179,8 @@ def test_times(word, usec):
     (HEAD + "x|a|alice|RUNNING|1|00:01|00:01|n1\n", "f0:2: 'x' is no JobID"),
     (HEAD + "1|a|alice|RUNNING|1|soon|00:01|n1\n", "f0:2: 'soon' is no time of Slurm"),
     (HEAD + "1|a|alice|RUNNING|1|00:01|00:01|n[1-99999999]\n", "f0:2: a job of more than 65536"),
+    (STAT + "1.0|1|cpu=1:00\n", "f0: sstat tells no job's time: pass `sacct --parsable2`"),
+    ('{"jobs": [{"job_id": 1, "steps": []}]}', "f0: JSON of sacct is not read"),
     ("{}", "no jobs as"), ("", "no jobs as"), ('{"jobs": [{"job_id": 1', "f0:1: no JSON"),
 ])
 def test_refused(text, words):

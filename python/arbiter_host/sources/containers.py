@@ -12,6 +12,7 @@ from arbiter_host import demands, names, units
 from arbiter_host.demands import Measured
 from arbiter_host.faults import HostFault
 from arbiter_host.model import MAX_CAPACITY, Group, Model, check_count, checked, told_bound
+from arbiter_host.names import last_name
 from arbiter_host.owned import NONE, Lone, Range, Setting
 from arbiter_host.sources import systemd
 from arbiter_host.sources.beside import Place
@@ -39,8 +40,20 @@ def is_podman(container: dict[str, Any]) -> bool:
     return any(key in container for key in ("OCIRuntime", "ConmonPidFile", "IsInfra"))
 
 
+def told_folder(container: dict[str, Any]) -> str:
+    """The folder of a container's group as podman tells it of one that runs; else empty.
+
+    crun makes the group `container` in it on cgroup v2. The settings are those of the folder.
+    """
+    folder = text(table(container, "State"), "CgroupPath").strip("/").removesuffix("/container")
+    identifier = text(container, "Id")
+    return folder if identifier and identifier in last_name(folder) and "/" in folder else ""
+
+
 def parent_of(container: dict[str, Any], wish: Wish) -> str:
     """The folder in which a container's group stands."""
+    if told_folder(container):
+        return told_folder(container).rpartition("/")[0]
     given = text(table(container, "HostConfig"), "CgroupParent").strip("/")
     if given.endswith(".slice") and "/" not in given and wish.driver == "systemd":
         return systemd.slice_folder(given)
@@ -53,6 +66,8 @@ def parent_of(container: dict[str, Any], wish: Wish) -> str:
 
 def scope_of(container: dict[str, Any], wish: Wish) -> str:
     """The name of a container's group on its host."""
+    if told_folder(container):
+        return last_name(told_folder(container))
     identifier = text(container, "Id")
     if wish.driver == "cgroupfs" and not is_podman(container):
         return identifier

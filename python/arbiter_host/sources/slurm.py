@@ -1,5 +1,8 @@
-"""Jobs of one node of Slurm: `scontrol show job --json`, `sacct --parsable2` and
-`scontrol show node --json`, any of them side by side.
+"""Jobs of one node of Slurm, by any of these side by side:
+
+- `squeue --json`, or `scontrol show job --json` of newer versions;
+- `sacct --parsable2`, and `sstat --parsable2` beside it;
+- `sinfo --json` of older versions, or `scontrol show node --json` of newer ones.
 
 A job is a group `user:name:number`, and its steps are the groups below it. The CPUs that it was
 allotted are its tasks. Slurm writes no weights and no limits.
@@ -18,7 +21,7 @@ from arbiter import Host
 from arbiter_host import demands, names, units
 from arbiter_host.demands import Measured, Reading
 from arbiter_host.faults import HostFault, NoHost
-from arbiter_host.model import Group, Model, check_count, checked, told_bound
+from arbiter_host.model import Group, Model, check_count, checked
 from arbiter_host.names import NOWHERE, listed, shown
 from arbiter_host.sources.data import MAX_BYTES, loads, number, table, tables, text
 
@@ -28,6 +31,9 @@ JOB = re.compile(r"job_[0-9]+")
 TOP = "system.slice/slurmstepd.scope"
 RUNNING = ("RUNNING", "COMPLETING", "SUSPENDED")
 HEAD = re.compile(rb"[A-Za-z_0-9|%]*\bJobID(Raw)?\b[A-Za-z_0-9|%]*\r?\n")
+# What sstat says a step has used, in a cell such as `cpu=00:00:07,energy=0`.
+USED = "TRESUsageInTot"
+CPU_USED = re.compile(r"(?:.*,)?cpu=([0-9:.-]{1,40})(?:,.*)?")
 IDENTIFIER = re.compile(r"([0-9]{1,10}(?:_[0-9]{1,10})?(?:\+[0-9]{1,10})?)"
                         r"(?:\.([A-Za-z0-9+_]{1,40}))?")
 TIME = re.compile(r"(?:([0-9]{1,6})-)?(?:([0-9]{1,6}):)?([0-9]{1,6}):([0-9]{1,6})(\.[0-9]{1,9})?")
@@ -55,9 +61,9 @@ class Job:
     name: str = ""
     whole: Step = field(default_factory=Step)
     steps: dict[str, Step] = field(default_factory=dict)
-    # The nodes of the job, and whether it is bound to cores; None where that is not told.
+    # The nodes of the job, and whether it was allotted cores; None where that is not told.
     nodes: list[str] = field(default_factory=list)
-    is_bound: bool | None = None
+    has_cores: bool | None = None
     # The name of its folder is told by the number of a job alone.
     is_raw: bool = True
     # What sacct calls a task of an array or a part of a job of several kinds of nodes.
@@ -75,14 +81,18 @@ class Job:
 
 
 def part_of(data: bytes) -> str:
-    """Which of the three a file is: `jobs`, `nodes` or `sacct`; empty for none."""
+    """Which a file is: `jobs`, `nodes`, `sacct`, `sstat` or `accounts`; empty for none of these."""
     begin = data.lstrip(b"\xef\xbb\xbf \t\r\n")
     if begin[:1] == b"{":
         if re.search(rb'"job_id"\s*:', data) and re.search(rb'"jobs"\s*:', data):
-            return "jobs"
+            is_account = re.search(rb'"steps"\s*:', data) and b'"job_state"' not in data
+            return "accounts" if is_account else "jobs"
         is_node = re.search(rb'"(alloc_cpus|effective_cpus)"\s*:', data)
         return "nodes" if is_node and re.search(rb'"nodes"\s*:', data) else ""
-    return "sacct" if HEAD.match(begin) and b"|" in begin.split(b"\n")[0] else ""
+    head = begin.split(b"\n")[0].strip().split(b"|")
+    if len(head) < 2 or not HEAD.match(begin):
+        return ""
+    return "sstat" if USED.encode() in head else "sacct"
 
 
 def count(value: Any, key: str) -> int:
@@ -139,9 +149,22 @@ def time_of(word: str) -> int:
     return int((whole + Fraction(found.group(5) or 0)) * 10**6)
 
 
+def cores_of(node: dict[str, Any]) -> int:
+    """How many cores of a node a job was allotted, as Slurm 22.05 tells them."""
+    sockets = table(node, "sockets")
+    return sum(text(table(sockets, each, "cores"), core) == "allocated"
+               for each in sockets for core in table(sockets, each, "cores"))
+
+
 def allotted(raw: dict[str, Any]) -> list[tuple[str, int, bool]]:
     """The nodes of a job with its CPUs there, and whether cores are told."""
     found = []
+    older = tables(table(raw, "job_resources"), "allocated_nodes")
+    counts, cpus = [cores_of(each) for each in older], count(raw, "cpus")
+    if sum(counts):
+        # (`cpus_used` there is 0 of some jobs that run)
+        return [(text(each, "nodename"), -(-cpus * many // sum(counts)), True)
+                for each, many in zip(older, counts)]
     for each in tables(table(raw, "job_resources", "nodes"), "allocation"):
         sockets = tables(each, "sockets")
         cores = any(tables(socket, "cores") for socket in sockets)
@@ -160,14 +183,14 @@ def alias_of(raw: dict[str, Any]) -> str:
 
 
 def job_of(raw: dict[str, Any], node: str) -> Job:
-    """A job of `scontrol show job --json`."""
+    """A job of `squeue --json` or `scontrol show job --json`."""
     job = Job(str(number(raw, "job_id")), text(raw, "user_name"), text(raw, "name"),
               alias=alias_of(raw))
     job.nodes = hosts_of(text(raw, "nodes"))
     told = allotted(raw)
     here = [(cpus, cores) for name, cpus, cores in told if name == node or len(told) == 1]
     if here:
-        job.whole.cpus, job.is_bound = here[0]
+        job.whole.cpus, job.has_cores = here[0]
     else:
         job.whole.cpus = -(-count(raw, "cpus") // max(len(job.nodes), 1))
     return job
@@ -183,7 +206,7 @@ def take_jobs(found: Any, node: str, jobs: dict[str, Job]) -> int:
         job = job_of(raw, node)
         known = jobs.setdefault(job.identifier, job)
         known.user, known.name, known.nodes = job.user, job.name, job.nodes
-        known.whole.cpus, known.is_bound = job.whole.cpus, job.is_bound
+        known.whole.cpus, known.has_cores = job.whole.cpus, job.has_cores
     return left
 
 
@@ -249,6 +272,20 @@ def take_rows(data: bytes, name: str, jobs: dict[str, Job]) -> int:
     return left
 
 
+def take_used(data: bytes, name: str, jobs: Mapping[str, Job]) -> None:
+    """Takes what sstat says that steps which run have used."""
+    for at, row in rows_of(data, name):
+        found = IDENTIFIER.fullmatch(row.get("JobID", ""))
+        job = jobs.get(found.group(1)) if found else None
+        step = job.steps.get(found.group(2) or "") if found and job else None
+        cell = CPU_USED.fullmatch(row[USED])
+        try:
+            if step is not None and cell:
+                step.used = time_of(cell.group(1)) // max(len(step.nodes), 1)
+        except HostFault as fault:
+            raise HostFault(f"{name}:{at}: {fault.message}") from fault
+
+
 def node_of(nodes: Sequence[dict[str, Any]], jobs: Sequence[Job], wanted: str) -> str:
     """The name of the node: the one asked for, else the only one."""
     if wanted:
@@ -266,7 +303,8 @@ def host_of(nodes: Sequence[dict[str, Any]], name: str) -> Host:
         cpus = number(each, "effective_cpus") or number(each, "cpus")
         if text(each, "name") == name and cpus:
             return Host(cpus, units.DEFAULT_PERIOD, 1000)
-    raise NoHost("number of CPUs unknown: pass `scontrol show node --json` or --cpus")
+    raise NoHost("number of CPUs unknown: pass `sinfo --json`, `scontrol show node --json` or"
+                 " --cpus")
 
 
 class Builder:
@@ -296,29 +334,45 @@ class Builder:
 
 
 def take_allotted(jobs: Sequence[Job], model: Model) -> None:
-    """Takes the CPUs that a job was allotted where none of its use is accounted yet.
+    """Takes the CPUs that a job was allotted where no use of what runs of it is known.
 
-    Slurm accounts for a step when it ends.
+    Slurm accounts for a step when it ends. So the whole job has the use of steps that have ended.
     """
     found = [job for job in jobs
-             if all(step.used is None for step in (job.whole, *job.steps.values()))]
+             if all(step.used is None for step in job.steps.values() or [job.whole])]
     for job in found:
         job.steps.clear()
         job.whole.used, job.whole.passed = job.whole.cpus * 10**6, 10**6
     if found:
         model.notes.append(f"jobs whose use is not accounted yet: {len(found)}: the CPUs that they"
-                           " were allotted are taken")
+                           " were allotted are taken (`sstat -a --parsable2` has their use)")
 
 
 def tell(model: Model, jobs: Sequence[Job], left: int) -> None:
-    """Tells what is left out, and which jobs keep to cores of their own."""
+    """Tells what is left out, and which jobs were allotted cores of their own."""
     if left:
         model.notes.append(f"jobs and steps that do not run, left out: {left}")
-    model.notes += told_bound([each.title for each in jobs if each.is_bound], "cores")
+    bound = [each.title for each in jobs if each.has_cores]
+    if bound:
+        model.notes.append(f"allotted cores of their own: {listed(bound)}: where Slurm binds tasks"
+                           " to them (TaskPlugin), what others leave idle does not reach a job")
     wide = [each.title for each in jobs if len(each.nodes) > 1]
     if wide:
         model.notes.append(f"on several nodes: {listed(wide)}: usage, and CPUs that are not told by"
                            " node, are shared out equally")
+
+
+def check_parts(first: str, names_: Mapping[str, str]) -> None:
+    """A fault where the files are no jobs. `names_` has the name of a file of each part."""
+    if "accounts" in names_:
+        raise HostFault(f"{names_['accounts']}: JSON of sacct is not read: print the jobs by `sacct"
+                        " --parsable2`")
+    if "sstat" in names_ and "sacct" not in names_:
+        raise HostFault(f"{names_['sstat']}: sstat tells no job's time: pass `sacct --parsable2`"
+                        " beside it")
+    if not {"jobs", "sacct"} & set(names_) or "" in names_:
+        raise HostFault(f"{first}: no jobs as `squeue --json`, `scontrol show job --json` or `sacct"
+                        " --parsable2` print them")
 
 
 def read(files: Sequence[tuple[str, bytes]], host: Host | None, node: str = "",
@@ -326,15 +380,15 @@ def read(files: Sequence[tuple[str, bytes]], host: Host | None, node: str = "",
     """The model of one node's jobs."""
     jobs: dict[str, Job] = {}
     parts = [(part_of(data), name, data) for name, data in files]
-    if not {"jobs", "sacct"} & {part for part, _, _ in parts} or "" in [each[0] for each in parts]:
-        raise HostFault(f"{files[0][0]}: no jobs as `scontrol show job --json` or `sacct"
-                        " --parsable2` print them")
+    check_parts(files[0][0], {part: name for part, name, _ in parts})
     nodes = [each for part, name, data in parts if part == "nodes"
              for each in tables(loads(data, name), "nodes")]
     node = node or (text(nodes[0], "name") if len(nodes) == 1 else "")
     left = sum(take_jobs(loads(data, name), node, jobs) for part, name, data in parts
                if part == "jobs")
     left += sum(take_rows(data, name, jobs) for part, name, data in parts if part == "sacct")
+    for name_, data in [each[1:] for each in parts if each[0] == "sstat"]:
+        take_used(data, name_, jobs)
     name = node_of(nodes, list(jobs.values()), node)
     model = Model(checked(host or host_of(nodes, name)), names_host=host is None)
     here = [each for each in jobs.values() if not each.nodes or name in each.nodes or not name]

@@ -23,7 +23,7 @@ def run(options: argparse.Namespace) -> None:
 def add_words(parser: argparse.ArgumentParser) -> None:
     """The words of `explain`."""
     parser.add_argument("source", nargs="+", metavar="SOURCE", help="a script, a host file, a"
-                        " folder of cgroups, JSON of kubectl, docker or scontrol, or text of"
+                        " folder of cgroups, JSON of kubectl, docker or squeue, or text of"
                         " systemctl show or sacct; `-` is standard input")
     add_answer_options(parser)
 
