@@ -1,10 +1,11 @@
-"""Weights under which several goals are met at once.
+"""Weights under which several goals are met at once; else limits of other groups too.
 
 The C library answers the weights, by a call whose contract is exact: those of the goals' groups
 alone change, and they are the least. The proved check accepts the plan of its answer, and each goal
 is looked for in it.
 
-Settings that people own, such as requests, are raised one after another over accepted plans.
+Settings that people own, such as requests, are raised one after another over accepted plans. Limits
+of groups without a goal are lowered where nothing else meets the goals.
 """
 from __future__ import annotations
 
@@ -20,7 +21,7 @@ from typing import Any, NamedTuple
 
 from arbiter import Columns, Unmet
 from arbiter.columns import U64
-from arbiter_host import backwards, demands, owned, progress, units
+from arbiter_host import backwards, demands, others, owned, progress, units
 from arbiter_host.engine import asking
 from arbiter_host.faults import HostFault, UsageFault
 from arbiter_host.model import Model, planned
@@ -40,6 +41,9 @@ LOWER = "greater weights alone do not meet the goals; not proved to be the fewes
 CLIMBED = ("weights of the goals' groups alone do not meet the goals, so groups above change too;"
            " not proved to be the least")
 RAISED = "one after another, each the least beside the others; not proved to be the least"
+LIMITED = ("without limits of other groups the goals are not met; not proved to be the fewest"
+           " changes")
+NEEDED = "; none of the changes can be left out"
 
 
 class Goal(NamedTuple):
@@ -84,6 +88,9 @@ class Tuned:
     weights: Way | Unmet
     # Settings that people own, or why there are none; None where the source has no such settings.
     owned: Way | str | None
+    # Limits of other groups, with weights where these are needed too; looked for where neither of
+    # the others meets the goals.
+    limits: Way | None = None
     # The groups of goals, and those above them, whose weights are kept.
     kept: tuple[str, ...] = ()
 
@@ -95,7 +102,8 @@ class Tuned:
     @property
     def best(self) -> Way | None:
         """The settings that are shown: those that people own, where there are such."""
-        return next((each for each in (self.owned, self.weights) if isinstance(each, Way)), None)
+        return next((each for each in (self.owned, self.weights, self.limits)
+                     if isinstance(each, Way)), None)
 
 
 def with_weights(model: Model, weights: Sequence[int]) -> Model:
@@ -370,6 +378,20 @@ def found_above(asked: Asked) -> list[int] | None:
     return None if found is None else kept_below(asked, found)
 
 
+def without_needless(asked: Asked, weights: Sequence[int], told: str) -> tuple[list[int], str]:
+    """The weights without those changes that can be left out, and what is known of them."""
+    now = asked.weights
+    rows = [row for row, weight in enumerate(weights) if weight != now[row]]
+    if len(rows) > MOST_BACK:
+        return list(weights), told
+
+    def of_rows(some: Sequence[int]) -> list[int]:
+        return [weight if row in some else now[row] for row, weight in enumerate(weights)]
+
+    kept = others.needed(rows, lambda some: asked.short(asked.plan(of_rows(some))) is None)
+    return of_rows(kept), told + NEEDED
+
+
 def by_weights(asked: Asked) -> Way | Unmet:
     """The weights that meet all goals with their plan, or goals that cannot be met together."""
     # (the library may need long to find that goals ask for little more than a group above has)
@@ -384,9 +406,45 @@ def by_weights(asked: Asked) -> Way | Unmet:
     if any(then < weight for then, weight in zip(found, now)):
         found = put_back(asked, fewer(asked, found) if told == LEAST else found)
         told = LOWER if told == LEAST else told
+    if told != LEAST:
+        found, told = without_needless(asked, found, told)
     changes = [Change(group.path, "weight", str(group.weight), str(weight))
                for group, weight in zip(asked.before.groups, found) if weight != group.weight]
     return asked.way(asked.plan(found), changes, told)
+
+
+def by_limits(asked: Asked) -> Way | None:
+    """Limits of groups apart from the goals' and the kept ones that meet all goals: with the
+    weights as they are, else with other weights of the goals' groups too. None: none are found."""
+    before = asked.before
+    closed = asked.kept | {goal.group.row for goal in asked.goals}
+    caps = others.caps_of(before, closed, lambda group: (
+        (group.weight, group.gets) if asked.is_guaranteed else (group.gets, group.weight)))
+
+    def limited(values: Mapping[int, int]) -> Asked:
+        model = others.with_limits(before.model, caps, values)
+        return replace(asked, before=plan(before.engine, model))
+
+    def changes(values: Mapping[int, int]) -> list[Change]:
+        return [Change(cap.path, cap.key, cap.now, cap.written(values[place]))
+                for place, cap in enumerate(caps) if place in values]
+
+    def is_met(values: Mapping[int, int]) -> bool:
+        after = limited(values)
+        return after.short(after.before) is None
+
+    found = others.lowered(caps, is_met)
+    if found is not None:
+        return asked.way(limited(found).before, changes(found), LIMITED + NEEDED)
+    if before.model.owned is not None:
+        return None
+    found = others.lowered(caps, lambda values: not isinstance(weights_of(limited(values)), Unmet))
+    way = None if found is None else by_weights(limited(found))
+    if found is None or not isinstance(way, Way):
+        return None
+    is_needed = way.told == LEAST or way.told.endswith(NEEDED)
+    return asked.way(way.plan, [*changes(found), *way.changes],
+                     LIMITED + (NEEDED if is_needed else ""))
 
 
 def weighing(source: Owned, path: str) -> Range | None:
@@ -407,6 +465,10 @@ class Owning:
         """The model with the settings."""
         return backwards.with_settings(self.asked.before.model, self.source,
                                        list(self.settings.values()))
+
+    def only(self, rows: Sequence[int]) -> Owning:
+        """The same with the settings of some rows alone."""
+        return replace(self, settings={row: self.settings[row] for row in rows})
 
     def with_value(self, row: int, of: Range, value: int) -> Owning:
         """The same with another value of the setting of a row."""
@@ -502,6 +564,17 @@ def raised(start: Owning) -> tuple[Owning, Plan] | str:
     return f"goals are not met after {MOST_RAISES} raises"
 
 
+def without_needless_settings(known: Owning, found: Plan) -> tuple[Owning, Plan, str]:
+    """The settings without those that can be left out, their plan, and what is known of them."""
+    engine = known.asked.before.engine
+    if len(known.settings) > MOST_BACK:
+        return known, found, RAISED
+    rows = others.needed(sorted(known.settings), lambda rows: known.asked.short(
+        plan(engine, known.only(rows).model)) is None)
+    kept = known.only(rows)
+    return kept, plan(engine, kept.model), RAISED + NEEDED
+
+
 def by_owned(asked: Asked, weights: Way | Unmet) -> Way | str | None:
     """Settings that people own and that meet all goals, or why none were found."""
     source = asked.before.model.owned
@@ -513,12 +586,11 @@ def by_owned(asked: Asked, weights: Way | Unmet) -> Way | str | None:
     found = raised(start)
     if isinstance(found, str):
         return found
-    known, after = found
+    known, after, told = without_needless_settings(*found)
     moved = next((row for row in sorted(asked.kept)
                   if after.groups[row].weight != asked.before.groups[row].weight), None)
     if moved is not None:
         return f"the weight of {shown(asked.before.groups[moved].path)} would change"
-    told = RAISED
     if isinstance(weights, Way) and weights_in(after) == weights_in(weights.plan):
         told = weights.told
     return asked.way(after, known.changes(), told)
@@ -565,9 +637,11 @@ def tune(before: Plan, words: Sequence[str], is_guaranteed: bool = False,
                      for each in demands.matching(before.model, word))
     asked = Asked(before, goals, is_guaranteed, kept)
     weights = by_weights(asked)
+    by_settings = by_owned(asked, weights)
+    is_met = isinstance(weights, Way) or isinstance(by_settings, Way)
     on_paths = {each.row for goal in goals for each in (goal.group, *above(before, goal.group))}
-    return Tuned(before, goals, is_guaranteed, asked.amounts(before), weights,
-                 by_owned(asked, weights),
+    return Tuned(before, goals, is_guaranteed, asked.amounts(before), weights, by_settings,
+                 None if is_met else by_limits(asked),
                  tuple(before.groups[row].path for row in sorted(kept & on_paths)))
 
 
@@ -616,4 +690,5 @@ def as_data(found: Tuned) -> dict[str, Any]:
             "weights": way_data(found, weights) if isinstance(weights, Way) else None,
             "conflict": clash_data(found, weights) if isinstance(weights, Unmet) else None,
             "settings": way_data(found, owned_) if isinstance(owned_, Way) else None,
+            "limits": None if found.limits is None else way_data(found, found.limits),
             "no_settings": owned_ if isinstance(owned_, str) else None}

@@ -1,4 +1,5 @@
-"""Weights under which several goals are met at once. Each expected number is worked by hand.
+"""Weights and limits under which several goals are met at once. Each expected number is worked by
+hand.
 
 The slice n of a group of weight w costs (2n - 1) / w. Slices go to the least cost, on a tie to the
 group that was made first. So a group has n slices of a full host where its slice n costs no more
@@ -126,7 +127,8 @@ def test_less_weight(ctl, folder):
     """
     found = asked(ctl, two(folder, b=10000), "a=950m", "b=50m")
     assert changes(found["weights"]) == {"b": ("10000", "8")}
-    assert (found["weights"]["then_millicpu"], found["weights"]["told"]) == ([950, 50], tune.LOWER)
+    assert (found["weights"]["then_millicpu"], found["weights"]["told"]) == (
+        [950, 50], tune.LOWER + tune.NEEDED)
 
 
 def test_kept_weights(ctl, folder):
@@ -134,7 +136,7 @@ def test_kept_weights(ctl, folder):
     found = asked(ctl, two(folder), "a=900m", "b=50m", words=["--keep", "a"])
     assert changes(found["weights"]) == {"b": ("200", "14")}
     assert found["weights"]["then_millicpu"] == [900, 100]
-    found = asked(ctl, two(folder), "a=900m", words=["--keep", "a"])
+    found = asked(ctl, two(folder), "a=900m", words=["--keep", "a", "--keep", "b"])
     assert (found["met"], found["conflict"]["together"]) == (False, ["a"])
     out, _ = ctl.run("tune", two(folder), "--goal", "a=900m", "--keep", "*")
     assert "the weight of a stays as it is (--keep)" in out
@@ -156,7 +158,7 @@ def test_groups_above(ctl, folder):
     found = asked(ctl, deep(folder), "web=600m", "db=150m")
     assert changes(found["weights"]) == {"sys": ("100", "293"), "sys/web": ("100", "384")}
     assert found["weights"]["pays"] == [{"group": "user", "millicpu": 250}]
-    assert found["weights"]["told"] == tune.CLIMBED
+    assert found["weights"]["told"] == tune.CLIMBED + tune.NEEDED
 
 
 def test_a_group_above_that_is_given_more(ctl, folder):
@@ -167,8 +169,9 @@ def test_a_group_above_that_is_given_more(ctl, folder):
     """
     found = asked(ctl, deep(folder), "web=600m")
     assert changes(found["weights"]) == {"sys": ("100", "154"), "sys/web": ("100", "3967")}
-    out, _ = ctl.run("tune", deep(folder), "--goal", "web=600m", "--keep", "sys")
+    out, _ = ctl.run("tune", deep(folder), "--goal", "web=600m", "--keep", "sys", "--keep", "user")
     assert "nor were weights of the groups above them found that do" in out
+    assert "nor were limits of other groups found with which they are met" in out
     assert "the weight of sys stays as it is (--keep)" in out
 
 
@@ -181,6 +184,77 @@ def test_groups_below_stay(ctl, folder):
     assert changes(found["weights"]) == {"sys": ("100", "141")}
     assert found["weights"]["then_millicpu"] == [300, 290]
     assert found["weights"]["pays"] == [{"group": "user", "millicpu": 90}]
+
+
+def limits(found):
+    """The limits that are lowered, and the weights that change, by group."""
+    assert found["met"] and found["weights"] is None and found["limits"]["told"] == (
+        tune.LIMITED + tune.NEEDED)
+    return {(each["group"], each["setting"]): (each["now"], each["then"])
+            for each in found["limits"]["changes"]}
+
+
+def test_a_limit_of_another_group(ctl, folder):
+    """a has 18 of 20 slices where b has 2. Its own limit of 500m is lowered, too."""
+    found = asked(ctl, two(folder), "a=900m", words=["--keep", "a"])
+    assert limits(found) == {("b", "max"): ("-", "100m")}
+    assert found["limits"]["set"] == ["b.max=100m"]
+    assert found["limits"]["then_millicpu"] == [900]
+    assert found["limits"]["pays"] == [{"group": "b", "millicpu": 550}]
+    words = ["--keep", "a", "--set", "b.max=500m"]
+    assert limits(asked(ctl, two(folder), "a=900m", words=words)) == {("b", "max"): (
+        "500m", "100m")}
+    out, _ = ctl.run("tune", two(folder), "--goal", "a=900m", "--keep", "a")
+    assert ["max", "-", "100m", "b"] in [line.split() for line in out.split("\n")]
+
+
+def test_limits_are_at_one_level(ctl, folder):
+    """a has 11 of 20 slices where b and c have 4 each, and d the 1 that it asks for.
+
+    Where b keeps all it has, even the greatest weight gives a 9.
+    """
+    source = host_file(folder, ("a", 100, 1000), ("b", 10000, 1000), ("c", 10000, 1000),
+                       ("d", 10000, 50))
+    assert limits(asked(ctl, source, "a=550m")) == {("b", "max"): ("-", "200m"),
+                                                    ("c", "max"): ("-", "200m")}
+    assert not asked(ctl, source, "a=550m", words=["--keep", "b"])["met"]
+
+
+def test_limits_and_weights(ctl, folder):
+    """12 and 7 leave c one slice. Then a's slice 12 costs 23/w, and b's slice 8 15/100: 154."""
+    source = host_file(folder, ("a", 100, 1000), ("b", 100, 1000), ("c", 10000, 1000))
+    assert limits(asked(ctl, source, "a=600m", "b=350m")) == {
+        ("c", "max"): ("-", "50m"), ("a", "weight"): ("100", "154")}
+
+
+def test_limits_beside_a_group_that_is_kept(ctl, folder):
+    """web has 60 of the 80 slices of sys where user and db have 20 each."""
+    found = asked(ctl, deep(folder), "web=600m", words=["--keep", "sys"])
+    assert limits(found) == {("user", "max"): ("-", "200m"), ("sys/db", "max"): ("-", "200m")}
+
+
+def test_limits_whatever_the_others_ask_for(ctl, folder):
+    """c asks for nothing now. Its limit of 1 slice is what it could ask for."""
+    source = three(folder, c_asks=0)
+    words = ["--guarantee", "--keep", "a", "--keep", "b"]
+    assert limits(asked(ctl, source, "a=500m", "b=450m", words=words)) == {
+        ("c", "max"): ("-", "50m")}
+
+
+def test_a_limit_that_no_amount_says(ctl, folder):
+    """A third of a CPU, one slice of 3, is written as cpu.max has it."""
+    (folder / "third.toml").write_text('''
+[host]
+period = "3ms"
+slice = "1ms"
+[groups.a]
+demand = "1cpu"
+[groups.b]
+demand = "1cpu"
+''')
+    found = asked(ctl, folder / "third.toml", "a=600m", words=["--keep", "a", "--set",
+                                                               "b.weight=200"])
+    assert limits(found) == {("b", "max"): ("-", "1000 3000")}
 
 
 def test_patterns(ctl, folder):
@@ -258,19 +332,26 @@ def test_requests(ctl, folder):
     path = "kubepods/burstable/x:a/c"
     assert found["met"] and found["weights"] is None and found["conflict"]["goal"] == path
     assert changes(way) == {path: ("100m", "182m")} and way["set"] == [f"{path}.request=182m"]
-    assert way["then_millicpu"] == [400, 600] and way["told"] == tune.RAISED
+    assert way["then_millicpu"] == [400, 600] and way["told"] == tune.RAISED + tune.NEEDED
     out, _ = ctl.run("tune", node_of(folder), "--want", "busy", "--goal", "x/a=400m")
     assert [line.split() for line in out.split("\n") if line.startswith("request")] == [
         ["request", "100m", "182m", path]]
 
 
 def test_requests_that_are_not_found(ctl, folder):
-    """b may not change: with no request of a are both met. A class whose weight is kept would."""
-    words = ["--want", "busy"]
+    """a is kept, or a class whose weight would change: then b's limit of 600m gives a its 400m.
+
+    b requests 300m, so no limit of it gives a 750m.
+    """
+    words, path = ["--want", "busy"], "kubepods/burstable/x:b/c"
     found = asked(ctl, node_of(folder), "x/a/c=400m", words=[*words, "--keep", "x/a/c"])
-    assert not found["met"] and "its weight is kept" in found["no_settings"]
+    assert limits(found) == {(path, "limit"): ("-", "600m")}
+    assert "its weight is kept" in found["no_settings"]
     found = asked(ctl, node_of(folder), "x/a/c=400m", words=[*words, "--keep", "burstable"])
     assert found["no_settings"] == "the weight of kubepods/burstable would change"
+    assert limits(found) == {(path, "limit"): ("-", "600m")}
+    found = asked(ctl, node_of(folder), "x/a/c=750m", words=[*words, "--keep", "x/a/c"])
+    assert not found["met"] and found["limits"] is None
     found = asked(ctl, node_of(folder), "x/a/c=400m", "x/b/c=700m", words=words)
     assert not found["met"] and "no request reaches its goal" in found["no_settings"]
 
@@ -298,6 +379,13 @@ def test_shares(ctl, folder):
     found = asked(ctl, folder / "d.json", "a=500m", words=["--cpus", "1"])
     assert changes(found["weights"]) == {"system.slice/a": ("39", "78")}
     assert changes(found["settings"]) == {"system.slice/a": ("1024", "2021")}
+
+
+def test_quotas_of_units(ctl, folder):
+    """A weight of 100 stays: a has 90 of 100 slices where b has 10, by its quota."""
+    (folder / "u.show").write_text(unit("a.service", "[not set]") + unit("b.service", 200))
+    found = asked(ctl, folder / "u.show", "a.service=900m", words=["--cpus", "1", "--keep", "a.*"])
+    assert limits(found) == {("b.service", "CPUQuota"): ("-", "10%")}
 
 
 # Against other weights

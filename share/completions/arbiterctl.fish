@@ -108,7 +108,7 @@ complete -c arbiterctl -n '__fish_seen_subcommand_from need' -s h -l help -d 'pr
 
 complete -c arbiterctl -n '__fish_seen_subcommand_from tune' -l goal -x -d 'what each group that matches is to get at least: web=2cpu, \'runner@*=1500m\'; may be said again'
 complete -c arbiterctl -n '__fish_seen_subcommand_from tune' -l guarantee -d 'goals are met whatever the other groups ask for (default: with the demands of the source)'
-complete -c arbiterctl -n '__fish_seen_subcommand_from tune' -l keep -x -d 'the weights of the groups that match stay as they are'
+complete -c arbiterctl -n '__fish_seen_subcommand_from tune' -l keep -x -d 'weights and limits of the groups that match stay as they are'
 complete -c arbiterctl -n '__fish_seen_subcommand_from tune' -l set -x -d 'a change that is made first, as of compare'
 complete -c arbiterctl -n '__fish_seen_subcommand_from tune' -l unit -x -a 'cpu m % slices us' -d 'unit (default cpu)'
 complete -c arbiterctl -n '__fish_seen_subcommand_from tune' -l json -d 'print the same as JSON'

@@ -83,6 +83,7 @@ def clash_lines(found: Tuned, clash: Unmet, where: str, unit: str) -> Lines:
              (f"asked for in all: {asked}; served in all: {served}", "")]
     if found.is_climbed:
         lines.append(("nor were weights of the groups above them found that do", ""))
+    lines.append(("nor were limits of other groups found with which they are met", ""))
     lines += [(f"{name(goal.group.path)} asks for less: no setting gives it more than it asks for",
                "yellow") for goal in goals if goal.group.want < goal.amount]
     return lines + [(f"the weight of {name(path)} stays as it is (--keep)", "")
@@ -111,7 +112,7 @@ def add_words(parser: argparse.ArgumentParser) -> None:
     parser.add_argument("--guarantee", action="store_true", help="goals are met whatever the other"
                         " groups ask for (default: with the demands of the source)")
     parser.add_argument("--keep", action="append", default=[], metavar="GROUP",
-                        help="the weights of the groups that match stay as they are")
+                        help="weights and limits of the groups that match stay as they are")
     parser.add_argument("--set", action="append", default=[], metavar="GROUP.KEY=VALUE",
                         help="a change that is made first, as of compare")
     add_view(parser)
@@ -121,15 +122,18 @@ DETAILS = (
     "The C library answers the weights. Those of the goals' groups alone change, and they are"
     " proved to be the least of all that lower none. Where no such weights meet the goals, some are"
     " lowered, as few and as little as is found. Where no weights of these groups do, groups above"
-    " them change too. Of these two answers it is not proved that the changes are the fewest.",
+    " them change too. Where none of these is found, limits of other groups are lowered, to one"
+    " level where they can be. Of these three answers none of the changes can be left out. It is"
+    " not proved that they are the fewest.",
     "For containers of pods it answers requests, for units CPUWeight, for containers of docker"
     " cpu-shares. Requests are raised one after another over accepted plans, each to the least"
     " beside the others. It is not proved that they are the least.",
     "A goal is rounded up to whole slices, and a line says so. No group with a goal may be above"
     " another one. Goals that no weights of their groups meet together are named, with what they"
     " ask for in all and what is served. It is not proved that they are the fewest.",
-    "A group of --keep has the same weight in every answer. Where a setting that people own would"
-    " change it, the setting is not answered.",
+    "A group of --keep has the same weight and the same limit in every answer. Where a setting that"
+    " people own would change the weight, the setting is not answered. At most 64 limits are"
+    " lowered, and none of a group with a burst.",
 )
 EXAMPLES = (
     ("two groups at once", "arbiterctl tune host.toml --goal web=1500m --goal batch=14cpu"),
