@@ -3,11 +3,25 @@ use Rattle.std.proofs.Common.{◌≡◌, ◌<◌, not, ℕ, zero, suc, List, len
 use Rattle.std.proofs.Common.{arith, get_or, Option, Some, None, inl, inr, Bool}
 use Rattle.std.specs.Prelude.{position, unwrap_or}
 use Rattle.std.specs.Str.{IsUtf8, IsCharBoundary}
+use Rattle.std.specs.List.{position_or_len}
+use Rattle.std.proofs.lemmas.Bool.{cases_lt, lt-ltb, le-ltb}
 use Rattle.std.proofs.lemmas.Bool.Decides.{eqb_tells}
+use Rattle.std.proofs.lemmas.List.Sums.{prefix_len-le-length}
 use Rattle.std.proofs.lemmas.List.Quantifiers.{position-Some}
 use Rattle.std.proofs.lemmas.Str.{IsCharBoundary-start, IsCharBoundary-end}
 use Rattle.std.proofs.lemmas.Str.{IsCharBoundary-before_ascii, IsCharBoundary-after_ascii}
 use Rattle.bw_commands.specs.Word.{is_blank, word_len_of, blank_len_of}
+
+-- the place of the first byte that passes, or the length
+pub position_or_len_is_word : (p : ℕ → Bool) (xs : List ℕ)
+    → position_or_len p xs ≡ unwrap_or (position p xs) (length xs)
+position_or_len_is_word p xs =
+    let first = position_or_len p xs in
+    elim (cases_lt first (length xs)) [
+      | inl lt ↦ rw (lt-ltb first (length xs) lt) refl
+      | inr past ↦ rw (le-ltb first (length xs) past)
+          (omega (arith, prefix_len-le-length (λ x. not (p x)) xs))
+    ]
 
 blank-lt : (b : ℕ) → is_blank b ≡ true → b < 128
 blank-lt b e = elim (eqb_tells b 32) [

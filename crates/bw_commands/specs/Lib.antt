@@ -5,7 +5,6 @@ pub mod Lines
 pub mod Word
 pub mod Command
 pub mod Parsed
-pub mod Forms
 pub mod Answers
 pub mod GroupLines
 pub mod PathList

@@ -1,8 +1,7 @@
 //! The command that a line of a script names.
-ghost use Rattle.std.specs.Prelude.{◌≡◌, Some, option_map};
+ghost use Rattle.std.specs.Prelude.{◌≡◌, Some};
 ghost use Rattle.bw_commands.specs.Command.{form, form_named, forms, words_behind};
 ghost use Rattle.bw_commands.specs.Command.{command_of_form, command_of_words};
-ghost use Rattle.bw_commands.specs.Forms.{form_of};
 ghost use Rattle.bw_commands.specs.Parsed.{meaning_of, request_of};
 
 use crate::fault::ScriptFault;
@@ -51,14 +50,6 @@ pub enum Command<'a> {
     Period,
     /// `report` prints the counters of each group.
     Report,
-}
-
-// The meaning of a first word, and the least and the greatest number of words behind it.
-#[derive(Clone, Copy)]
-struct Form<'a> {
-    meaning: Command<'a>,
-    least: usize,
-    most: usize,
 }
 
 impl<'a> Command<'a> {
@@ -129,21 +120,13 @@ fn of_words<'a>(
     if verb.is_empty() || verb.as_bytes()[0] == b'#' {
         return Ok(Command::Nothing);
     }
-    let count = words_behind(first, second, third);
-    match form_named(verb, first, second, text) {
-        Some(form) => checked(form, count),
-        None => Err(ScriptFault::BadCommand),
-    }
-}
-
-// The command of a form with `count` words behind the first.
-fn checked<'a>(form: Form<'a>, count: usize) -> Result<Command<'a>, ScriptFault>
-    ensures { request_of result ≡ command_of_form count (Some (form_of form.entry)) }
-{
-    if count < form.least || form.most < count {
-        return Err(ScriptFault::BadCommand);
-    }
-    Ok(form.meaning)
+    of_verb(
+        verb,
+        words_behind(first, second, third),
+        first,
+        second,
+        text,
+    )
 }
 
 // The number of words behind the first, 0 to 3, where 3 is three or more.
@@ -161,41 +144,49 @@ fn words_behind(first: &str, second: &str, third: &str) -> usize
     }
 }
 
-fn with_words<'a>(least: usize, most: usize, meaning: Command<'a>) -> Form<'a>
-    ensures { form_of result ≡ form least most (meaning_of meaning.entry) }
+// The command of a first word with `count` words behind it: the table of commands.
+#[tactic(auto, unfolding(crate::specs::Command::forms))]
+fn of_verb<'a>(
+    verb: &str,
+    count: usize,
+    path: &'a str,
+    word: &'a str,
+    text: &'a str,
+) -> Result<Command<'a>, ScriptFault>
+    ensures { request_of result
+        ≡ command_of_form count (form_named verb.now (forms path.now word.now text.now)) }
 {
-    Form {
-        meaning,
-        least,
-        most,
+    match verb {
+        "mkdir" => counted(count, 1, 1, Command::Mkdir { path }),
+        "rmdir" => counted(count, 1, 1, Command::Rmdir { path }),
+        "demand" => counted(count, 2, 2, Command::Demand { path, number: word }),
+        "read" => counted(count, 2, 2, Command::Read { path, file: word }),
+        "write" => {
+            let file = word;
+            counted(count, 2, 3, Command::Write { path, file, text })
+        }
+        "total" => counted(count, 0, 0, Command::Total),
+        "plan" => counted(count, 0, 0, Command::Plan),
+        "cert" => counted(count, 0, 0, Command::Cert),
+        "period" => counted(count, 0, 0, Command::Period),
+        "report" => counted(count, 0, 0, Command::Report),
+        _ => Err(ScriptFault::BadCommand),
     }
 }
 
-// The form of a first word, if the table of commands has it.
-#[tactic(auto, unfolding(crate::specs::Command::forms))]
-fn form_named<'a>(verb: &str, path: &'a str, word: &'a str, text: &'a str) -> Option<Form<'a>>
-    ensures { option_map form_of result
-        ≡ form_named verb.now (forms path.now word.now text.now) }
+// A command that has `least` to `most` words behind its first one.
+#[inline(always)]
+fn counted<'a>(
+    count: usize,
+    least: usize,
+    most: usize,
+    command: Command<'a>,
+) -> Result<Command<'a>, ScriptFault>
+    ensures { request_of result
+        ≡ command_of_form count (Some (form least most (meaning_of command.entry))) }
 {
-    match verb {
-        "mkdir" => Some(with_words(1, 1, Command::Mkdir { path })),
-        "rmdir" => Some(with_words(1, 1, Command::Rmdir { path })),
-        "demand" => Some(with_words(2, 2, Command::Demand { path, number: word })),
-        "read" => Some(with_words(2, 2, Command::Read { path, file: word })),
-        "write" => Some(with_words(
-            2,
-            3,
-            Command::Write {
-                path,
-                file: word,
-                text,
-            },
-        )),
-        "total" => Some(with_words(0, 0, Command::Total)),
-        "plan" => Some(with_words(0, 0, Command::Plan)),
-        "cert" => Some(with_words(0, 0, Command::Cert)),
-        "period" => Some(with_words(0, 0, Command::Period)),
-        "report" => Some(with_words(0, 0, Command::Report)),
-        _ => None,
+    if count < least || most < count {
+        return Err(ScriptFault::BadCommand);
     }
+    Ok(command)
 }

@@ -3,17 +3,12 @@ ghost use Rattle.std.specs.Prelude.{◌≡◌, ◌≤◌, ◌<◌, length, not, 
 ghost use Rattle.bw_commands.specs.Word.{is_blank, word_len_of, blank_len_of, first_word};
 ghost use Rattle.bw_commands.specs.Word.{after_word};
 
+use bw_text::len_before;
+
 fn is_blank(byte: u8) -> bool
     ensures { result ≡ is_blank byte }
 {
     byte == b' ' || byte == b'\t'
-}
-
-fn first_blank(text: &[u8]) -> Option<usize>
-    ensures value { result ≡ position is_blank text.now }
-    ensures within { IfSome result (λ n. n < length text.now) }
-{
-    text.iter().position(|b| is_blank(*b))
 }
 
 fn first_other(text: &[u8]) -> Option<usize>
@@ -23,15 +18,18 @@ fn first_other(text: &[u8]) -> Option<usize>
     text.iter().position(|b| !is_blank(*b))
 }
 
-// The number of bytes before the first blank.
+// The number of bytes before the first blank. It is not inlined, since it is much code, and a line
+// calls it for each of its words.
+#[inline(never)]
 fn word_len(text: &str) -> usize
     ensures value { result ≡ word_len_of text.now }
     ensures boundary { IsCharBoundary text.now result }
 {
-    first_blank(text.as_bytes()).unwrap_or(text.len())
+    len_before(text.as_bytes(), b' ', b'\t')
 }
 
 // The number of blanks before the first word.
+#[inline(always)]
 fn blank_len(text: &str) -> usize
     ensures value { result ≡ blank_len_of text.now }
     ensures boundary { IsCharBoundary text.now result }
@@ -41,6 +39,7 @@ fn blank_len(text: &str) -> usize
 
 /// The first word, and what stands after it.
 #[tactic(auto, unfolding(crate::specs::Word::first_word, crate::specs::Word::after_word))]
+#[inline(always)]
 pub fn split_word(text: &str) -> (&str, &str)
     ensures word { result.0.now ≡ first_word text.now }
     ensures rest { result.1.now ≡ after_word text.now }
