@@ -13,8 +13,8 @@ use super::paths::{name_of, put_path};
 use crate::span::Span;
 use bw_model::Stat;
 use bw_stat::{Books, put_counters};
+use bw_streams::put_digits;
 use bw_tree::{GroupId, Snapshot, Tree};
-use itoa::Buffer;
 use std::alloc::{AllocError, Global};
 
 /// The numbers that an answer prints for each group, by its row.
@@ -83,9 +83,9 @@ fn put_amount(amount: u64, answer: &mut Vec<u8>) -> Result<(), AllocError>
         (answer.new.items ≡ answer.old.items ++ (decimal amount ++ codes " ")) }
     ensures room { vec_capacity answer.old ≤ vec_capacity answer.new }
 {
-    let mut buffer = Buffer::new();
-    answer.extend_from_slice(buffer.format(amount).as_bytes())?;
-    answer.push(b' ')?;
+    answer.reserve(21)?;
+    put_digits(amount, answer);
+    answer.push_reserved(b' ');
     Ok(())
 }
 
