@@ -25,6 +25,13 @@ def rows(model):
     return {path: (each.demand, each.tasks) for path, each in model.groups.items()}
 
 
+def written(ctl, folder, form, *words):
+    """The one file that a form of `apply` writes."""
+    ctl.run("apply", *words, "--cpus", "4", "--as", form, "--to", f"{folder}/out/")
+    path, = (each for each in (folder / "out").rglob("*") if each.is_file())
+    return path.read_text()
+
+
 # Slurm 22.05
 
 
@@ -56,6 +63,15 @@ def test_use_of_steps_that_run():
         LOOSE: (0, None), f"{LOOSE}/step_batch": (0, 1), f"{LOOSE}/step_0": (0, 1),
         SWEEP: (0, None), f"{SWEEP}/step_batch": (0, 1)}
     assert not [each for each in model.notes if "accounted" in each]
+
+
+def test_sacctmgr_took_the_line(ctl, folder):
+    """The limit of a job is one of its user, and where Slurm heeds it is told."""
+    source = (REAL / "squeue.json", REAL / "sinfo.json", "--set", "alice/train/2.max=2cpu")
+    assert written(ctl, folder, "slurm", *source).endswith(
+        "\nsacctmgr -i modify user where name=alice set MaxTRESPerJob=cpu=2\n")
+    told = ctl.run("apply", *source, "--as", "slurm", "--to", "-")[1]
+    assert "where AccountingStorageEnforce has limits" in told
 
 
 @pytest.mark.parametrize("name, kind", [
@@ -91,13 +107,6 @@ def test_units():
                            " what others leave idle does not reach it"]
 
 
-def written(ctl, folder, form, *words):
-    """The one file that a form of `apply` writes."""
-    ctl.run("apply", *words, "--cpus", "4", "--as", form, "--to", f"{folder}/out/")
-    path, = (each for each in (folder / "out").rglob("*") if each.is_file())
-    return path.read_text()
-
-
 def test_systemd_took_the_dropin(ctl, folder):
     """What is written is what systemd had, and it has the weight and the quota."""
     text = written(ctl, folder, "dropin", REAL / "units.show", "--set",
@@ -130,10 +139,10 @@ def test_containers(engine):
 
 @pytest.mark.parametrize("name", ["podman-stats.json", "podman-stats.txt"])
 def test_use_of_containers(name):
-    """A container with a quota of a fifth of a CPU used about that."""
+    """One with a quota of a fifth of a CPU used about that. One that does not run is left out."""
     found = {each.container: each for each in usage.read(*reversed(files(name)[0]))}
-    assert sorted(found) == ["job", "pinned", "stopped", "web"]
-    assert 180 < found["job"].amount < 200 and found["stopped"].amount == 0
+    assert sorted(found) == ["job", "pinned", "web"]
+    assert 180 < found["job"].amount < 200
     assert found["job"].identifier == json.loads(
         (REAL / "podman-inspect.json").read_text())[1]["Id"][:12]
 

@@ -46,8 +46,8 @@ def documents(asked: Asked) -> list[Document]:
                          " one for each of a user's jobs")
         lines += [f"# {group.words}",
                   f"sacctmgr -i modify user where name={user} set MaxTRESPerJob=cpu={cpus}"]
-    asked.told += [f"MaxTRESPerJob holds for jobs of {user} that are submitted later, on all nodes"
-                   for user in most]
+    asked.told += [f"MaxTRESPerJob holds for jobs of {user} that are submitted later, on all nodes,"
+                   " where AccountingStorageEnforce has limits" for user in most]
     text = "".join(f"{line}\n" for line in dict.fromkeys(lines))
     return [Document("slurm.sh", f"#!/bin/bash\n{head('slurm')}set -euo pipefail\n{text}")
             ] if lines else []

@@ -25,7 +25,9 @@ from arbiter_host.sources.pods import quantity
 MOST_ENTRIES = 200000
 # Columns of `kubectl top pods`, and the names that entries have for them.
 COLUMNS = {"NAMESPACE": "namespace", "POD": "pod", "NAME": "name", "CPU(cores)": "cpu"}
-# A column of `docker stats` that tells its table, and what separates columns.
+# Columns of `docker stats`: one that tells its table, and the number of processes, which is 0 of a
+# container that does not run. GAP separates columns.
+PIDS_PART = "PIDS"
 CPU_PART, GAP = "CPU %", re.compile(r"\s{2,}")
 PERCENT = re.compile(r"([0-9]{1,12}(?:\.[0-9]{1,12})?)%")
 
@@ -76,15 +78,15 @@ def columns_of(head: str, name: str) -> list[str]:
 
 
 def of_table(lines: Sequence[str], begin: int, name: str) -> Iterator[Used]:
-    """The entries of the table of `docker stats` from a line on. One without an amount is left
-    out."""
+    """The entries of the table of `docker stats` from a line on. Those without an amount or a
+    process are left out."""
     heads = GAP.split(lines[begin].strip())
     for number, line in enumerate(lines[begin + 1:], begin + 2):
         cells = GAP.split(line.strip())
         if line.strip() and len(cells) != len(heads):
             raise HostFault(f"{name}:{number}: {len(cells)} columns and not {len(heads)}")
         row = {head: cell[:MAX_TEXT] for head, cell in zip(heads, cells)}
-        if row.get(CPU_PART, "--") != "--":
+        if row.get(CPU_PART, "--") != "--" and row.get(PIDS_PART) != "0":
             yield Used(amount_of(row[CPU_PART], f"{name}:{number}"), "", "", row.get("NAME", ""),
                        row.get("CONTAINER ID", row.get("ID", "")))
 
@@ -125,15 +127,16 @@ def of_metrics(items: Sequence[dict[str, Any]], name: str) -> Iterator[Used]:
 
 
 def of_stats(entries: Sequence[Any], name: str) -> Iterator[Used]:
-    """The entries of `docker stats` or `podman stats`. One without an amount is left out."""
+    """The entries of `docker stats` or `podman stats`. Those without an amount or a process are
+    left out."""
     for number, each in enumerate(entries, 1):
-        keys = (("ID", "Name", "CPUPerc") if isinstance(each, dict) and "CPUPerc" in each
-                else ("id", "name", "cpu_percent"))
+        keys = (("ID", "Name", "CPUPerc", "PIDs") if isinstance(each, dict) and "CPUPerc" in each
+                else ("id", "name", "cpu_percent", "pids"))
         if not isinstance(each, dict) or keys[2] not in each:
             raise HostFault(f"{name}:{number}: no container as `docker stats --no-stream --format"
                             " json` prints it")
         word = text(each, keys[2])
-        if word not in ("--", ""):
+        if word not in ("--", "") and text(each, keys[3]) != "0":
             yield Used(amount_of(word, f"{name}:{number}"), "", "",
                        text(each, keys[1]).lstrip("/"), text(each, keys[0]))
 
