@@ -101,7 +101,14 @@ name_packages() { # DIR
   while IFS= read -r file; do
     [ -n "${ours[$file]-}" ] || rm -f -- "$file"
   done < <(find "${folders[@]}" -name '*.py' -o -path '*/templates/*')
+  compile_packages "${folders[@]}"
   printf "build: installed %s/\n" "${folders[@]}"
+}
+
+# Compiles the modules, unless the caller wants no such files. Users who may not write in DIR would
+# compile them at each call.
+compile_packages() { # FOLDER..
+  [ -n "${PYTHONDONTWRITEBYTECODE-}" ] || /usr/bin/python3 -m compileall -q "$@" >&2 || true
 }
 
 # Refuses a folder where a file belongs.

@@ -1,4 +1,5 @@
 """Options and fixtures of all tests (a pytest plugin, loaded by conftest.py)."""
+import signal
 import tempfile
 from pathlib import Path
 
@@ -67,3 +68,11 @@ def scratch() -> Path:
     """An empty folder, which is removed after the test."""
     with tempfile.TemporaryDirectory() as folder:
         yield Path(folder)
+
+
+@pytest.fixture(scope="session", autouse=True)
+def heeds_interrupts():
+    """Lets the processes that tests start heed an interrupt, also where pytest was started without,
+    as a script starts what it runs in the background."""
+    if signal.getsignal(signal.SIGINT) is signal.SIG_IGN:
+        signal.signal(signal.SIGINT, signal.default_int_handler)

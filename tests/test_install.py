@@ -101,6 +101,19 @@ def test_installs(copy):
     same(ended.out, b"native: a\n", "the installed program by itself")
 
 
+def test_modules_are_compiled(copy):
+    """Each module is compiled, for users who may not write there, unless the caller wants none."""
+    words = ["./build", "--install", "there"]
+    environment = copy.environment()
+    del environment["PYTHONDONTWRITEBYTECODE"]
+    ended = run(words, cwd=copy.top, env=environment)
+    same(ended.status, 0, ended.err)
+    compiled = {place for place in files_below(f"{copy.top}/there") if place.endswith(".pyc")}
+    wanted = {f"{os.path.dirname(place)}/__pycache__/{os.path.basename(place)[:-3]}.cpython-311.pyc"
+              for place in MODULES if place.endswith(".py")}
+    same(sorted(compiled), sorted(wanted), "compiled modules")
+
+
 def test_library_is_linked(copy):
     """Both libraries are linked from the proved archive and the kit's C, as the linker is told."""
     _, err = copy.installs("there", "a first installation", [PROVED, LIBRARY_PROVED])

@@ -3,7 +3,6 @@ from __future__ import annotations
 
 import argparse
 import os
-import signal
 import sys
 from collections.abc import Sequence
 from typing import TYPE_CHECKING, Any, NoReturn
@@ -18,7 +17,15 @@ if TYPE_CHECKING:
 
 
 class Parser(argparse.ArgumentParser):
-    """A parser whose faults show no raw control character."""
+    """A parser whose faults show no raw control character.
+
+    That of a subcommand which is not asked for has no layout. It is never called, and is left
+    empty: to make all of them takes a tenth of a short command's time.
+    """
+
+    def __init__(self, **words: Any) -> None:
+        if "formatter_class" in words:
+            super().__init__(**words)
 
     def error(self, message: str) -> NoReturn:
         self.print_usage(sys.stderr)
@@ -61,6 +68,7 @@ def parser_of_all(words: Sequence[str]) -> Parser:
 
 def die_by_interrupt() -> NoReturn:
     """Ends by the signal, so that the caller sees it."""
+    import signal
     signal.signal(signal.SIGINT, signal.SIG_DFL)
     os.kill(os.getpid(), signal.SIGINT)
     sys.exit(130)

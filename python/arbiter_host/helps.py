@@ -2,7 +2,6 @@
 from __future__ import annotations
 
 import argparse
-import textwrap
 
 ABOUT = ("Plans for the groups of a real host, each accepted by the proved check before it is"
          " shown.")
@@ -41,6 +40,7 @@ class Formatter(argparse.HelpFormatter):
     """Lays out paragraphs one by one. Lines that begin with two blanks stay as they are."""
 
     def _fill_text(self, text: str, width: int, indent: str) -> str:
+        import textwrap  # (no other call lays out text)
         filled = []
         for part in text.split("\n\n"):
             is_kept = part.startswith("  ") or "\n  " in part

@@ -196,5 +196,5 @@ def check_settings(group: Group) -> None:
             raise HostFault(f"burst {group.burst}: above the quota {group.quota}")
     if group.tasks is not None:
         checked_number(group.tasks, 0, 10**9, "tasks")
-    if group.demand < 0:
+    if group.demand.numerator < 0:
         raise HostFault("a demand is 0 or more")

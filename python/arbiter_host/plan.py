@@ -58,7 +58,8 @@ class Planned:
     @property
     def is_cut_by_tasks(self) -> bool:
         """Whether it asks for more than its tasks can use."""
-        return self.group is not None and self.group.usable < self.group.demand
+        group = self.group
+        return group is not None and group.tasks is not None and group.usable < group.demand
 
 
 class Reason(NamedTuple):
@@ -122,8 +123,19 @@ class Plan:
         with asking("arbiter_reasons"):
             return self.engine.library.reasons(planned(self.model.host), self.columns)
 
+    @functools.cached_property
+    def told(self) -> dict[int, Reason]:
+        """The reasons in words that were asked for, by row."""
+        return {}
+
     def reason(self, group: Planned) -> Reason:
         """The reason of a group in words."""
+        if group.row not in self.told:
+            self.told[group.row] = self.found_reason(group)
+        return self.told[group.row]
+
+    def found_reason(self, group: Planned) -> Reason:
+        """The reason of a group, which each answer asks for several times."""
         kind, above = self.reasons[group.row]
         if kind is Kind.NOTHING_ASKED:
             return Reason("nothing asked", "nothing asked")

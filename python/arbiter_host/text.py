@@ -1,11 +1,11 @@
 """Lines of text for terminals and files: amounts in a unit, bars, columns, the width at hand."""
 from __future__ import annotations
 
+import functools
 import os
 import sys
 from fractions import Fraction
 
-from arbiter import Host
 from arbiter_host import units
 from arbiter_host.plan import Plan
 
@@ -24,15 +24,16 @@ def amount(plan: Plan, slices: int | None, unit: str) -> str:
         return str(slices)
     if unit == "us":
         return str(slices * host.slice_us)
-    scale = {"cpu": 1, "m": 1000, "%": 100}[unit]
+    one = host.slice_us * {"cpu": 1, "m": 1000, "%": 100}[unit]
     # (division of whole numbers rounds to the nearest float)
-    return f"{slices * host.slice_us * scale / host.period_us:.{places(host, scale)}f}"
+    return f"{slices * one / host.period_us:.{places(one, host.period_us)}f}"
 
 
-def places(host: Host, scale: int) -> int:
-    """The number of decimals, 0 to 3, with which one slice is exact, if there is one."""
-    one = host.slice_us * scale
-    return next((count for count in range(3) if one * 10**count % host.period_us == 0), 3)
+@functools.lru_cache(maxsize=64)
+def places(one: int, period: int) -> int:
+    """The number of decimals, 0 to 3, with which one slice of a period is exact, if there is
+    one."""
+    return next((count for count in range(3) if one * 10**count % period == 0), 3)
 
 
 def bar(part: int, whole: int, cells: int) -> str:

@@ -49,8 +49,10 @@ def number_and_unit(text: str) -> tuple[Fraction, str] | None:
     exponent = int(found.group(2) or 0)
     if abs(exponent) > 30:
         return None
-    value = Fraction("0" + found.group(1) + "0" if "." in found.group(1) else found.group(1))
-    return value * Fraction(10) ** exponent, text.strip()[found.end():].strip()
+    whole, _, decimals = found.group(1).partition(".")
+    moved = exponent - len(decimals)
+    value = Fraction(int(whole + decimals) * 10**max(moved, 0), 10**max(-moved, 0))
+    return value, text.strip()[found.end():].strip()
 
 
 def parse_cpu(text: str) -> Fraction:
@@ -59,7 +61,8 @@ def parse_cpu(text: str) -> Fraction:
     if found is None or found[1] not in CPU_UNITS:
         raise HostFault(f"{text!r} is no amount of CPU: write 250m, 1.5cpu or 40%")
     value = found[0] * CPU_UNITS[found[1]]
-    if value > MAX_CPUS * 1000:
+    # (whole numbers compare in a tenth of a fraction's time)
+    if value.numerator > MAX_CPUS * 1000 * value.denominator:
         raise HostFault(f"{text!r} is above {MAX_CPUS} CPUs")
     return value
 

@@ -56,6 +56,25 @@ def test_functions_are_short_and_have_comments(path):
     assert [node.name for node in public if not ast.get_docstring(node)] == []
 
 
+def imported(*words):
+    """The modules that the parser of some words imports."""
+    script = ("import sys; from arbiter_host import command;"
+              " command.parser_of_all(sys.argv[1:]); print(*sys.modules)")
+    found = subprocess.run([sys.executable, "-c", script, *words], capture_output=True, text=True,
+                           cwd=PACKAGE, check=True, timeout=60)
+    return set(found.stdout.split())
+
+
+def test_a_short_command_imports_little():
+    """The list of all imports no subcommand, and a subcommand no other one."""
+    place = "arbiter_host.subcommands."
+    for words, wanted in ((["--help"], set()), (["undo", "x"], {place + "apply", place + "base"})):
+        found = imported(*words)
+        assert {name for name in found if name.startswith(place)} == wanted
+    unused = {"textwrap", "signal", "dataclasses", "ctypes", "arbiter"}
+    assert not unused & imported("--help")
+
+
 def test_one_version(program):
     """The package's version is that of the header, of pyproject and of the program."""
     header = (PACKAGE.parent / "share/arbiter.h").read_text()

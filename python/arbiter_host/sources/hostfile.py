@@ -217,14 +217,17 @@ def check_path(places: Places, path: Any) -> str:
     for name in path.split("/"):
         if name in ("", ".", "..") or re.search(r"[ \t\n\0]", name):
             raise places.fault("a path is names joined by /, without blanks", path)
-        if len(name.encode("utf-8", "replace")) > names.MAX_NAME or not is_utf8(name):
+        if not is_name(name):
             raise places.fault("a name is 1 to 255 bytes of UTF-8", path)
     return path
 
 
-def is_utf8(name: str) -> bool:
-    """Whether a name can be written as UTF-8."""
-    return not any(0xD800 <= ord(each) < 0xE000 for each in name)
+def is_name(name: str) -> bool:
+    """Whether a name is at most 255 bytes of UTF-8."""
+    try:
+        return len(name.encode()) <= names.MAX_NAME
+    except UnicodeEncodeError:
+        return False
 
 
 def add(places: Places, model: Model, group: Group) -> None:
