@@ -58,16 +58,20 @@ def value_with(seed: int, value: int, word: int) -> int:
     return (value * seed + word) % PRIME
 
 
-def words_of(name: str) -> tuple[int, int]:
-    """The coefficients of a path of seven letters: four bytes, and three after a one."""
-    text = name.encode()
-    return int.from_bytes(text[:4], "big"), int.from_bytes(b"\x01" + text[4:], "big")
+def words_of(path: str) -> list[int]:
+    """The coefficients of a path: its words of four bytes, and the last bytes after a one."""
+    text = path.encode()
+    words = [text[at:at + 4] for at in range(0, len(text) - 3, 4)]
+    last = b"\x01" + text[4 * len(words):]
+    return [int.from_bytes(word, "big") for word in [*words, last]]
 
 
-def key_of(seed: int, name: str) -> int:
-    """The key of a path of seven letters."""
-    whole, last = words_of(name)
-    return value_with(seed, value_with(seed, value_with(seed, 1, whole), last), 0)
+def key_of(seed: int, path: str) -> int:
+    """The key of a path."""
+    value = 1
+    for word in [*words_of(path), 0]:
+        value = value_with(seed, value, word)
+    return value
 
 
 def hash_of(key: int) -> int:

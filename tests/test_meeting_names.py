@@ -47,6 +47,11 @@ def test_names_meet(names):
     assert all(len(places[byte]) > len(names) * 0.9 for byte in OTHER_BYTES)
 
 
+def test_paths_that_share_a_key():
+    """Two paths that `names_that_share_a_key` of bw_tree_tests makes have one key."""
+    same(key_of(seed_of(KNOWN_BYTE), "aurlsb"), key_of(seed_of(KNOWN_BYTE), "p/qsvcr"))
+
+
 def test_names_are_searched(names):
     """The search finds the first names of the file."""
     found = meeting_names.meeting(seed_of(KNOWN_BYTE))

@@ -177,19 +177,21 @@ fn assert_finds(rt: &impl Abort, tree: &Tree, path: &str, id: GroupId) {
     assert!(rt; tree.find(path) == Ok(id), "{path}");
 }
 
-// Makes `p`, whose id is `id`, then `b` and `p/a`, and removes and makes `p/a` once more.
-fn assert_shared_key(rt: &impl Abort, tree: &mut Tree, id: GroupId) {
-    assert_makes(rt, tree, 0, "p", Ok(id));
-    assert_makes(rt, tree, 0, "b", Ok(id.wrapping_add(1)));
-    assert_makes(rt, tree, id, "a", Ok(id.wrapping_add(2)));
-    assert_finds(rt, tree, "b", id.wrapping_add(1));
-    assert_finds(rt, tree, "p/a", id.wrapping_add(2));
-    assert_makes(rt, tree, id, "a", Err(TreeFault::Exists));
-    assert!(rt; tree.rmdir(id.wrapping_add(2)) == Ok(()));
-    assert_has_no(rt, tree, "p/a");
-    assert_finds(rt, tree, "b", id.wrapping_add(1));
-    assert_makes(rt, tree, id, "a", Ok(id.wrapping_add(3)));
-    assert_finds(rt, tree, "p/a", id.wrapping_add(3));
+// Makes two groups of one key, and removes and makes the second once more. Then the first goes.
+fn assert_shared_key(rt: &impl Abort, tree: &mut Tree) {
+    assert_makes(rt, tree, 0, "p", Ok(1));
+    assert_makes(rt, tree, 0, "aurlsb", Ok(2));
+    assert_makes(rt, tree, 1, "qsvcr", Ok(3));
+    assert_finds(rt, tree, "aurlsb", 2);
+    assert_finds(rt, tree, "p/qsvcr", 3);
+    assert_makes(rt, tree, 1, "qsvcr", Err(TreeFault::Exists));
+    assert!(rt; tree.rmdir(3) == Ok(()));
+    assert_has_no(rt, tree, "p/qsvcr");
+    assert_finds(rt, tree, "aurlsb", 2);
+    assert_makes(rt, tree, 1, "qsvcr", Ok(4));
+    assert!(rt; tree.rmdir(2) == Ok(()));
+    assert_has_no(rt, tree, "aurlsb");
+    assert_finds(rt, tree, "p/qsvcr", 4);
 }
 
 // Names of 24 bytes, which a group stores in itself, and of 25 bytes.
@@ -227,18 +229,16 @@ fn names_in_place_and_longer(rt: HostRuntime) -> Result<(), Fail> {
     Ok(())
 }
 
-// Two children whose keys are one: the second stands among the others of the key. A key is the
-// hash of the name, times the point, plus the parent's id. The hash of `b` is one more than that of
-// `a`. So `b` shares its key with `p/a` if the id of `p` is the point.
+// Two paths whose keys are one at the point that the fixed keys give (tests/meeting_names.py): the
+// second group stands among the others of the key.
 #[test]
 fn names_that_share_a_key(rt: HostRuntime) -> Result<(), Fail> {
     let keys = fixed_keys()?;
-    let id = keys.hash_one("") % 4_294_967_291;
-    assert!(rt; 0 < id && id < 4_294_967_190);
-    let mut tree = match Tree::with_next_id(rt.alloc(), keys, id) {
-        Err(_) => Tree::with_next_id(rt.alloc(), keys, id)?,
+    assert!(rt; keys.hash_one("") % 4_294_967_291 == 352_806_701);
+    let mut tree = match Tree::new(rt.alloc(), keys) {
+        Err(_) => Tree::new(rt.alloc(), keys)?,
         Ok(tree) => tree,
     };
-    assert_shared_key(&rt, &mut tree, id);
+    assert_shared_key(&rt, &mut tree);
     Ok(())
 }
