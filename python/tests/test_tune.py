@@ -10,7 +10,7 @@ from fractions import Fraction
 
 import pytest
 from arbiter import Host, Unmet
-from arbiter_host import demands, tune
+from arbiter_host import change, demands, tune
 from arbiter_host.engine import Engine
 from arbiter_host.faults import HostFault
 from arbiter_host.model import Group, Model
@@ -442,6 +442,30 @@ def test_met_or_never(engine, model, goals, is_guaranteed, others):
                  for row, group in enumerate(before.groups)]
         after = plan(engine, tune.with_weights(model, mixed))
         assert not meets(after, clash, is_guaranteed, engine.library)
+
+
+@SOME
+@given(model=models(), goals=GOALS, is_guaranteed=st.booleans(),
+       kept=st.sets(st.sampled_from(PATHS), max_size=3))
+def test_no_change_can_be_left_out(engine, model, goals, is_guaranteed, kept):
+    """As `--set` makes the changes, they meet all goals, and without one of them they do not.
+
+    Groups that are kept have none.
+    """
+    before = plan(engine, model)
+    words = [f"{path}={200 * slices}m" for path, slices in goals]
+    found = tune.tune(before, words, is_guaranteed, sorted(kept))
+    if found.best is None:
+        return
+    changes_ = found.best.changes
+    assert kept.isdisjoint(each.path for each in changes_)
+    for left in (None, *range(len(changes_))):
+        after = model.copy()
+        for place, each in enumerate(changes_):
+            if place != left:
+                change.apply(after, after.groups[each.path], each.key, each.then, False)
+        is_met = meets(plan(engine, after), found.goals, is_guaranteed, engine.library)
+        assert is_met == (left is None), (changes_, left)
 
 
 def test_an_answer_that_does_not_meet_is_none(engine, monkeypatch):
