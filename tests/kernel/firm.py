@@ -88,7 +88,8 @@ def rows() -> Iterator[str]:
     yield "# Firm groups and ranges against kept runs"
     yield ""
     yield ("Written by `kernel.firm` from `tests/kernel/kept_runs.json.xz`. A point is a hundredth"
-           " of one CPU.")
+           " of one CPU. Who doubts the model draws ten more hosts by a seed:"
+           " `PYTHONPATH=tests python3 -m kernel.kept --draw SEED FOLDER`.")
     yield ""
     yield "| Kept runs | Firm: off by more than 1 point | worst | Others: out of the range |"
     yield "|---|---|---|---|"
