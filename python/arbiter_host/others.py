@@ -1,15 +1,15 @@
 """Limits of groups without a goal, which are lowered until goals are met.
 
-A limit only cuts its group: the lower it is, the more is left for others. So the search lowers as
-few limits, and as little, as it finds by halving. Whether goals are met is always asked of accepted
+A limit only cuts its group: the lower it is, the more is left for others. So halving finds the
+highest level at which limits meet the goals. Whether goals are met is always asked of accepted
 plans.
 """
 from __future__ import annotations
 
 import bisect
-from collections.abc import Callable, Collection, Iterable, Iterator, Mapping, Sequence
+from collections.abc import Callable, Collection, Iterator, Mapping, Sequence
 from fractions import Fraction
-from typing import NamedTuple, TypeVar
+from typing import NamedTuple, TypeAlias, TypeVar
 
 from arbiter_host import backwards, change, progress, units
 from arbiter_host.faults import HostFault
@@ -22,6 +22,9 @@ MOST_LOWERED = 64
 # Settings that people own and that limits follow from.
 LIMITING = ("limit", "CPUQuota", "cpus")
 K = TypeVar("K")
+# Limits in slices by the places of their caps, and whether goals are met with such.
+Limits: TypeAlias = Mapping[int, int]
+Meets: TypeAlias = Callable[[Limits], bool]
 
 
 class Cap(NamedTuple):
@@ -124,7 +127,7 @@ def caps_of(before: Plan, closed: Collection[int], order: Callable[[Planned], tu
     return found
 
 
-def with_limits(model: Model, caps: Sequence[Cap], values: Mapping[int, int]) -> Model:
+def with_limits(model: Model, caps: Sequence[Cap], values: Limits) -> Model:
     """The model with other limits, by the places of their caps."""
     settings = [Setting(caps[place].path, caps[place].key, caps[place].written(value))
                 for place, value in values.items()]
@@ -136,30 +139,43 @@ def with_limits(model: Model, caps: Sequence[Cap], values: Mapping[int, int]) ->
     return after
 
 
-def lowered(caps: Sequence[Cap], meets: Callable[[Mapping[int, int]], bool]
-            ) -> dict[int, int] | None:
+def lowered(caps: Sequence[Cap], meets: Meets, cost: Callable[[Limits], int]) -> Limits | None:
     """Limits with which goals are met, by the places of their caps; None where none are found.
 
-    The first caps are taken first. The limits are at one level where they can be, and each is the
-    greatest beside the others. None of them can be left out.
+    All limits are at one level where they can be, and each is the greatest beside the others. None
+    of them can be left out. Fewer limits are taken where they cost the other groups no more.
     """
-    def at_most(level: int, places: Iterable[int]) -> dict[int, int]:
+    least = {place: cap.least for place, cap in enumerate(caps)}
+    if not caps or not meets(least):
+        return None
+    even = at_one_level(caps, list(least), meets)
+    many = bisect.bisect_left(range(len(caps)), True, lo=1, key=lambda many: meets(
+        {place: least[place] for place in range(many)}))
+    few = at_one_level(caps, list(without_needless(
+        {place: least[place] for place in range(many)}, meets)), meets)
+    return few if len(few) < len(even) and cost(few) <= cost(even) else even
+
+
+def without_needless(found: Limits, meets: Meets) -> Limits:
+    """The limits of which none can be left out. The last ones are put back first."""
+    kept = needed(sorted(found, reverse=True), lambda places: meets(
+        {place: found[place] for place in places}))
+    return {place: found[place] for place in sorted(kept)}
+
+
+def at_one_level(caps: Sequence[Cap], places: Sequence[int], meets: Meets) -> Limits:
+    """The limits of some caps, with whose least ones goals are met: at the highest level, then
+    each as high as it can be."""
+    def at_most(level: int) -> Limits:
         return {place: min(max(level, caps[place].least), caps[place].most) for place in places}
 
-    if not caps or not meets(at_most(0, range(len(caps)))):
-        return None
-    many = bisect.bisect_left(range(len(caps)), True, lo=1,
-                              key=lambda many: meets(at_most(0, range(many))))
-    places = sorted(needed(range(many)[::-1], lambda places: meets(at_most(0, places))))
     top = max(caps[place].most for place in places)
-    lost = bisect.bisect_left(range(top), True, key=lambda lost: meets(at_most(top - lost, places)))
-    found = raised(caps, at_most(top - lost, places), meets)
-    return {place: found[place] for place in needed(list(found), lambda places: meets(
-        {place: found[place] for place in places}))}
+    lost = bisect.bisect_left(range(top), True, key=lambda lost: meets(at_most(top - lost)))
+    found = without_needless(at_most(top - lost), meets)
+    return without_needless(raised(caps, found, meets), meets)
 
 
-def raised(caps: Sequence[Cap], found: dict[int, int], meets: Callable[[Mapping[int, int]], bool]
-           ) -> dict[int, int]:
+def raised(caps: Sequence[Cap], found: Limits, meets: Meets) -> Limits:
     """The limits, each raised as far as goals are met beside the others."""
     with progress.bar("limits", len(found)) as step:
         for place in found:

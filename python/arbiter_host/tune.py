@@ -433,12 +433,16 @@ def by_limits(asked: Asked) -> Way | None:
         after = limited(values)
         return after.short(after.before) is None
 
-    found = others.lowered(caps, is_met)
+    def cost(values: Mapping[int, int]) -> int:
+        return sum(lost for _, lost in backwards.payers(before, limited(values).before, ""))
+
+    found = others.lowered(caps, is_met, cost)
     if found is not None:
         return asked.way(limited(found).before, changes(found), LIMITED + NEEDED)
     if before.model.owned is not None:
         return None
-    found = others.lowered(caps, lambda values: not isinstance(weights_of(limited(values)), Unmet))
+    found = others.lowered(caps, lambda values: not isinstance(weights_of(limited(values)), Unmet),
+                           cost)
     way = None if found is None else by_weights(limited(found))
     if found is None or not isinstance(way, Way):
         return None

@@ -220,6 +220,24 @@ def test_limits_are_at_one_level(ctl, folder):
     assert not asked(ctl, source, "a=550m", words=["--keep", "b"])["met"]
 
 
+def test_few_limits_that_cost_no_more(ctl, folder):
+    """a has 4 of 20 slices, and 8 where b has 4, or b and c have 6 each: the others lose 4."""
+    source = host_file(folder, ("a", 1, 1000), ("b", 10000, 400), ("c", 10000, 400))
+    assert limits(asked(ctl, source, "a=400m", words=["--keep", "a"])) == {
+        ("b", "max"): ("-", "200m")}
+
+
+def test_few_limits_that_cost_more(ctl, folder):
+    """b, c and d have 7, 7 and 6 of 20 slices, and lose 5 where each has 5.
+
+    Where b stays it takes 8, so c and d have 7 together, and lose 6.
+    """
+    source = host_file(folder, ("a", 1, 1000), ("b", 10000, 400), ("c", 10000, 1000),
+                       ("d", 10000, 1000))
+    assert limits(asked(ctl, source, "a=250m", words=["--keep", "a"])) == {
+        (path, "max"): ("-", "250m") for path in "bcd"}
+
+
 def test_limits_and_weights(ctl, folder):
     """12 and 7 leave c one slice. Then a's slice 12 costs 23/w, and b's slice 8 15/100: 154."""
     source = host_file(folder, ("a", 100, 1000), ("b", 100, 1000), ("c", 10000, 1000))

@@ -123,8 +123,8 @@ DETAILS = (
     " proved to be the least of all that lower none. Where no such weights meet the goals, some are"
     " lowered, as few and as little as is found. Where no weights of these groups do, groups above"
     " them change too. Where none of these is found, limits of other groups are lowered, to one"
-    " level where they can be. Of these three answers none of the changes can be left out. It is"
-    " not proved that they are the fewest.",
+    " level where they can be, and fewer where that costs the others no more. Of these three"
+    " answers none of the changes can be left out. It is not proved that they are the fewest.",
     "For containers of pods it answers requests, for units CPUWeight, for containers of docker"
     " cpu-shares. Requests are raised one after another over accepted plans, each to the least"
     " beside the others. It is not proved that they are the least.",
