@@ -29,10 +29,10 @@ KINDS = {
     "kubernetes": "What `kubectl get pods -o json` prints, and a node's JSON beside it.",
     "systemd": "What `systemctl show '*.slice' '*.service' '*.scope'` prints.",
     "docker": "What `docker inspect` or `podman inspect` prints.",
-    "slurm": "What `squeue --json` or `sacct --parsable2` print, and beside them `sstat --parsable2`"
-             " and `sinfo --json`. Newer versions have `scontrol show job --json` and `scontrol show"
-             " node --json`. Columns of sacct that are read: JobID, JobIDRaw, JobName, User, State,"
-             " AllocCPUS, Elapsed, TotalCPU, NodeList.",
+    "slurm": "What `squeue --json` or `sacct --parsable2` print, and beside them `sstat"
+             " --parsable2` and `sinfo --json`. Newer versions have `scontrol show job --json` and"
+             " `scontrol show node --json`. Columns of sacct that are read: JobID, JobIDRaw,"
+             " JobName, User, State, AllocCPUS, Elapsed, TotalCPU, NodeList.",
 }
 
 
