@@ -17,7 +17,7 @@ if TYPE_CHECKING:
 
 
 class Parser(argparse.ArgumentParser):
-    """A parser whose faults show no raw control character.
+    """A parser whose faults are one line, without any raw control character.
 
     That of a subcommand which is not asked for has no layout. It is never called, and is left
     empty: to make all of them takes a tenth of a short command's time.
@@ -28,8 +28,8 @@ class Parser(argparse.ArgumentParser):
             super().__init__(**words)
 
     def error(self, message: str) -> NoReturn:
-        self.print_usage(sys.stderr)
-        self.exit(2, f"{self.prog}: {names.shown(message)}\n")
+        """Ends with a line that says where the words are explained."""
+        self.exit(2, f"{self.prog}: {names.shown(message)}; {self.prog} --help says more\n")
 
 
 def help_of(each: Subcommand) -> dict[str, Any]:
@@ -66,6 +66,19 @@ def parser_of_all(words: Sequence[str]) -> Parser:
     return parser
 
 
+def parsed(words: Sequence[str]) -> argparse.Namespace:
+    """What the words ask for. Options may stand between the sources."""
+    options, unknown = parser_of_all(words).parse_known_args(words)
+    if unknown:
+        at = words.index(options.command)
+        parser = parser_of(find(options.command))
+        mixed, unknown = parser.parse_known_intermixed_args(words[at + 1:])
+        if at or unknown:
+            parser.error(f"unrecognized arguments: {' '.join([*words[:at], *unknown])}")
+        options = argparse.Namespace(**{**vars(options), **vars(mixed)})
+    return options
+
+
 def die_by_interrupt() -> NoReturn:
     """Ends by the signal, so that the caller sees it."""
     import signal
@@ -78,7 +91,7 @@ def run(words: Sequence[str] | None = None) -> int:
     """Runs the command and returns its exit status."""
     try:
         words = sys.argv[1:] if words is None else words
-        options = parser_of_all(words).parse_args(words)
+        options = parsed(words)
         options.run(options)
     except HostFault as fault:
         tell(fault)

@@ -172,8 +172,17 @@ def matching(model: Model, pattern: str) -> list[Group]:
         end = names.pattern_of_end(pattern)
         found = [each for each in model.groups.values() if end.fullmatch(each.path)]
     if not found:
-        raise HostFault(f"no group {names.shown(pattern)}")
+        raise absent(model, pattern)
     return found
+
+
+def absent(model: Model, pattern: str) -> HostFault:
+    """The fault of a group that is not there. It names some whose names have its letters."""
+    part = pattern.strip("*/").lower()
+    like = [names.shown(path) for path, group in model.groups.items()
+            if part and part in f"{path} {group.title}".lower()]
+    there = f" (there is {names.few(like, 3)})" if like else ""
+    return HostFault(f"no group {names.shown(pattern)}{there}")
 
 
 def scale(model: Model, words: Sequence[str]) -> None:

@@ -136,8 +136,11 @@ def read_csv(data: bytes, name: str, unit: str, host: Host, first: int = 0,
     return found
 
 
-def read_pairs(data: bytes, name: str, unit: str, host: Host) -> list[Sample]:
-    """The samples of lines `GROUP NUMBER GROUP NUMBER ..`. A line with `#` first is none."""
+def read_pairs(data: bytes, name: str, unit: str, host: Host, first: int = 0) -> list[Sample]:
+    """The samples of lines `GROUP NUMBER GROUP NUMBER ..`. A line with `#` first is none.
+
+    They are numbered from `first + 1` on.
+    """
     found: list[Sample] = []
     lines = decoded(data, name).split("\n")
     for number, line in enumerate(lines[:-1] if lines[-1] == "" else lines, 1):
@@ -148,8 +151,13 @@ def read_pairs(data: bytes, name: str, unit: str, host: Host) -> list[Sample]:
             raise HostFault(f"{name}:{number}: not pairs of a group and a number")
         demands = {group: demand_of(word, unit, host, f"{name}:{number}")
                    for group, word in zip(words[::2], words[1::2])}
-        found.append(Sample(str(len(found) + 1), demands))
+        found.append(Sample(str(first + len(found) + 1), demands))
     return found
+
+
+def filled(sample: Sample, groups: Sequence[str]) -> Sample:
+    """A sample in which groups that it does not name ask for nothing."""
+    return Sample(sample.name, {**dict.fromkeys(groups, Fraction(0)), **sample.demands})
 
 
 def instant(at: Any) -> float:

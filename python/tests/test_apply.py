@@ -73,10 +73,18 @@ def test_does_reads_back_and_undoes(ctl, tree):
     assert len(json.loads(undo.read_text())["groups"]) == 2
     after = imported(ctl, tree, "after").read_text()
     assert "write box/in cpu.weight 7\n" in after
-    ctl.run("undo", undo)
+    assert ctl.run("undo", undo) == ctl.run("undo", undo, "--dry-run")
     assert holds(tree, "box/in").weight == 7
     ctl.run("undo", undo, "--yes")
     assert imported(ctl, tree, "undone").read_text() == before.read_text()
+
+
+def test_dry_run(ctl, tree):
+    """It is said in words what is done without --yes."""
+    words = ["apply", imported(ctl, tree), "--root", tree, "--by", "files", "--set", "box.weight=7"]
+    assert ctl.run(*words) == ctl.run(*words, "--dry-run") and holds(tree, "box").weight != 7
+    _, err = ctl.run(*words, "--yes", "--dry-run", status=2)
+    assert "argument --dry-run: not allowed with argument --yes" in err
 
 
 def test_refuses_another_host(ctl, tree):

@@ -58,6 +58,16 @@ def test_need_of_more_than_is_asked(ctl, folder):
     assert "64 CPUs do not reach it" in out and "no weight reaches it" in out
 
 
+@pytest.mark.parametrize("processors, told", [
+    (64, "64 CPUs do not reach it\n"), (65, "64 CPUs do not reach it; more are not tried\n")])
+def test_need_of_a_great_host(ctl, folder, processors, told):
+    """The planner is asked of at most 64 CPUs, and of a greater host a line says so."""
+    source = folder / "host.script"
+    source.write_text("mkdir a\nwrite a cpu.max 20000\ndemand a 20\n")
+    out, _ = ctl.run("need", "a", "500m", source, "--cpus", processors)
+    assert f"CPUs{processors:9}      -  {told}" in out
+
+
 @pytest.mark.parametrize("words, status", [
     (("none", "500m"), 1), (("a", "0"), 1), (("a", "lots"), 2), (("*", "500m"), 1),
 ])

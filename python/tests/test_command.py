@@ -255,6 +255,30 @@ def test_words_that_are_refused_show_the_range(ctl, words, range_):
     assert range_ in err
 
 
+def test_options_between_sources(ctl):
+    """Sources and options may stand in any order. A word that is none is named."""
+    day = [ROOT / "examples/day.script", "--unit", "slices", ROOT / "examples/day.csv", "--summary"]
+    out, _ = ctl.run("series", *day)
+    assert out == ctl.run("series", day[0], day[3], *day[1:3], day[4])[0] and "monitor" in out
+    pods = [ROOT / "examples/pods.json", "--want", "busy", ROOT / "examples/node.json"]
+    assert ctl.run("explain", *pods)[0] == ctl.run("explain", pods[0], pods[3], *pods[1:3])[0]
+    for words in (["explain", *pods, "--frob"], ["--frob", "explain", pods[0]]):
+        _, err = ctl.run(*words, status=2)
+        assert err == ("arbiterctl explain: unrecognized arguments: --frob; arbiterctl explain"
+                       " --help says more\n")
+
+
+def test_a_group_that_is_not_there(ctl):
+    """Groups whose names have its letters are named."""
+    pods = [ROOT / "examples/pods.json", ROOT / "examples/node.json"]
+    _, err = ctl.run("need", "Web", "1cpu", *pods, status=1)
+    assert err == ("arbiterctl: no group Web (there is kubepods/burstable/shop:web,"
+                   " kubepods/burstable/shop:web/pause, kubepods/burstable/shop:web/nginx, ..)\n")
+    assert ctl.run("need", "zz", "1cpu", *pods, status=1)[1] == "arbiterctl: no group zz\n"
+    _, err = ctl.run("need", "kube", "1cpu", *pods, status=1)
+    assert err.endswith("(there is kubepods, kubepods/burstable, kubepods/besteffort, ..)\n")
+
+
 def test_no_raw_control_character(ctl, folder):
     """Neither in a table, nor in JSON, a message or a fault."""
     given = f"{HEAD}mkdir a\x1b[31m\x07\u202e\ndemand a\x1b[31m\x07\u202e 3\nmkdir \x1b\n\x1b[2J\n"

@@ -353,6 +353,27 @@ def test_holes_of_a_series(ctl, folder, holes, wants):
     assert found == wants
 
 
+@pytest.mark.parametrize("holes, wants", [
+    ([], ["0.3 0.2", "0.1 0", "0 0.4", "0.5 0.4"]),
+    (["--holes", "keep"], ["0.3 0.2", "0.1 0.2", "0.1 0.4", "0.5 0.4"]),
+], ids=["nothing asked", "kept"])
+def test_several_files_of_a_series(ctl, folder, holes, wants):
+    """Days one after the other. A day of CSV without a pod has holes there; lines of pairs have
+    none. Samples without a time are numbered on."""
+    for name, text in (("1.csv", "web,db\n0.3,0.2\n"), ("2.csv", "web\n0.1\n"),
+                       ("3.csv", "db\n0.4\n"), ("4.txt", "web 0.5\n")):
+        (folder / name).write_text(text)
+    script = b"# arbiter run --processors 1 --period 100000 --slice 10000\nmkdir web\nmkdir db\n"
+    files = [folder / f"{day}" for day in ("1.csv", "2.csv", "3.csv", "4.txt")]
+    out, _ = ctl.run("series", "-", *files, "--to", "csv", *holes, given=script)
+    rows = list(csv.DictReader(io.StringIO(out)))
+    found = [" ".join(str(float(row["wants"])).removesuffix(".0") for row in rows
+                      if row["sample"] == str(at)) for at in range(1, 5)]
+    assert found == wants
+    words = ["series", ROOT / "examples/pod.script", "-", "-"]
+    assert "standard input is one file of demands" in ctl.run(*words, given=b"", status=2)[1]
+
+
 def test_a_pod_stands_for_its_one_container(ctl, folder):
     """As with `--set`. Two containers are too many for one column."""
     (folder / "d.csv").write_text("time,prod/api-0\n1,0.7\n")

@@ -94,7 +94,9 @@ def test_no_quota_takes_the_old_one_back(ctl, folder):
 @pytest.mark.parametrize("script, change, words", [
     ("mkdir box", "box.weight=7", "box: its group is none of a unit"),
     ("mkdir a.service", "a.service.burst=1ms", "a burst: units have no setting"),
-    ("mkdir a.service", "a.service.max=12.345%", "two decimals of a percent"),
+    ("mkdir a.service", "a.service.max=12.345%", "two decimals of a percent, and 12345 in 100000"
+     " microseconds has more"),
+    ("mkdir a.service", "a.service.max=1000 300000", "and 1000 in 300000 microseconds has more"),
     ("mkdir a-b.slice", "a-b.slice.weight=7", "none of a unit by its path"),
     ("mkdir user.slice\nmkdir user.slice/u@1.service\nmkdir user.slice/u@1.service/x.service",
      "user.slice/u@1.service/x.service.weight=7", "none of a unit by its path"),

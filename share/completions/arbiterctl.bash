@@ -464,14 +464,14 @@ _arbiterctl() {
                 --runtime) mapfile -t COMPREPLY < <(compgen -W "linear log" -- "$word") ;;
                 --driver) mapfile -t COMPREPLY < <(compgen -W "systemd cgroupfs" -- "$word") ;;
                 *)
-                    [[ $word == -* ]] && mapfile -t COMPREPLY < <(compgen -W "--set --root --by --persistent --as --to --undo --yes --cpus --processors --period --slice --library --from --want --scale --interval --samples --later --own --depth-read --usage --cgroup --node --conversion --kubelet --runtime --driver --strict -h --help" -- "$word")
+                    [[ $word == -* ]] && mapfile -t COMPREPLY < <(compgen -W "--set --root --by --persistent --as --to --undo --yes --dry-run --cpus --processors --period --slice --library --from --want --scale --interval --samples --later --own --depth-read --usage --cgroup --node --conversion --kubelet --runtime --driver --strict -h --help" -- "$word")
                     ;;
             esac
             ;;
         undo)
             case $given in
                 *)
-                    [[ $word == -* ]] && mapfile -t COMPREPLY < <(compgen -W "--force --yes -h --help" -- "$word")
+                    [[ $word == -* ]] && mapfile -t COMPREPLY < <(compgen -W "--force --yes --dry-run -h --help" -- "$word")
                     ;;
             esac
             ;;

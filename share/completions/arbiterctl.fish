@@ -429,6 +429,7 @@ complete -c arbiterctl -n '__fish_seen_subcommand_from apply' -l as -x -a 'dropi
 complete -c arbiterctl -n '__fish_seen_subcommand_from apply' -l to -x -d 'where --as writes: a file, `-`, or a folder, with / at its end if it is new'
 complete -c arbiterctl -n '__fish_seen_subcommand_from apply' -l undo -r -F -d 'the undo file, which must be new (default arbiter-undo-DATE-TIME.json here)'
 complete -c arbiterctl -n '__fish_seen_subcommand_from apply' -l yes -d 'do it'
+complete -c arbiterctl -n '__fish_seen_subcommand_from apply' -l dry-run -d 'print it alone, as without --yes'
 complete -c arbiterctl -n '__fish_seen_subcommand_from apply' -l cpus -l processors -x -d 'CPUs of the host (default: what the source says, else this machine\'s for cgroups, systemd and containers, else 1)'
 complete -c arbiterctl -n '__fish_seen_subcommand_from apply' -l period -x -d 'period, such as 100ms (default 100ms)'
 complete -c arbiterctl -n '__fish_seen_subcommand_from apply' -l slice -x -d 'slice, such as 1ms (default: what the source says, else 1ms for imports and 5ms for scripts)'
@@ -453,6 +454,7 @@ complete -c arbiterctl -n '__fish_seen_subcommand_from apply' -s h -l help -d 'p
 
 complete -c arbiterctl -n '__fish_seen_subcommand_from undo' -l force -d 'also over what somebody set since `apply`'
 complete -c arbiterctl -n '__fish_seen_subcommand_from undo' -l yes -d 'do it'
+complete -c arbiterctl -n '__fish_seen_subcommand_from undo' -l dry-run -d 'print it alone, as without --yes'
 complete -c arbiterctl -n '__fish_seen_subcommand_from undo' -s h -l help -d 'print help'
 
 complete -c arbiterctl -n '__fish_seen_subcommand_from hold' -l root -r -F -d 'the top of the tree (default /sys/fs/cgroup); nothing outside it is opened for writing'

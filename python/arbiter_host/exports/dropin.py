@@ -38,8 +38,9 @@ def texts(asked: Asked, form: str) -> Iterator[tuple[str, str]]:
         elif group.has_burst:
             asked.refuse(group.path, "a burst: units have no setting for it (--as shell)")
         elif group.has_limit and apply.percent(apply.settings_of(group.after)) is None:
-            asked.refuse(group.path, "CPUQuota= has two decimals of a percent, and this limit has"
-                         " more (--as shell)")
+            limit = apply.settings_of(group.after)
+            asked.refuse(group.path, "CPUQuota= has two decimals of a percent, and"
+                         f" {limit.quota} in {limit.period} microseconds has more (--as shell)")
         else:
             seen[unit] = group.path
             section = SECTIONS[unit.rpartition(".")[2]]

@@ -139,6 +139,14 @@ def run_undo(options: argparse.Namespace) -> None:
         warn(back.left)
 
 
+def add_yes(parser: argparse.ArgumentParser) -> None:
+    """The two words on whether anything is changed."""
+    group = parser.add_mutually_exclusive_group()
+    group.add_argument("--yes", action="store_true", help="do it")
+    group.add_argument("--dry-run", action="store_true",
+                       help="print it alone, as without --yes")
+
+
 def add_apply_words(parser: argparse.ArgumentParser) -> None:
     """The words of `apply`."""
     parser.add_argument("source", nargs="+", metavar="BEFORE [AFTER]",
@@ -160,7 +168,7 @@ def add_apply_words(parser: argparse.ArgumentParser) -> None:
                         " folder, with / at its end if it is new")
     parser.add_argument("--undo", metavar="FILE", help="the undo file, which must be new"
                         " (default arbiter-undo-DATE-TIME.json here)")
-    parser.add_argument("--yes", action="store_true", help="do it")
+    add_yes(parser)
     add_reading_options(parser)
 
 
@@ -169,7 +177,7 @@ def add_undo_words(parser: argparse.ArgumentParser) -> None:
     parser.add_argument("file", metavar="FILE", help="the undo file")
     parser.add_argument("--force", action="store_true",
                         help="also over what somebody set since `apply`")
-    parser.add_argument("--yes", action="store_true", help="do it")
+    add_yes(parser)
 
 
 DETAILS = (

@@ -13,7 +13,7 @@ from arbiter_host.audit import answer, intervals, looks, ranges, written
 from arbiter_host.audit.answer import Told
 from arbiter_host.audit.causes import NOTHING
 from arbiter_host.audit.looks import Look
-from arbiter_host.faults import UsageFault
+from arbiter_host.faults import HostFault, UsageFault
 from arbiter_host.hold import HOST_TREE
 from arbiter_host.model import Model
 from arbiter_host.names import shown
@@ -52,6 +52,8 @@ def of_trees(options: argparse.Namespace) -> list[Look]:
     """The looks at copies of a tree, or at one tree again and again."""
     folders = [*(options.source or [HOST_TREE]), *options.later]
     for folder in folders:
+        if not os.path.exists(folder):
+            raise HostFault(f"{shown(folder)}: No such file or directory")
         if not os.path.isdir(folder):
             raise UsageFault(f"{shown(folder)}: no folder: a source that is no tree takes"
                              " --prometheus")

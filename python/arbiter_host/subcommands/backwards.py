@@ -7,6 +7,7 @@ from collections.abc import Sequence
 from arbiter_host import backwards, demands, load, text, units
 from arbiter_host.backwards import Knob, Need, OwnedKnob
 from arbiter_host.faults import HostFault, UsageFault
+from arbiter_host.model import MAX_PROCESSORS
 from arbiter_host.names import short, shown
 from arbiter_host.output import emit_json, emit_styled
 from arbiter_host.plan import Plan, Planned
@@ -45,10 +46,18 @@ def paid(before: Plan, losses: Sequence[tuple[str, int]], unit: str) -> str:
     return ", ".join(words + ([f"{rest} more"] if rest > 0 else [])) or "nobody"
 
 
+def unreached(setting: str, processors: int) -> str:
+    """That no value of a setting reaches the amount. More than 64 CPUs are not asked of."""
+    if setting != "CPUs":
+        return f"no {setting} reaches it"
+    more = "" if processors <= MAX_PROCESSORS else "; more are not tried"
+    return f"{MAX_PROCESSORS} CPUs do not reach it{more}"
+
+
 def who_pays(found: Need, knob: Knob | OwnedKnob, unit: str) -> str:
     """The groups that get less, the greatest loss first, in words."""
     if knob.plan is None:
-        return f"no {knob.name} reaches it" if knob.name != "CPUs" else "64 CPUs do not reach it"
+        return unreached(knob.name, found.before.model.host.processors)
     return paid(found.before, backwards.payers(found.before, knob.plan, found.group.path), unit)
 
 

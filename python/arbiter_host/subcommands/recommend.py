@@ -21,7 +21,7 @@ def history_of(options: argparse.Namespace, model: Model) -> list[samples.Sample
     """The samples of the files and of Prometheus. An empty cell is no sample."""
     found: list[samples.Sample] = []
     for path in options.history:
-        found += file_samples(options, path, model.host, True)
+        found += file_samples(options, path, model.host, len(found), True)[0]
     if options.prometheus:
         found += samples.read_prometheus(options.prometheus, range_words(options), options.label,
                                          options.unit, model.host, True)

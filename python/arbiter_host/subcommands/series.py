@@ -38,13 +38,27 @@ def range_words(options: argparse.Namespace, has_file: bool | None = None) -> di
     return words
 
 
-def file_samples(options: argparse.Namespace, path: str, host: Host,
-                 keep_holes: bool) -> list[samples.Sample]:
-    """The samples of a file: CSV, or lines of pairs."""
+def file_samples(options: argparse.Namespace, path: str, host: Host, first: int,
+                 keep_holes: bool) -> tuple[list[samples.Sample], bool]:
+    """The samples of a file, and whether it is CSV. Else it has lines of pairs."""
     data, name = load.file_bytes(path), names.shown(path)
     if options.csv or path.lower().endswith((".csv", ".tsv")):
-        return samples.read_csv(data, name, options.unit, host, 0, keep_holes)
-    return samples.read_pairs(data, name, options.unit, host)
+        return samples.read_csv(data, name, options.unit, host, first, keep_holes), True
+    return samples.read_pairs(data, name, options.unit, host, first), False
+
+
+def files_samples(options: argparse.Namespace, host: Host,
+                  keep_holes: bool) -> list[samples.Sample]:
+    """The samples of files, one file after the other. A CSV without a column that another CSV has
+    has holes there."""
+    if options.demands.count("-") > 1:
+        raise UsageFault("standard input is one file of demands")
+    found: list[tuple[samples.Sample, bool]] = []
+    for path in options.demands:
+        read, is_csv = file_samples(options, path, host, len(found), keep_holes)
+        found += [(each, is_csv) for each in read]
+    holes = samples.columns([] if keep_holes else [each for each, is_csv in found if is_csv])
+    return [samples.filled(each, holes) if is_csv else each for each, is_csv in found]
 
 
 def read_samples(options: argparse.Namespace, host: Host) -> list[samples.Sample]:
@@ -56,7 +70,7 @@ def read_samples(options: argparse.Namespace, host: Host) -> list[samples.Sample
                                        options.unit, host, keep_holes)
     if not options.demands:
         raise UsageFault("a file of demands, or --prometheus")
-    return file_samples(options, options.demands, host, keep_holes)
+    return files_samples(options, host, keep_holes)
 
 
 def mapped(words: Sequence[str]) -> dict[str, str]:
@@ -94,7 +108,8 @@ def run(options: argparse.Namespace) -> None:
 def add_words(parser: argparse.ArgumentParser) -> None:
     """The words of `series`."""
     parser.add_argument("source", metavar="SOURCE", help="a source, as of explain")
-    parser.add_argument("demands", nargs="?", metavar="DEMANDS", help="the file of demands")
+    parser.add_argument("demands", nargs="*", metavar="DEMANDS", help="files of demands, one after"
+                        " the other")
     parser.add_argument("--csv", action="store_true", help="the demands are CSV")
     parser.add_argument("--unit", choices=text.UNITS, default="cpu",
                         help="unit of the demands and of the answer (default cpu)")
@@ -135,6 +150,7 @@ DETAILS = (
 )
 EXAMPLES = (
     ("samples of half an hour each", "arbiterctl series host.toml day.csv --sample 30m"),
+    ("two days", "arbiterctl series host.toml monday.csv tuesday.csv --sample 30m"),
     ("the sums of each group alone", "arbiterctl series host.toml day.csv --sample 30m --summary"),
     ("what each group gets, for a collector of metrics",
      "arbiterctl series host.toml day.csv --sample 30m --to openmetrics -o plan.prom"),
