@@ -101,7 +101,8 @@ def examples(ctl, folder):
     host = ("[host]\ncpus = 16\nslice = \"1ms\"\n[groups.web]\nweight = 200\nmax = \"2cpu\"\n"
             "demand = \"3cpu\"\n[groups.batch]\ndemand = \"20cpu\"\n")
     (folder / "host.toml").write_text(host)
-    (folder / "day.csv").write_text("Time,web\n10:00,0.5\n10:30,3\n")
+    for day in ("day", "monday", "tuesday"):
+        (folder / f"{day}.csv").write_text("Time,web\n10:00,0.5\n10:30,3\n")
     (folder / "pod.toml").write_text("[groups.pod]\ndemand = \"2cpu\"\n")
     for name, text in (("hosts/one.toml", host), ("demands/one.csv", "Time,web\n10:00,0.5\n")):
         (folder / name).parent.mkdir()
