@@ -8,13 +8,11 @@ use Rattle.std.specs.Map.{keys_of}
 use Rattle.std.proofs.lemmas.Bool.{eq-eqb, ne_eqb, eqb-true}
 use Rattle.std.proofs.lemmas.List.{get_or-map, length-map}
 use Rattle.std.proofs.lemmas.List.Quantifiers.{position-Some}
-use Rattle.bw_model.specs.Host.{Shape}
-use Rattle.bw_model.specs.Groups.{no_row, parent_of as parent_row}
 use Rattle.bw_model.proofs.CallerLemmas.{inside}
 use Rattle.bw_tree.specs.Groups.{GroupFields, TreeState, group_at, has_group, IsTree}
 use Rattle.bw_tree.specs.Paths.{names_to, path_at}
-use Rattle.bw_tree.specs.Snapshot.{row_above, rows_of}
-use Rattle.bw_tree.proofs.SnapshotLemmas.{found_at, place_found, place_le, parent_place, row_parent}
+use Rattle.bw_tree.specs.Snapshot.{row_above}
+use Rattle.bw_tree.proofs.SnapshotLemmas.{found_at, place_found, place_le, parent_place}
 use Rattle.bw_tree.proofs.WayLemmas.{joined_below, joined_first}
 
 -- each key of the groups is a group's
@@ -31,7 +29,7 @@ row_has_group (e ∷ es) (suc i) lt =
     onto true there = refl
     onto false there = there
 
-module _ (t : TreeState) (ok : IsTree t) (s : Shape) where
+module _ (t : TreeState) (ok : IsTree t) where
   -- the root, where no group is
   other : ℕ × GroupFields
   other = (0, ok.root.0)
@@ -64,24 +62,22 @@ module _ (t : TreeState) (ok : IsTree t) (s : Shape) where
       let low = place_le t.groups p other ok.rising within in
       later (omega (arith, low, id_is p within, same))
 
-  record HasParent (g p : ℕ) : Type 0 where
-    parent : (get_or t.groups g other).1.parent ≡ Some (get_or (keys_of t.groups) p 0)
+  record HasParent (g p : ℕ) (f : GroupFields) : Type 0 where
+    parent : f.parent ≡ Some (get_or (keys_of t.groups) p 0)
     before : p < g
 
-  parent_is : (g p : ℕ) → g < length t.groups → parent_row (rows_of t.groups s) g ≡ Some p
-      → HasParent g p
-  parent_is g p within up = by (get_or t.groups g other).1.parent refl
+  parent_is : (g p : ℕ) (f : GroupFields) → g < length t.groups
+      → group_at t.groups (get_or (keys_of t.groups) g 0) ≡ Some f
+      → row_above t.groups f.parent ≡ Some p → HasParent g p f
+  parent_is g p f within at up = by f.parent refl
     where
-      by : (o : Option ℕ) → (get_or t.groups g other).1.parent ≡ o → HasParent g p
-      by None is =
-          let none : Some p ≡ None = sym up ∙ row_parent t ok s other no_row g within
-          ∙ ap (row_above t.groups) is in
-          absurd (cc)
+      by : (o : Option ℕ) → f.parent ≡ o → HasParent g p f
+      by None is = let none : Some p ≡ None = sym up ∙ ap (row_above t.groups) is in absurd (cc)
       by (Some id) is =
-          let h = parent_place t ok s other no_row g id within is in
-          let same : h.place ≡ p =
-          inside (sym (row_parent t ok s other no_row g within ∙ ap (row_above t.groups) is
-          ∙ h.is) ∙ up) in
+          let group : (get_or t.groups g other).1 ≡ f = inside (sym (group_is g within) ∙ at) in
+          let h = parent_place t ok other g id within
+          (ap (λ (x : GroupFields). x.parent) group ∙ is) in
+          let same : h.place ≡ p = inside (sym h.is ∙ sym (ap (row_above t.groups) is) ∙ up) in
           let key : id ≡ get_or (keys_of t.groups) p 0 =
           sym h.key ∙ sym (id_is h.place (omega (arith, h.before, within)))
           ∙ ap (λ k. get_or (keys_of t.groups) k 0) same in
@@ -96,36 +92,33 @@ module _ (t : TreeState) (ok : IsTree t) (s : Shape) where
       there
       ∙ ap (λ k. cond k (Some (codes ".")) (Some (join_with_byte 47 (names_to t.groups id)))) top
 
-  -- the path of a row without parent
-  pub root_path : (g : ℕ) → g < length t.groups → parent_row (rows_of t.groups s) g ≡ None
+  -- the path of a group without parent
+  pub root_path : (g : ℕ) (f : GroupFields) → g < length t.groups
+      → group_at t.groups (get_or (keys_of t.groups) g 0) ≡ Some f
+      → row_above t.groups f.parent ≡ None
       → path_at t.groups (get_or (keys_of t.groups) g 0) ≡ Some (codes ".")
-  root_path g within up = by (get_or t.groups g other).1.parent refl
+  root_path g f within at up = by f.parent refl
     where
       id : ℕ
       id = get_or (keys_of t.groups) g 0
 
-      by : (o : Option ℕ) → (get_or t.groups g other).1.parent ≡ o
-          → path_at t.groups id ≡ Some (codes ".")
-      by None is =
-          let top = ok.one_root id (get_or t.groups g other).1 (group_is g within) is in
-          spelled_as id (ap is_some (group_is g within)) true (eq-eqb id 0 top)
+      by : (o : Option ℕ) → f.parent ≡ o → path_at t.groups id ≡ Some (codes ".")
+      by None is = let top = ok.one_root id f at is in
+          spelled_as id (ap is_some at) true (eq-eqb id 0 top)
       by (Some p) is =
-          let h = parent_place t ok s other no_row g p within is in
-          let none : None ≡ Some h.place = sym up ∙ row_parent t ok s other no_row g within
-          ∙ ap (row_above t.groups) is ∙ h.is in
+          let j = place_found t.groups p (ok.parents id p f at is).1 in
+          let none : None ≡ Some j.0 = sym up ∙ ap (row_above t.groups) is ∙ j.1 in
           absurd (cc)
 
   -- the path of a child of the first row
   pub first_path : (g p : ℕ) (f : GroupFields) → g < length t.groups
       → group_at t.groups (get_or (keys_of t.groups) g 0) ≡ Some f
-      → parent_row (rows_of t.groups s) g ≡ Some p → p ≡ 0
+      → row_above t.groups f.parent ≡ Some p → p ≡ 0
       → path_at t.groups (get_or (keys_of t.groups) g 0) ≡ Some f.name
   first_path g p f within at up top =
       let id = get_or (keys_of t.groups) g 0 in
       let above = get_or (keys_of t.groups) p 0 in
-      let h = parent_is g p within up in
-      let parent : f.parent ≡ Some above =
-      ap (λ (x : GroupFields). x.parent) (inside (sym at ∙ group_is g within)) ∙ h.parent in
+      let parent = (parent_is g p f within at up).parent in
       let root : above ≡ 0 = ap (λ k. get_or (keys_of t.groups) k 0) top ∙ first_id in
       let lower = (ok.parents id above f at parent).0 in
       spelled_as id (ap is_some at) false (ne_eqb id 0 (λ e. omega (arith, e, lower)))
@@ -134,20 +127,18 @@ module _ (t : TreeState) (ok : IsTree t) (s : Shape) where
   -- the path of a child of a later row
   pub below_path : (g p : ℕ) (f : GroupFields) (path : List ℕ) → g < length t.groups
       → group_at t.groups (get_or (keys_of t.groups) g 0) ≡ Some f
-      → parent_row (rows_of t.groups s) g ≡ Some p → p ≢ 0
+      → row_above t.groups f.parent ≡ Some p → p ≢ 0
       → path_at t.groups (get_or (keys_of t.groups) p 0) ≡ Some path
       → path_at t.groups (get_or (keys_of t.groups) g 0) ≡ Some (path ++ 47 ∷ f.name)
   below_path g p f path within at up low path_is =
       let id = get_or (keys_of t.groups) g 0 in
       let above = get_or (keys_of t.groups) p 0 in
-      let h = parent_is g p within up in
-      let parent : f.parent ≡ Some above =
-      ap (λ (x : GroupFields). x.parent) (inside (sym at ∙ group_is g within)) ∙ h.parent in
-      let there = ok.parents id above f at parent in
+      let h = parent_is g p f within at up in
+      let there = ok.parents id above f at h.parent in
       let inner : above ≢ 0 = later_id p (omega (arith, h.before, within)) low in
       let joined : join_with_byte 47 (names_to t.groups above) ≡ path =
       inside (sym (spelled_as above there.1 false (ne_eqb above 0 inner)) ∙ path_is) in
       let lower = there.0 in
       spelled_as id (ap is_some at) false (ne_eqb id 0 (λ e. omega (arith, e, lower)))
-      ∙ ap Some (joined_below t ok id above f at parent inner
+      ∙ ap Some (joined_below t ok id above f at h.parent inner
       ∙ ap (λ (x : List ℕ). x ++ 47 ∷ f.name) joined)

@@ -182,7 +182,7 @@ first_limit : (rows : List Row) (r : Row) → 0 < length rows
 first_limit [] r lt = absurd (omega (arith, lt))
 first_limit (x ∷ xs) r lt = refl
 
-module _ (t : TreeState) (ok : IsTree t) (s : Shape) (d : ℕ × GroupFields) (r : Row) where
+module _ (t : TreeState) (ok : IsTree t) (d : ℕ × GroupFields) where
   -- the parent stands before
   pub record HasPlace (i p : ℕ) : Type 0 where
     pub place : ℕ
@@ -220,6 +220,7 @@ module _ (t : TreeState) (ok : IsTree t) (s : Shape) (d : ℕ × GroupFields) (r
           let up = rising_at t.groups i j d ok.rising after there in
           absurd (omega (arith, up, key, lt))
 
+module _ (t : TreeState) (ok : IsTree t) (s : Shape) (d : ℕ × GroupFields) (r : Row) where
   pub earlier_row : (i : ℕ) → i < length t.groups
       → is_earlier i (row_above t.groups (get_or t.groups i d).1.parent) ≡ true
   earlier_row i within = by (get_or t.groups i d).1.parent refl
@@ -231,7 +232,7 @@ module _ (t : TreeState) (ok : IsTree t) (s : Shape) (d : ℕ × GroupFields) (r
           (found_at t.groups i d ok.rising within) up in
           let low = place_le t.groups i d ok.rising within in
           eq-eqb i 0 (omega (arith, root, low))
-      by (Some p) up = let h = parent_place i p within up in
+      by (Some p) up = let h = parent_place t ok d i p within up in
           ap (is_earlier i) h.is ∙ lt-ltb h.place i h.before
 
   pub rows_earlier : are_earlier (rows_of t.groups s) ≡ true
@@ -288,7 +289,7 @@ module _ (t : TreeState) (ok : IsTree t) (s : Shape) (d : ℕ × GroupFields) (r
           (row_parent i within ∙ ap (row_above t.groups) up) in
           absurd (omega (arith, le, top))
       step i within le rest (Some p) up =
-          let h = parent_place i p within up in
+          let h = parent_place t ok d i p within up in
           let one = depth_of-step (rows_of t.groups s) rows_tree i h.place
           (row_parent i within ∙ ap (row_above t.groups) up ∙ h.is) in
           let read : parent_of (group_at t.groups (get_or t.groups i d).0) ≡ Some p =
@@ -354,7 +355,7 @@ module _ (t : TreeState) (ok : IsTree t) (s : Shape) (d : ℕ × GroupFields) (r
           → demand_above (rows_of t.groups s) (row_above t.groups o) ≡ 0
       by None up = refl
       by (Some p) up =
-          let h = parent_place i p within up in
+          let h = parent_place t ok d i p within up in
           let there : h.place < length t.groups = omega (arith, h.before, within) in
           let same : demand_at t.groups p ≡ (get_or t.groups h.place d).1.demand =
           ap (demand_at t.groups) (sym h.key)

@@ -5,6 +5,7 @@
 mod by_id;
 mod carry;
 mod child_index;
+mod entry;
 mod fault;
 mod group;
 mod laws;
@@ -20,6 +21,7 @@ mod snapshot;
 mod tree;
 
 pub use carry::is_drawn_within;
+pub use entry::Entry;
 pub use fault::TreeFault;
 pub use group::{Group, GroupId};
 pub use laws::{bursts_are_bounded, carries_need_a_burst, new_group_numbers, paths_are_exact};

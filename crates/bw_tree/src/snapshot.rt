@@ -98,15 +98,21 @@ impl Tree {
         requires bound { IfSome quota (λ n. n ≤ MAX_QUOTA_US) }
         ensures { result ≡ row_of self.now.groups shape group.now }
     {
-        let parent = match group.parent {
-            None => None,
-            Some(id) => self.row_number(id),
-        };
         Row {
-            parent,
+            parent: self.row_above(group.parent),
             weight: group.weight,
             limit: period_limit(group, quota, shape),
             demand: group.demand,
+        }
+    }
+
+    // Number of the row of a parent, if there is a parent.
+    pub(crate) fn row_above(&self, parent: Option<GroupId>) -> Option<u32>
+        ensures { result ≡ row_above self.now.groups parent }
+    {
+        match parent {
+            None => None,
+            Some(id) => self.row_number(id),
         }
     }
 
