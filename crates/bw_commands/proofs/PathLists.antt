@@ -1,18 +1,15 @@
 -- Paths that stand one after another in one text.
-use Rattle.std.proofs.Common.{◌≡◌, ◌≤◌, ◌<◌, ◌+◌, ◌-◌, subst, ℕ, Bool, true, false, cond, eqb, Bor}
-use Rattle.std.proofs.Common.{Option, Some, None, is_some, zero, suc, List, [], ◌∷◌, ◌++◌}
+use Rattle.std.proofs.Common.{◌≡◌, ◌≤◌, ◌<◌, ◌+◌, ◌-◌, subst, ℕ, Bool, true, false, cond, eqb}
+use Rattle.std.proofs.Common.{Option, Some, None, zero, suc, List, [], ◌∷◌, ◌++◌}
 use Rattle.std.proofs.Common.{length, get_or, take, drop, refl, sym, ap, ◌∙◌, arith, append_assoc}
 use Rattle.std.specs.List.{range_with_len}
 use Rattle.std.specs.Prelude.{IfSome}
 use Rattle.std.specs.Map.{keys_of}
-use Rattle.std.specs.Option.{option_copied}
 use Rattle.std.proofs.lemmas.Bool.{eq-eqb, eqb-true}
 use Rattle.std.proofs.lemmas.List.{take-append-le, drop-append-le, length-drop, length-append}
-use Rattle.bw_model.specs.Host.{Shape}
-use Rattle.bw_model.specs.Groups.{parent_of}
 use Rattle.bw_tree.specs.Groups.{TreeState, GroupFields, IsTree, group_at}
 use Rattle.bw_tree.specs.Paths.{path_at}
-use Rattle.bw_tree.specs.Snapshot.{rows_of}
+use Rattle.bw_tree.specs.Snapshot.{row_above}
 use Rattle.bw_tree.proofs.CallerLemmas.{root_path, first_path, below_path}
 use Rattle.bw_commands.specs.declared.span.Span.{Span}
 use Rattle.bw_commands.specs.GroupLines.{IsPathOf, ArePathsOf}
@@ -140,28 +137,21 @@ each_push holds (y ∷ ys) x d each last (suc k) lt =
     each_push (λ j. holds (suc j)) ys x d (λ j l. each (suc j) (omega (arith, l))) last k
     (omega (arith, lt))
 
--- what is found is there
-pub copied_some : {X : Type 0} (r : Option (Bor X)) (o : Option X) → option_copied r ≡ o
-    → is_some o ≡ true → is_some r ≡ true
-copied_some (Some x) o same there = refl
-copied_some None o same there = let none : is_some o ≡ false = ap is_some (sym same) in
-    absurd (let clash : false ≡ true = sym none ∙ there in cc)
-
-module _ (t : TreeState) (ok : IsTree t) (s : Shape) (paths : List (List ℕ)) (g : ℕ)
-    (f : GroupFields) (within : g < length t.groups)
+module _ (t : TreeState) (ok : IsTree t) (paths : List (List ℕ)) (g : ℕ) (f : GroupFields)
+    (within : g < length t.groups)
     (at : group_at t.groups (get_or (keys_of t.groups) g 0) ≡ Some f) where
   -- the path of a row, where the paths of all rows before it stand
-  pub step_path : (parent : Option ℕ) → parent_of (rows_of t.groups s) g ≡ parent
+  pub step_path : (parent : Option ℕ) → row_above t.groups f.parent ≡ parent
       → IfSome parent (λ p. p < g)
       → ((k : ℕ) → k < g → path_at t.groups (get_or (keys_of t.groups) k 0)
       ≡ Some (get_or paths k []))
       → path_at t.groups (get_or (keys_of t.groups) g 0) ≡ Some (path_below paths parent f.name)
-  step_path None up before each = root_path t ok s g within up
+  step_path None up before each = root_path t ok g f within at up
   step_path (Some p) up before each = by (eqb p 0) refl
     where
       by : (b : Bool) → eqb p 0 ≡ b → path_at t.groups (get_or (keys_of t.groups) g 0)
           ≡ Some (cond b f.name (get_or paths p [] ++ 47 ∷ f.name))
-      by true top = first_path t ok s g p f within at up (eqb-true p 0 top)
-      by false low = below_path t ok s g p f (get_or paths p []) within at up
+      by true top = first_path t ok g p f within at up (eqb-true p 0 top)
+      by false low = below_path t ok g p f (get_or paths p []) within at up
           (λ top. let clash : true ≡ false = sym (eq-eqb p 0 top) ∙ low in absurd (cc))
           (each p before)

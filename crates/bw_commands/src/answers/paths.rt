@@ -1,26 +1,10 @@
 //! Paths of groups, each after that of its parent in one text: a path is made from the parent's.
-ghost use Rattle.std.specs.Prelude.{◌≡◌, ◌≤◌, ◌<◌, ◌++◌, ◌∷◌, [], Some, length, slice_index};
-ghost use Rattle.std.specs.Prelude.{OnOk, IfSome};
-ghost use Rattle.std.specs.Map.{keys_of};
+ghost use Rattle.std.specs.Prelude.{◌≡◌, ◌≤◌, ◌<◌, ◌++◌, ◌∷◌, [], length, OnOk, IfSome};
 ghost use Rattle.std.specs.Vec.{vec_capacity};
-ghost use Rattle.bw_tree.specs.Groups.{GroupFields, group_at, IsTree};
 ghost use Rattle.bw_commands.specs.PathList.{cut, cuts, AreWithin, path_below};
 
 use crate::span::Span;
-use bw_tree::{GroupId, Tree};
 use std::alloc::AllocError;
-
-/// The name of the group of a row.
-pub fn name_of<'a>(tree: &'a Tree, ids: &[GroupId], g: usize) -> &'a str
-    requires ids { ids.now ≡ keys_of tree.now.groups }
-    requires within { g < length ids.now }
-    ensures group { (group : GroupFields)
-        × (group_at tree.now.groups (slice_index ids.now g) ≡ Some group)
-        × (result.now ≡ group.name) }
-    ensures valid { IsTree tree.now }
-{
-    tree.group(ids[g]).unwrap().name.as_str()
-}
 
 /// Appends the path of a group whose parent's row, if it has a parent, is one of those with these
 /// spans.

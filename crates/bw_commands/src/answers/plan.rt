@@ -25,6 +25,6 @@ pub fn put_plan<H: Threads + Sync>(
     let snapshot = hierarchy.snapshot()?;
     let plan = plan_levels(rt, alloc, &snapshot.instance)?;
     let line = Line::Amount(plan.amounts.as_slice());
-    put_lines(alloc, line, hierarchy.tree(), &snapshot, answer)?;
+    put_lines(alloc, line, hierarchy.tree(), answer)?;
     Ok(())
 }

@@ -16,9 +16,8 @@ use std::alloc::Global;
 pub fn put_report(alloc: Global, hierarchy: &Hierarchy, answer: &mut Vec<u8>) -> Result<(), Fault>
     ensures { Answers (IsReport hierarchy.now) answer.old answer.new result }
 {
-    let snapshot = hierarchy.snapshot()?;
     answer.extend_from_slice(report_head().as_bytes())?;
-    let line = Line::Counters(hierarchy.books(), snapshot.ids.as_slice());
-    put_lines(alloc, line, hierarchy.tree(), &snapshot, answer)?;
+    let line = Line::Counters(hierarchy.books());
+    put_lines(alloc, line, hierarchy.tree(), answer)?;
     Ok(())
 }

@@ -4,14 +4,12 @@ use Rattle.std.proofs.Common.{subst, ◌∙◌, append_assoc}
 use Rattle.std.specs.List.{range_with_len}
 use Rattle.std.specs.Map.{keys_of}
 use Rattle.std.proofs.lemmas.List.{length-map, length-append}
-use Rattle.bw_model.specs.Groups.{Groups, parent_of}
-use Rattle.bw_tree.specs.Groups.{GroupFields, group_at}
+use Rattle.bw_tree.specs.Groups.{GroupFields}
 use Rattle.bw_tree.specs.Paths.{path_at}
-use Rattle.bw_tree.specs.Snapshot.{rows_of}
 use Rattle.bw_tree.proofs.CallerLemmas.{path_leads}
 use Rattle.bw_commands.specs.declared.span.Span.{Span}
 use Rattle.bw_commands.specs.GroupLines.{group_lines}
-use Rattle.bw_commands.specs.LineText.{line_of}
+use Rattle.bw_commands.specs.LineText.{line_at, line_of}
 use Rattle.bw_commands.specs.PathList.{cut, cuts, AreWithin, path_below}
 use Rattle.bw_commands.proofs.PathLists.{within_more, within_push, cuts-append, cuts-line}
 use Rattle.bw_commands.proofs.PathLists.{parts-append, each_push, step_path, paths_of_rows}
@@ -30,28 +28,28 @@ put_path-requires-clause-within c =
 pub loop-g-preserved : goal.loop-g-preserved
 loop-g-preserved c =
     let t = c.args.tree.now in
-    let shape = c.args.snapshot.now.instance.shape in
-    let known : c.as_slice-ids.result.now ≡ keys_of t.groups =
-    c.as_slice-ids.ensures.value ∙ c.requires.ids in
+    let ids = keys_of t.groups in
     let g = c.loop-g.g in
     let i = c.loop-g.invariant in
     let text = c.loop-g.answer.items in
     let spans = c.loop-g.spans.items in
     let paths = cuts text spans in
-    let line = line_of c.args.line in
+    let line = line_of c.args.line ids in
     let begun = c.in_ok-put_head.ensures.ok in
     let head = begun.0 in
-    let name = c.name_of-name.result.now in
-    let group = c.name_of-name.ensures.group in
-    let path = path_below paths c.parent.result name in
+    let entry = c.entry_of_row-group.result in
+    let read = c.entry_of_row-group.ensures in
+    let group = read.group in
+    let name = entry.name.now in
+    let path = path_below paths entry.parent name in
     let span : Span = record { start = c.len-start.result; end = c.len-end.result } in
     let before_path = c.put_head.new.answer.items in
     let named_part : c.put_path.new.text.items ≡ text ++ head ++ path =
     c.in_ok-put_path.ensures.ok
-    ∙ ap (λ s. before_path ++ path_below (cuts before_path s) c.parent.result name)
+    ∙ ap (λ s. before_path ++ path_below (cuts before_path s) entry.parent name)
     c.as_slice.ensures.value
-    ∙ ap (λ x. x ++ path_below (cuts x spans) c.parent.result name) begun.1
-    ∙ ap (λ ps. text ++ head ++ path_below ps c.parent.result name)
+    ∙ ap (λ x. x ++ path_below (cuts x spans) entry.parent name) begun.1
+    ∙ ap (λ ps. text ++ head ++ path_below ps entry.parent name)
     (cuts-append text head spans i.within) in
     let wider : c.push.new.self.items ≡ text ++ head ++ path ++ 10 ∷ [] =
     c.in_ok-push.ensures.items ∙ ap (λ x. x ++ 10 ∷ []) named_part in
@@ -72,30 +70,20 @@ loop-g-preserved c =
     omega (
       arith,
       c.loop-g-test.true,
-      c.group_count-g-end.ensures.count,
-      c.requires.each,
-      ap length c.requires.ids,
+      c.group_count-count.ensures,
       length-map t.groups (λ (e : ℕ × GroupFields). e.0),
     ) in
-    let at : group_at t.groups (get_or (keys_of t.groups) g 0) ≡ Some group.0 =
-    ap (λ ids. group_at t.groups (get_or ids g 0)) (sym known) ∙ group.1 in
-    let up : parent_of (rows_of t.groups shape) g ≡ c.parent.result =
-    ap (λ (x : Groups). parent_of x.rows g) (sym c.requires.rows) ∙ sym c.parent.ensures.value in
     let count : length paths ≡ g = length-map spans (cut text) ∙ i.count in
-    let before : (k : ℕ) → k < g → path_at t.groups (get_or (keys_of t.groups) k 0)
-    ≡ Some (get_or paths k []) =
-    λ k low. ap (λ ids. path_at t.groups (get_or ids k 0)) (sym known) ∙ i.named k low in
-    let here : path_at t.groups (get_or (keys_of t.groups) g 0) ≡ Some path =
-    step_path t c.name_of-name.ensures.valid shape paths g group.0 lt at c.parent.result up
-    c.parent.ensures.before before
-    ∙ ap (λ name. Some (path_below paths c.parent.result name)) (sym group.2) in
-    let all : (k : ℕ) → k < length paths + 1 → path_at t.groups (get_or (keys_of t.groups) k 0)
+    let here : path_at t.groups (get_or ids g 0) ≡ Some path =
+    step_path t read.valid paths g group.0 lt group.1 entry.parent (sym group.2) read.before
+    i.named
+    ∙ ap (λ x. Some (path_below paths entry.parent x)) (sym group.3) in
+    let all : (k : ℕ) → k < length paths + 1 → path_at t.groups (get_or ids k 0)
     ≡ Some (get_or (paths ++ path ∷ []) k []) =
-    each_push (λ k p. path_at t.groups (get_or (keys_of t.groups) k 0) ≡ Some p) paths path []
-    (λ k low. before k (omega (arith, low, count)))
-    (ap (λ k. path_at t.groups (get_or (keys_of t.groups) k 0)) count ∙ here) in
-    let named : (k : ℕ) → k < g + 1
-    → path_at t.groups (get_or (keys_of t.groups) k 0)
+    each_push (λ k p. path_at t.groups (get_or ids k 0) ≡ Some p) paths path []
+    (λ k low. i.named k (omega (arith, low, count)))
+    (ap (λ k. path_at t.groups (get_or ids k 0)) count ∙ here) in
+    let named : (k : ℕ) → k < g + 1 → path_at t.groups (get_or ids k 0)
     ≡ Some (get_or (cuts c.push.new.self.items c.push_reserved.new.self.items) k []) =
     λ k low. all k (omega (arith, low, count)) ∙ ap (λ xs. Some (get_or xs k [])) (sym cut_are) in
     let lines = group_lines line (range_with_len 0 g) paths in
@@ -103,9 +91,11 @@ loop-g-preserved c =
     ≡ lines ++ line g path =
     ap (λ gs. group_lines line gs (paths ++ path ∷ [])) (rows-more g)
     ∙ group_lines-push line (range_with_len 0 g) paths g path (rows-length 0 g ∙ sym count) in
+    let told : line g path ≡ head ++ path ++ 10 ∷ [] =
+    ap (λ id. line_at c.args.line g id path) (sym read.id) ∙ begun.2 path in
     let put : c.push.new.self.items ≡ c.args.answer.now.items
     ++ group_lines line (range_with_len 0 (g + 1)) (paths ++ path ∷ []) =
-    wider ∙ parts-append text head path (10 ∷ []) ∙ ap (λ l. text ++ l) (sym (begun.2 path))
+    wider ∙ parts-append text head path (10 ∷ []) ∙ ap (λ l. text ++ l) (sym told)
     ∙ ap (λ x. x ++ line g path) i.put
     ∙ append_assoc c.args.answer.now.items lines (line g path)
     ∙ ap (λ l. c.args.answer.now.items ++ l) (sym more_lines) in
@@ -116,8 +106,8 @@ loop-g-preserved c =
           (within_push (length text) (length c.push.new.self.items) spans span i.within
           (omega (arith, long_line, long_path, long_head))
           (omega (arith, from, to, long_path)) (omega (arith, to, long_line)));
-      named = λ k low. ap (λ ids. path_at t.groups (get_or ids k 0)) known ∙ named k low;
-      found = λ k low. path_leads t c.name_of-name.ensures.valid
+      named = named;
+      found = λ k low. path_leads t read.valid
           (get_or (cuts c.push.new.self.items c.push_reserved.new.self.items) k [])
           (get_or (keys_of t.groups) k 0) (named k low);
       put = put ∙ ap (λ ps. c.args.answer.now.items
@@ -133,15 +123,10 @@ loop-g-preserved c =
 
 pub returns-clause-ok : goal.returns-clause-ok
 returns-clause-ok c =
-    let n = length c.args.snapshot.now.ids.items in
+    let ids = keys_of c.args.tree.now.groups in
+    let n = length ids in
     let count : c.loop-g.g ≡ n =
-    omega (
-      arith,
-      c.loop-g-test.false,
-      c.loop-g.auto.g-end,
-      c.group_count-g-end.ensures.count,
-      c.requires.each,
-    ) in
+    omega (arith, c.loop-g-test.false, c.loop-g.auto.g-end, c.group_count-count.ensures) in
     let paths = cuts c.loop-g.answer.items c.loop-g.spans.items in (
       paths,
       paths_of_rows c.args.tree.now paths n
@@ -150,5 +135,5 @@ returns-clause-ok c =
           (λ k low. c.loop-g.invariant.found k (omega (arith, low, count))),
       c.loop-g.invariant.put
           ∙ ap (λ m. c.args.answer.now.items
-          ++ group_lines (line_of c.args.line) (range_with_len 0 m) paths) count,
+          ++ group_lines (line_of c.args.line ids) (range_with_len 0 m) paths) count,
     )
