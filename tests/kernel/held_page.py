@@ -4,8 +4,8 @@
 
 FILE is that of the kept runs, unless others are named. --write puts both tables into the page.
 A cell has the group that was furthest off, in hundredths of a processor: the mean of the runs
-(least to greatest). Then the part of the plan that was served, if it is not all, and the number
-of runs.
+(least to greatest). Then the part of the plan that was served, if that is less than 99.5 %, and
+the number of runs.
 """
 from __future__ import annotations
 
@@ -30,6 +30,8 @@ PAGE = Path(__file__).resolve().parents[2] / "docs/HOLD.md"
 STEP = "two-step"
 # The ways that have columns in docs/HOLD.md.
 PAGE_WAYS = ["weights", "limits-1s", "loop", "loop-1s"]
+# Cells have the served part of a plan if it is less.
+NEARLY_ALL = 0.995
 
 
 def read(paths: Iterable[str]) -> list[Saved]:
@@ -82,8 +84,9 @@ def cell(runs: list[Saved]) -> str:
     """The cell of a scenario and a way."""
     if not runs:
         return ""
-    part = f"{served(runs):.1%}".replace("%", " %")
-    return ", ".join([spread(runs), *([part] if part != "100.0 %" else []), str(len(runs))])
+    part = served(runs)
+    told = [f"{part:.1%}".replace("%", " %")] if part < NEARLY_ALL else []
+    return ", ".join([spread(runs), *told, str(len(runs))])
 
 
 def of(found: list[Saved], scenario: str, way: str) -> list[Saved]:
