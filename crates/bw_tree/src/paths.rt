@@ -1,9 +1,11 @@
 //! Paths: the group that a path names, and the path of a group.
-ghost use Rattle.std.specs.Prelude.{◌≡◌, ◌==◌, true, ◌++◌, IfOk, IfErr, IfSome, OnOk, None, Some};
+ghost use Rattle.std.specs.Prelude.{◌≡◌, ◌==◌, ◌≤◌, true, length, ◌++◌, IfOk, IfErr, IfSome, OnOk};
+ghost use Rattle.std.specs.Prelude.{None, Some};
 ghost use Rattle.std.specs.String.{string_bytes};
 ghost use Rattle.bw_tree.specs.Paths.{path_at, names_to};
 ghost use Rattle.std.specs.List.{slice_split, join_with_byte};
-ghost use Rattle.bw_tree.specs.Groups.{has_group, find_path, walk};
+ghost use Rattle.bw_tree.specs.Groups.{GroupFields, IsTree, group_at, has_group, find_path};
+ghost use Rattle.bw_tree.specs.Groups.{walk};
 ghost use Rattle.bw_tree.specs.Tree.{IsRefused, path_refusal};
 
 use crate::fault::TreeFault;
@@ -52,22 +54,35 @@ impl Tree {
     fn is_spelled(&self, id: GroupId, text: &[u8]) -> bool
         ensures { result ≡ true → path_at self.now.groups id ≡ Some text.now }
     {
-        let Some(group) = self.group(id) else {
-            return false;
-        };
-        let Some(parent) = group.parent else {
-            return false;
-        };
-        let Some(front) = text.strip_suffix(group.name.as_str().as_bytes()) else {
-            return false;
-        };
-        if parent == 0 {
-            return front.is_empty();
+        let mut at = id;
+        let mut left = text;
+        while let Some((parent, front)) = self.cut_name(at, left) {
+            let Some((slash, above)) = front.split_last() else {
+                return parent == 0;
+            };
+            if *slash != b'/' {
+                return false;
+            }
+            at = parent;
+            left = above;
         }
-        let Some((slash, above)) = front.split_last() else {
-            return false;
+        false
+    }
+
+    // Parent of a group, and the text before the group's name.
+    fn cut_name<'a>(&self, id: GroupId, text: &'a [u8]) -> Option<(GroupId, &'a [u8])>
+        ensures within { IfSome result (λ x. length x.1.now ≤ length text.now) }
+        ensures cut { IfSome result (λ x. (group : GroupFields)
+            × (group_at self.now.groups id ≡ Some group) × (group.parent ≡ Some x.0)
+            × (text.now ≡ x.1.now ++ group.name)) }
+        ensures valid { IsTree self.now }
+    {
+        let group = self.group(id)?;
+        let Some(parent) = group.parent else {
+            return None;
         };
-        *slash == b'/' && self.is_spelled(parent, above)
+        let front = text.strip_suffix(group.name.as_str().as_bytes())?;
+        Some((parent, front))
     }
 
     /// Path of a group: the one text with which [`Tree::find`] finds it.
