@@ -19,8 +19,8 @@ from crates import with_all_below
 from processes import Watch
 from progress import Progress
 
-# Memory that one proof can need, in bytes.
-OF_EACH = 4 << 30
+# Memory that one proof can need, and each further process of one, in bytes.
+OF_EACH, OF_FURTHER = 4 << 30, 3 << 29
 LIMIT = "/sys/fs/cgroup/memory.max"
 
 
@@ -36,19 +36,21 @@ def free_memory():
 
 
 def at_once():
-    """The number of proofs side by side that processors and memory allow."""
-    return max(1, min(len(os.sched_getaffinity(0)), free_memory() // OF_EACH))
+    """The number of proofs side by side that processors and memory allow, and of processes of one."""
+    processors, free = len(os.sched_getaffinity(0)), free_memory()
+    proofs = max(1, min(processors, free // OF_EACH))
+    return proofs, max(1, min(processors, 1 + (free - proofs * OF_EACH) // OF_FURTHER))
 
 
 class Run:
-    """One run of `rt all check` over a crate and those below it."""
+    """One run of the kit over a crate and those below it."""
 
     def __init__(self, command, crate, log):
         self.all, self.done = with_all_below(crate), []
         self.progress, self.log = Progress(command), log
-        words = ["rt", "all", "check", "--jobs", str(at_once())]
+        words = [sys.executable, "scripts/longest_first.py", crate, *map(str, at_once())]
         given = {"stdin": subprocess.DEVNULL, "stdout": subprocess.PIPE}
-        self.rt = subprocess.Popen(words, cwd=f"crates/{crate}", stderr=subprocess.STDOUT, **given)
+        self.rt = subprocess.Popen(words, stderr=subprocess.STDOUT, **given)
 
     def read(self):
         """Copies what the kit says into the log. `== NAME` comes before what it says of a crate."""
