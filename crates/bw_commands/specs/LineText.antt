@@ -1,15 +1,14 @@
 -- The text of a group's line, by the program's value.
 use Rattle.std.specs.Prelude.{ℕ, ⊤, List, [], ◌∷◌, ◌++◌, ◌<◌, ◌≡◌, length, slice_index}
-use Rattle.bw_stat.specs.Books.{stat_at, or_zeros}
-use Rattle.bw_stat.specs.Report.{report_line}
 use Rattle.bw_commands.specs.Planned.{amount_line}
+use Rattle.bw_commands.specs.Reported.{booked_line}
 use Rattle.bw_commands.specs.declared.answers.line.Line.{Line}
 use Rattle.bw_commands.specs.declared.answers.line.Line.TheVariants.{Amount, Counters}
 
 -- the line of a row with this id, by its path
 abbrev pub line_at : Line → ℕ → ℕ → List ℕ → List ℕ
 line_at (Amount amounts) g id = amount_line amounts.now g
-line_at (Counters books) g id = report_line (or_zeros (stat_at books.now id))
+line_at (Counters books) g id = booked_line books.now id
 
 -- the line of a row, by the ids of all rows, its number and its path
 abbrev pub line_of : Line → List ℕ → ℕ → List ℕ → List ℕ

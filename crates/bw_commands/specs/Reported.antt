@@ -8,9 +8,13 @@ use Rattle.bw_stat.specs.Report.{report_head, report_line}
 use Rattle.bw_hierarchy.specs.State.{HierarchyState}
 use Rattle.bw_commands.specs.GroupLines.{ArePathsOf, group_lines}
 
--- the line of a group: what is booked for its id, or zeros, and its path
+-- the line of the group with this id: what is booked for it, or zeros, and its path
+abbrev pub booked_line : List (ℕ × Stat) → ℕ → List ℕ → List ℕ
+booked_line books id = report_line (or_zeros (stat_at books id))
+
+-- the line of the group of a row, by the ids of all rows
 abbrev pub counter_line : List (ℕ × Stat) → List ℕ → ℕ → List ℕ → List ℕ
-counter_line books ids g path = report_line (or_zeros (stat_at books (slice_index ids g))) path
+counter_line books ids g = booked_line books (slice_index ids g)
 
 -- The text is the answer to `report`.
 pub record IsReport (h : HierarchyState) (text : List ℕ) : Type 0 where

@@ -1,5 +1,5 @@
 -- The goals of `put_plan` that are answered by hand.
-use Rattle.std.proofs.Common.{◌≡◌, ◌∙◌, length, sym, ap, subst, arith}
+use Rattle.std.proofs.Common.{◌≡◌, ◌∙◌, ℕ, List, length, sym, ap, subst, arith}
 use Rattle.std.specs.List.{range_with_len}
 use Rattle.std.specs.Map.{keys_of}
 use Rattle.std.proofs.lemmas.List.FromFn.{length-map-range_with_len}
@@ -11,16 +11,22 @@ use Rattle.bw_commands.specs.GroupLines.{ArePathsOf, group_lines}
 use Rattle.bw_commands.specs.Planned.{amount_line}
 use Rattle.bw_commands.proofs.answers.plan.put_plan.Goals as goal
 
+-- the tree that was read has as many groups as its snapshot has ids
+count_of_ids : {tree same : TreeState} {ids : List ℕ} {count : ℕ} → tree ≡ same
+    → ids ≡ keys_of same.groups → length ids ≡ count → length (keys_of tree.groups) ≡ count
+count_of_ids equal are count =
+    ap (λ (t : TreeState). length (keys_of t.groups)) equal ∙ sym (ap length are) ∙ count
+
 pub put_lines-requires : goal.put_lines-requires
 put_lines-requires g c =
     let rows = c.in_ok-snapshot.snapshot.instance.rows in
     let plan = c.in_ok-plan.ensures in
+    let made = c.in_ok-snapshot.ensures in
     let amounts : length c.as_slice.result.now ≡ length rows =
     ap length c.as_slice.ensures.value ∙ ap length plan.amounts_are
     ∙ length-map-range_with_len (total rows plan.allocation) 0 (length rows) in
     let ids : length (keys_of c.tree.result.now.groups) ≡ length rows =
-    ap (λ (t : TreeState). length (keys_of t.groups)) c.tree.ensures
-    ∙ sym (ap length c.in_ok-snapshot.ensures.ids) ∙ c.in_ok-snapshot.ensures.count.0 in
+    count_of_ids c.tree.ensures made.ids made.count.0 in
     λ k lt. omega (arith, lt, amounts, ids)
 
 pub returns : goal.returns
@@ -32,8 +38,7 @@ returns g c =
     let amounts = c.as_slice.result.now in
     let ids = keys_of c.tree.result.now.groups in
     let count : length ids ≡ length instance.rows =
-    ap (λ (t : TreeState). length (keys_of t.groups)) c.tree.ensures
-    ∙ sym (ap length made.ids) ∙ made.count.0 in
+    count_of_ids c.tree.ensures made.ids made.count.0 in
     let rows = count ∙ ap (λ (x : Groups). length x.rows) made.rows in
     record {
       ok = (

@@ -9,8 +9,16 @@ use Rattle.bw_tree.specs.Snapshot.{row_above}
 use Rattle.bw_tree.proofs.SnapshotLemmas.{found_at, parent_place}
 use Rattle.bw_tree.proofs.tree.Tree.entry_of_row.Goals as goal
 
-module _ (t : TreeState) (ok : IsTree t) (i : ℕ) (x : ℕ × GroupFields)
-    (long : i < length (keys_of t.groups)) (is : x ≡ get_or t.groups i x) where
+-- `same` is the tree as it is stored, from which the entry was read
+module _ {t same : TreeState} (equal : same ≡ t) (tree : IsTree same) (i : ℕ)
+    (x : ℕ × GroupFields) (read : x ≡ get_or same.groups i x)
+    (long : i < length (keys_of t.groups)) where
+  ok : IsTree t
+  ok = subst IsTree equal tree
+
+  is : x ≡ get_or t.groups i x
+  is = read ∙ ap (λ (s : TreeState). get_or s.groups i x) equal
+
   within : i < length t.groups
   within = omega (arith, long, length-map t.groups (λ (e : ℕ × GroupFields). e.0))
 
@@ -34,20 +42,14 @@ module _ (t : TreeState) (ok : IsTree t) (i : ℕ) (x : ℕ × GroupFields)
 
 pub returns-clause-group : goal.returns-clause-group
 returns-clause-group c =
-    let t = c.args.self.now in
     let x = c.index.result.now in
-    let ok : IsTree t = subst IsTree c.self.view_is c.self.invariant.tree in
-    let is : x ≡ get_or t.groups c.args.row x =
-    c.index.ensures ∙ ap (λ (s : TreeState). get_or s.groups c.args.row x) c.self.view_is in
-    (x.1, row_group t ok c.args.row x c.requires is, search rules, search rules)
+    (x.1, row_group c.self.view_is c.self.invariant.tree c.args.row x c.index.ensures c.requires,
+    search rules, search rules)
 
 pub returns-clause-before : goal.returns-clause-before
 returns-clause-before c =
     let t = c.args.self.now in
     let x = c.index.result.now in
-    let ok : IsTree t = subst IsTree c.self.view_is c.self.invariant.tree in
-    let is : x ≡ get_or t.groups c.args.row x =
-    c.index.ensures ∙ ap (λ (s : TreeState). get_or s.groups c.args.row x) c.self.view_is in
     let above : c.row_above.result ≡ row_above t.groups x.1.parent = search rules in
     subst (λ o. IfSome o (λ p. p < c.args.row)) (sym above)
-    (row_before t ok c.args.row x c.requires is)
+    (row_before c.self.view_is c.self.invariant.tree c.args.row x c.index.ensures c.requires)
