@@ -1,6 +1,6 @@
-"""Whether the tasks of a group were awake for a whole round, from /proc/TASK/schedstat.
+"""Whether the tasks of a group would have used more in a round, from /proc/TASK/schedstat.
 
-A task that never slept and waited would have used more. Pressure alone does not tell: tasks that
+A task that waited and hardly slept would have. Pressure alone does not tell: tasks that
 are served wait too.
 """
 from __future__ import annotations
@@ -62,20 +62,43 @@ def rises(before: Tasks, now: Tasks) -> Iterator[Task]:
             yield Task(two.ran - one.ran, two.waited - one.waited)
 
 
+def is_starved(each: Task, passed: int) -> bool:
+    """Whether a task would have run longer: it waited for a hundredth of a round or more, and slept
+    for no longer than that and than a twentieth."""
+    slept = passed - each.ran - each.waited
+    return 100 * each.waited >= passed and slept <= each.waited and 20 * slept <= passed
+
+
 def is_hungry(before: Tasks, now: Tasks, found: Round) -> bool:
     """Whether a group would have used more in a round. It would if it was throttled.
 
-    Else not if its tasks waited for less than a tenth of the round. Else if a task was awake for 19
-    of 20 parts of it, and waited for one. Where tasks that were there at both readings used less
-    than half of what was used, it is a guess: whether tasks waited for half of the round.
+    Else not if its tasks waited for less than a hundredth of the round. Else if a task would have
+    run longer. Where tasks that were there at both readings used less than half of what was used,
+    it is a guess: whether tasks waited for half of the round.
     """
     passed = found.passed
     if found.is_throttled:
         return True
-    if 10 * 1000 * found.waited < passed:
+    if 100 * 1000 * found.waited < passed:
         return False
     seen = list(rises(before, now))
     if 2 * sum(each.ran for each in seen) >= 1000 * found.used > 0:
-        return any(20 * (each.ran + each.waited) >= 19 * passed and 20 * each.waited >= passed
-                   for each in seen)
+        return any(is_starved(each, passed) for each in seen)
     return 2 * 1000 * found.waited >= passed
+
+
+def most_wanted(before: Tasks, now: Tasks, found: Round) -> int | None:
+    """The most nanoseconds that a hungry group could have used in a round; None if its tasks do not
+    tell.
+
+    That is the whole round for a task that would have run longer or that came in it, and for each
+    task of a group that was throttled. Another used all that it wanted. Tasks that used less than
+    19 of 20 parts of what was used do not tell.
+    """
+    passed, seen = found.passed, list(rises(before, now))
+    if not 20 * sum(each.ran for each in seen) >= 19 * 1000 * found.used > 0:
+        return None
+    if found.is_throttled:
+        return len(now) * passed
+    return sum((passed if is_starved(each, passed) else each.ran for each in seen),
+               (len(now) - len(seen)) * passed)

@@ -97,10 +97,21 @@ class Kept:
 
 
 class Used(NamedTuple):
-    """What a leaf used in a round, in thousandths of a CPU, and whether it would have used more."""
+    """What a leaf used in a round, and whether it would have used more, in thousandths of a CPU."""
 
     thousandths: Fraction
     hungry: bool
+    # The most that a hungry leaf could have used; None if its tasks do not tell.
+    most: Fraction | None = None
+
+    def asks_for_all(self, processors: int) -> bool:
+        """Whether it asks for everything: a hungry leaf whose tasks could have used the host."""
+        return self.hungry and (self.most is None or self.most >= 1000 * processors)
+
+    @property
+    def asked(self) -> Fraction:
+        """What it asks for, if that is not everything."""
+        return self.thousandths if self.most is None else self.most
 
 
 class Round(NamedTuple):
@@ -122,7 +133,7 @@ class WriteFault(HostFault):
 def used_between(leaf: Kept, now: Reading, at: int, tasks: Tasks) -> Used:
     """What a leaf used since its last reading, and whether it would have used more.
 
-    It would if it was throttled, or if a task of it was always awake and waited.
+    It would if it was throttled, or if a task of it waited and hardly slept.
     """
     rise, passed = demands.rise(leaf.reading.usage, now.usage), at - leaf.at
     if rise is None or passed <= 0:
@@ -132,8 +143,11 @@ def used_between(leaf: Kept, now: Reading, at: int, tasks: Tasks) -> Used:
     waited = demands.rise(leaf.reading.pressure, now.pressure)
     found = awake.Round(passed, rise, waited or 0,
                         leaf.stands.quota is not None and bool(throttled))
-    return Used(units.thousandths_of_usage(rise, Fraction(passed, 10**9)),
-                awake.is_hungry(leaf.tasks, tasks, found))
+    used = units.thousandths_of_usage(rise, Fraction(passed, 10**9))
+    if not awake.is_hungry(leaf.tasks, tasks, found):
+        return Used(used, False)
+    most = awake.most_wanted(leaf.tasks, tasks, found)
+    return Used(used, True, None if most is None else max(used, Fraction(1000 * most, passed)))
 
 
 def tree(top: str, host: Host, depth: int = MAX_DEPTH) -> tuple[Model, list[Node]]:
@@ -358,21 +372,24 @@ class Loop:
         except HostFault:
             return {}
 
-    def rows(self, model: Model, used: dict[str, Used]) -> list[Row]:
-        """The rows of the operator's own settings and of what was used."""
+    def rows(self, model: Model, amounts: dict[str, Fraction]) -> list[Row]:
+        """The rows of the operator's own settings and of amounts in thousandths of a CPU."""
         for path, kept in self.groups.items():
             group = model.groups[path]
             own_settings(group, kept.old)
             group.burst, group.saved = 0, 0
-            group.demand = used[path].thousandths if path in used else Fraction(0)
+            group.demand = amounts.get(path, Fraction(0))
         return model.rows(self.engine.library)
 
     def planned(self, model: Model, used: dict[str, Used]) -> Round:
         """The limits and weights of the next round, whose plan the proved check accepted."""
-        rows, host = self.rows(model, used), planned(self.host)
-        hungry = [False, *(path in used and used[path].hungry for path in model.groups)]
+        rows = self.rows(model, {path: each.thousandths for path, each in used.items()})
+        asks = self.rows(model, {path: each.asked for path, each in used.items()})
+        host = planned(self.host)
+        for_all = [False, *(path in used and used[path].asks_for_all(host.processors)
+                            for path in model.groups)]
         with asking("no limits"):
-            found = self.engine.library.hold(host, Columns.of(rows), hungry)
+            found = self.engine.library.hold(host, Columns.of(asks), for_all)
         asked = [row._replace(demand=demand) for row, demand in zip(rows, found.demands)]
         with asking("the check refused the plan"):
             self.engine.library.check(host, Columns.of(asked), found.amounts, found.certificate)
@@ -381,10 +398,11 @@ class Loop:
             limit = found.limits[row]
             if path in used and limit is not None:
                 limits[path], kept = limit, self.groups[path]
-                lacks = (kept.planned or 0) - rows[row].demand if hungry[row] else 0
+                hungry = used[path].hungry
+                lacks = (kept.planned or 0) - rows[row].demand if hungry else 0
                 kept.planned = found.amounts[row]
                 told[path] = {"want": found.demands[row], "plan": found.amounts[row],
-                              "used": rows[row].demand, "limit": limit, "hungry": hungry[row],
+                              "used": rows[row].demand, "limit": limit, "hungry": hungry,
                               "unserved": max(lacks, 0)}
         return Round(limits, self.weights(model, limits, told), told)
 

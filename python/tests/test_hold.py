@@ -137,8 +137,8 @@ def test_headroom_own_limits_and_a_burst(folder, engine):
         world.uses("c", 8)
 
     (line, stood), = world.run(loop, step)
-    # Guarantees: c 80 by its limit, and 60 each for a and b. b is not hungry: it waited for less
-    # than a tenth of the round. a: 112 + 14.
+    # Guarantees: c 80 by its limit, and 60 each for a and b. b is not hungry: no task of it is
+    # known, and it waited for less than half of the round. a: 112 + 14.
     assert {path: each["limit"] for path, each in line["groups"].items()} == {
         "a": 126, "b": 60, "c": 80}
     assert stood == {"a": limit(126), "b": limit(60), "c": "80000 100000"}

@@ -152,13 +152,18 @@ A_SECOND = 10**9
     # a task with half a CPU that never slept, and one that slept for a tenth of the time
     ({7: (0, 0)}, {7: (500, 500)}, 500, 500, True),
     ({7: (0, 0)}, {7: (500, 400)}, 500, 400, False),
-    # a whole CPU: it cannot use more
-    ({7: (9, 9)}, {7: (969, 49)}, 960, 40, False),
-    ({7: (9, 9)}, {7: (969, 49)}, 960, 120, False),
+    # nearly a whole CPU: it waited for a hundredth and never slept, or for less, or slept longer
+    ({7: (9, 9)}, {7: (999, 19)}, 990, 10, True),
+    ({7: (9, 9)}, {7: (999, 18)}, 990, 10, False),
+    ({7: (9, 9)}, {7: (969, 29)}, 960, 20, True),
+    ({7: (9, 9)}, {7: (968, 29)}, 959, 20, False),
+    # it slept for a twentieth, and for more
+    ({7: (9, 9)}, {7: (459, 509)}, 450, 500, True),
+    ({7: (9, 9)}, {7: (458, 509)}, 449, 500, False),
     # one of two is awake
     ({7: (0, 0), 8: (0, 0)}, {7: (300, 100), 8: (600, 390)}, 900, 490, True),
-    # pressure of less than a tenth: served, whatever the tasks did
-    ({7: (0, 0)}, {7: (905, 95)}, 905, 95, False),
+    # pressure of less than a hundredth: served, whatever the tasks did
+    ({7: (0, 0)}, {7: (905, 95)}, 905, 9, False),
     # those that were there twice used less than half: a guess
     ({7: (0, 0)}, {7: (100, 0), 9: (900, 900)}, 900, 499, False),
     ({7: (0, 0)}, {7: (100, 0), 9: (900, 900)}, 900, 500, True),
@@ -174,6 +179,30 @@ def test_hunger_by_hand(before, now, used, waited, hungry):
     assert awake.is_hungry(one, two, found) is hungry
 
 
+@pytest.mark.parametrize("before, now, used, throttled, most", [
+    # a task that never slept could use a CPU, and another what it used
+    ({7: (0, 0)}, {7: (500, 500)}, 500, False, 1000),
+    ({7: (0, 0), 8: (0, 0)}, {7: (500, 500), 8: (200, 100)}, 700, False, 1200),
+    # each of a group that was throttled could use a CPU
+    ({7: (0, 0), 8: (0, 0)}, {7: (500, 500), 8: (200, 100)}, 700, True, 2000),
+    # so could one that came in the round, or whose number was given to another
+    ({7: (0, 0)}, {7: (500, 500), 9: (20, 0)}, 520, False, 2000),
+    ({7: (0, 0), 8: (90, 0)}, {7: (500, 500), 8: (20, 0)}, 520, False, 2000),
+    # 19 of 20 parts of what was used, and less
+    ({7: (0, 0)}, {7: (950, 50)}, 1000, False, 1000),
+    ({7: (0, 0)}, {7: (949, 51)}, 1000, False, None),
+    # nothing was used, or no task is known
+    ({7: (0, 0)}, {7: (0, 900)}, 0, False, None),
+    ({}, {}, 100, True, None), ({}, {7: (100, 0)}, 100, True, None),
+])
+def test_most_wanted_by_hand(before, now, used, throttled, most):
+    """Milliseconds of a second: tasks ran and waited, the group used, and could have used."""
+    one, two = ({number: awake.Task(*(each * 10**6 for each in task))
+                 for number, task in found.items()} for found in (before, now))
+    found = awake.Round(A_SECOND, used * 1000, 10**6, throttled)
+    assert awake.most_wanted(one, two, found) == (None if most is None else most * 10**6)
+
+
 def test_tasks_are_read(folder, monkeypatch):
     """Of a list those that are there; a list of a group may have no number, and many."""
     monkeypatch.setattr(awake, "PROC", str(folder))
@@ -186,8 +215,8 @@ def test_tasks_are_read(folder, monkeypatch):
 
 
 def test_a_group_below_its_limit_is_hungry(world, engine, folder):
-    """Linux gives c less than its limit: its task was awake, so it asks for everything. It waited
-    for less than half of the time."""
+    """Linux gives c less than its limit: its task was awake, so it asks for the CPU that one task
+    can use. It waited for less than half of the time."""
     (folder / "proc/100").mkdir(parents=True)
     times = [0, 0]
 
@@ -202,8 +231,33 @@ def test_a_group_below_its_limit_is_hungry(world, engine, folder):
     (folder / "proc/100/schedstat").write_text("0 0 0\n")
     lines = world.run(world.loop(engine, folder / "undo"), step, step, step)
     assert [line["groups"]["c"]["hungry"] for line, _ in lines] == [True] * 3
-    # planned all that the others leave, of which it was not given 105
-    assert lines[-1][0]["groups"]["c"]["unserved"] == 160 - 55
+    # planned the CPU, of which it was not given 45
+    assert lines[-1][0]["groups"]["c"] == {
+        "want": 100, "plan": 100, "used": 55, "limit": 113, "hungry": True, "unserved": 100 - 55}
+
+
+def test_a_group_of_many_tasks_asks_for_all(world, engine, folder):
+    """c has a task for each CPU, which waited. So it could use the host."""
+    for number in (100, 101):
+        (folder / f"proc/{number}").mkdir(parents=True)
+    times = [0, 0]
+
+    def step():
+        for place, rise in enumerate((55, 44)):
+            times[place] += rise * 10**7
+        for number in (100, 101):
+            (folder / f"proc/{number}/schedstat").write_text(f"{times[0]} {times[1]} 1\n")
+        world.uses("c", 110, waited=440000)
+        world.uses("a", 20)
+        world.uses("b", 20)
+
+    for number in (100, 101):
+        (folder / f"proc/{number}/schedstat").write_text("0 0 0\n")
+    (world.tree / "c/cgroup.threads").write_text("100\n101\n")
+    lines = world.run(world.loop(engine, folder / "undo"), step, step)
+    assert lines[-1][0]["groups"]["c"] == {
+        "want": 1000000, "plan": 160, "used": 110, "limit": 160, "hungry": True,
+        "unserved": 160 - 110}
 
 
 def test_many_tasks_are_read_whole(folder):

@@ -143,10 +143,10 @@ def rounds_in(lines: Sequence[str]) -> Held:
             key = line[4:]
         elif line.startswith("held "):
             number, clock, path, *rest = line.split()[1:]
-            used, hungry, amount, limit = map(int, rest)
+            used, hungry, want, amount, limit = map(int, rest)
             found.setdefault(key, []).append(
                 {"round": int(number), "at": int(clock) // 1000, "path": path, "used": used,
-                 "hungry": bool(hungry), "plan": amount, "limit": limit})
+                 "hungry": bool(hungry), "want": want, "plan": amount, "limit": limit})
     return found
 
 

@@ -7,7 +7,8 @@
    has the plan checked and writes cpu.max with a PERIOD of microseconds. WAYS has `w` for weights
    of the limits, `b` for a burst of a tenth of the quota, `-` for neither and `n` for nothing
    written. Each PATH is a group below TOP, after its parent. At LAST it prints, for each round and
-   leaf, `held ROUND CLOCK PATH USED HUNGRY PLAN LIMIT`: slices, and nanoseconds since FIRST. */
+   leaf, `held ROUND CLOCK PATH USED HUNGRY WANT PLAN LIMIT`: slices, and nanoseconds since
+   FIRST. */
 
 #define _GNU_SOURCE
 #include <arbiter.h>
@@ -48,8 +49,9 @@ static struct group groups[MOST];
 static struct task tasks[MOST_TASKS];
 static uint32_t parents[MOST], places[MOST];
 static uint64_t weights[MOST], limits[MOST], used[MOST], held[MOST], demands[MOST], amounts[MOST];
-static uint64_t nums[MOST], dens[MOST];
-static uint8_t hungry[MOST], flags[MOST];
+static uint64_t asked[MOST], nums[MOST], dens[MOST];
+/* Whether a leaf would have used more, and whether it asks for everything. */
+static uint8_t hungry[MOST], for_all[MOST], flags[MOST];
 static size_t count = 1;
 static const char *top;
 static uint64_t processors, period;
@@ -136,13 +138,23 @@ static uint64_t slices(long long usec, int64_t passed) {
     return ((uint64_t)usec * period + whole - 1) / whole;
 }
 
-/* Adds up what the tasks of a group did that were there in the last round. Returns whether one of
-   them never slept, and waited for a twentieth of the round or more. */
-static int never_slept(const char *path, int round, int64_t passed, long long *seen) {
+/* What the tasks of a group did in a round, by the rule of `arbiterctl hold`. `most` is the most
+   that they could have used. */
+struct seen {
+    long long ran, most, there;
+    int is_starved;
+};
+
+/* Whether a task would have run longer. */
+static int is_starved(long long ran, long long waited, int64_t passed) {
+    long long slept = passed - ran - waited;
+    return waited * 100 >= passed && slept <= waited && slept * 20 <= passed;
+}
+
+static struct seen seen_in(const char *path, int round, int64_t passed) {
     static char list[1 << 16];
-    int found = 0;
+    struct seen seen = { 0 };
     snprintf(list, sizeof list, "%s", get(path, "cgroup.threads"));
-    *seen = 0;
     for (char *at = list; *at; at = strchr(at, '\n') + 1) {
         int id = atoi(at);
         char name[64];
@@ -157,52 +169,60 @@ static int never_slept(const char *path, int round, int64_t passed, long long *s
         text[size < 0 ? 0 : size] = 0;
         if (sscanf(text, "%lld %lld", &now.ran, &now.waited) != 2)
             continue;
-        if (task->round == round - 1 && now.ran >= task->ran) {
-            long long ran = now.ran - task->ran, waited = now.waited - task->waited;
-            *seen += ran;
-            found |= (ran + waited) * 20 >= passed * 19 && waited * 20 >= passed;
+        long long ran = now.ran - task->ran, waited = now.waited - task->waited, most = passed;
+        if (task->round == round - 1 && ran >= 0) {
+            int starved = is_starved(ran, waited, passed);
+            seen.ran += ran;
+            seen.is_starved |= starved;
+            most = starved ? passed : ran;
         }
+        seen.most += most;
+        seen.there++;
         *task = now;
     }
-    return found;
+    return seen;
 }
 
-/* Whether a leaf would have used more, by the rule of `arbiterctl hold`. */
-static int is_hungry(struct group *group, int round, int64_t passed, long long usage,
-                     long long throttled, long long waited) {
-    long long seen;
-    int is_awake = never_slept(group->path, round, passed, &seen);
-    if (group->is_limited && throttled > group->throttled)
-        return 1;
-    if ((waited - group->waited) * 10000 < passed)
-        return 0;
-    if (seen * 2 >= (usage - group->usage) * 1000)
-        return is_awake;
-    return (waited - group->waited) * 2000 >= passed;
+/* What is read of the leaf of a row in a round in which so much time passed. */
+static void read_leaf(struct group *group, size_t row, int round, int64_t passed) {
+    const char *stat = get(group->path, "cpu.stat");
+    long long usage = number_behind(stat, "usage_usec ");
+    long long throttled = number_behind(stat, "nr_throttled ");
+    long long waited = number_behind(get(group->path, "cpu.pressure"), "total=");
+    struct seen seen = seen_in(group->path, round, passed);
+    long long rise = usage - group->usage, waiting = waited - group->waited;
+    int is_throttled = group->is_limited && throttled > group->throttled;
+    if (is_throttled)
+        hungry[row] = 1;
+    else if (waiting * 100 * 1000 < passed)
+        hungry[row] = 0;
+    else if (seen.ran * 2 >= rise * 1000 && rise > 0)
+        hungry[row] = seen.is_starved;
+    else
+        hungry[row] = waiting * 2 * 1000 >= passed;
+    if (is_throttled)
+        seen.most = seen.there * passed;
+    used[row] = passed ? slices(rise, passed) : 0;
+    int do_tell = rise > 0 && seen.ran * 20 >= rise * 1000 * 19;
+    for_all[row] = hungry[row] && !(do_tell && seen.most < (int64_t)processors * passed);
+    asked[row] = hungry[row] && !for_all[row] ? slices(seen.most / 1000, passed) : used[row];
+    if (asked[row] < used[row])
+        asked[row] = used[row];
+    group->usage = usage;
+    group->throttled = throttled;
+    group->waited = waited;
 }
 
 static void read_groups(int round, int64_t passed) {
-    for (size_t row = 1; row < count; row++) {
-        struct group *group = &groups[row];
-        if (!group->is_leaf)
-            continue;
-        const char *stat = get(group->path, "cpu.stat");
-        long long usage = number_behind(stat, "usage_usec ");
-        long long throttled = number_behind(stat, "nr_throttled ");
-        long long waited = number_behind(get(group->path, "cpu.pressure"), "total=");
-        if (passed)
-            used[row] = slices(usage - group->usage, passed);
-        hungry[row] = is_hungry(group, round, passed, usage, throttled, waited);
-        group->usage = usage;
-        group->throttled = throttled;
-        group->waited = waited;
-    }
+    for (size_t row = 1; row < count; row++)
+        if (groups[row].is_leaf)
+            read_leaf(&groups[row], row, round, passed);
 }
 
 static void ask(void) {
     uint32_t row = 0;
     uint32_t answer = arbiter_hold(processors, period, SLICE, parents, count, weights, count,
-                                   limits, count, used, count, hungry, count, held, count,
+                                   limits, count, asked, count, for_all, count, held, count,
                                    demands, count, amounts, count, flags, count, nums, count,
                                    dens, count, places, count);
     if (answer == 0)
@@ -284,8 +304,9 @@ static void round_at(int number, int64_t since, const char *ways) {
             write_limit(&groups[row], row, strchr(ways, 'b') != NULL);
         if (length < sizeof told - 400)
             length += snprintf(told + length, sizeof told - length,
-                               "held %d %lld %.200s %lu %d %lu %lu\n", number, (long long)since,
-                               groups[row].path, used[row], hungry[row], amounts[row], held[row]);
+                               "held %d %lld %.200s %lu %d %lu %lu %lu\n", number,
+                               (long long)since, groups[row].path, used[row], hungry[row],
+                               demands[row], amounts[row], held[row]);
     }
     if (strchr(ways, 'w'))
         write_weights();

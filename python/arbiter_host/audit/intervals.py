@@ -146,7 +146,7 @@ def between(one: Look, two: Look, path: str) -> Span | str:
 
 def is_hungry(group: Group, span: Span) -> bool:
     """Whether a leaf would have used more, as `hold` decides it: it was throttled, or a task of it
-    was always awake and waited."""
+    waited and hardly slept."""
     risen = span.risen
     found = awake.Round(int(span.seconds * 10**9), risen.usage or 0, risen.pressure or 0,
                         group.quota is not None and bool(risen.throttled))

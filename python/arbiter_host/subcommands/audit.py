@@ -152,7 +152,7 @@ def add_words(parser: argparse.ArgumentParser) -> None:
 
 DETAILS = (
     "In each interval a group without children is taken to want what it used. One that was"
-    " throttled at its limit wants more. So does one with a task that was always awake and waited."
+    " throttled at its limit wants more. So does one with a task that waited and hardly slept."
     " Where its tasks cannot be seen, that is a guess: tasks waited for half of the interval. What"
     " they want is that of --want psi. --want takes another rule for all groups.",
     "The plan is that of these demands, with the settings of the interval's end. It has a period of"

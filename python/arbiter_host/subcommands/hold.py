@@ -225,12 +225,15 @@ def add_words(parser: argparse.ArgumentParser) -> None:
 
 DETAILS = (
     "Each round reads cpu.stat of each group without children, in slices of one period. A group is"
-    " hungry if it was throttled in the round, or if a task of it never slept and waited"
-    " (schedstat, read where cpu.pressure rose). Where its tasks are new it is a guess: whether"
-    " they waited for half of the round. The library's rule gives the limits, and its check accepts"
-    " the plan. Then cpu.max is written, where it is not 0 to 1/64 above the limit. With --period"
-    " 100ms a group is stopped for a tenth of a second at most, and with few tasks in each group"
-    " more is lost.",
+    " hungry if it was throttled in the round, or if a task of it waited for a hundredth of it or"
+    " more, and slept for no longer than that and than a twentieth (schedstat, read where"
+    " cpu.pressure rose). Where its tasks are new it is a guess: whether they waited for half of"
+    " the round. A hungry group asks for a CPU for each such task and each new one, and for what"
+    " the others used; if it was throttled, for a CPU for each task. It asks for everything if its"
+    " tasks do not tell, or could use the whole host. The library's rule gives the limits, and its"
+    " check accepts the plan. Then cpu.max is written, where it is not 0 to 1/64 above the limit."
+    " With --period 100ms a group is stopped for a tenth of a second at most, and with few tasks in"
+    " each group more is lost.",
     "With --weights it writes cpu.weight too: 100 d / (1.01 - d) where the limit lets each task of"
     " a group use the part d of a CPU. A group with children has the sum of theirs. The plan is"
     " that of the operator's own weights. A weight that somebody sets meanwhile is such a one.",
