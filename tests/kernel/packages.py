@@ -6,11 +6,14 @@ processors: before 8.1 it never runs the second one then.
 """
 from __future__ import annotations
 
+import contextlib
+import fcntl
 import os
 import re
 import shutil
 import subprocess
 import sys
+from collections.abc import Iterator
 from dataclasses import dataclass
 from pathlib import Path
 
@@ -49,6 +52,15 @@ def cache_folder() -> Path:
     """Where packages are unpacked."""
     home = Path(os.environ.get("XDG_CACHE_HOME") or Path.home() / ".cache")
     return Path(os.environ.get("ARBITER_KERNELS") or home / "arbiter" / "kernels")
+
+
+@contextlib.contextmanager
+def alone() -> Iterator[None]:
+    """Waits while another run downloads packages."""
+    cache_folder().mkdir(parents=True, exist_ok=True)
+    with open(cache_folder() / "lock", "w", encoding="ascii") as lock:
+        fcntl.flock(lock, fcntl.LOCK_EX)
+        yield
 
 
 def said(words: list[str], folder: Path | None = None) -> str:
@@ -103,7 +115,8 @@ def kernel(name: str) -> Kernel:
         raise KernelFault(f"apt knows no {KERNELS[name]}: apt-get update")
     package = found[1]
     folder = cache_folder() / package
-    fetch([package], folder)
+    with alone():
+        fetch([package], folder)
     release = package.removeprefix("linux-image-")
     config = (folder / "boot" / f"config-{release}").read_text(encoding="utf-8")
     ticks = re.search(r"^CONFIG_HZ=(\d+)$", config, re.MULTILINE)
@@ -137,8 +150,9 @@ def emulator(is_fair: bool) -> Emulator:
     if installed.is_fair or not is_fair:
         return installed
     folder = cache_folder() / "qemu-backports"
-    if not folder.exists():
-        fetch(["qemu-system-x86", "qemu-system-data"], folder, backports())
+    with alone():
+        if not folder.exists():
+            fetch(["qemu-system-x86", "qemu-system-data"], folder, backports())
     words = (str(folder / "usr/bin" / EMULATOR), "-L", str(folder / "usr/share/qemu"),
              "-L", "/usr/share/seabios")
     return emulator_of(words)
