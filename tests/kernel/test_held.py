@@ -59,13 +59,13 @@ def test_loop_is_begun_before_the_tasks():
 
 
 def test_rounds_are_read_by_run():
-    lines = ["run one", "held 1 1000000123 a 20 0 20 50", "x", "run two",
-             "held 1 1000000456 a 90 1 60 60"]
+    lines = ["run one", "held 1 1000000123 a 20 0 20 20 50", "x", "run two",
+             "held 1 1000000456 a 90 1 100 60 60"]
     assert held.rounds_in(lines) == {
-        "one": [{"round": 1, "at": 1000000, "path": "a", "used": 20, "hungry": False, "plan": 20,
-                 "limit": 50}],
-        "two": [{"round": 1, "at": 1000000, "path": "a", "used": 90, "hungry": True, "plan": 60,
-                 "limit": 60}]}
+        "one": [{"round": 1, "at": 1000000, "path": "a", "used": 20, "hungry": False, "want": 20,
+                 "plan": 20, "limit": 50}],
+        "two": [{"round": 1, "at": 1000000, "path": "a", "used": 90, "hungry": True, "want": 100,
+                 "plan": 60, "limit": 60}]}
 
 
 def saved(way, had, repeat=0):
@@ -111,8 +111,7 @@ def test_page_has_the_tables_of_the_runs():
 
 
 def test_rounds_of_the_runs_are_by_the_rule(library):
-    """The library gives the plan and the limits of each round that the runs have. Those of leaves
-    that are not hungry may be a slice less: the runs had their eighth rounded down."""
+    """The library gives the plan and the limits of each round that the runs have."""
     calls, count = Library(library), 0
     for run in held_page.read([str(held_page.RUNS)]):
         found = scenario.read(__main__.SCENARIOS / f"{run['scenario']}.script")
@@ -120,11 +119,9 @@ def test_rounds_of_the_runs_are_by_the_rule(library):
             lines = list(each)
             wanted = held_rule.by_the_rule(calls, found, held.WAYS[run["way"]], lines)
             for line in lines:
-                plan, limit = wanted[line["path"]]
-                assert plan == line["plan"], (run["key"], line)
-                assert 0 <= limit - line["limit"] <= (not line["hungry"]), (run["key"], line)
+                assert wanted[line["path"]] == (line["plan"], line["limit"]), (run["key"], line)
             count += 1
-    assert count > 300
+    assert count > 1000
 
 
 def kernel_of_guests():
