@@ -42,9 +42,12 @@ module _ {t same : TreeState} (equal : same ≡ t) (tree : IsTree same) (i : ℕ
 
 pub returns-clause-group : goal.returns-clause-group
 returns-clause-group c =
-    let x = c.index.result.now in
-    (x.1, row_group c.self.view_is c.self.invariant.tree c.args.row x c.index.ensures c.requires,
-    search rules, search rules)
+    let x = c.index.result.now in (
+      x.1,
+      row_group c.self.view_is c.self.invariant.tree c.args.row x c.index.ensures c.requires,
+      search rules,
+      search rules,
+    )
 
 pub returns-clause-before : goal.returns-clause-before
 returns-clause-before c =
