@@ -22,6 +22,8 @@
 #include <time.h>
 #include <unistd.h>
 
+#include "hunger.h"
+
 #define MOST 64
 #define MOST_TASKS 32768
 #define SLICE 1000
@@ -138,20 +140,8 @@ static uint64_t slices(long long usec, int64_t passed) {
     return ((uint64_t)usec * period + whole - 1) / whole;
 }
 
-/* What the tasks of a group did in a round, by the rule of `arbiterctl hold`. `most` is the most
-   that they could have used. */
-struct seen {
-    long long ran, most, there;
-    int is_starved;
-};
-
-/* Whether a task would have run longer. */
-static int is_starved(long long ran, long long waited, int64_t passed) {
-    long long slept = passed - ran - waited;
-    return waited * 100 >= passed && slept <= waited && slept * 20 <= passed;
-}
-
-static struct seen seen_in(const char *path, int round, int64_t passed) {
+/* What the tasks of a group did in a round, as far as /proc tells. */
+static struct seen seen_in(const char *path, int round, const struct span *span) {
     static char list[1 << 16];
     struct seen seen = { 0 };
     snprintf(list, sizeof list, "%s", get(path, "cgroup.threads"));
@@ -169,15 +159,9 @@ static struct seen seen_in(const char *path, int round, int64_t passed) {
         text[size < 0 ? 0 : size] = 0;
         if (sscanf(text, "%lld %lld", &now.ran, &now.waited) != 2)
             continue;
-        long long ran = now.ran - task->ran, waited = now.waited - task->waited, most = passed;
-        if (task->round == round - 1 && ran >= 0) {
-            int starved = is_starved(ran, waited, passed);
-            seen.ran += ran;
-            seen.is_starved |= starved;
-            most = starved ? passed : ran;
-        }
-        seen.most += most;
-        seen.there++;
+        int is_there = task->round == round - 1;
+        see(&seen, is_there ? now.ran - task->ran : -1, is_there ? now.waited - task->waited : -1,
+            span);
         *task = now;
     }
     return seen;
@@ -189,23 +173,16 @@ static void read_leaf(struct group *group, size_t row, int round, int64_t passed
     long long usage = number_behind(stat, "usage_usec ");
     long long throttled = number_behind(stat, "nr_throttled ");
     long long waited = number_behind(get(group->path, "cpu.pressure"), "total=");
-    struct seen seen = seen_in(group->path, round, passed);
-    long long rise = usage - group->usage, waiting = waited - group->waited;
-    int is_throttled = group->is_limited && throttled > group->throttled;
-    if (is_throttled)
-        hungry[row] = 1;
-    else if (waiting * 100 * 1000 < passed)
-        hungry[row] = 0;
-    else if (seen.ran * 2 >= rise * 1000 && rise > 0)
-        hungry[row] = seen.is_starved;
-    else
-        hungry[row] = waiting * 2 * 1000 >= passed;
-    if (is_throttled)
-        seen.most = seen.there * passed;
-    used[row] = passed ? slices(rise, passed) : 0;
-    int do_tell = rise > 0 && seen.ran * 20 >= rise * 1000 * 19;
-    for_all[row] = hungry[row] && !(do_tell && seen.most < (int64_t)processors * passed);
-    asked[row] = hungry[row] && !for_all[row] ? slices(seen.most / 1000, passed) : used[row];
+    struct span span = {
+        .passed = passed, .used = usage - group->usage, .waited = waited - group->waited,
+        .is_throttled = group->is_limited && throttled > group->throttled,
+    };
+    struct seen seen = seen_in(group->path, round, &span);
+    long long most = most_wanted(&seen, &span);
+    hungry[row] = is_hungry(&seen, &span);
+    used[row] = passed ? slices(span.used, passed) : 0;
+    for_all[row] = hungry[row] && (most < 0 || most >= (int64_t)processors * passed);
+    asked[row] = hungry[row] && !for_all[row] ? slices(most / 1000, passed) : used[row];
     if (asked[row] < used[row])
         asked[row] = used[row];
     group->usage = usage;
