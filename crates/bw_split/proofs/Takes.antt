@@ -1,9 +1,11 @@
 -- What children take at a level, one by one and together.
 use Rattle.std.proofs.Common.{◌≡◌, ℕ, zero, suc, ◌+◌, ◌*◌, ◌<◌, ◌≤◌, List, length, get_or}
-use Rattle.std.proofs.Common.{refl, ◌∙◌, add-one, arith, inl, inr}
+use Rattle.std.proofs.Common.{refl, ◌∙◌, add-one, ap, arith, inl, inr, sym}
+use Rattle.std.proofs.Common.{◌/◌, ◌%◌}
 use Rattle.std.specs.Prelude.{sum, min}
 use Rattle.std.proofs.Math.Nat.{mul-le-mul_left, mul-le-mul_right}
 use Rattle.std.proofs.lemmas.Bool.{cases_order}
+use Rattle.std.proofs.lemmas.Nat.{div-add-mod'}
 use Rattle.bw_model.proofs.CallerLemmas.{sum_below, sum-is, sum_below-le}
 use Rattle.bw_model.proofs.CallerLemmas.{sum_below-zero, sum_by-range}
 use Rattle.bw_split.specs.Levels.{taken, taken_by_all}
@@ -21,6 +23,14 @@ pub taken-is : (level weight most : ℕ) → IsTaken level weight most (taken le
 unfolding taken
 taken-is level weight most =
     record { within = omega arith; low = omega arith; high = λ h. omega arith }
+
+-- the slices at a level, with its whole costs and its steps apart
+pub taken-apart : (level weight : ℕ) → (level * weight + STEPS) / (2 * STEPS)
+    ≡ (level / STEPS * weight + level % STEPS * weight / STEPS + 1) / 2
+taken-apart level weight =
+    let apart : level * weight ≡ STEPS * (level / STEPS * weight) + level % STEPS * weight =
+    omega (arith, ap (λ n. n * weight) (div-add-mod' level STEPS)) in
+    omega (arith, apart)
 
 -- a child that could take x takes so many
 pub taken-ge : (level weight most x : ℕ) → x ≤ most → (2 * STEPS) * x ≤ level * weight + STEPS

@@ -12,13 +12,19 @@ use bw_model::limits::MAX_WEIGHT;
 ///
 /// `(2k - 1) / weight <= level / STEPS` says `2k * STEPS <= level * weight + STEPS`. So k is at
 /// most `(level * weight + STEPS) / (2 * STEPS)`, rounded down.
+///
+/// The level is taken apart into whole costs and steps. So all factors have 32 bits, and a vector
+/// of the processor makes two products at once.
 pub(crate) fn takes(level: u64, weight: u64, most: u64) -> u64
     requires level_in_range { level ≤ GREATEST_LEVEL }
     requires weight_in_range { weight ≤ MAX_WEIGHT }
     ensures taken { result ≡ taken level weight most }
     ensures fits { result ≤ MOST_TAKEN }
 {
-    ((level * weight + STEPS) / (2 * STEPS)).min(most)
+    let weight = u64::from(weight as u32);
+    let costs = u64::from((level / STEPS) as u32);
+    let by_steps = level % STEPS * weight / STEPS;
+    ((costs * weight + by_steps + 1) / 2).min(most)
 }
 
 /// The slices that all children take at a level. Only this function adds a round.
