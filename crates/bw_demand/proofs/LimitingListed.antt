@@ -1,6 +1,6 @@
 -- The list of the limiting groups, as far as the rows have been walked.
 use Rattle.std.proofs.Common.{◌≡◌, ℕ, zero, suc, ◌+◌, ◌*◌, ◌<◌, ◌≤◌, List, [], ◌∷◌, ◌++◌, Bool}
-use Rattle.std.proofs.Common.{false, cond, ◌&&◌, ◌||◌, not, None, Some, length, get_or, set}
+use Rattle.std.proofs.Common.{true, false, cond, ◌&&◌, ◌||◌, not, None, Some, length, get_or, set}
 use Rattle.std.proofs.Common.{replicate, refl, ap, sym, ◌∙◌, arith, inl, inr}
 use Rattle.std.specs.Prelude.{sum_by, filter, unwrap_or}
 use Rattle.std.specs.List.{range_with_len}
@@ -35,6 +35,14 @@ filter-more p a (suc n) =
       | inl h ↦ rw h (ap (λ (xs : List ℕ). a ∷ xs) more)
       | inr h ↦ rw h more
     ]
+
+-- a row that adds its demand need not be a leaf, since others have none
+pub outside_alone : (leaf covered : Bool) (demand : ℕ) → (leaf ≡ false → demand ≡ 0)
+    → cond covered 0 demand ≡ cond (leaf && not covered) demand 0
+outside_alone true true demand idle = refl
+outside_alone true false demand idle = refl
+outside_alone false true demand idle = refl
+outside_alone false false demand idle = idle refl
 
 -- the rows before g are listed
 pub record IsListing (groups : Groups) (d : Demands) (g : ℕ) (covered : List Bool) (list : List ℕ)

@@ -37,11 +37,11 @@ fn is_covered(tight: bool, above: bool) -> bool
 }
 
 // The slices that a row adds to the demands outside the limiting groups.
-fn demand_if_outside(leaf: bool, covered: bool, demand: u64) -> u64
-    ensures value { result ≡ (if leaf && not covered then demand else 0) }
+fn demand_if_outside(covered: bool, demand: u64) -> u64
+    ensures value { result ≡ (if covered then 0 else demand) }
     ensures bound { result ≤ demand }
 {
-    if leaf && !covered { demand } else { 0 }
+    if covered { 0 } else { demand }
 }
 
 /// The limiting groups of an instance, and the demands outside them in slices of one period.
@@ -71,7 +71,8 @@ pub fn limiting(
         let above = is_parent_covered(rows, covered.as_slice(), g);
         let here = is_covered(tight, above);
         covered[g] = here;
-        rest += demand_if_outside(instance.is_leaf(g as u32), here, rows[g].demand);
+        // a row with children has no demand
+        rest += demand_if_outside(here, rows[g].demand);
         if is_limiting(tight, above) {
             groups.push(g as u32)?;
         }

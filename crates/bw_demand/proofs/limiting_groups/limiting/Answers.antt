@@ -11,7 +11,7 @@ use Rattle.bw_model.specs.Demand.{is_tight, has_tight_above}
 use Rattle.bw_model.proofs.CallerLemmas.{parent_lt}
 use Rattle.bw_demand.specs.Demands.{demands_of}
 use Rattle.bw_demand.proofs.LimitingListed.{nothing_listed, above_by_parent, listed_more}
-use Rattle.bw_demand.proofs.LimitingListed.{rest_small, all_listed}
+use Rattle.bw_demand.proofs.LimitingListed.{rest_small, all_listed, outside_alone}
 use Rattle.bw_demand.proofs.limiting_groups.limiting.Goals as goal
 use Rattle.bw_demand.proofs.limiting_groups.limiting.Goals.{then-is_limiting+in_ok-push}
 use Rattle.bw_demand.proofs.limiting_groups.limiting.Goals.{else-is_limiting}
@@ -85,8 +85,9 @@ loop-g-preserved c =
     && not (is_tight c.args.instance.now c.args.gathered.now.most.items c.loop-g.g
     || has_tight_above c.args.instance.now c.args.gathered.now.most.items c.loop-g.g))
     (demand_of c.args.instance.now.rows c.loop-g.g) 0 =
-    c.demand_if_outside-rest.ensures.value
-    ∙ rw (c.is_leaf.ensures, here, c.rows-rows.ensures.rows) refl in
+    c.demand_if_outside-rest.ensures.value ∙ rw (here, c.rows-rows.ensures.rows)
+    (outside_alone (is_leaf c.args.instance.now.rows c.loop-g.g) _ _
+    (c.rows-rows.ensures.valid.inner_idle c.loop-g.g below)) in
     let limits : c.is_limiting.result
     ≡ (is_tight c.args.instance.now c.args.gathered.now.most.items c.loop-g.g
     && not (has_tight_above c.args.instance.now c.args.gathered.now.most.items c.loop-g.g)) =
