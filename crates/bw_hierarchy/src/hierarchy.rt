@@ -125,6 +125,20 @@ impl Hierarchy {
         Cgroup { id: 0 }
     }
 
+    /// Makes an instance: a row for each group, in order of creation. Limits are in slices of the
+    /// next period.
+    ///
+    /// # Errors
+    ///
+    /// - [`TreeFault::OutOfMemory`]
+    pub fn instance(&self) -> Result<Instance, Fault>
+        ensures rows { IfOk result (λ i. i ≡ instance_of self.now.tree self.now.shape) }
+        ensures valid { IsInstance (instance_of self.now.tree self.now.shape) }
+        ensures err { IfErr result (λ e. e ≡ Fault.Tree TreeFault.OutOfMemory) }
+    {
+        Ok(self.tree.instance(self.shape)?)
+    }
+
     /// Takes a snapshot: rows, ids and quotas in slices of all groups, in order of creation.
     ///
     /// # Errors

@@ -1,6 +1,6 @@
 -- The rows of a tree are an instance.
 use Rattle.std.proofs.Common.{◌≡◌, ◌⊎◌, inl, inr, ℕ, suc, zero, ◌<◌, ◌≤◌, Bool, true, false, cond}
-use Rattle.std.proofs.Common.{◌++◌, map, take, subst, ◌==◌, ◌||◌, ◌&&◌, not, List, [], ◌∷◌, length}
+use Rattle.std.proofs.Common.{map, subst, ◌==◌, ◌||◌, ◌&&◌, not, List, [], ◌∷◌, length}
 use Rattle.std.proofs.Common.{get_or, Option}
 use Rattle.std.proofs.Common.{Some, None, is_some, refl, sym, ap, ◌∙◌, arith, eqb, ltb, position}
 use Rattle.std.proofs.Common.{zero-add}
@@ -135,22 +135,13 @@ sound_at t ok i x lt is =
     (subst (λ (y : ℕ × GroupFields). group_at t.groups y.0 ≡ Some y.1) (sym is)
     (found_at t.groups i x ok.rising lt))
 
--- what is made of one group more
-pub next_value : {X : Type 0} (f : GroupFields → X) (gs : List (ℕ × GroupFields)) (i : ℕ)
-    (x : ℕ × GroupFields) → i < length gs → x ≡ get_or gs i x
-    → map f (values_of (take i gs)) ++ f x.1 ∷ [] ≡ map f (values_of (take (suc i) gs))
-next_value f [] i x lt is = absurd (omega (arith, lt))
-next_value f (e ∷ es) zero x lt is = ap (λ (y : ℕ × GroupFields). f y.1 ∷ []) is
-next_value {X} f (e ∷ es) (suc i) x lt is =
-    ap (λ (xs : List X). f e.1 ∷ xs) (next_value f es i x (omega (arith, lt)) is)
-
--- the id of one group more
-pub next_key : (gs : List (ℕ × GroupFields)) (i : ℕ) (x : ℕ × GroupFields) → i < length gs
-    → x ≡ get_or gs i x → keys_of (take i gs) ++ x.0 ∷ [] ≡ keys_of (take (suc i) gs)
-next_key [] i x lt is = absurd (omega (arith, lt))
-next_key (e ∷ es) zero x lt is = ap (λ (y : ℕ × GroupFields). y.0 ∷ []) is
-next_key (e ∷ es) (suc i) x lt is =
-    ap (λ (xs : List ℕ). e.0 ∷ xs) (next_key es i x (omega (arith, lt)) is)
+-- what is made of the group at a place
+pub value_at : {X : Type 0} (f : GroupFields → X) (gs : List (ℕ × GroupFields)) (i : ℕ)
+    (x : ℕ × GroupFields) (d : X) → i < length gs → x ≡ get_or gs i x
+    → f x.1 ≡ get_or (map f (values_of gs)) i d
+value_at f [] i x d lt is = absurd (omega (arith, lt))
+value_at f (e ∷ es) zero x d lt is = ap (λ (y : ℕ × GroupFields). f y.1) is
+value_at f (e ∷ es) (suc i) x d lt is = value_at f es i x d (omega (arith, lt)) is
 
 -- ids that rise are distinct
 pub rising_distinct : (gs : List (ℕ × GroupFields)) → AreRising gs → IsDistinct eqb (keys_of gs)
@@ -437,9 +428,17 @@ module _ (t : TreeState) (ok : IsTree t) (s : Shape) (d : ℕ × GroupFields) (r
       (goes_on _ _ _ rows_small
       (goes_on _ _ _ root_free refl))))))
 
--- a snapshot is an instance
-pub snapshot_IsInstance : (t : TreeState) → IsTree t → (shape : Shape) → IsHost shape
-    → IsInstance (instance_of t shape)
-snapshot_IsInstance t ok shape host =
-    refused_none-IsInstance (instance_of t shape) host
-    (rows_valid t ok shape (0, root_group) (row_of t.groups shape root_group))
+-- the rows of a tree, as it is stored, are an instance
+pub rows_IsInstance : {t same : TreeState} (equal : same ≡ t) → IsTree same → (shape : Shape)
+    → IsHost shape → (rows : List Row) → rows ≡ rows_of t.groups shape
+    → IsInstance (record { shape = shape; rows = rows })
+rows_IsInstance {t} equal ok shape host rows are =
+    subst (λ (rs : List Row). IsInstance (record { shape = shape; rows = rs })) (sym are)
+    (refused_none-IsInstance (instance_of t shape) host
+    (rows_valid t (subst IsTree equal ok) shape (0, root_group)
+    (row_of t.groups shape root_group)))
+
+pub tree_IsInstance : {t same : TreeState} (equal : same ≡ t) → IsTree same → (shape : Shape)
+    → IsHost shape → IsInstance (instance_of t shape)
+tree_IsInstance {t} equal ok shape host =
+    rows_IsInstance equal ok shape host (rows_of t.groups shape) refl

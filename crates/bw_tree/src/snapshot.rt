@@ -1,19 +1,17 @@
 //! The groups of a tree as an instance on a host.
-ghost use Rattle.std.specs.Prelude.{◌≡◌, ◌≤◌, length, nat_eq, IfSome, IfOk, IfErr, Some};
+ghost use Rattle.std.specs.Prelude.{◌≡◌, ◌<◌, length, nat_eq, slice_index_or, IfOk, IfErr, None};
+ghost use Rattle.std.specs.Prelude.{Some};
 ghost use Rattle.std.specs.List.{IsDistinct};
 ghost use Rattle.std.specs.Vec.{vec_capacity};
-ghost use Rattle.bw_model.specs.Groups.{IsInstance};
-ghost use Rattle.bw_tree.specs.Groups.{IsSound};
+ghost use Rattle.bw_model.specs.Groups.{IsInstance, row_of};
 ghost use Rattle.std.specs.Map.{keys_of};
-ghost use Rattle.bw_tree.specs.Snapshot.{instance_of, rows_of, base_of, row_above, row_of};
-ghost use Rattle.bw_tree.specs.Snapshot.{quota_slices};
+ghost use Rattle.bw_tree.specs.Snapshot.{instance_of, rows_of, base_of, row_above};
 
 use crate::by_id::place_of;
 use crate::carry::{period_limit, quota_slices};
 use crate::fault::TreeFault;
-use crate::group::{Group, GroupId};
+use crate::group::GroupId;
 use crate::tree::Tree;
-use bw_model::limits::MAX_QUOTA_US;
 use bw_model::{HostShape, Instance, Row};
 use std::alloc::AllocError;
 
@@ -37,9 +35,28 @@ struct Columns {
 }
 
 impl Tree {
-    /// Takes a snapshot of the groups on a host: rows, ids and quotas, in order of creation.
+    /// Makes an instance of the groups on a host: a row for each, in order of creation.
     ///
     /// The limit of a row is the quota plus the carry of the last period, at most quota plus burst.
+    ///
+    /// # Errors
+    ///
+    /// - [`TreeFault::OutOfMemory`] alone: the rows of a tree are always a valid instance.
+    pub fn instance(&self, shape: HostShape) -> Result<Instance, TreeFault>
+        ensures rows { IfOk result (λ i. i ≡ instance_of self.now shape) }
+        ensures valid { IsInstance (instance_of self.now shape) }
+        ensures err { IfErr result (λ e. e ≡ TreeFault.OutOfMemory) }
+    {
+        let alloc = *self.groups.allocator();
+        // its contract says that the host is in range
+        let _slice_us = shape.slice_us();
+        let rows = self.rows(shape)?;
+        Ok(Instance::of_valid(alloc, rows, shape)?)
+    }
+
+    /// Takes a snapshot of the groups on a host: rows, ids and quotas, in order of creation.
+    ///
+    /// Rows are those of [`Tree::instance`].
     ///
     /// # Errors
     ///
@@ -68,7 +85,7 @@ impl Tree {
         })
     }
 
-    // Reads each group once, and divides its quota once.
+    // Reads each group once.
     fn columns(&self, shape: HostShape) -> Result<Columns, AllocError>
         ensures ids { IfOk result (λ c. c.ids.items ≡ keys_of self.now.groups) }
         ensures rows { IfOk result (λ c. c.rows.items ≡ rows_of self.now.groups shape) }
@@ -82,28 +99,44 @@ impl Tree {
         let mut ids = Vec::with_capacity(alloc, count)?;
         let mut rows = Vec::with_capacity(alloc, count)?;
         let mut quotas = Vec::with_capacity(alloc, count)?;
-        for (id, group) in &self.groups {
-            let quota = quota_slices(group, shape);
-            ids.push_reserved(*id);
-            rows.push_reserved(self.row_of(group, quota, shape));
+        for place in 0..count {
+            let (quota, row) = self.row_at(place, shape);
+            ids.push_reserved(self.groups[place].0);
+            rows.push_reserved(row);
             quotas.push_reserved(quota);
         }
         Ok(Columns { ids, rows, quotas })
     }
 
-    // Row of a group with this quota in whole slices.
-    fn row_of(&self, group: &Group, quota: Option<u64>, shape: HostShape) -> Row
-        requires sound { IsSound group.now }
-        requires quota { quota ≡ quota_slices shape group.now }
-        requires bound { IfSome quota (λ n. n ≤ MAX_QUOTA_US) }
-        ensures { result ≡ row_of self.now.groups shape group.now }
+    // Row of each group.
+    fn rows(&self, shape: HostShape) -> Result<Vec<Row>, AllocError>
+        ensures { IfOk result (λ rows. rows.items ≡ rows_of self.now.groups shape) }
     {
-        Row {
+        let count = self.groups.len();
+        let mut rows = Vec::with_capacity(*self.groups.allocator(), count)?;
+        for place in 0..count {
+            let (_, row) = self.row_at(place, shape);
+            rows.push_reserved(row);
+        }
+        Ok(rows)
+    }
+
+    // Quota of the group at a place in whole slices, and its row. Divides the quota once.
+    #[inline(always)]
+    fn row_at(&self, place: usize, shape: HostShape) -> (Option<u64>, Row)
+        requires { place < length self.now.groups }
+        ensures quota { result.0 ≡ slice_index_or (base_of self.now.groups shape) place None }
+        ensures row { result.1 ≡ row_of (rows_of self.now.groups shape) place }
+    {
+        let (_, group) = &self.groups[place];
+        let quota = quota_slices(group, shape);
+        let row = Row {
             parent: self.row_above(group.parent),
             weight: group.weight,
             limit: period_limit(group, quota, shape),
             demand: group.demand,
-        }
+        };
+        (quota, row)
     }
 
     // Number of the row of a parent, if there is a parent.
