@@ -4,10 +4,14 @@ use Rattle.std.proofs.Common.{refl, sym, ap, arith, append_assoc, append-nil, ge
 use Rattle.std.proofs.Common.{true, false}
 use Rattle.std.specs.Prelude.{filter}
 use Rattle.std.specs.List.{range_with_len}
+use Rattle.std.specs.Map.{keys_of, values_of}
+use Rattle.std.proofs.lemmas.List.{length-map}
+use Rattle.bw_model.specs.Host.{Shape}
 use Rattle.bw_model.specs.Groups.{Groups}
 use Rattle.bw_model.specs.Demand.{limiting_groups}
 use Rattle.bw_model.proofs.CallerLemmas.{range_more}
-use Rattle.bw_tree.specs.Groups.{TreeState}
+use Rattle.bw_tree.specs.Groups.{TreeState, GroupFields}
+use Rattle.bw_tree.specs.Snapshot.{instance_of, row_of}
 use Rattle.bw_commands.specs.GroupLines.{IsPathOf, ArePathsOf, group_lines}
 
 -- one row more
@@ -37,6 +41,16 @@ group_lines-push line (h ∷ gs) [] g path same = absurd (omega (arith, same))
 group_lines-push line (h ∷ gs) (p ∷ ps) g path same =
     ap (λ l. line h p ++ l) (group_lines-push line gs ps g path (omega (arith, same)))
     ∙ sym (append_assoc (line h p) (group_lines line gs ps) (line g path))
+
+-- a tree has as many groups as its instance has rows
+pub groups_are_rows : {tree same : TreeState} {groups : Groups} {shape : Shape} → tree ≡ same
+    → groups ≡ instance_of same shape → length (keys_of tree.groups) ≡ length groups.rows
+groups_are_rows {same = same} {shape = shape} equal are =
+    ap (λ (t : TreeState). length (keys_of t.groups)) equal
+    ∙ length-map same.groups (λ (e : ℕ × GroupFields). e.0)
+    ∙ sym (ap (λ (x : Groups). length x.rows) are
+    ∙ length-map (values_of same.groups) (row_of same.groups shape)
+    ∙ length-map same.groups (λ (e : ℕ × GroupFields). e.1))
 
 -- as many rows as were asked for
 pub rows-length : (a n : ℕ) → length (range_with_len a n) ≡ n

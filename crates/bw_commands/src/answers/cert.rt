@@ -22,13 +22,12 @@ pub fn put_certified<H: Threads + Sync>(
 ) -> Result<(), Fault>
     ensures { Answers (IsCertifiedPlan hierarchy.now) answer.old answer.new result }
 {
-    let snapshot = hierarchy.snapshot()?;
-    let instance = &snapshot.instance;
-    let gathered = gather_rows(alloc, instance)?;
-    let plan = plan_gathered(rt, alloc, instance, &gathered)?;
+    let instance = hierarchy.instance()?;
+    let gathered = gather_rows(alloc, &instance)?;
+    let plan = plan_gathered(rt, alloc, &instance, &gathered)?;
     let amounts = plan.amounts.as_slice();
-    let certificate = certify_gathered(alloc, instance, gathered, &plan)?;
-    let text = write_certified(alloc, instance, amounts, &certificate)?;
+    let certificate = certify_gathered(alloc, &instance, gathered, &plan)?;
+    let text = write_certified(alloc, &instance, amounts, &certificate)?;
     answer.extend_from_slice(text.as_bytes())?;
     Ok(())
 }

@@ -22,8 +22,8 @@ pub fn put_plan<H: Threads + Sync>(
 ) -> Result<(), Fault>
     ensures { Answers (IsPlanText hierarchy.now) answer.old answer.new result }
 {
-    let snapshot = hierarchy.snapshot()?;
-    let plan = plan_levels(rt, alloc, &snapshot.instance)?;
+    let instance = hierarchy.instance()?;
+    let plan = plan_levels(rt, alloc, &instance)?;
     let line = Line::Amount(plan.amounts.as_slice());
     put_lines(alloc, line, hierarchy.tree(), answer)?;
     Ok(())

@@ -15,7 +15,7 @@ use bw_demand::{Gathered, gather_rows, limiting};
 use bw_hierarchy::{Fault, Hierarchy};
 use bw_model::Instance;
 use bw_streams::{put_last_word, put_number, put_number_line};
-use bw_tree::{GroupId, Snapshot, Tree, TreeFault};
+use bw_tree::{Tree, TreeFault};
 use std::alloc::Global;
 
 /// Appends the answer to `total`: the greatest total, a line for each limiting group in order of
@@ -27,17 +27,13 @@ use std::alloc::Global;
 pub fn put_total(alloc: Global, hierarchy: &Hierarchy, answer: &mut Vec<u8>) -> Result<(), Fault>
     ensures { Answers (IsTotal hierarchy.now) answer.old answer.new result }
 {
-    let snapshot = hierarchy.snapshot()?;
-    let gathered = gather_rows(alloc, &snapshot.instance)?;
-    let limits = limiting(alloc, &snapshot.instance, &gathered)?;
-    let total = total_of(&snapshot.instance, &gathered);
+    let instance = hierarchy.instance()?;
+    let gathered = gather_rows(alloc, &instance)?;
+    let limits = limiting(alloc, &instance, &gathered)?;
+    let total = total_of(&instance, &gathered);
     put_number_line(b"total ", total, answer)?;
-    put_limits(
-        hierarchy.tree(),
-        &snapshot,
-        limits.groups.as_slice(),
-        answer,
-    )?;
+    let groups = limits.groups.as_slice();
+    put_limits(hierarchy.tree(), &instance, groups, answer)?;
     put_number_line(b"demand ", limits.rest, answer)?;
     Ok(())
 }
@@ -55,49 +51,46 @@ fn total_of(instance: &Instance, gathered: &Gathered) -> u64
 // Appends a line for each of these rows.
 fn put_limits(
     tree: &Tree,
-    snapshot: &Snapshot,
+    instance: &Instance,
     groups: &[u32],
     answer: &mut Vec<u8>,
 ) -> Result<(), Fault>
-    requires ids { snapshot.now.ids.items ≡ keys_of tree.now.groups }
-    requires each { length snapshot.now.ids.items ≡ length snapshot.now.instance.rows }
+    requires each { length (keys_of tree.now.groups) ≡ length instance.now.rows }
     requires within { (k : ℕ) → k < length groups.now
-        → slice_index groups.now k < length snapshot.now.instance.rows }
+        → slice_index groups.now k < length instance.now.rows }
     ensures ok { OnOk result ((paths : List (List ℕ)) × ArePathsOf tree.now groups.now paths
         × (answer.new.items ≡ answer.old.items
-        ++ limit_lines snapshot.now.instance groups.now paths)) }
+        ++ limit_lines instance.now groups.now paths)) }
     ensures err { IfErr result (λ fault. fault ≡ Fault.Tree TreeFault.OutOfMemory) }
     ensures room { vec_capacity answer.old ≤ vec_capacity answer.new }
 {
     for g in groups {
-        put_limit(tree, snapshot, *g, answer)?;
+        put_limit(tree, instance, *g, answer)?;
     }
     Ok(())
 }
 
 // Appends the line of one row.
-fn put_limit(tree: &Tree, snapshot: &Snapshot, g: u32, answer: &mut Vec<u8>) -> Result<(), Fault>
-    requires ids { snapshot.now.ids.items ≡ keys_of tree.now.groups }
-    requires each { length snapshot.now.ids.items ≡ length snapshot.now.instance.rows }
-    requires within { g < length snapshot.now.instance.rows }
+fn put_limit(tree: &Tree, instance: &Instance, g: u32, answer: &mut Vec<u8>) -> Result<(), Fault>
+    requires each { length (keys_of tree.now.groups) ≡ length instance.now.rows }
+    requires within { g < length instance.now.rows }
     ensures ok { OnOk result ((path : List ℕ) × IsPathOf tree.now g path
-        × (answer.new.items ≡ answer.old.items ++ limit_line snapshot.now.instance g path)) }
+        × (answer.new.items ≡ answer.old.items ++ limit_line instance.now g path)) }
     ensures err { IfErr result (λ fault. fault ≡ Fault.Tree TreeFault.OutOfMemory) }
     ensures room { vec_capacity answer.old ≤ vec_capacity answer.new }
 {
-    let path = path_of(tree, snapshot.ids.as_slice(), g as usize)?;
-    let limit = snapshot.instance.limit(g).unwrap_or(0);
+    let path = path_of(tree, g as usize)?;
+    let limit = instance.limit(g).unwrap_or(0);
     put_number(b"limit ", limit, answer)?;
     put_last_word(path.as_bytes(), answer)?;
     Ok(())
 }
 
 // The path of the group of a row.
-fn path_of(tree: &Tree, ids: &[GroupId], g: usize) -> Result<String, TreeFault>
-    requires ids { ids.now ≡ keys_of tree.now.groups }
-    requires within { g < length ids.now }
+fn path_of(tree: &Tree, g: usize) -> Result<String, TreeFault>
+    requires { g < length (keys_of tree.now.groups) }
     ensures path { IfOk result (λ path. IsPathOf tree.now g (string_bytes path)) }
     ensures err { IfErr result (λ fault. fault ≡ TreeFault.OutOfMemory) }
 {
-    tree.path_of(ids[g])
+    tree.path_of(tree.entry_of_row(g).id)
 }

@@ -1,44 +1,36 @@
 -- The goals of `put_plan` that are answered by hand.
-use Rattle.std.proofs.Common.{◌≡◌, ◌∙◌, ℕ, List, length, sym, ap, subst, arith}
+use Rattle.std.proofs.Common.{◌≡◌, ◌∙◌, length, sym, ap, subst, arith}
 use Rattle.std.specs.List.{range_with_len}
 use Rattle.std.specs.Map.{keys_of}
 use Rattle.std.proofs.lemmas.List.FromFn.{length-map-range_with_len}
 use Rattle.bw_model.specs.Allocation.{total}
 use Rattle.bw_model.specs.Groups.{Groups}
 use Rattle.bw_model.specs.Plan.{IsPlan}
-use Rattle.bw_tree.specs.Groups.{TreeState}
 use Rattle.bw_commands.specs.GroupLines.{ArePathsOf, group_lines}
 use Rattle.bw_commands.specs.Planned.{amount_line}
+use Rattle.bw_commands.proofs.Totals.{groups_are_rows}
 use Rattle.bw_commands.proofs.answers.plan.put_plan.Goals as goal
-
--- the tree that was read has as many groups as its snapshot has ids
-count_of_ids : {tree same : TreeState} {ids : List ℕ} {count : ℕ} → tree ≡ same
-    → ids ≡ keys_of same.groups → length ids ≡ count → length (keys_of tree.groups) ≡ count
-count_of_ids equal are count =
-    ap (λ (t : TreeState). length (keys_of t.groups)) equal ∙ sym (ap length are) ∙ count
 
 pub put_lines-requires : goal.put_lines-requires
 put_lines-requires g c =
-    let rows = c.in_ok-snapshot.snapshot.instance.rows in
+    let rows = c.in_ok-instance.instance.rows in
     let plan = c.in_ok-plan.ensures in
-    let made = c.in_ok-snapshot.ensures in
     let amounts : length c.as_slice.result.now ≡ length rows =
     ap length c.as_slice.ensures.value ∙ ap length plan.amounts_are
     ∙ length-map-range_with_len (total rows plan.allocation) 0 (length rows) in
     let ids : length (keys_of c.tree.result.now.groups) ≡ length rows =
-    count_of_ids c.tree.ensures made.ids made.count.0 in
+    groups_are_rows c.tree.ensures c.in_ok-instance.ensures.rows in
     λ k lt. omega (arith, lt, amounts, ids)
 
 pub returns : goal.returns
 returns g c =
     let tree = c.args.hierarchy.now.tree in
-    let instance = c.in_ok-snapshot.snapshot.instance in
-    let made = c.in_ok-snapshot.ensures in
+    let instance = c.in_ok-instance.instance in
+    let made = c.in_ok-instance.ensures in
     let put = c.in_ok-put_lines.ensures.ok in
     let amounts = c.as_slice.result.now in
     let ids = keys_of c.tree.result.now.groups in
-    let count : length ids ≡ length instance.rows =
-    count_of_ids c.tree.ensures made.ids made.count.0 in
+    let count : length ids ≡ length instance.rows = groups_are_rows c.tree.ensures made.rows in
     let rows = count ∙ ap (λ (x : Groups). length x.rows) made.rows in
     record {
       ok = (

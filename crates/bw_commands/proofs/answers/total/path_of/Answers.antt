@@ -1,6 +1,5 @@
 -- The goals of `path_of` that are answered by hand.
-use Rattle.std.proofs.Common.{◌≡◌, ◌<◌, true, cond, not, get_or, length, Some, None, arith, ap, ◌∙◌}
-use Rattle.std.specs.Map.{keys_of}
+use Rattle.std.proofs.Common.{◌≡◌, true, cond, not, Some, None, ap, ◌∙◌}
 use Rattle.bw_tree.specs.Groups.{has_group}
 use Rattle.bw_tree.specs.Tree.{IsRefused, path_refusal}
 use Rattle.bw_tree.specs.declared.fault.TreeFault.{TreeFault}
@@ -13,12 +12,10 @@ use Rattle.bw_commands.proofs.answers.total.path_of.Goals as goal
 pub returns-clause-err : goal.returns-clause-err
 returns-clause-err c =
     let t = c.args.tree.now in
-    let id = get_or c.args.ids.now c.args.g 0 in
-    let lt : c.args.g < length (keys_of t.groups) =
-    omega (arith, c.requires.within, ap length c.requires.ids) in
+    let id = c.entry_of_row.result.id in
     let there : has_group t.groups id ≡ true =
-    ap (λ ids. has_group t.groups (get_or ids c.args.g 0)) c.requires.ids
-    ∙ row_has_group t.groups c.args.g lt in
+    ap (has_group t.groups) c.entry_of_row.ensures.id
+    ∙ row_has_group t.groups c.args.g c.requires in
     let none : path_refusal t id ≡ None = ap (λ b. cond (not b) (Some NotFound) None) there in
     IfErr-weaker c.path_of.result (IsRefused (path_refusal t id))
     (λ (fault : TreeFault). fault ≡ OutOfMemory)

@@ -9,6 +9,6 @@ abbrev pub invariant-loop-g : goal.invariant-loop-g
 invariant-loop-g l = record {
   taken : (paths : List (List ℕ)) × ArePathsOf l.tree (take l.g-index l.groups) paths
       × (l.answer.items ≡ l.initial.answer.items
-      ++ limit_lines l.snapshot.instance (take l.g-index l.groups) paths);
+      ++ limit_lines l.instance (take l.g-index l.groups) paths);
   room : vec_capacity l.initial.answer ≤ vec_capacity l.answer;
 }
