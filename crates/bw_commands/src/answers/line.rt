@@ -52,8 +52,8 @@ pub fn put_lines(
         let start = answer.len();
         put_path(answer, spans.as_slice(), group.parent, group.name)?;
         let end = answer.len();
-        spans.push_reserved(Span { start, end });
         answer.push(b'\n')?;
+        spans.push_reserved(Span { start, end });
     }
     Ok(())
 }

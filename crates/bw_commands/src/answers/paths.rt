@@ -43,21 +43,24 @@ fn put_below(text: &mut Vec<u8>, above: Span, name: &str) -> Result<(), AllocErr
         (text.new.items ≡ text.old.items ++ (cut text.old.items above ++ 47 ∷ name.now)) }
     ensures room { vec_capacity text.old ≤ vec_capacity text.new }
 {
-    put_again(text, above)?;
-    text.push(b'/')?;
+    put_front(text, above)?;
     text.extend_from_slice(name.as_bytes())?;
     Ok(())
 }
 
-// Appends a part of the text once more. `extend_from_within` would go byte by byte.
-fn put_again(text: &mut Vec<u8>, part: Span) -> Result<(), AllocError>
+// Appends a part of the text once more, and `/`. `extend_from_within` would go byte by byte.
+fn put_front(text: &mut Vec<u8>, part: Span) -> Result<(), AllocError>
     requires { AreWithin (length text.old.items) (part ∷ []) }
-    ensures ok { OnOk result (text.new.items ≡ text.old.items ++ cut text.old.items part) }
+    ensures ok { OnOk result
+        (text.new.items ≡ text.old.items ++ (cut text.old.items part ++ 47 ∷ [])) }
     ensures room { vec_capacity text.old ≤ vec_capacity text.new }
 {
     let at = text.len();
-    text.resize(at + (part.end - part.start), 0)?;
-    let (written, copy) = text.as_mut_slice().split_at_mut(at);
+    let bytes = part.end - part.start;
+    // the last byte stays `/`
+    text.resize(at + bytes + 1, b'/')?;
+    let (written, front) = text.as_mut_slice().split_at_mut(at);
+    let (copy, _) = front.split_at_mut(bytes);
     copy.copy_from_slice(&written[part.start..part.end]);
     Ok(())
 }
