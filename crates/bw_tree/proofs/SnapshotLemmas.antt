@@ -1,7 +1,7 @@
 -- The rows of a tree are an instance.
-use Rattle.std.proofs.Common.{◌≡◌, ◌⊎◌, inl, inr, ℕ, suc, zero, ◌+◌, ◌<◌, ◌≤◌, Bool, true, false, cond}
+use Rattle.std.proofs.Common.{◌≡◌, ◌⊎◌, inl, inr, ℕ, suc, zero, ◌+◌, ◌<◌, ◌≤◌, Bool, true, false}
 use Rattle.std.proofs.Common.{map, subst, ◌==◌, ◌||◌, ◌&&◌, not, List, [], ◌∷◌, length}
-use Rattle.std.proofs.Common.{get_or, Option}
+use Rattle.std.proofs.Common.{cond, get_or, Option}
 use Rattle.std.proofs.Common.{Some, None, is_some, refl, sym, ap, ◌∙◌, arith, eqb, ltb, position}
 use Rattle.std.proofs.Common.{zero-add}
 use Rattle.std.proofs.lemmas.Bool.{eq-eqb, ne_eqb, eqb-true, lt-ltb, le-ltb, cases_order, cases_lt}

@@ -1,6 +1,6 @@
 -- The goals of `Tree::row_at` that are answered by hand.
-use Rattle.std.proofs.Common.{◌≡◌, ◌<◌, ℕ, Option, Some, None, true, length, get_or, rules, refl, sym}
-use Rattle.std.proofs.Common.{ap, subst, ◌∙◌}
+use Rattle.std.proofs.Common.{◌≡◌, ◌<◌, ℕ, Option, Some, None, true, length, get_or, rules, refl}
+use Rattle.std.proofs.Common.{sym, ap, subst, ◌∙◌}
 use Rattle.std.specs.Prelude.{IfSome}
 use Rattle.bw_model.specs.Groups.{no_row}
 use Rattle.bw_model.specs.declared.row.Row.{Row}
