@@ -2,6 +2,7 @@
 mod Faults
 mod Refusals
 mod Words
+mod Marks
 mod Totals
 mod Within
 mod PathLists

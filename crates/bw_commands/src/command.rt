@@ -5,6 +5,7 @@ ghost use Rattle.bw_commands.specs.Command.{command_of_form, command_of_words};
 ghost use Rattle.bw_commands.specs.Parsed.{meaning_of, request_of};
 
 use crate::fault::ScriptFault;
+use crate::marked::{LEAST_MARKED, MOST_MARKED, Marked};
 use crate::word::split_word;
 
 /// Maximum length of a line in bytes. A longer line is refused.
@@ -93,8 +94,30 @@ impl<'a> Command<'a> {
     }
 
     // The command that the words of a line name.
-    #[tactic(auto, unfolding(crate::specs::Command::command_of_line))]
     fn parse(line: &'a str) -> Result<Command<'a>, ScriptFault>
+        ensures { request_of result ≡ command_of_line line.now }
+    {
+        if LEAST_MARKED <= line.len() && line.len() <= MOST_MARKED {
+            return Command::of_marked(Marked::new(line));
+        }
+        Command::of_any(line)
+    }
+
+    // The command that the words of a line name whose blanks are marked.
+    #[tactic(auto, unfolding(crate::specs::Command::command_of_line))]
+    fn of_marked(line: Marked<'a>) -> Result<Command<'a>, ScriptFault>
+        ensures { request_of result ≡ command_of_line line.entry.text.now }
+    {
+        let (verb, rest) = line.split_word();
+        let (first, rest) = rest.split_word();
+        let (second, text) = rest.split_word();
+        let (third, _) = text.split_word();
+        of_words(verb, first, second, third, text.text())
+    }
+
+    // The command that the words of a line of any length name.
+    #[tactic(auto, unfolding(crate::specs::Command::command_of_line))]
+    fn of_any(line: &'a str) -> Result<Command<'a>, ScriptFault>
         ensures { request_of result ≡ command_of_line line.now }
     {
         let (verb, rest) = split_word(line);

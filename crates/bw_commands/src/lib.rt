@@ -5,6 +5,7 @@
 mod answers;
 mod command;
 mod fault;
+mod marked;
 mod refusal;
 mod script_state;
 mod span;

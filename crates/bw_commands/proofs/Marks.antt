@@ -1,0 +1,164 @@
+-- The blanks of a text as the bits of a number.
+use Rattle.std.proofs.Common.{◌≡◌, ℕ, zero, suc, ◌+◌, ◌-◌, ◌*◌, ◌/◌, ◌%◌, ◌^◌, ◌≤◌, ◌<◌, ◌++◌, cond}
+use Rattle.std.proofs.Common.{List, [], ◌∷◌, Bool, true, false, not, map, length, take, drop, get_or}
+use Rattle.std.proofs.Common.{refl, sym, ap, ap₂, ◌∙◌, arith, inl, inr, subst, eqb, ◌||◌, replicate}
+use Rattle.std.proofs.Math.ListN.{get_or-eq_default}
+use Rattle.std.proofs.Math.Nat.{pow-succ'}
+use Rattle.std.proofs.lemmas.Nat.{shr-shr, div-mul-add, pow_below, or_shifted, shl_whole}
+use Rattle.std.proofs.lemmas.Nat.Bits.{bit_at-trailing_ones}
+use Rattle.std.proofs.lemmas.Bool.{cases_Bool, cases_lt}
+use Rattle.std.proofs.lemmas.List.{length-map, get_or-map, take-append-drop, take_all, drop-drop}
+use Rattle.std.proofs.lemmas.List.{drop-map, take-map, length-take, length-drop}
+use Rattle.std.proofs.lemmas.List.Sums.{position_or_len_is}
+use Rattle.std.proofs.lemmas.Simd.{bit_mask_l, mask_l-lt, mask_l-mod, map-map, zip2_splat}
+use Rattle.std.proofs.lemmas.Simd.{zip2_of_maps, leading_from_mask_l, trailing_mask_l}
+use lib.Count.{count_trailing_zeros}
+use Rattle.std.specs.Int.{w64, trailing_ones, bit_at}
+use Rattle.std.specs.List.{position_or_len}
+use Rattle.std.specs.Prelude.{bit_or}
+use Rattle.std.specs.Simd.Lanes.{mask_l, chunk, top, zip2}
+use Rattle.bw_commands.specs.Word.{is_blank, blanks_of, blank_len_of, word_len_of}
+use Rattle.bw_commands.proofs.Words.{position_or_len_is_word}
+
+one_below : (b : Bool) → cond b 1 0 < 2
+one_below true = omega arith
+one_below false = omega arith
+
+halved : (b : Bool) (m : ℕ) → (cond b 1 0 + 2 * m) / 2 ≡ m
+halved b m =
+    let turned : cond b 1 0 + 2 * m ≡ m * 2 + cond b 1 0 = omega arith in
+    ap (λ n. n / 2) turned ∙ div-mul-add m 2 (cond b 1 0) (one_below b)
+
+-- the places from k on, as the number without its low bits
+pub mask_l-drop : (k : ℕ) (bs : List Bool) → mask_l bs / 2 ^ k ≡ mask_l (drop k bs)
+mask_l-drop zero bs = omega arith
+mask_l-drop (suc k) [] = omega arith
+mask_l-drop (suc k) (b ∷ bs) =
+    let more : 1 + k ≡ suc k = omega arith in
+    ap (λ j. (cond b 1 0 + 2 * mask_l bs) / 2 ^ j) (sym more)
+    ∙ sym (shr-shr (cond b 1 0 + 2 * mask_l bs) 1 k)
+    ∙ ap (λ n. n / 2 ^ k) (halved b (mask_l bs)) ∙ mask_l-drop k bs
+
+-- the places of two lists, one behind the other
+pub mask_l-append : (xs ys : List Bool)
+    → mask_l (xs ++ ys) ≡ mask_l ys * 2 ^ length xs + mask_l xs
+mask_l-append [] ys = omega arith
+mask_l-append (x ∷ xs) ys =
+    let more : mask_l (xs ++ ys) ≡ mask_l ys * 2 ^ length xs + mask_l xs = mask_l-append xs ys in
+    omega (arith, more, ap (λ n. mask_l ys * n) (pow-succ' 2 (length xs)))
+
+-- from the places of the first w and the last w bytes, which may overlap, those of the whole text
+pub mask_of_two : (p : ℕ → Bool) (xs : List ℕ) (w n i k : ℕ) → length xs ≡ n → w ≤ n → i + w ≡ n
+    → k + n ≡ w + w → w + w ≤ 64
+    → bit_or (mask_l (map p (chunk i w xs)) / 2 ^ k * 2 ^ w % 2 ^ 64) (mask_l (map p (chunk 0 w xs)))
+    ≡ mask_l (map p xs)
+mask_of_two p xs w n i k long most last rest wide =
+    let bs = map p xs in
+    let long_bs : length bs ≡ n = length-map xs p ∙ long in
+    let end : take w (drop i xs) ≡ drop i xs =
+    take_all w (drop i xs) (omega (arith, length-drop i xs, long, last)) in
+    let behind : mask_l (map p (chunk i w xs)) / 2 ^ k ≡ mask_l (drop w bs) =
+    ap (λ ys. mask_l (map p ys) / 2 ^ k) end ∙ ap (λ l. mask_l l / 2 ^ k) (sym (drop-map p i xs))
+    ∙ mask_l-drop k (drop i bs)
+    ∙ ap mask_l (drop-drop k i bs ∙ ap (λ j. drop j bs) (let at : i + k ≡ w = omega arith in at)) in
+    let front : mask_l (map p (chunk 0 w xs)) ≡ mask_l (take w bs) =
+    ap mask_l (sym (take-map p w xs)) in
+    let room : length (take w bs) ≡ w = omega (arith, length-take w bs, long_bs) in
+    let low : mask_l (take w bs) < 2 ^ w =
+    subst (λ j. mask_l (take w bs) < 2 ^ j) room (mask_l-lt (take w bs)) in
+    let few : length (drop w bs) + w ≤ 64 = omega (arith, length-drop w bs, long_bs) in
+    let whole : mask_l (drop w bs) * 2 ^ w % 2 ^ 64 ≡ mask_l (drop w bs) * 2 ^ w =
+    shl_whole (mask_l (drop w bs)) (length (drop w bs)) w 64 (mask_l-lt (drop w bs)) few in
+    rw (behind, front, whole) (or_shifted (mask_l (drop w bs)) w (mask_l (take w bs)) low
+    ∙ ap (λ j. mask_l (drop w bs) * 2 ^ j + mask_l (take w bs)) (sym room)
+    ∙ sym (mask_l-append (take w bs) (drop w bs)) ∙ ap mask_l (take-append-drop w bs))
+
+-- ---- from the places to the first byte
+
+false_of : (b : Bool) → ◌≡◌ {A = ℕ} (cond b 1 0) 0 → b ≡ false
+false_of true e = absurd (let clash : ⊥ = omega (arith, e) in clash)
+false_of false e = refl
+
+true_of : (b : Bool) → ◌≡◌ {A = ℕ} (cond b 1 0) 1 → b ≡ true
+true_of true e = refl
+true_of false e = absurd (let clash : ⊥ = omega (arith, e) in clash)
+
+differ : false ≡ true → ⊥
+differ e = cc
+
+-- the number of ones below the lowest zero is the number of bytes before the first that fails
+pub trailing_ones-mask : (p : ℕ → Bool) (xs : List ℕ) → length xs < 64
+    → trailing_ones w64 (mask_l (map p xs)) ≡ position_or_len (λ b. not (p b)) xs
+trailing_ones-mask p xs short =
+    let bs = map p xs in
+    let m = mask_l bs in
+    let at = trailing_ones w64 m in
+    let long = length-map xs p in
+    let bound : m < 2 ^ length xs = subst (λ j. m < 2 ^ j) long (mask_l-lt bs) in
+    let low = bit_at-trailing_ones w64 m (omega (arith, bound, pow_below (length xs) 64 short)) in
+    let is_false : get_or bs at false ≡ false =
+    false_of (get_or bs at false) (sym (bit_mask_l bs at) ∙ low.1) in
+    let are_true : (k : ℕ) → k < at → get_or bs k false ≡ true =
+    λ k lt. true_of (get_or bs k false) (sym (bit_mask_l bs k) ∙ low.2 k lt) in
+    let within : at ≤ length xs = elim (cases_lt (length xs) at) [
+      | inl past ↦ absurd (differ (sym (get_or-eq_default bs false (omega (arith, long)))
+          ∙ are_true (length xs) past))
+      | inr le ↦ le
+    ] in
+    sym (position_or_len_is (λ b. not (p b)) xs at 0 within
+    (λ k lt. ap not (sym (get_or-map p xs k 0 false (omega (arith, lt, within))) ∙ are_true k lt))
+    (λ lt. ap not (sym (get_or-map p xs at 0 false lt) ∙ is_false)))
+
+-- ---- the blanks of one load
+
+abbrev lane : ℕ → ℕ → ℕ
+lane byte x = cond (eqb x byte) 255 0
+
+both_lanes : (a b : Bool) → top 7 (bit_or (cond a 255 0) (cond b 255 0)) ≡ (a || b)
+both_lanes true true = refl
+both_lanes true false = refl
+both_lanes false true = refl
+both_lanes false false = refl
+
+tops : (v : List ℕ) → map (λ x. top 7 (bit_or (lane 32 x) (lane 9 x))) v ≡ map is_blank v
+tops [] = refl
+tops (x ∷ v) = ap₂ (λ (t : Bool) ts. t ∷ ts) (both_lanes (eqb x 32) (eqb x 9)) (tops v)
+
+-- the mask of the lanes that are blanks
+pub mask_of_blanks : (v : List ℕ) (n : ℕ) → length v ≡ n → n ≤ 64
+    → mask_l (map (top 7) (zip2 bit_or
+    (zip2 (λ a b. cond (eqb a b) 255 0) v (replicate n 32))
+    (zip2 (λ a b. cond (eqb a b) 255 0) v (replicate n 9)))) % 2 ^ 64
+    ≡ mask_l (map is_blank v)
+mask_of_blanks v n long few =
+    let lanes = zip2_of_maps bit_or (lane 32) (lane 9) v
+    (zip2_splat (λ a b. cond (eqb a b) 255 0) v n 32 long)
+    (zip2_splat (λ a b. cond (eqb a b) 255 0) v n 9 long) in
+    ap (λ l. mask_l l % 2 ^ 64) (ap (map (top 7)) lanes
+    ∙ map-map (top 7) (λ x. bit_or (lane 32 x) (lane 9 x)) v ∙ tops v)
+    ∙ mask_l-mod (map is_blank v) 64 (omega (arith, length-map v is_blank, long))
+
+-- the number of bytes before the first blank, from the places of the blanks
+pub word_len_of_none : (text : List ℕ) (blanks : ℕ) → blanks ≡ blanks_of text → blanks ≡ 0
+    → length text ≡ word_len_of text
+word_len_of_none text blanks is none =
+    sym (leading_from_mask_l is_blank text (sym is ∙ none)) ∙ position_or_len_is_word is_blank text
+
+pub word_len_of_some : (text : List ℕ) (blanks : ℕ) → blanks ≡ blanks_of text → 0 < blanks
+    → length text ≤ 64 → count_trailing_zeros 64 blanks ≡ word_len_of text
+word_len_of_some text blanks is some short =
+    ap (count_trailing_zeros 64) is
+    ∙ trailing_mask_l is_blank 64 text short (subst (λ n. 0 < n) is some)
+    ∙ position_or_len_is_word is_blank text
+
+-- the number of blanks before the first word
+pub blank_len_of_marks : (text : List ℕ) (blanks : ℕ) → blanks ≡ blanks_of text
+    → length text < 64 → trailing_ones w64 blanks ≡ blank_len_of text
+blank_len_of_marks text blanks is short =
+    ap (trailing_ones w64) is ∙ trailing_ones-mask is_blank text short
+    ∙ position_or_len_is_word (λ b. not (is_blank b)) text
+
+-- the places of the blanks from a byte on
+pub blanks_of-drop : (k : ℕ) (text : List ℕ) → blanks_of text / 2 ^ k ≡ blanks_of (drop k text)
+blanks_of-drop k text =
+    mask_l-drop k (map is_blank text) ∙ ap mask_l (drop-map is_blank k text)
