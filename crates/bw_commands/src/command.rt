@@ -84,6 +84,7 @@ impl<'a> Command<'a> {
     /// # Errors
     ///
     /// The first that applies: `LineTooLong`, `BadCommand`.
+    #[inline(always)]
     pub fn of_text(line: &'a str) -> Result<Command<'a>, ScriptFault>
         ensures { request_of result ≡ request_of_kept (kept_of line.now) }
     {
@@ -94,6 +95,7 @@ impl<'a> Command<'a> {
     }
 
     // The command that the words of a line name.
+    #[inline(always)]
     fn parse(line: &'a str) -> Result<Command<'a>, ScriptFault>
         ensures { request_of result ≡ command_of_line line.now }
     {
@@ -105,6 +107,7 @@ impl<'a> Command<'a> {
 
     // The command that the words of a line name whose blanks are marked.
     #[tactic(auto, unfolding(crate::specs::Command::command_of_line))]
+    #[inline(always)]
     fn of_marked(line: Marked<'a>) -> Result<Command<'a>, ScriptFault>
         ensures { request_of result ≡ command_of_line line.entry.text.now }
     {
@@ -117,6 +120,7 @@ impl<'a> Command<'a> {
 
     // The command that the words of a line of any length name.
     #[tactic(auto, unfolding(crate::specs::Command::command_of_line))]
+    #[inline(never)]
     fn of_any(line: &'a str) -> Result<Command<'a>, ScriptFault>
         ensures { request_of result ≡ command_of_line line.now }
     {
@@ -130,6 +134,7 @@ impl<'a> Command<'a> {
 
 // The command of at most four words, and the text behind the third. An absent word is empty.
 #[tactic(auto, unfolding(crate::specs::Command::command_of_words))]
+#[inline(always)]
 fn of_words<'a>(
     verb: &str,
     first: &'a str,
@@ -153,6 +158,7 @@ fn of_words<'a>(
 }
 
 // The number of words behind the first, 0 to 3, where 3 is three or more.
+#[inline(always)]
 fn words_behind(first: &str, second: &str, third: &str) -> usize
     ensures { result ≡ words_behind first.now second.now third.now }
 {
@@ -169,6 +175,7 @@ fn words_behind(first: &str, second: &str, third: &str) -> usize
 
 // The command of a first word with `count` words behind it: the table of commands.
 #[tactic(auto, unfolding(crate::specs::Command::forms))]
+#[inline(always)]
 fn of_verb<'a>(
     verb: &str,
     count: usize,

@@ -1,5 +1,5 @@
 //! The state of a script, and what each command does to it.
-ghost use Rattle.std.specs.Prelude.{◌≡◌, ◌≤◌, [], IfOk, IfErr};
+ghost use Rattle.std.specs.Prelude.{◌≡◌, ◌≤◌, [], IfOk, IfErr, MatchOption};
 ghost use Rattle.bw_tree.specs.declared.fault.TreeFault.TheVariants.{OutOfMemory};
 ghost use Rattle.bw_hierarchy.specs.declared.fault.Fault.TheVariants.{Tree};
 ghost use Rattle.std.specs.Vec.{vec_capacity};
@@ -117,6 +117,28 @@ impl<'a, G: Gate> Script<'a, G> {
             (state_of G.used self.new) }
     {
         Ok(self.hierarchy.write_file(path, file, text.as_bytes())?)
+    }
+
+    /// Makes the change of a `mkdir`, `rmdir`, `demand` or `write`, whose answer is `ok`. For any
+    /// other command it is `None`, and nothing is changed.
+    ///
+    /// # Errors
+    ///
+    /// The refusal of the line; it changes nothing.
+    #[inline(always)]
+    pub fn change(&mut self, command: Command<'_>) -> Option<Result<(), ScriptFault>>
+        ensures { MatchOption result (state_of G.used self.new ≡ state_of G.used self.old)
+            (λ done. Performs (state_of G.used self.old)
+            (outcome_of_command (state_of G.used self.old) (meaning_of command.entry))
+            done ok_line (state_of G.used self.new)) }
+    {
+        match command {
+            Command::Mkdir { path } => Some(self.mkdir(path)),
+            Command::Rmdir { path } => Some(self.rmdir(path)),
+            Command::Demand { path, number } => Some(self.demand(path, number)),
+            Command::Write { path, file, text } => Some(self.write(path, file, text)),
+            _ => None,
+        }
     }
 
     /// Forms the whole answer to a command in an empty buffer, and then makes its change.

@@ -1,5 +1,5 @@
 //! Answers whole lines of a script.
-ghost use Rattle.std.specs.Prelude.{◌≡◌, ◌≤◌, ◌||◌, not, [], Ok, true, OnOk};
+ghost use Rattle.std.specs.Prelude.{◌≡◌, ◌≤◌, ◌||◌, not, [], Ok, true, OnOk, MatchOption};
 ghost use Rattle.std.specs.Vec.{vec_capacity};
 ghost use Rattle.bw_commands.specs.Command.{Period};
 ghost use Rattle.bw_commands.specs.Parsed.{request_of};
@@ -23,6 +23,7 @@ use std::sync::Wait;
 use std::thread::Threads;
 
 // The command that a line asks for, or the refusal of the line.
+#[inline(always)]
 fn command_of(line: Piece<'_>) -> Result<Command<'_>, ScriptFault>
     ensures { request_of result ≡ request_of_kept (kept_of (bytes_of line.entry)) }
 {
@@ -85,13 +86,15 @@ pub struct Responder<'a, G> {
 }
 
 impl<'a, G: Gate> Responder<'a, G> {
-    ghost use Rattle.std.specs.Prelude.{◌≡◌, [], IfOk, OnOk, true};
+    ghost use Rattle.std.specs.Prelude.{◌≡◌, [], IfOk, OnOk, true, MatchOption};
+    ghost use Rattle.bw_commands.specs.Faults.{error_line};
     ghost use Rattle.bw_commands.specs.Parsed.{request_of};
     ghost use Rattle.bw_commands.specs.Script.{outcome_of_request, IsAnswer, IsOutcome};
+    ghost use Rattle.bw_commands.specs.Script.{Performs, ok_line};
     ghost use Rattle.bw_commands.specs.State.{State, start};
     ghost use Rattle.bw_shell.specs.Gathers.{Gathers};
     ghost use Rattle.bw_shell.specs.Piece.{bytes_of};
-    ghost use Rattle.bw_shell.specs.Responder.{responder_state, responder_waits};
+    ghost use Rattle.bw_shell.specs.Responder.{responder_state, responder_waits, change_text};
     ghost use Rattle.bw_streams.specs.Watched.{is_flushed, HasNoFault};
     ghost use Rattle.bw_streams.specs.Writes.{Writes};
 
@@ -141,6 +144,92 @@ impl<'a, G: Gate> Responder<'a, G> {
         }
     }
 
+    // Makes the change that a request asks for, if its answer is `ok` or a refusal. Any other
+    // request is left to be answered.
+    #[inline(always)]
+    fn change(&mut self, asked: Result<Command<'_>, ScriptFault>) -> Option<Result<(), ScriptFault>>
+        ensures done { MatchOption result
+            (responder_state G.used self.new ≡ responder_state G.used self.old)
+            (λ done. Performs (responder_state G.used self.old)
+            (outcome_of_request (responder_state G.used self.old) (request_of asked.entry))
+            done ok_line (responder_state G.used self.new)) }
+        ensures waits { responder_waits self.new ≡ responder_waits self.old }
+    {
+        match asked {
+            Ok(command) => self.script.change(command),
+            Err(fault) => Some(Err(fault)),
+        }
+    }
+
+    // Puts the answer to a change behind those that wait.
+    #[inline(always)]
+    fn answer_change<W: Write>(
+        &mut self,
+        done: Result<(), ScriptFault>,
+        writer: &mut Watched<W>,
+    ) -> Result<(), RunFault>
+        requires { HasNoFault writer.old }
+        ensures gathers { Gathers W.contents writer.old writer.new (responder_waits self.old)
+            (responder_waits self.new) result
+            (λ text. text ≡ change_text done) (λ text. text ≡ change_text done) }
+        ensures state { responder_state G.used self.new ≡ responder_state G.used self.old }
+    {
+        match done {
+            Ok(()) => gather(writer, &mut self.waiting, b"ok\n"),
+            Err(fault) => self.refuse(fault, writer),
+        }
+    }
+
+    // Puts a refusal behind the answers that wait.
+    #[inline(never)]
+    fn refuse<W: Write>(
+        &mut self,
+        fault: ScriptFault,
+        writer: &mut Watched<W>,
+    ) -> Result<(), RunFault>
+        requires { HasNoFault writer.old }
+        ensures gathers { Gathers W.contents writer.old writer.new (responder_waits self.old)
+            (responder_waits self.new) result
+            (λ text. text ≡ error_line fault) (λ text. text ≡ error_line fault) }
+        ensures state { responder_state G.used self.new ≡ responder_state G.used self.old }
+    {
+        self.answer.clear();
+        put_error(&mut self.answer, fault);
+        gather(writer, &mut self.waiting, self.answer.as_slice())
+    }
+
+    // Puts the answer to a request behind those that wait. Before one that may take long, these
+    // are written and the writer is flushed.
+    fn answer<H: Threads + Wait + Clock + Sync, W: Write>(
+        &mut self,
+        rt: &H,
+        asked: Result<Command<'_>, ScriptFault>,
+        writer: &mut Watched<W>,
+    ) -> Result<(), RunFault>
+        requires { HasNoFault writer.old }
+        ensures { Gathers W.contents writer.old writer.new (responder_waits self.old)
+            (responder_waits self.new) result
+            (λ answer. IsOutcome (responder_state G.used self.old)
+            (outcome_of_request (responder_state G.used self.old) (request_of asked.entry)) answer
+            (responder_state G.used self.new))
+            (λ answer. (t : State) × IsOutcome (responder_state G.used self.old)
+            (outcome_of_request (responder_state G.used self.old) (request_of asked.entry)) answer
+            t) }
+    {
+        match flush_before(asked, writer, &mut self.waiting) {
+            Ok(()) => {}
+            Err(fault) => return Err(fault),
+        }
+        // no answer waits while a period is served
+        let ready = may_begin(
+            takes_long(asked),
+            self.waiting.is_empty() && writer.flushed(),
+        );
+        prove!(ready);
+        self.perform(rt, asked);
+        gather(writer, &mut self.waiting, self.answer.as_slice())
+    }
+
     /// Puts the answer to a line behind those that wait. Before a line that may take long, these
     /// are written and the writer is flushed.
     ///
@@ -162,18 +251,10 @@ impl<'a, G: Gate> Responder<'a, G> {
             × IsAnswer (responder_state G.used self.old) (bytes_of line.entry) answer t) }
     {
         let asked = command_of(line);
-        match flush_before(asked, writer, &mut self.waiting) {
-            Ok(()) => {}
-            Err(fault) => return Err(fault),
+        match self.change(asked) {
+            Some(done) => self.answer_change(done, writer),
+            None => self.answer(rt, asked, writer),
         }
-        // no answer waits while a period is served
-        let ready = may_begin(
-            takes_long(asked),
-            self.waiting.is_empty() && writer.flushed(),
-        );
-        prove!(ready);
-        self.perform(rt, asked);
-        gather(writer, &mut self.waiting, self.answer.as_slice())
     }
 
     /// Writes the answers that wait, and flushes the writer.

@@ -16,6 +16,7 @@ pub(crate) const WAITING_BYTES: usize = 65536;
 /// # Errors
 ///
 /// `Write` if a write failed or took no bytes.
+#[inline(always)]
 pub(crate) fn gather<W: Write>(
     writer: &mut Watched<W>,
     waiting: &mut Vec<u8>,
@@ -29,6 +30,20 @@ pub(crate) fn gather<W: Write>(
         put(waiting, text);
         return Ok(());
     }
+    send_both(writer, waiting, text)
+}
+
+// Writes what waits, and a text behind it.
+#[inline(never)]
+fn send_both<W: Write>(
+    writer: &mut Watched<W>,
+    waiting: &mut Vec<u8>,
+    text: &[u8],
+) -> Result<(), RunFault>
+    requires { HasNoFault writer.old }
+    ensures { Gathers W.contents writer.old writer.new waiting.old.items waiting.new.items result
+        (λ t. t ≡ text.now) (λ t. t ≡ text.now) }
+{
     match send_waiting(writer, waiting) {
         Ok(()) => send(writer, text),
         Err(fault) => Err(fault),

@@ -1,7 +1,7 @@
--- The goals of `gather` that are answered by hand.
+-- The goals of `send_both` that are answered by hand.
 use Rattle.std.proofs.Common.{refl}
 use Rattle.bw_shell.proofs.Gathered.{Writes-gathered, Writes-waiting}
-use Rattle.bw_shell.proofs.waiting.gather.Goals as goal
+use Rattle.bw_shell.proofs.waiting.send_both.Goals as goal
 
 pub returns-in-Ok : goal.returns-in-Ok
 returns-in-Ok g c =
