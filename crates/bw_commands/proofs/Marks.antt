@@ -6,14 +6,14 @@ use Rattle.std.proofs.Math.ListN.{get_or-eq_default}
 use Rattle.std.proofs.Math.Nat.{pow-succ'}
 use Rattle.std.proofs.lemmas.Nat.{shr-shr, div-mul-add, pow_below, or_shifted, shl_whole}
 use Rattle.std.proofs.lemmas.Nat.Bits.{bit_at-trailing_ones}
-use Rattle.std.proofs.lemmas.Bool.{cases_Bool, cases_lt}
+use Rattle.std.proofs.lemmas.Bool.{cases_lt}
 use Rattle.std.proofs.lemmas.List.{length-map, get_or-map, take-append-drop, take_all, drop-drop}
 use Rattle.std.proofs.lemmas.List.{drop-map, take-map, length-take, length-drop}
 use Rattle.std.proofs.lemmas.List.Sums.{position_or_len_is}
 use Rattle.std.proofs.lemmas.Simd.{bit_mask_l, mask_l-lt, mask_l-mod, map-map, zip2_splat}
 use Rattle.std.proofs.lemmas.Simd.{zip2_of_maps, leading_from_mask_l, trailing_mask_l}
 use lib.Count.{count_trailing_zeros}
-use Rattle.std.specs.Int.{w64, trailing_ones, bit_at}
+use Rattle.std.specs.Int.{w64, trailing_ones}
 use Rattle.std.specs.List.{position_or_len}
 use Rattle.std.specs.Prelude.{bit_or}
 use Rattle.std.specs.Simd.Lanes.{mask_l, chunk, top, zip2}

@@ -1,5 +1,6 @@
 //! The command that a line of a script names.
 ghost use Rattle.std.specs.Prelude.{◌≡◌, Some};
+ghost use Rattle.std.specs.Str.{bytes_eq};
 ghost use Rattle.bw_commands.specs.Command.{form, form_named, forms, words_behind};
 ghost use Rattle.bw_commands.specs.Command.{command_of_form, command_of_words};
 ghost use Rattle.bw_commands.specs.Parsed.{meaning_of, request_of};
@@ -186,22 +187,63 @@ fn of_verb<'a>(
     ensures { request_of result
         ≡ command_of_form count (form_named verb.now (forms path.now word.now text.now)) }
 {
-    match verb {
-        "mkdir" => counted(count, 1, 1, Command::Mkdir { path }),
-        "rmdir" => counted(count, 1, 1, Command::Rmdir { path }),
-        "demand" => counted(count, 2, 2, Command::Demand { path, number: word }),
-        "read" => counted(count, 2, 2, Command::Read { path, file: word }),
-        "write" => {
-            let file = word;
-            counted(count, 2, 3, Command::Write { path, file, text })
-        }
-        "total" => counted(count, 0, 0, Command::Total),
-        "plan" => counted(count, 0, 0, Command::Plan),
-        "cert" => counted(count, 0, 0, Command::Cert),
-        "period" => counted(count, 0, 0, Command::Period),
-        "report" => counted(count, 0, 0, Command::Report),
-        _ => Err(ScriptFault::BadCommand),
+    if is_verb(verb, "mkdir") {
+        return counted(count, 1, 1, Command::Mkdir { path });
     }
+    if is_verb(verb, "rmdir") {
+        return counted(count, 1, 1, Command::Rmdir { path });
+    }
+    if is_verb(verb, "demand") {
+        return counted(count, 2, 2, Command::Demand { path, number: word });
+    }
+    if is_verb(verb, "read") {
+        return counted(count, 2, 2, Command::Read { path, file: word });
+    }
+    if is_verb(verb, "write") {
+        return counted(
+            count,
+            2,
+            3,
+            Command::Write {
+                path,
+                file: word,
+                text,
+            },
+        );
+    }
+    if is_verb(verb, "total") {
+        return counted(count, 0, 0, Command::Total);
+    }
+    if is_verb(verb, "plan") {
+        return counted(count, 0, 0, Command::Plan);
+    }
+    if is_verb(verb, "cert") {
+        return counted(count, 0, 0, Command::Cert);
+    }
+    if is_verb(verb, "period") {
+        return counted(count, 0, 0, Command::Period);
+    }
+    if is_verb(verb, "report") {
+        return counted(count, 0, 0, Command::Report);
+    }
+    Err(ScriptFault::BadCommand)
+}
+
+// Whether a word is one of the table. It is compared in place, where a call takes as long again.
+#[inline(always)]
+fn is_verb(word: &str, verb: &'static str) -> bool
+    ensures { result ≡ bytes_eq word.now verb.now }
+{
+    let (bytes, wanted) = (word.as_bytes(), verb.as_bytes());
+    if bytes.len() != wanted.len() {
+        return false;
+    }
+    for at in 0..wanted.len() {
+        if bytes[at] != wanted[at] {
+            return false;
+        }
+    }
+    true
 }
 
 // A command that has `least` to `most` words behind its first one.

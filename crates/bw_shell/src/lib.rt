@@ -4,6 +4,7 @@
 
 mod keys;
 mod laws;
+mod newline;
 mod piece;
 mod responder;
 mod script;

@@ -5,13 +5,13 @@ ghost use Rattle.std.specs.Vec.{vec_capacity};
 ghost use Rattle.bw_streams.specs.Watched.{is_flushed, HasNoFault};
 ghost use Rattle.bw_streams.specs.Writes.{Writes};
 
+use crate::newline::newline;
 use crate::piece::Piece;
 use crate::responder::Responder;
 use bw_commands::LINE_BYTES;
 use bw_model::HostShape;
 use bw_streams::{RunFault, Watched};
 use bw_workers::Gate;
-use memchr::memchr;
 use std::alloc::{AllocError, Global};
 use std::hash::RandomState;
 use std::io::Write;
@@ -121,7 +121,7 @@ impl<'a, G: Gate> Session<'a, G> {
             (λ text. (t : Scan) × TakesBytes (scan_of G.used self.old) piece.now text t) }
     {
         let mut rest = Piece::new(piece);
-        while let Some(end) = memchr(b'\n', rest.bytes()) {
+        while let Some(end) = newline(rest.bytes()) {
             let (front, behind) = rest.split_line(end);
             match self.end_line(rt, front, writer) {
                 Ok(()) => {}
