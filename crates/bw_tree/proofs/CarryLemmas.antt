@@ -20,6 +20,7 @@ use Rattle.bw_tree.specs.Nodes.{IsNodeOf, AreNodesOf}
 use Rattle.bw_tree.specs.declared.path_hash.PathHash.{PathHash}
 use Rattle.bw_tree.proofs.IndexLemmas.{index_alike}
 use Rattle.bw_tree.proofs.NodeLemmas.{above_kept, nodes_alike}
+use Rattle.bw_tree.proofs.TailLemmas.{tail_kept}
 
 pub length_carried : (gs : List (ℕ × GroupFields)) (cs : List ℕ)
     → length (carried gs cs) ≡ length gs
@@ -236,6 +237,8 @@ nodes_carried gs cs fronts nodes =
             tt,
           )) n.depth p 0 tt is.depth;
       front = is.front;
+      tail = tail_kept gs (carried gs cs) (λ q k m found. child_carried gs cs q m ∙ found)
+          n.tail p is.tail;
     })
 
 -- ---- one group after another

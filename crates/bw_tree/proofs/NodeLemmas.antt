@@ -10,11 +10,13 @@ use Rattle.std.specs.List.{AllZip, remove}
 use Rattle.std.specs.Map.{keys_of, remove_entry, set_value}
 use Rattle.bw_tree.specs.declared.node.Node.{Node}
 use Rattle.bw_tree.specs.declared.path_hash.PathHash.{PathHash}
+use Rattle.bw_tree.specs.declared.tail.Tail.{Tail}
 use Rattle.bw_tree.specs.Groups.{GroupFields, TreeState, group_at, has_group, has_children}
 use Rattle.bw_tree.specs.Groups.{is_parent, children_count, IsTree, AllAfter, AllBefore}
 use Rattle.bw_tree.specs.Groups.{AreRising}
 use Rattle.bw_tree.specs.Nodes.{root_node, leaf_below, node_at, one_child_more, one_child_less}
 use Rattle.bw_tree.specs.Nodes.{IsNodeOf, AreNodesOf}
+use Rattle.bw_tree.specs.Tails.{IsTailOf, no_tail}
 use Rattle.bw_tree.specs.Tree.{changed, changed_at}
 use Rattle.bw_tree.proofs.CountLemmas.{count_push, count_removed, count_set, count_has}
 use Rattle.bw_tree.proofs.GroupLemmas.{not_positive}
@@ -22,10 +24,11 @@ use Rattle.bw_tree.proofs.IndexLemmas.{at_more}
 use Rattle.bw_tree.proofs.PlaceLemmas.{StandsAt, stands_at, stands_later}
 use Rattle.bw_tree.specs.Groups.{above, parent_of}
 use Rattle.bw_tree.proofs.GroupLemmas.{above_here, above_more, look_push_other, look_push_same}
-use Rattle.bw_tree.proofs.GroupLemmas.{parent_found}
+use Rattle.bw_tree.proofs.GroupLemmas.{parent_found, child_push_old}
 use Rattle.bw_tree.proofs.RemoveLemmas.{children_found, look_removed_other, look_removed_same}
 use Rattle.bw_tree.proofs.RemoveLemmas.{rising_removed}
-use Rattle.bw_tree.proofs.SetLemmas.{look_set_other, look_set_same}
+use Rattle.bw_tree.proofs.SetLemmas.{look_set_other, look_set_same, child_set}
+use Rattle.bw_tree.proofs.TailLemmas.{tail_kept, tail_left}
 use Rattle.std.proofs.Common.{◌⊎◌, inl, inr, Option, leb, ◌≤◌, ◌+◌, ◌-◌, is_some}
 use Rattle.std.proofs.lemmas.Bool.{cases_lt, le-leb, lt-leb}
 use Rattle.std.proofs.lemmas.Bool.Decides.{eqb_tells}
@@ -83,7 +86,7 @@ pub node_found : (gs : Groups) (fronts : ℕ → PathHash) (ns : List Node) (id 
 node_found gs fronts ns id i node all place is =
     let at = stands_at gs id i place in
     let within : i < length ns = omega (arith, at.within, as_many gs fronts ns all) in
-    subst (IsNodeOf gs fronts id) (sym (is ∙ get_or_default ns i node root_node within))
+    subst (IsNodeOf gs fronts id) (sym (is ∙ get_or_default ns i node (root_node no_tail) within))
     (node_read (IsNodeOf gs fronts) gs ns id i at all)
 
 module _ (P Q : ℕ → Node → Type 0) where
@@ -322,6 +325,7 @@ fronted gs fronts k front ns =
       children = is.children;
       depth = is.depth;
       front = is.front ∙ sym (front_of_other fronts k front q apart);
+      tail = is.tail;
     })
     gs ns
 
@@ -345,11 +349,18 @@ module _ (gs : Groups) (fronts : ℕ → PathHash) (k parent i : ℕ) (g : Group
             tt,
           )
 
-  pub nodes_pushed : (ns : List Node) → AreNodesOf gs fronts ns
+  old_tail : (tail : Tail) (id : ℕ) → IsTailOf gs tail id → IsTailOf (gs ++ (k, g) ∷ []) tail id
+  old_tail = tail_kept gs (gs ++ (k, g) ∷ []) (λ p q n. child_push_old gs k p q n g)
+
+  pub nodes_pushed : (ns : List Node) (tail : Tail)
+      → (IsTailOf (gs ++ (k, g) ∷ []) (node_at ns i).tail parent
+      → IsTailOf (gs ++ (k, g) ∷ []) tail k)
+      → AreNodesOf gs fronts ns
       → AreNodesOf (gs ++ (k, g) ∷ []) fronts
-      (slice_set ns i (one_child_more (node_at ns i)) ++ leaf_below (node_at ns i) (fronts k) ∷ [])
-  nodes_pushed ns all =
-      node_push (IsNodeOf hs fronts) gs _ (k, g) (leaf_below (node_at ns i) (fronts k))
+      (slice_set ns i (one_child_more (node_at ns i))
+      ++ leaf_below (node_at ns i) (fronts k) tail ∷ [])
+  nodes_pushed ns tail goes_on all =
+      node_push (IsNodeOf hs fronts) gs _ (k, g) (leaf_below (node_at ns i) (fronts k) tail)
       (node_set (IsNodeOf gs fronts) (IsNodeOf hs fronts) parent other gs ns i (one_child_more
       (node_at ns i))
       rising at own all)
@@ -358,6 +369,8 @@ module _ (gs : Groups) (fronts : ℕ → PathHash) (k parent i : ℕ) (g : Group
             (ap (λ o. is_parent o k) up ∙ ne_eqb parent k apart) ∙ none_counted gs k none);
         depth = lowest;
         front = refl;
+        tail = goes_on (old_tail (node_at ns i).tail parent
+            (node_read (IsNodeOf gs fronts) gs ns parent i at all).tail);
       })
     where
       hs : Groups
@@ -369,6 +382,7 @@ module _ (gs : Groups) (fronts : ℕ → PathHash) (k parent i : ℕ) (g : Group
             (ap (λ o. is_parent o id) up ∙ ne_eqb parent id (λ same. else_where (sym same))));
         depth = old_way n.depth id 0 is.depth;
         front = is.front;
+        tail = old_tail n.tail id is.tail;
       }
 
       own : IsNodeOf gs fronts parent (node_at ns i)
@@ -380,6 +394,7 @@ module _ (gs : Groups) (fronts : ℕ → PathHash) (k parent i : ℕ) (g : Group
             children = omega (arith, is.children, more);
             depth = old_way (node_at ns i).depth parent 0 is.depth;
             front = is.front;
+            tail = old_tail (node_at ns i).tail parent is.tail;
           }
 
       lowest : above hs ((node_at ns i).depth + 1) k ≡ Some 0
@@ -430,6 +445,7 @@ module _ (gs : Groups) (fronts : ℕ → PathHash) (id parent i j : ℕ) (g : Gr
             (ap (λ o. is_parent o q) up ∙ ne_eqb parent q (λ same. else_where (sym same)));
         depth = way n q w is;
         front = is.front;
+        tail = tail_left gs id lone n.tail q w is.tail;
       }
 
       own : IsNodeOf gs fronts parent (node_at (remove ns i) j)
@@ -441,6 +457,7 @@ module _ (gs : Groups) (fronts : ℕ → PathHash) (id parent i j : ℕ) (g : Gr
             children = omega (arith, is.children, less);
             depth = way (node_at (remove ns i) j) parent w is;
             front = is.front;
+            tail = tail_left gs id lone (node_at (remove ns i) j).tail parent w is.tail;
           }
 
   -- the parent of the group that is removed had a child
@@ -473,11 +490,12 @@ keys_changed f id g (e ∷ es) = onto (eqb id e.0) (keys_changed f id g es)
     onto true rest = refl
     onto false rest = ap (λ (ks : List ℕ). e.0 ∷ ks) rest
 
--- a group that is changed, and keeps its parent
+-- a group that is changed, and keeps its parent and its name
 pub nodes_set : (f : GroupFields → GroupFields) (gs : Groups) (fronts : ℕ → PathHash) (id : ℕ)
-    (ns : List Node) → ((g : GroupFields) → (f g).parent ≡ g.parent) → AreNodesOf gs fronts ns
+    (ns : List Node) → ((g : GroupFields) → (f g).parent ≡ g.parent)
+    → ((g : GroupFields) → (f g).name ≡ g.name) → AreNodesOf gs fronts ns
     → AreNodesOf (changed_at f gs id) fronts ns
-nodes_set f gs fronts id ns same all = by (group_at gs id) refl
+nodes_set f gs fronts id ns same named all = by (group_at gs id) refl
   where
     by : (o : _) → group_at gs id ≡ o → AreNodesOf (changed f gs id o) fronts ns
     by None at = all
@@ -489,6 +507,9 @@ nodes_set f gs fronts id ns same all = by (group_at gs id) refl
           depth = above_kept gs (set_value (eqb id) gs (f g)) (λ _. Unit {0})
               (λ q k w up. (stays g at q ∙ up, tt)) n.depth p 0 tt is.depth;
           front = is.front;
+          tail = tail_kept gs (set_value (eqb id) gs (f g))
+              (λ q k m found. child_set id (f g) g (same g) (named g) gs q m at ∙ found)
+              n.tail p is.tail;
         })
         all
       where

@@ -1,26 +1,29 @@
--- The nodes of a tree: beside each group the number of its children, its depth, and a hash of what
--- the paths of its children begin with.
+-- The nodes of a tree: beside each group the number of its children, its depth, a hash of what the
+-- paths of its children begin with, and the end of its own.
 use Rattle.std.specs.Prelude.{◌≡◌, ℕ, ◌+◌, ◌-◌, List, Some}
 use Rattle.std.specs.List.{AllZip, slice_index_or}
 use Rattle.bw_tree.specs.declared.node.Node.{Node}
 use Rattle.bw_tree.specs.declared.path_hash.PathHash.{PathHash}
+use Rattle.bw_tree.specs.declared.tail.Tail.{Tail}
 use Rattle.bw_tree.specs.Groups.{GroupFields, children_count, above}
+use Rattle.bw_tree.specs.Tails.{IsTailOf, no_tail}
 
 -- the hash of no text
 abbrev pub no_text_hash : PathHash
 no_text_hash = record { value = 1; waiting = 1 }
 
--- the node of a root without children
-abbrev pub root_node : Node
-root_node = record { children = 0; depth = 0; front = no_text_hash }
+-- the node of a root without children, with a tail
+abbrev pub root_node : Tail → Node
+root_node tail = record { children = 0; depth = 0; front = no_text_hash; tail = tail }
 
 -- the node of a group without children below another, whose children's paths begin so
-abbrev pub leaf_below : Node → PathHash → Node
-leaf_below node front = record { children = 0; depth = node.depth + 1; front = front }
+abbrev pub leaf_below : Node → PathHash → Tail → Node
+leaf_below node front tail =
+    record { children = 0; depth = node.depth + 1; front = front; tail = tail }
 
 -- the node at a place
 abbrev pub node_at : List Node → ℕ → Node
-node_at nodes place = slice_index_or nodes place root_node
+node_at nodes place = slice_index_or nodes place (root_node no_tail)
 
 -- a node with one child more
 abbrev pub one_child_more : Node → Node
@@ -31,12 +34,13 @@ abbrev pub one_child_less : Node → Node
 one_child_less node = record node { children = node.children - 1 }
 
 -- a node is that of a group: it has the number of the group's children, its depth below the root,
--- whose id is 0, and its front
+-- whose id is 0, its front and its tail
 pub record IsNodeOf (groups : List (ℕ × GroupFields)) (fronts : ℕ → PathHash) (id : ℕ) (node : Node)
     : Type 0 where
   pub children : node.children ≡ children_count groups id
   pub depth : above groups node.depth id ≡ Some 0
   pub front : node.front ≡ fronts id
+  pub tail : IsTailOf groups node.tail id
 
 -- each group has its node, in the same order
 abbrev pub AreNodesOf : List (ℕ × GroupFields) → (ℕ → PathHash) → List Node → Type 0

@@ -18,6 +18,7 @@ mod paths;
 mod refusals;
 mod setting;
 mod snapshot;
+mod tail;
 mod tree;
 
 pub use carry::is_drawn_within;

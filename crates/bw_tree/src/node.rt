@@ -1,12 +1,16 @@
-//! Nodes of the tree: the number of children, the depth and the front of each group, in their
-//! order.
+//! Nodes of the tree: the number of children, the depth, the front and the tail of each group, in
+//! their order.
 ghost use Rattle.std.specs.Prelude.{◌≡◌, ◌<◌, ◌+◌, ◌^◌, ◌++◌, [], ◌∷◌, length, slice_set};
-ghost use Rattle.std.specs.Prelude.{vec_len, vec_capacity};
+ghost use Rattle.std.specs.Prelude.{vec_len, vec_capacity, ℕ, List, Some};
+ghost use Rattle.bw_tree.specs.Groups.{GroupFields, child_of};
+ghost use Rattle.bw_tree.specs.Tails.{IsTailOf};
 ghost use Rattle.bw_tree.specs.Nodes.{root_node, leaf_below, node_at, one_child_more};
 ghost use Rattle.bw_tree.specs.Nodes.{one_child_less};
 ghost use Rattle.bw_tree.specs.Keys.{with_bytes};
 
+use crate::group::GroupId;
 use crate::path_hash::PathHash;
+use crate::tail::Tail;
 
 // Node of a group in the tree.
 #[derive(Clone, Copy, Debug)]
@@ -17,17 +21,21 @@ pub(crate) struct Node {
     pub(crate) depth: u32,
     // start of the paths of its children: its own path and `/`, nothing for the root
     pub(crate) front: PathHash,
+    // end of its own path
+    pub(crate) tail: Tail,
 }
 
 impl Node {
     // Node of a root without children.
     pub(crate) fn root() -> Node
-        ensures { result ≡ root_node }
+        ensures node { result ≡ root_node result.tail }
+        ensures tail { result.tail.text.bytes ≡ [] }
     {
         Node {
             children: 0,
             depth: 0,
             front: PathHash::empty(),
+            tail: Tail::none(),
         }
     }
 }
@@ -40,15 +48,25 @@ pub(crate) fn path_below(nodes: &Vec<Node>, above: usize, seed: u64, name: &str)
     nodes[above].front.with_bytes(seed, name.as_bytes())
 }
 
-// Appends a leaf with this front below the node at a place. The caller has reserved room for it.
-pub(crate) fn push_leaf(nodes: &mut Vec<Node>, above: usize, front: PathHash)
+// Tail of a child with this name, below the group with this id, whose node is at a place.
+pub(crate) fn tail_below(nodes: &Vec<Node>, above: usize, id: GroupId, name: &str) -> Tail
+    requires { above < length nodes.now.items }
+    ensures { (groups : List (ℕ × GroupFields)) (child : ℕ)
+        → IsTailOf groups (node_at nodes.now.items above).tail id
+        → child_of groups id name.now ≡ Some child → IsTailOf groups result child }
+{
+    nodes[above].tail.of_child(id, name)
+}
+
+// Appends a leaf below the node at a place. The caller has reserved room for it.
+pub(crate) fn push_leaf(nodes: &mut Vec<Node>, above: usize, front: PathHash, tail: Tail)
     requires within { above < length nodes.old.items }
     requires few { (node_at nodes.old.items above).children + 1 < 2 ^ 32 }
     requires shallow { (node_at nodes.old.items above).depth + 1 < 2 ^ 32 }
     requires room { vec_len nodes.old < vec_capacity nodes.old }
     ensures { nodes.new.items
         ≡ slice_set nodes.old.items above (one_child_more (node_at nodes.old.items above))
-        ++ leaf_below (node_at nodes.old.items above) front ∷ [] }
+        ++ leaf_below (node_at nodes.old.items above) front tail ∷ [] }
 {
     let node = &mut nodes[above];
     node.children += 1;
@@ -57,6 +75,7 @@ pub(crate) fn push_leaf(nodes: &mut Vec<Node>, above: usize, front: PathHash)
         children: 0,
         depth,
         front,
+        tail,
     });
 }
 

@@ -1,13 +1,14 @@
 //! Paths: the group that a path names, and the path of a group.
 ghost use Rattle.std.specs.Prelude.{◌≡◌, ◌==◌, ◌≤◌, true, length, ◌++◌, IfOk, IfErr, IfSome, OnOk};
-ghost use Rattle.std.specs.Prelude.{None, Some};
+ghost use Rattle.std.specs.Prelude.{None, Some, ℕ, List};
 ghost use Rattle.std.specs.String.{string_bytes};
 ghost use Rattle.bw_tree.specs.Paths.{path_at, names_to};
 ghost use Rattle.std.specs.List.{slice_split, join_with_byte};
-ghost use Rattle.bw_tree.specs.Groups.{GroupFields, IsTree, group_at, has_group, find_path};
-ghost use Rattle.bw_tree.specs.Groups.{walk};
+ghost use Rattle.bw_tree.specs.Groups.{IsTree, has_group, find_path, walk};
+ghost use Rattle.bw_tree.specs.Tails.{IsWay};
 ghost use Rattle.bw_tree.specs.Tree.{IsRefused, path_refusal};
 
+use crate::by_id::place_of;
 use crate::fault::TreeFault;
 use crate::group::GroupId;
 use crate::names::split_front;
@@ -16,7 +17,8 @@ use crate::tree::Tree;
 use std::alloc::AllocError;
 
 impl Tree {
-    /// Finds the group at a path: by one hash of the whole path, then by a comparison of its names.
+    /// Finds the group at a path: by one hash of the whole path, then by a comparison of its names,
+    /// several at once where they are short.
     /// Allocates nothing.
     ///
     /// A path is `.` for the root, and for others the names from the root down, joined by `/`.
@@ -56,26 +58,40 @@ impl Tree {
     {
         let mut at = id;
         let mut left = text;
-        while let Some((parent, front)) = self.cut_name(at, left) {
+        while let Some((top, front)) = self.cut_tail(at, left) {
             let Some((slash, above)) = front.split_last() else {
-                return parent == 0;
+                return top == 0;
             };
             if *slash != b'/' {
                 return false;
             }
-            at = parent;
+            at = top;
             left = above;
         }
         false
     }
 
+    // Group above the last names of a path, and the text before these names: of all that its tail
+    // has, or of its own name alone.
+    fn cut_tail<'a>(&self, id: GroupId, text: &'a [u8]) -> Option<(GroupId, &'a [u8])>
+        ensures within { IfSome result (λ x. length x.1.now ≤ length text.now) }
+        ensures cut { IfSome result (λ x. (way : List ℕ) × IsWay self.now.groups way x.0 id
+            × (text.now ≡ x.1.now ++ way)) }
+        ensures valid { IsTree self.now }
+    {
+        let place = place_of(&self.groups, id)?;
+        let tail = &self.nodes[place].tail;
+        if tail.is_none() {
+            return self.cut_name(id, text);
+        }
+        tail.cut(text)
+    }
+
     // Parent of a group, and the text before the group's name.
     fn cut_name<'a>(&self, id: GroupId, text: &'a [u8]) -> Option<(GroupId, &'a [u8])>
         ensures within { IfSome result (λ x. length x.1.now ≤ length text.now) }
-        ensures cut { IfSome result (λ x. (group : GroupFields)
-            × (group_at self.now.groups id ≡ Some group) × (group.parent ≡ Some x.0)
-            × (text.now ≡ x.1.now ++ group.name)) }
-        ensures valid { IsTree self.now }
+        ensures cut { IfSome result (λ x. (way : List ℕ) × IsWay self.now.groups way x.0 id
+            × (text.now ≡ x.1.now ++ way)) }
     {
         let group = self.group(id)?;
         let Some(parent) = group.parent else {

@@ -229,6 +229,41 @@ fn names_in_place_and_longer(rt: HostRuntime) -> Result<(), Fail> {
     Ok(())
 }
 
+// Parent, name, id and path of each group of a chain below `a`. The end of a path that is kept
+// beside its group has at most 32 bytes. The first path has as many, and the third name has 33.
+static CHAIN: [(GroupId, &str, GroupId, &str); 5] = [
+    (1, "name-of-thirty-bytes-123456789", 3, "a/name-of-thirty-bytes-123456789"),
+    (3, "x", 4, "a/name-of-thirty-bytes-123456789/x"),
+    (4, "name-of-thirty-three-bytes-123456", 5, "a/name-of-thirty-bytes-123456789/x/name-of-thirty-three-bytes-123456"),
+    (5, "y", 6, "a/name-of-thirty-bytes-123456789/x/name-of-thirty-three-bytes-123456/y"),
+    (6, "z", 7, "a/name-of-thirty-bytes-123456789/x/name-of-thirty-three-bytes-123456/y/z"),
+];
+
+fn assert_makes_chain(rt: &impl Abort, tree: &mut Tree) {
+    for (parent, name, id, _) in &CHAIN {
+        assert_makes(rt, tree, *parent, name, Ok(*id));
+    }
+    assert_finds_chain(rt, tree);
+}
+
+fn assert_finds_chain(rt: &impl Abort, tree: &Tree) {
+    for (_, _, id, path) in &CHAIN {
+        assert_finds(rt, tree, path, *id);
+    }
+}
+
+#[test]
+fn chain_of_long_names(rt: HostRuntime) -> Result<(), Fail> {
+    let mut tree = small_tree(rt.alloc())?;
+    assert_makes_chain(&rt, &mut tree);
+    let copy = match tree.copy() {
+        Err(_) => tree.copy()?,
+        Ok(copy) => copy,
+    };
+    assert_finds_chain(&rt, &copy);
+    Ok(())
+}
+
 // Two paths whose keys are one at the point that the fixed keys give (tests/meeting_names.py): the
 // second group stands among the others of the key.
 #[test]

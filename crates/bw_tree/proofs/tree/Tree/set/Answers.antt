@@ -28,6 +28,6 @@ invariant_of-self c =
       fronts = c.self.invariant.fronts;
       index = kept;
       nodes = nodes_set (changed_by s) t.groups c.self.invariant.fronts c.args.id
-          c.self.inside.nodes.items (same_parent_by s)
+          c.self.inside.nodes.items (same_parent_by s) (same_name_by s)
           c.self.invariant.nodes;
     })

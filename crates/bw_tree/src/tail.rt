@@ -1,0 +1,78 @@
+//! End of the way from the root down to a group.
+ghost use Rattle.std.specs.Prelude.{◌≡◌, ◌<◌, ◌≤◌, ◌==◌, ◌++◌, ℕ, List, [], length, IfSome, Some};
+ghost use Rattle.bw_tree.specs.Groups.{GroupFields, child_of};
+ghost use Rattle.bw_tree.specs.Tails.{IsTailOf};
+
+use crate::group::GroupId;
+use arrayvec::ArrayString;
+
+// Maximum length of a tail in bytes: with it a node takes 64.
+const MAX_TAIL: usize = 32;
+
+// End of the way from the root down to a group. So a path is compared by several names at once.
+#[derive(Clone, Copy, Debug)]
+pub(crate) struct Tail {
+    // names below `top` down to the group, joined by `/`; nothing where the group's name is longer
+    text: ArrayString<MAX_TAIL>,
+    // group where the text begins
+    top: GroupId,
+}
+
+impl Tail {
+    // Tail without a text.
+    pub(crate) fn none() -> Tail
+        ensures { result.text.bytes ≡ [] }
+    {
+        Tail {
+            text: ArrayString::new(),
+            top: 0,
+        }
+    }
+
+    // Tail of a child with this name, of the group that has this tail and this id.
+    pub(crate) fn of_child(&self, id: GroupId, name: &str) -> Tail
+        ensures { (groups : List (ℕ × GroupFields)) (child : ℕ)
+            → IsTailOf groups self.now id → child_of groups id name.now ≡ Some child
+            → IsTailOf groups result child }
+    {
+        if self.text.is_empty() || self.text.remaining_capacity() <= name.len() {
+            return Tail::of_name(id, name);
+        }
+        let mut text = self.text;
+        text.push_str("/");
+        text.push_str(name);
+        Tail {
+            text,
+            top: self.top,
+        }
+    }
+
+    // Tail that begins at the parent.
+    fn of_name(parent: GroupId, name: &str) -> Tail
+        ensures top { result.top ≡ parent }
+        ensures text { 0 < length result.text.bytes → result.text.bytes ≡ name.now }
+    {
+        let mut text = ArrayString::new();
+        if name.len() <= MAX_TAIL {
+            text.push_str(name);
+        }
+        Tail { text, top: parent }
+    }
+
+    // Whether it has no text.
+    pub(crate) fn is_none(&self) -> bool
+        ensures { result ≡ (length self.now.text.bytes == 0) }
+    {
+        self.text.is_empty()
+    }
+
+    // Group where the tail begins, and what stands before it in a text that ends by it.
+    pub(crate) fn cut<'a>(&self, text: &'a [u8]) -> Option<(GroupId, &'a [u8])>
+        ensures within { IfSome result (λ x. length x.1.now ≤ length text.now) }
+        ensures top { IfSome result (λ x. x.0 ≡ self.now.top) }
+        ensures front { IfSome result (λ x. text.now ≡ x.1.now ++ self.now.text.bytes) }
+    {
+        let front = text.strip_suffix(self.text.as_str().as_bytes())?;
+        Some((self.top, front))
+    }
+}
