@@ -8,7 +8,7 @@ ghost use Rattle.bw_tree.specs.Nodes.{root_node, leaf_below, node_at, one_child_
 ghost use Rattle.bw_tree.specs.Nodes.{one_child_less};
 ghost use Rattle.bw_tree.specs.Keys.{with_bytes};
 
-use crate::group::GroupId;
+use crate::group::Group;
 use crate::path_hash::PathHash;
 use crate::tail::Tail;
 
@@ -48,14 +48,24 @@ pub(crate) fn path_below(nodes: &Vec<Node>, above: usize, seed: u64, name: &str)
     nodes[above].front.with_bytes(seed, name.as_bytes())
 }
 
-// Tail of a child with this name, below the group with this id, whose node is at a place.
-pub(crate) fn tail_below(nodes: &Vec<Node>, above: usize, id: GroupId, name: &str) -> Tail
+// Tail of a child with this name, below a group whose node is at a place. A child of the root has
+// none: its own name is all of its path.
+pub(crate) fn tail_below(nodes: &Vec<Node>, above: usize, group: &Group, name: &str) -> Tail
     requires { above < length nodes.now.items }
-    ensures { (groups : List (ℕ × GroupFields)) (child : ℕ)
+    ensures { (groups : List (ℕ × GroupFields)) (id child : ℕ)
         → IsTailOf groups (node_at nodes.now.items above).tail id
+        → ((top : ℕ) → group.now.parent ≡ Some top
+        → child_of groups top group.now.name ≡ Some id)
         → child_of groups id name.now ≡ Some child → IsTailOf groups result child }
 {
-    nodes[above].tail.of_child(id, name)
+    let Some(top) = group.parent else {
+        return Tail::none();
+    };
+    let tail = &nodes[above].tail;
+    if tail.is_none() {
+        return Tail::of_name(top, group.name.as_str()).of_child(name);
+    }
+    tail.of_child(name)
 }
 
 // Appends a leaf below the node at a place. The caller has reserved room for it.

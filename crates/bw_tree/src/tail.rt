@@ -6,13 +6,13 @@ ghost use Rattle.bw_tree.specs.Tails.{IsTailOf};
 use crate::group::GroupId;
 use arrayvec::ArrayString;
 
-// Maximum length of a tail in bytes: with it a node takes 64.
-const MAX_TAIL: usize = 32;
+// Maximum length of a tail in bytes: with it a node takes 56.
+const MAX_TAIL: usize = 24;
 
 // End of the way from the root down to a group. So a path is compared by several names at once.
 #[derive(Clone, Copy, Debug)]
 pub(crate) struct Tail {
-    // names below `top` down to the group, joined by `/`; nothing where the group's name is longer
+    // names below `top` down to the group, joined by `/`; nothing where they would be too long
     text: ArrayString<MAX_TAIL>,
     // group where the text begins
     top: GroupId,
@@ -29,26 +29,8 @@ impl Tail {
         }
     }
 
-    // Tail of a child with this name, of the group that has this tail and this id.
-    pub(crate) fn of_child(&self, id: GroupId, name: &str) -> Tail
-        ensures { (groups : List (ℕ × GroupFields)) (child : ℕ)
-            → IsTailOf groups self.now id → child_of groups id name.now ≡ Some child
-            → IsTailOf groups result child }
-    {
-        if self.text.is_empty() || self.text.remaining_capacity() <= name.len() {
-            return Tail::of_name(id, name);
-        }
-        let mut text = self.text;
-        text.push_str("/");
-        text.push_str(name);
-        Tail {
-            text,
-            top: self.top,
-        }
-    }
-
-    // Tail that begins at the parent.
-    fn of_name(parent: GroupId, name: &str) -> Tail
+    // Tail of the name of a group alone.
+    pub(crate) fn of_name(parent: GroupId, name: &str) -> Tail
         ensures top { result.top ≡ parent }
         ensures text { 0 < length result.text.bytes → result.text.bytes ≡ name.now }
     {
@@ -57,6 +39,24 @@ impl Tail {
             text.push_str(name);
         }
         Tail { text, top: parent }
+    }
+
+    // Tail of a child with this name, of a group that has this tail.
+    pub(crate) fn of_child(&self, name: &str) -> Tail
+        ensures { (groups : List (ℕ × GroupFields)) (id child : ℕ)
+            → IsTailOf groups self.now id → child_of groups id name.now ≡ Some child
+            → IsTailOf groups result child }
+    {
+        if self.text.is_empty() || self.text.remaining_capacity() <= name.len() {
+            return Tail::none();
+        }
+        let mut text = self.text;
+        text.push_str("/");
+        text.push_str(name);
+        Tail {
+            text,
+            top: self.top,
+        }
     }
 
     // Whether it has no text.

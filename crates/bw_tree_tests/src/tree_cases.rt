@@ -230,13 +230,28 @@ fn names_in_place_and_longer(rt: HostRuntime) -> Result<(), Fail> {
 }
 
 // Parent, name, id and path of each group of a chain below `a`. The end of a path that is kept
-// beside its group has at most 32 bytes. The first path has as many, and the third name has 33.
+// beside its group has at most 24 bytes. The first path has as many, and the third name has 25.
 static CHAIN: [(GroupId, &str, GroupId, &str); 5] = [
-    (1, "name-of-thirty-bytes-123456789", 3, "a/name-of-thirty-bytes-123456789"),
-    (3, "x", 4, "a/name-of-thirty-bytes-123456789/x"),
-    (4, "name-of-thirty-three-bytes-123456", 5, "a/name-of-thirty-bytes-123456789/x/name-of-thirty-three-bytes-123456"),
-    (5, "y", 6, "a/name-of-thirty-bytes-123456789/x/name-of-thirty-three-bytes-123456/y"),
-    (6, "z", 7, "a/name-of-thirty-bytes-123456789/x/name-of-thirty-three-bytes-123456/y/z"),
+    (1, "name-of-22-bytes-12345", 3, "a/name-of-22-bytes-12345"),
+    (3, "x", 4, "a/name-of-22-bytes-12345/x"),
+    (
+        4,
+        "name-of-twenty-five-bytes",
+        5,
+        "a/name-of-22-bytes-12345/x/name-of-twenty-five-bytes",
+    ),
+    (
+        5,
+        "y",
+        6,
+        "a/name-of-22-bytes-12345/x/name-of-twenty-five-bytes/y",
+    ),
+    (
+        6,
+        "z",
+        7,
+        "a/name-of-22-bytes-12345/x/name-of-twenty-five-bytes/y/z",
+    ),
 ];
 
 fn assert_makes_chain(rt: &impl Abort, tree: &mut Tree) {
