@@ -107,7 +107,9 @@ def test_what_no_run_reaches():
     there = {(path.parts[-3], path.stem) for path in ROOT.glob("crates/bw_*_tests/src/*.rt")
              if "#[test]" in path.read_text(encoding="utf-8")}
     assert len(there) >= 20
-    same(sorted(set(re.findall(r"(bw_\w+_tests) `(\w+)`", table))), sorted(there), "files of tests")
+    named = {(crate, name) for crate, names in re.findall(r"(bw_\w+_tests) ((?:`\w+`,? ?)+)", table)
+             for name in re.findall(r"\w+", names)}
+    same(sorted(named), sorted(there), "files of tests")
     words = [*re.findall(r"`(test_\w+\.py)`", table), *re.findall(r"`(test_\w+)`", table)]
     tests = "".join(path.read_text(encoding="utf-8") for path in (ROOT / "tests").glob("test_*.py"))
     same([word for word in words if not (ROOT / "tests" / word).is_file()
