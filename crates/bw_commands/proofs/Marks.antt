@@ -1,6 +1,7 @@
 -- The blanks of a text as the bits of a number.
 use Rattle.std.proofs.Common.{◌≡◌, ℕ, zero, suc, ◌+◌, ◌-◌, ◌*◌, ◌/◌, ◌%◌, ◌^◌, ◌≤◌, ◌<◌, ◌++◌, cond}
-use Rattle.std.proofs.Common.{List, [], ◌∷◌, Bool, true, false, not, map, length, take, drop, get_or}
+use Rattle.std.proofs.Common.{List, [], ◌∷◌, Bool, true, false, not, map, length, take, drop}
+use Rattle.std.proofs.Common.{get_or}
 use Rattle.std.proofs.Common.{refl, sym, ap, ap₂, ◌∙◌, arith, inl, inr, subst, eqb, ◌||◌, replicate}
 use Rattle.std.proofs.Math.ListN.{get_or-eq_default}
 use Rattle.std.proofs.Math.Nat.{pow-succ'}
@@ -50,7 +51,8 @@ mask_l-append (x ∷ xs) ys =
 -- from the places of the first w and the last w bytes, which may overlap, those of the whole text
 pub mask_of_two : (p : ℕ → Bool) (xs : List ℕ) (w n i k : ℕ) → length xs ≡ n → w ≤ n → i + w ≡ n
     → k + n ≡ w + w → w + w ≤ 64
-    → bit_or (mask_l (map p (chunk i w xs)) / 2 ^ k * 2 ^ w % 2 ^ 64) (mask_l (map p (chunk 0 w xs)))
+    → bit_or (mask_l (map p (chunk i w xs)) / 2 ^ k * 2 ^ w % 2 ^ 64)
+    (mask_l (map p (chunk 0 w xs)))
     ≡ mask_l (map p xs)
 mask_of_two p xs w n i k long most last rest wide =
     let bs = map p xs in

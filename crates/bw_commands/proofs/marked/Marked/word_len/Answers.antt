@@ -17,5 +17,6 @@ returns-else-self-eq0-clause-value c =
 pub returns-else-self-eq0-clause-boundary : goal.returns-else-self-eq0-clause-boundary
 returns-else-self-eq0-clause-boundary c =
     let text = c.args.self.text.now in
-    let is = word_len_of_some text c.args.self.blanks c.args.self.marks (omega arith) (omega arith) in
+    let is = word_len_of_some text c.args.self.blanks c.args.self.marks (omega arith)
+    (omega arith) in
     subst (IsCharBoundary text) (sym is) (IsCharBoundary-word_len_of text)
