@@ -2,22 +2,23 @@
 use Rattle.std.proofs.Common.{◌≡◌, ℕ, zero, suc, ◌+◌, ◌-◌, ◌*◌, ◌/◌, ◌%◌, ◌^◌, ◌≤◌, ◌<◌, ◌++◌, cond}
 use Rattle.std.proofs.Common.{List, [], ◌∷◌, Bool, true, false, not, map, length, take, drop}
 use Rattle.std.proofs.Common.{get_or}
-use Rattle.std.proofs.Common.{refl, sym, ap, ap₂, ◌∙◌, arith, inl, inr, subst, eqb, ◌||◌, replicate}
+use Rattle.std.proofs.Common.{refl, sym, ap, ◌∙◌, arith, inl, inr, subst, eqb, replicate}
 use Rattle.std.proofs.Math.ListN.{get_or-eq_default}
 use Rattle.std.proofs.Math.Nat.{pow-succ'}
 use Rattle.std.proofs.lemmas.Nat.{shr-shr, div-mul-add, pow_below, or_shifted, shl_whole}
 use Rattle.std.proofs.lemmas.Nat.Bits.{bit_at-trailing_ones}
-use Rattle.std.proofs.lemmas.Bool.{cases_lt}
+use Rattle.std.proofs.lemmas.Bool.{cases_lt, false≢true}
 use Rattle.std.proofs.lemmas.List.{length-map, get_or-map, take-append-drop, take_all, drop-drop}
 use Rattle.std.proofs.lemmas.List.{drop-map, take-map, length-take, length-drop}
 use Rattle.std.proofs.lemmas.List.Sums.{position_or_len_is}
-use Rattle.std.proofs.lemmas.Simd.{bit_mask_l, mask_l-lt, mask_l-mod, map-map, zip2_splat}
-use Rattle.std.proofs.lemmas.Simd.{zip2_of_maps, leading_from_mask_l, trailing_mask_l}
+use Rattle.std.proofs.lemmas.Simd.{bit_mask_l, mask_l-lt, leading_from_mask_l, trailing_mask_l}
 use lib.Count.{count_trailing_zeros}
 use Rattle.std.specs.Int.{w64, trailing_ones}
 use Rattle.std.specs.List.{position_or_len}
 use Rattle.std.specs.Prelude.{bit_or}
 use Rattle.std.specs.Simd.Lanes.{mask_l, chunk, top, zip2}
+use Rattle.bw_model.proofs.CallerLemmas.{cond_zero, cond_one}
+use Rattle.bw_text.proofs.CallerLemmas.{mask_of_either}
 use Rattle.bw_commands.specs.Word.{is_blank, blanks_of, blank_len_of, word_len_of}
 use Rattle.bw_commands.proofs.Words.{position_or_len_is_word}
 
@@ -77,17 +78,6 @@ mask_of_two p xs w n i k long most last rest wide =
 
 -- ---- from the places to the first byte
 
-false_of : (b : Bool) → ◌≡◌ {A = ℕ} (cond b 1 0) 0 → b ≡ false
-false_of true e = absurd (let clash : ⊥ = omega (arith, e) in clash)
-false_of false e = refl
-
-true_of : (b : Bool) → ◌≡◌ {A = ℕ} (cond b 1 0) 1 → b ≡ true
-true_of true e = refl
-true_of false e = absurd (let clash : ⊥ = omega (arith, e) in clash)
-
-differ : false ≡ true → ⊥
-differ e = cc
-
 -- the number of ones below the lowest zero is the number of bytes before the first that fails
 pub trailing_ones-mask : (p : ℕ → Bool) (xs : List ℕ) → length xs < 64
     → trailing_ones w64 (mask_l (map p xs)) ≡ position_or_len (λ b. not (p b)) xs
@@ -99,11 +89,11 @@ trailing_ones-mask p xs short =
     let bound : m < 2 ^ length xs = subst (λ j. m < 2 ^ j) long (mask_l-lt bs) in
     let low = bit_at-trailing_ones w64 m (omega (arith, bound, pow_below (length xs) 64 short)) in
     let is_false : get_or bs at false ≡ false =
-    false_of (get_or bs at false) (sym (bit_mask_l bs at) ∙ low.1) in
+    cond_zero (get_or bs at false) (sym (bit_mask_l bs at) ∙ low.1) in
     let are_true : (k : ℕ) → k < at → get_or bs k false ≡ true =
-    λ k lt. true_of (get_or bs k false) (sym (bit_mask_l bs k) ∙ low.2 k lt) in
+    λ k lt. cond_one (get_or bs k false) (sym (bit_mask_l bs k) ∙ low.2 k lt) in
     let within : at ≤ length xs = elim (cases_lt (length xs) at) [
-      | inl past ↦ absurd (differ (sym (get_or-eq_default bs false (omega (arith, long)))
+      | inl past ↦ absurd (false≢true (sym (get_or-eq_default bs false (omega (arith, long)))
           ∙ are_true (length xs) past))
       | inr le ↦ le
     ] in
@@ -113,32 +103,13 @@ trailing_ones-mask p xs short =
 
 -- ---- the blanks of one load
 
-abbrev lane : ℕ → ℕ → ℕ
-lane byte x = cond (eqb x byte) 255 0
-
-both_lanes : (a b : Bool) → top 7 (bit_or (cond a 255 0) (cond b 255 0)) ≡ (a || b)
-both_lanes true true = refl
-both_lanes true false = refl
-both_lanes false true = refl
-both_lanes false false = refl
-
-tops : (v : List ℕ) → map (λ x. top 7 (bit_or (lane 32 x) (lane 9 x))) v ≡ map is_blank v
-tops [] = refl
-tops (x ∷ v) = ap₂ (λ (t : Bool) ts. t ∷ ts) (both_lanes (eqb x 32) (eqb x 9)) (tops v)
-
 -- the mask of the lanes that are blanks
 pub mask_of_blanks : (v : List ℕ) (n : ℕ) → length v ≡ n → n ≤ 64
     → mask_l (map (top 7) (zip2 bit_or
     (zip2 (λ a b. cond (eqb a b) 255 0) v (replicate n 32))
     (zip2 (λ a b. cond (eqb a b) 255 0) v (replicate n 9)))) % 2 ^ 64
     ≡ mask_l (map is_blank v)
-mask_of_blanks v n long few =
-    let lanes = zip2_of_maps bit_or (lane 32) (lane 9) v
-    (zip2_splat (λ a b. cond (eqb a b) 255 0) v n 32 long)
-    (zip2_splat (λ a b. cond (eqb a b) 255 0) v n 9 long) in
-    ap (λ l. mask_l l % 2 ^ 64) (ap (map (top 7)) lanes
-    ∙ map-map (top 7) (λ x. bit_or (lane 32 x) (lane 9 x)) v ∙ tops v)
-    ∙ mask_l-mod (map is_blank v) 64 (omega (arith, length-map v is_blank, long))
+mask_of_blanks v n long few = mask_of_either 32 9 v n long few
 
 -- the number of bytes before the first blank, from the places of the blanks
 pub word_len_of_none : (text : List ℕ) (blanks : ℕ) → blanks ≡ blanks_of text → blanks ≡ 0

@@ -193,6 +193,10 @@ pub cond_zero : (b : Bool) → ◌≡◌ {A = ℕ} (cond b 1 0) 0 → b ≡ fals
 cond_zero true e = absurd (omega arith)
 cond_zero false e = refl
 
+pub cond_one : (b : Bool) → ◌≡◌ {A = ℕ} (cond b 1 0) 1 → b ≡ true
+cond_one true e = refl
+cond_one false e = absurd (omega arith)
+
 pub cond_same : (b : Bool) → ◌≡◌ {A = ℕ} (cond b 0 0) 0
 cond_same true = refl
 cond_same false = refl

@@ -6,7 +6,7 @@ pub use Rattle.bw_model.proofs.Basics.{sum_below-change, sum_below-term, and_no,
 pub use Rattle.bw_model.proofs.Basics.{no_parent, cancel_le, strong, from_the_last, list_any-range}
 pub use Rattle.bw_model.proofs.Basics.{some_in_range, any-filter, same_map, range_more, listed}
 pub use Rattle.bw_model.proofs.Basics.{zeros, sum_zeros, sum_none, get_or_within, bytes_eq-true}
-pub use Rattle.bw_model.proofs.Basics.{bytes_eq-self, inside}
+pub use Rattle.bw_model.proofs.Basics.{bytes_eq-self, inside, cond_zero, cond_one}
 pub use Rattle.bw_model.proofs.split.Exchange.{level-IsBestSplit, IsBestSplit-unique}
 pub use Rattle.bw_model.proofs.tree.Under.{parent_lt, path_up-top, path_up-step, is_under-top}
 pub use Rattle.bw_model.proofs.tree.Under.{is_under-step, is_under-self}

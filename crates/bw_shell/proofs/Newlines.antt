@@ -3,7 +3,7 @@ use Rattle.std.proofs.Common.{◌≡◌, ℕ, ◌≤◌, ◌<◌, ◌^◌, Bool,
 use Rattle.std.proofs.Common.{zero-add, List, map, length, take, get_or, refl, sym, ◌∙◌, arith}
 use Rattle.std.proofs.Common.{inl, inr, subst}
 use Rattle.std.proofs.Math.ListN.{get_or-eq_default}
-use Rattle.std.proofs.lemmas.Bool.{cases_lt}
+use Rattle.std.proofs.lemmas.Bool.{cases_lt, false≢true}
 use Rattle.std.proofs.lemmas.List.{length-map, length-take}
 use Rattle.std.proofs.lemmas.Nat.Bits.{bit_at-trailing_zeros}
 use Rattle.std.proofs.lemmas.Simd.{bit_mask_l, mask_l-lt, trailing_mask_l, run_in_chunk_fails}
@@ -11,13 +11,7 @@ use Rattle.std.proofs.lemmas.Simd.{run_in_chunk_stops}
 use Rattle.std.specs.Int.{w64, trailing_zeros}
 use Rattle.std.specs.Simd.Lanes.{mask_l}
 use Rattle.memchr.specs.Find.{IsFirstByte}
-
-true_of : (b : Bool) → ◌≡◌ {A = ℕ} (cond b 1 0) 1 → b ≡ true
-true_of true e = refl
-true_of false e = absurd (let clash : ⊥ = omega (arith, e) in clash)
-
-differ : false ≡ true → ⊥
-differ e = cc
+use Rattle.bw_model.proofs.CallerLemmas.{cond_one}
 
 -- the lowest bit of the mask of the first 32 bytes is the first byte that passes
 pub first_of_mask : (p : ℕ → Bool) (xs : List ℕ) → 32 ≤ length xs
@@ -32,17 +26,17 @@ first_of_mask p xs room some =
     let small : m < 2 ^ 32 = subst (λ n. m < 2 ^ n) long (mask_l-lt bs) in
     let low = bit_at-trailing_zeros w64 m some (omega (arith, small)) in
     let set : get_or bs at false ≡ true =
-    true_of (get_or bs at false) (sym (bit_mask_l bs at) ∙ low.1) in
+    cond_one (get_or bs at false) (sym (bit_mask_l bs at) ∙ low.1) in
     let within : at < 32 = elim (cases_lt at 32) [
       | inl lt ↦ lt
-      | inr past ↦ absurd (differ (sym (get_or-eq_default bs false (omega (arith, long, past)))
+      | inr past ↦ absurd (false≢true (sym (get_or-eq_default bs false (omega (arith, long, past)))
           ∙ set))
     ] in
     let counted = trailing_mask_l p 64 front (omega (arith, length-take 32 xs)) some in (
       record {
         low = omega arith;
         high = omega (arith, within, room);
-        before = λ k from lt pass. differ (sym (run_in_chunk_fails p xs 0 32 at 0 room counted k
+        before = λ k from lt pass. false≢true (sym (run_in_chunk_fails p xs 0 32 at 0 room counted k
             from (omega (arith, lt))) ∙ pass);
       },
       subst (λ k. p (get_or xs k 0) ≡ true) (zero-add at)
