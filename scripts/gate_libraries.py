@@ -11,20 +11,16 @@ crates would be proved a second time.
 Status 1: a library is not there, or this kit tells no stamp. Then nothing is written.
 """
 import os
-import shutil
 import sys
 
 from crates import with_all_below
+from kit import kit_module
 
 
 def stamps(names):
     """The stamp of each crate, by the kit's own code."""
-    kit = os.path.dirname(os.path.realpath(shutil.which("rt")))
-    sys.path.insert(0, kit)
-    import rtlib  # the kit's module, found only now
-
-    top, known = os.getcwd(), {}
-    return {name: rtlib.Crate(f"{top}/crates/{name}", top, known).stamp() for name in names}
+    crate, top, known = kit_module("rtlib.py").Crate, os.getcwd(), {}
+    return {name: crate(f"{top}/crates/{name}", top, known).stamp() for name in names}
 
 
 def main():

@@ -11,15 +11,13 @@ status. A kit whose code has other names runs as `rt all check --jobs PLACES`.
 """
 import contextlib
 import functools
-import importlib.machinery
-import importlib.util
 import os
-import shutil
 import sys
 import threading
 import time
 
 from crates import crates, with_all_below
+from kit import kit_module
 
 # What a proof took on the machine of the last measurement.
 MEASURED = "scripts/gate.tsv"
@@ -87,15 +85,6 @@ class Turns:
             self.changed.notify_all()
 
 
-def load_kit():
-    """The code of the command rt."""
-    path = os.path.realpath(shutil.which("rt"))
-    loader = importlib.machinery.SourceFileLoader("rt", path)
-    kit = importlib.util.module_from_spec(importlib.util.spec_from_loader("rt", loader))
-    loader.exec_module(kit)
-    return kit
-
-
 def take_turns(crate, turns):
     """Has each proof wait for its turn. `crate` is the kit's class."""
     build_library, check = crate.build_rlib, crate.check
@@ -118,7 +107,7 @@ def main():
     chain = chains(name)
     os.chdir(f"crates/{name}")
     try:
-        kit = load_kit()
+        kit = kit_module("rt")
         take_turns(kit.rtlib.Crate, Turns(chain, places, jobs))
         call = kit.main
     except Exception:  # another kit: its code may be any

@@ -60,3 +60,10 @@ def ctl(library):
 def folder(tmp_path):
     """An empty folder."""
     return tmp_path
+
+
+@pytest.fixture
+def world(folder):
+    """Weights 100, 100 and 200 on two CPUs: 200 slices, guarantees 50, 50 and 100."""
+    from held import FREE, World
+    return World(folder, [("a", 100, FREE), ("b", 100, FREE), ("c", 200, FREE)])

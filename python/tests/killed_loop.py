@@ -13,10 +13,10 @@ import signal
 import sys
 from pathlib import Path
 
-import test_hold
 from arbiter import Library
 from arbiter_host import apply, hold
 from arbiter_host.engine import Engine
+from held import FREE, World
 
 CALLS = ("open", "write", "fsync", "rename", "link", "unlink", "ftruncate")
 CHANGES = ("write", "rename", "link", "unlink", "ftruncate")
@@ -58,9 +58,9 @@ class Calls:
 
 def world_of(folder):
     """A tree with a limit, a burst and a group with children."""
-    world = test_hold.World(folder, [
-        ("a", 100, "90000 100000"), ("b", 100, test_hold.FREE), ("in", 300, "150000 100000"),
-        ("in/x", 100, test_hold.FREE), ("in/y", 50, test_hold.FREE)])
+    world = World(folder, [
+        ("a", 100, "90000 100000"), ("b", 100, FREE), ("in", 300, "150000 100000"),
+        ("in/x", 100, FREE), ("in/y", 50, FREE)])
     (world.tree / "a/cpu.max.burst").write_text("90000\n")
     return world
 

@@ -13,85 +13,10 @@ import time
 import killed_loop
 import pytest
 import trees
-from arbiter import Host
-from arbiter_host import apply, awake, beneath, hold, record
+from arbiter_host import apply, beneath, hold, record
 from arbiter_host.apply import Settings
 from arbiter_host.faults import HostFault
-from places import PACKAGE
-
-TWO = Host(2, 100000, 1000)
-
-
-def limit(slices):
-    """The text of a limit that was written: a 128th above that of the rule."""
-    return f"{slices * 1000 + slices * 1000 // 128} 100000"
-
-
-SECOND = 10**9
-FREE = "max 100000"
-
-
-class World:
-    """A tree of plain files with a clock, whose groups use and wait as the test says."""
-
-    def __init__(self, folder, groups):
-        self.tree, self.now, self.lines, self.after = folder / "t", 0, [], []
-        self.counters = {}
-        # (the tasks of these groups are none of this machine)
-        awake.PROC = str(folder / "proc")
-        trees.root2(self.tree)
-        for path, weight, maximum in groups:
-            self.add(path, weight, maximum)
-
-    def add(self, path, weight=100, maximum=FREE, burst=0):
-        self.counters[path] = [0, 0, 0]
-        trees.group2(self.tree / path, weight, maximum, burst)
-
-    def uses(self, path, slices, throttled=0, waited=0):
-        """One second in which a group uses so many slices in each period."""
-        mine = self.counters[path]
-        for place, rise in enumerate((slices * 10 * 1000, throttled, waited)):
-            mine[place] += rise
-        usage, stopped, pressed = mine
-        text = {"cpu.stat": trees.STAT.format(usage=usage, periods=10, throttled=stopped),
-                "cpu.pressure": trees.PRESSURE.format(waited=pressed)}
-        for name, each in text.items():
-            (self.tree / path / f"{name}.new").write_text(each)
-            os.replace(self.tree / path / f"{name}.new", self.tree / path / name)
-
-    def wait(self, seconds):
-        """A second of the clock, in which the next step of the test happens; True at its end."""
-        assert 0 <= seconds <= 1
-        if not self.after:
-            return True
-        self.now += SECOND
-        self.after.pop(0)()
-        return False
-
-    def loop(self, engine, undo=None, **words):
-        kept = None if undo is None else record.Record(str(undo))
-        return hold.Loop(engine, beneath.Root(str(self.tree)), str(self.tree), TWO, kept,
-                         clock=lambda: self.now, **words)
-
-    def run(self, loop, *steps, times=hold.Times(SECOND)):
-        """Rounds, a step before each. Returns the lines and what stood at each line."""
-        self.after, lines = list(steps), []
-
-        def emit(line):
-            stood = {path: self.maximum(path) for path in self.counters
-                     if (self.tree / path).exists()}
-            lines.append((json.loads(json.dumps(line)), stood))
-        hold.run(loop, times, self.wait, emit)
-        return lines
-
-    def maximum(self, path):
-        return (self.tree / path / "cpu.max").read_text().strip()
-
-
-@pytest.fixture
-def world(folder):
-    """Weights 100, 100 and 200 on two CPUs: 200 slices, guarantees 50, 50 and 100."""
-    return World(folder, [("a", 100, FREE), ("b", 100, FREE), ("c", 200, FREE)])
+from held import FREE, SECOND, World, content, limit, said, started
 
 
 def test_limits_of_worked_readings(world, engine, folder):
@@ -372,28 +297,6 @@ def test_folder_of_the_undo_file(folder, world):
         record.Record(str(folder / "u"))
     record.lock(str(folder / "new"))
     assert (folder / "new").stat().st_mode & 0o777 == 0o700
-
-
-def content(tree):
-    """The text of each file of a tree."""
-    return {str(path): path.read_text() for path in sorted(tree.rglob("*")) if path.is_file()}
-
-
-def started(ctl, world, undo, *words):
-    """A loop that runs, after it has told its first round."""
-    found = subprocess.Popen(
-        [sys.executable, str(PACKAGE / "arbiterctl"), "hold", str(world.tree), "--root",
-         str(world.tree), "--cpus", "2", "--interval", "100ms", "--period", "100ms", "--undo",
-         str(undo), *words],
-        env=ctl.environment, stdout=subprocess.PIPE, stderr=subprocess.PIPE)
-    assert json.loads(found.stdout.readline())["round"] == 1
-    return found
-
-
-def said(loop):
-    """What a loop that ended said, but for rounds that a busy machine missed."""
-    lines = loop.communicate(timeout=30)[1].decode().split("\n")[:-1]
-    return [line for line in lines if not line.endswith("rounds missed")]
 
 
 @pytest.mark.parametrize("number", [signal.SIGTERM, signal.SIGINT])

@@ -19,18 +19,12 @@ from arbiter_host.apply import Settings
 from arbiter_host.faults import HostFault
 from arbiter_host.model import Group, Model
 from arbiter_host.subcommands.hold import Signals, Waits
+from held import FREE, World, content, limit, said, started
 from places import PACKAGE
-from test_hold import FREE, World, content, limit, said, started
 
 UNIT = PACKAGE.parent / "share/systemd/arbiter-hold.service"
 WEIGHTS = hold.Ways(has_weights=True)
 BURST = hold.Ways(has_burst=True)
-
-
-@pytest.fixture(name="world")
-def world_of_three(folder):
-    """Weights 100, 100 and 200 on two CPUs: 200 slices, guarantees 50, 50 and 100."""
-    return World(folder, [("a", 100, FREE), ("b", 100, FREE), ("c", 200, FREE)])
 
 
 @pytest.mark.parametrize("limit, most, weight", [
@@ -214,21 +208,35 @@ def test_tasks_are_read(folder, monkeypatch):
     assert awake.tasks("12\n13\n15\n") == {12: (5, 6)}
 
 
-def test_a_group_below_its_limit_is_hungry(world, engine, folder):
+@pytest.fixture
+def begun(world, folder):
+    """Begins tasks of c. Gives a step in which each runs for 55 % of a second and waits 44 %."""
+    def begin(used, *tasks):
+        files, times = [folder / f"proc/{task}/schedstat" for task in tasks], [0, 0]
+
+        def write():
+            for file in files:
+                file.write_text(f"{times[0]} {times[1]} 1\n")
+
+        def step():
+            for place, rise in enumerate((55, 44)):
+                times[place] += rise * 10**7
+            write()
+            world.uses("c", used, waited=440000)
+            world.uses("a", 20)
+            world.uses("b", 20)
+
+        for file in files:
+            file.parent.mkdir(parents=True)
+        write()
+        return step
+    return begin
+
+
+def test_a_group_below_its_limit_is_hungry(world, begun, engine, folder):
     """Linux gives c less than its limit: its task was awake, so it asks for the CPU that one task
     can use. It waited for less than half of the time."""
-    (folder / "proc/100").mkdir(parents=True)
-    times = [0, 0]
-
-    def step():
-        for place, rise in enumerate((55, 44)):
-            times[place] += rise * 10**7
-        (folder / "proc/100/schedstat").write_text(f"{times[0]} {times[1]} 1\n")
-        world.uses("c", 55, waited=440000)
-        world.uses("a", 20)
-        world.uses("b", 20)
-
-    (folder / "proc/100/schedstat").write_text("0 0 0\n")
+    step = begun(55, 100)
     lines = world.run(world.loop(engine, folder / "undo"), step, step, step)
     assert [line["groups"]["c"]["hungry"] for line, _ in lines] == [True] * 3
     # planned the CPU, of which it was not given 45
@@ -236,23 +244,9 @@ def test_a_group_below_its_limit_is_hungry(world, engine, folder):
         "want": 100, "plan": 100, "used": 55, "limit": 113, "hungry": True, "unserved": 100 - 55}
 
 
-def test_a_group_of_many_tasks_asks_for_all(world, engine, folder):
+def test_a_group_of_many_tasks_asks_for_all(world, begun, engine, folder):
     """c has a task for each CPU, which waited. So it could use the host."""
-    for number in (100, 101):
-        (folder / f"proc/{number}").mkdir(parents=True)
-    times = [0, 0]
-
-    def step():
-        for place, rise in enumerate((55, 44)):
-            times[place] += rise * 10**7
-        for number in (100, 101):
-            (folder / f"proc/{number}/schedstat").write_text(f"{times[0]} {times[1]} 1\n")
-        world.uses("c", 110, waited=440000)
-        world.uses("a", 20)
-        world.uses("b", 20)
-
-    for number in (100, 101):
-        (folder / f"proc/{number}/schedstat").write_text("0 0 0\n")
+    step = begun(110, 100, 101)
     (world.tree / "c/cgroup.threads").write_text("100\n101\n")
     lines = world.run(world.loop(engine, folder / "undo"), step, step)
     assert lines[-1][0]["groups"]["c"] == {

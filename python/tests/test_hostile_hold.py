@@ -17,18 +17,12 @@ from arbiter_host.apply import By, Change, Settings
 from arbiter_host.faults import HostFault
 from arbiter_host.subcommands import apply as applying
 from arbiter_host.subcommands import hold as holding
+from held import FREE, World, content, limit, said, started
 from places import PACKAGE
-from test_hold import FREE, World, content, limit, said, started
 
 NOBODY = 65534
 OLD = Settings(100, None, 100000, 0)
 as_root = pytest.mark.skipif(os.geteuid() != 0, reason="gives files to another user")
-
-
-@pytest.fixture
-def world(folder):
-    """Weights 100, 100 and 200 on two CPUs: 200 slices, guarantees 50, 50 and 100."""
-    return World(folder, [("a", 100, FREE), ("b", 100, FREE), ("c", 200, FREE)])
 
 
 def give(path):
