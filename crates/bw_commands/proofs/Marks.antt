@@ -2,7 +2,7 @@
 use Rattle.std.proofs.Common.{◌≡◌, ℕ, zero, suc, ◌+◌, ◌-◌, ◌*◌, ◌/◌, ◌%◌, ◌^◌, ◌≤◌, ◌<◌, ◌++◌, cond}
 use Rattle.std.proofs.Common.{List, [], ◌∷◌, Bool, true, false, not, map, length, take, drop}
 use Rattle.std.proofs.Common.{get_or}
-use Rattle.std.proofs.Common.{refl, sym, ap, ◌∙◌, arith, inl, inr, subst, eqb, replicate}
+use Rattle.std.proofs.Common.{sym, ap, ◌∙◌, arith, inl, inr, subst}
 use Rattle.std.proofs.Math.ListN.{get_or-eq_default}
 use Rattle.std.proofs.Math.Nat.{pow-succ'}
 use Rattle.std.proofs.lemmas.Nat.{shr-shr, div-mul-add, pow_below, or_shifted, shl_whole}
@@ -16,10 +16,9 @@ use lib.Count.{count_trailing_zeros}
 use Rattle.std.specs.Int.{w64, trailing_ones}
 use Rattle.std.specs.List.{position_or_len}
 use Rattle.std.specs.Prelude.{bit_or}
-use Rattle.std.specs.Simd.Lanes.{mask_l, chunk, top, zip2}
+use Rattle.std.specs.Simd.Lanes.{mask_l, chunk}
 use Rattle.bw_model.proofs.CallerLemmas.{cond_zero, cond_one}
-use Rattle.bw_text.proofs.CallerLemmas.{mask_of_either}
-use Rattle.bw_commands.specs.Word.{is_blank, blanks_of, blank_len_of, word_len_of}
+use Rattle.bw_commands.specs.Word.{is_blank, blanks_of, blank_len_of, word_len_of, end_of}
 use Rattle.bw_commands.proofs.Words.{position_or_len_is_word}
 
 one_below : (b : Bool) → cond b 1 0 < 2
@@ -103,14 +102,6 @@ trailing_ones-mask p xs short =
 
 -- ---- the blanks of one load
 
--- the mask of the lanes that are blanks
-pub mask_of_blanks : (v : List ℕ) (n : ℕ) → length v ≡ n → n ≤ 64
-    → mask_l (map (top 7) (zip2 bit_or
-    (zip2 (λ a b. cond (eqb a b) 255 0) v (replicate n 32))
-    (zip2 (λ a b. cond (eqb a b) 255 0) v (replicate n 9)))) % 2 ^ 64
-    ≡ mask_l (map is_blank v)
-mask_of_blanks v n long few = mask_of_either 32 9 v n long few
-
 -- the number of bytes before the first blank, from the places of the blanks
 pub word_len_of_none : (text : List ℕ) (blanks : ℕ) → blanks ≡ blanks_of text → blanks ≡ 0
     → length text ≡ word_len_of text
@@ -135,3 +126,15 @@ blank_len_of_marks text blanks is short =
 pub blanks_of-drop : (k : ℕ) (text : List ℕ) → blanks_of text / 2 ^ k ≡ blanks_of (drop k text)
 blanks_of-drop k text =
     mask_l-drop k (map is_blank text) ∙ ap mask_l (drop-map is_blank k text)
+
+-- the places of the blanks of the end, from those of the last w bytes
+pub blanks_of-end : (text : List ℕ) (w n : ℕ) → w ≤ length text → n ≤ w
+    → blanks_of (chunk (length text - w) w text) / 2 ^ (w - n) ≡ blanks_of (end_of n text)
+blanks_of-end text w n room few =
+    let last = drop (length text - w) text in
+    let whole : chunk (length text - w) w text ≡ last =
+    take_all w last (omega (arith, length-drop (length text - w) text)) in
+    ap (λ v. blanks_of v / 2 ^ (w - n)) whole ∙ blanks_of-drop (w - n) last
+    ∙ ap blanks_of (drop-drop (w - n) (length text - w) text
+    ∙ ap (λ j. drop j text)
+    (let at : length text - w + (w - n) ≡ length text - n = omega arith in at))

@@ -1,16 +1,18 @@
 -- A text may be cut where a blank stands, and behind blanks.
 use Rattle.std.proofs.Common.{◌≡◌, ◌<◌, not, ℕ, zero, suc, List, length, true, false, refl, subst}
-use Rattle.std.proofs.Common.{arith, get_or, Option, Some, None, inl, inr, Bool}
+use Rattle.std.proofs.Common.{arith, get_or, Option, Some, None, inl, inr, Bool, drop, ◌+◌, ◌-◌}
+use Rattle.std.proofs.Common.{sym, ap, ◌∙◌}
 use Rattle.std.specs.Prelude.{position, unwrap_or}
 use Rattle.std.specs.Str.{IsUtf8, IsCharBoundary}
 use Rattle.std.specs.List.{position_or_len}
 use Rattle.std.proofs.lemmas.Bool.{cases_lt, lt-ltb, le-ltb}
 use Rattle.std.proofs.lemmas.Bool.Decides.{eqb_tells}
+use Rattle.std.proofs.lemmas.List.{drop_all, drop-drop, length-drop}
 use Rattle.std.proofs.lemmas.List.Sums.{prefix_len-le-length}
 use Rattle.std.proofs.lemmas.List.Quantifiers.{position-Some}
 use Rattle.std.proofs.lemmas.Str.{IsCharBoundary-start, IsCharBoundary-end}
 use Rattle.std.proofs.lemmas.Str.{IsCharBoundary-before_ascii, IsCharBoundary-after_ascii}
-use Rattle.bw_commands.specs.Word.{is_blank, word_len_of, blank_len_of}
+use Rattle.bw_commands.specs.Word.{is_blank, word_len_of, blank_len_of, after_word, end_of}
 
 -- the place of the first byte that passes, or the length
 pub position_or_len_is_word : (p : ℕ → Bool) (xs : List ℕ)
@@ -69,3 +71,30 @@ behind_blanks bs (Some i) u e =
 
 pub IsCharBoundary-blank_len_of : (bs : List ℕ) → IsUtf8 bs → IsCharBoundary bs (blank_len_of bs)
 IsCharBoundary-blank_len_of bs u = behind_blanks bs (position (λ b. not (is_blank b)) bs) u refl
+
+-- ---- the end of a text
+
+drop_is_end : (k : ℕ) (xs : List ℕ) → drop k xs ≡ end_of (length (drop k xs)) xs
+drop_is_end k xs = elim (cases_lt (length xs) k) [
+  | inl past ↦ drop_all k xs (omega arith)
+      ∙ sym (drop_all (length xs - length (drop k xs)) xs (omega (arith, length-drop k xs)))
+  | inr within ↦ ap (λ j. drop j xs)
+      (let at : k ≡ length xs - length (drop k xs) = omega (arith, length-drop k xs) in at)
+]
+
+behind_word : (text : List ℕ) → (k : ℕ) × (after_word text ≡ drop k text)
+unfolding after_word
+behind_word text =
+    let blanks = blank_len_of text in
+    let word = word_len_of (drop blanks text) in
+    (blanks + word, drop-drop word blanks text)
+
+-- what stands behind the second word
+pub after_words_is_end : (line : List ℕ)
+    → after_word (after_word line) ≡ end_of (length (after_word (after_word line))) line
+after_words_is_end line =
+    let one = behind_word line in
+    let two = behind_word (after_word line) in
+    let is : after_word (after_word line) ≡ drop (one.0 + two.0) line =
+    two.1 ∙ ap (drop two.0) one.1 ∙ drop-drop two.0 one.0 line in
+    subst (λ ys. ys ≡ end_of (length ys) line) (sym is) (drop_is_end (one.0 + two.0) line)

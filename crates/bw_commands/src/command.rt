@@ -1,12 +1,13 @@
 //! The command that a line of a script names.
-ghost use Rattle.std.specs.Prelude.{◌≡◌, Some};
+ghost use Rattle.std.specs.Prelude.{◌≡◌, Some, length};
 ghost use Rattle.std.specs.Str.{bytes_eq};
 ghost use Rattle.bw_commands.specs.Command.{form, form_named, forms, words_behind};
 ghost use Rattle.bw_commands.specs.Command.{command_of_form, command_of_words};
 ghost use Rattle.bw_commands.specs.Parsed.{meaning_of, request_of};
+ghost use Rattle.bw_commands.specs.Word.{first_word, after_word, end_of};
 
 use crate::fault::ScriptFault;
-use crate::marked::{LEAST_MARKED, MOST_MARKED, Marked};
+use crate::marked::{LEAST_MARKED, MOST_MARKED, Marked, WIDE};
 use crate::word::split_word;
 
 /// Maximum length of a line in bytes. A longer line is refused.
@@ -127,10 +128,28 @@ impl<'a> Command<'a> {
     {
         let (verb, rest) = split_word(line);
         let (first, rest) = split_word(rest);
-        let (second, text) = split_word(rest);
-        let (third, _) = split_word(text);
+        let (second, text, third) = last_words(line, rest);
         of_words(verb, first, second, third, text)
     }
+}
+
+// The first two words of the end of a line, and between them what stands after the first. After a
+// long path there are few bytes, which are marked by one load.
+#[inline(always)]
+fn last_words<'a>(line: &str, end: &'a str) -> (&'a str, &'a str, &'a str)
+    requires { end.now ≡ end_of (length end.now) line.now }
+    ensures word { result.0.now ≡ first_word end.now }
+    ensures behind { result.1.now ≡ after_word end.now }
+    ensures next { result.2.now ≡ first_word (after_word end.now) }
+{
+    if WIDE <= line.len() && end.len() <= WIDE {
+        let (word, behind) = Marked::at_end(line, end).split_word();
+        let (next, _) = behind.split_word();
+        return (word, behind.text(), next);
+    }
+    let (word, behind) = split_word(end);
+    let (next, _) = split_word(behind);
+    (word, behind, next)
 }
 
 // The command of at most four words, and the text behind the third. An absent word is empty.

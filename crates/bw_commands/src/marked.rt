@@ -6,16 +6,17 @@ ghost use Rattle.std.specs.Prelude.{◌≡◌, ◌+◌, ◌-◌, ◌*◌, ◌≤
 ghost use Rattle.std.specs.Str.{IsCharBoundary};
 ghost use Rattle.std.specs.Simd.Lanes.{chunk};
 ghost use Rattle.bw_commands.specs.Word.{blanks_of, blank_len_of, word_len_of};
-ghost use Rattle.bw_commands.specs.Word.{first_word, after_word};
+ghost use Rattle.bw_commands.specs.Word.{first_word, after_word, end_of};
 
-use std::simd::prelude::*;
+use bw_text::places_among;
 
-// Bytes of a load.
+// Bytes of a narrow load, and of a middle one.
 const NARROW: usize = 8;
 
 const MIDDLE: usize = 16;
 
-const WIDE: usize = 32;
+/// Bytes of the widest load.
+pub const WIDE: usize = 32;
 
 /// Least length of a text whose blanks are marked.
 pub const LEAST_MARKED: usize = 8;
@@ -40,7 +41,7 @@ pub struct Marked<'a> {
 impl<'a> Marked<'a> {
     ghost use Rattle.std.specs.Prelude.{◌≡◌, ◌≤◌, length, take, drop};
     ghost use Rattle.std.specs.Str.{IsCharBoundary};
-    ghost use Rattle.bw_commands.specs.Word.{word_len_of, first_word, after_word};
+    ghost use Rattle.bw_commands.specs.Word.{word_len_of, first_word, after_word, end_of};
 
     /// Marks the blanks of a text.
     pub fn new(text: &'a str) -> Marked<'a>
@@ -51,6 +52,22 @@ impl<'a> Marked<'a> {
         Marked {
             text,
             blanks: blanks_of(text.as_bytes()),
+        }
+    }
+
+    /// Marks the blanks of the end of a text, by one load.
+    #[inline(always)]
+    pub fn at_end(text: &str, end: &'a str) -> Marked<'a>
+        requires some { WIDE ≤ length text.now }
+        requires few { length end.now ≤ WIDE }
+        requires end { end.now ≡ end_of (length end.now) text.now }
+        ensures { result.text.now ≡ end.now }
+    {
+        let bytes = text.as_bytes();
+        let last = blanks_at::<WIDE>(bytes, bytes.len() - WIDE);
+        Marked {
+            text: end,
+            blanks: last >> (WIDE - end.len()),
         }
     }
 
@@ -118,57 +135,36 @@ fn blanks_of(text: &[u8]) -> u64
 {
     let len = text.len();
     if len < MIDDLE {
-        let (front, last) = (narrow_blanks(text, 0), narrow_blanks(text, len - NARROW));
-        joined(text, NARROW, front, last)
+        blanks_by::<NARROW>(text)
     } else if len < WIDE {
-        let (front, last) = (middle_blanks(text, 0), middle_blanks(text, len - MIDDLE));
-        joined(text, MIDDLE, front, last)
+        blanks_by::<MIDDLE>(text)
     } else {
-        let (front, last) = (wide_blanks(text, 0), wide_blanks(text, len - WIDE));
-        joined(text, WIDE, front, last)
+        blanks_by::<WIDE>(text)
     }
 }
 
-// The places of the blanks of a text, from those of its first and of its last bytes, so many each.
+// The places of the blanks of a text of N to 2 N bytes, from those of its first and of its last N.
 // The first and the last may overlap.
 #[inline(always)]
-fn joined(text: &[u8], width: usize, front: u64, last: u64) -> u64
-    requires wide { width ≤ WIDE }
-    requires some { width ≤ length text.now }
-    requires few { length text.now ≤ 2 * width }
-    requires front { front ≡ blanks_of (chunk 0 width text.now) }
-    requires last { last ≡ blanks_of (chunk (length text.now - width) width text.now) }
+fn blanks_by<const N: usize>(text: &[u8]) -> u64
+    requires wide { N ≤ WIDE }
+    requires some { N ≤ length text.now }
+    requires few { length text.now ≤ 2 * N }
     ensures { result ≡ blanks_of text.now }
 {
-    last >> (2 * width - text.len()) << width | front
+    let (front, last) = (
+        blanks_at::<N>(text, 0),
+        blanks_at::<N>(text, text.len() - N),
+    );
+    last >> (2 * N - text.len()) << N | front
 }
 
-// The places of the blanks among 32 bytes.
+// The places of the blanks among N bytes.
 #[inline(always)]
-fn wide_blanks(text: &[u8], at: usize) -> u64
-    requires { at + WIDE ≤ length text.now }
-    ensures { result ≡ blanks_of (chunk at WIDE text.now) }
+fn blanks_at<const N: usize>(text: &[u8], at: usize) -> u64
+    requires room { at + N ≤ length text.now }
+    requires few { N ≤ 64 }
+    ensures { result ≡ blanks_of (chunk at N text.now) }
 {
-    let bytes = u8x32::from_slice(&text[at..]);
-    (bytes.simd_eq(u8x32::splat(b' ')) | bytes.simd_eq(u8x32::splat(b'\t'))).to_bitmask()
-}
-
-// The places of the blanks among 16 bytes.
-#[inline(always)]
-fn middle_blanks(text: &[u8], at: usize) -> u64
-    requires { at + MIDDLE ≤ length text.now }
-    ensures { result ≡ blanks_of (chunk at MIDDLE text.now) }
-{
-    let bytes = u8x16::from_slice(&text[at..]);
-    (bytes.simd_eq(u8x16::splat(b' ')) | bytes.simd_eq(u8x16::splat(b'\t'))).to_bitmask()
-}
-
-// The places of the blanks among 8 bytes.
-#[inline(always)]
-fn narrow_blanks(text: &[u8], at: usize) -> u64
-    requires { at + NARROW ≤ length text.now }
-    ensures { result ≡ blanks_of (chunk at NARROW text.now) }
-{
-    let bytes = u8x8::from_slice(&text[at..]);
-    (bytes.simd_eq(u8x8::splat(b' ')) | bytes.simd_eq(u8x8::splat(b'\t'))).to_bitmask()
+    places_among::<N>(text, at, b' ', b'\t')
 }

@@ -1,9 +1,9 @@
--- From the mask of one load to the first of two bytes.
+-- From the mask of one load to the first of two bytes in a text.
 use Rattle.std.proofs.Common.{◌≡◌, ℕ, ◌+◌, ◌≤◌, ◌<◌, ◌%◌, ◌^◌, eqb, ◌||◌, Bool, true, false, cond}
 use Rattle.std.proofs.Common.{List, [], ◌∷◌, map, length, get_or, replicate, refl, sym, ap, ap₂, ◌∙◌}
 use Rattle.std.proofs.Common.{arith, inl, inr}
 use Rattle.std.proofs.lemmas.Simd.{map-map, mask_l-mod, zip2_splat, zip2_of_maps}
-use Rattle.std.proofs.lemmas.Simd.{run_in_chunk_fails, run_in_chunk_stops}
+use Rattle.std.proofs.lemmas.Simd.{run_in_chunk_fails, run_in_chunk_stops, run_in_chunk_le}
 use Rattle.std.proofs.lemmas.Bool.{cases_lt}
 use Rattle.std.proofs.lemmas.List.{length-map}
 use Rattle.std.proofs.lemmas.List.Sums.{position_or_len_is}
@@ -42,25 +42,21 @@ mask_of_either one other v n long few =
     ∙ mask_l-mod (map (is_either one other) v) 64
     (omega (arith, length-map v (is_either one other), long))
 
--- the bytes up to the end of a load do not pass, where none of the load does
-pub passed_more : (p : ℕ → Bool) (xs : List ℕ) (i n r : ℕ) → i + n ≤ length xs
-    → r ≡ position_or_len p (chunk i n xs)
-    → ((k : ℕ) → k < i → p (get_or xs k 0) ≡ false) → n ≤ r
-    → (k : ℕ) → k < i + n → p (get_or xs k 0) ≡ false
-passed_more p xs i n r room run front whole k lt = elim (cases_lt k i) [
+-- in front of the first of a load none passes, where none does in front of the load
+pub fails_before : (p : ℕ → Bool) (xs : List ℕ) (i n r : ℕ) → i + n ≤ length xs
+    → r ≡ position_or_len p (chunk i n xs) → ((k : ℕ) → k < i → p (get_or xs k 0) ≡ false)
+    → (k : ℕ) → k < i + r → p (get_or xs k 0) ≡ false
+fails_before p xs i n r room run front k lt = elim (cases_lt k i) [
   | inl early ↦ front k early
-  | inr late ↦ run_in_chunk_fails p xs i n r 0 room run k late (omega arith)
+  | inr late ↦ run_in_chunk_fails p xs i n r 0 room run k late lt
 ]
 
--- the first of the text is the first of a load, where none stands in front of the load
-pub found_at : (p : ℕ → Bool) (xs : List ℕ) (i n r : ℕ) → i + n ≤ length xs
-    → r ≡ position_or_len p (chunk i n xs)
-    → ((k : ℕ) → k < i → p (get_or xs k 0) ≡ false) → r < n
-    → i + r ≡ position_or_len p xs
-found_at p xs i n r room run front short =
-    let fails : (k : ℕ) → k < i + r → p (get_or xs k 0) ≡ false = λ k lt. elim (cases_lt k i) [
-      | inl early ↦ front k early
-      | inr late ↦ run_in_chunk_fails p xs i n r 0 room run k late lt
-    ] in
-    sym (position_or_len_is p xs (i + r) 0 (omega arith) fails
-    (λ _. run_in_chunk_stops p xs i n r 0 room run short))
+-- then the first of the load is the first of all, or all end with the load
+pub first_in_load : (p : ℕ → Bool) (xs : List ℕ) (i n r : ℕ) → i + n ≤ length xs
+    → r ≡ position_or_len p (chunk i n xs) → ((k : ℕ) → k < i → p (get_or xs k 0) ≡ false)
+    → (i + r < length xs → r < n) → i + r ≡ position_or_len p xs
+first_in_load p xs i n r room run front short =
+    sym (position_or_len_is p xs (i + r) 0
+    (let most = run_in_chunk_le p xs i n r 0 room run in omega (arith, most, room))
+    (fails_before p xs i n r room run front)
+    (λ lt. run_in_chunk_stops p xs i n r 0 room run (short lt)))

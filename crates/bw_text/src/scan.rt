@@ -1,58 +1,54 @@
-//! Searches for the first of two bytes, many bytes at a time.
-ghost use Rattle.std.specs.Prelude.{◌≡◌, ◌+◌, ◌≤◌, ◌<◌, ℕ, false, length, slice_index};
+//! Searches for two bytes, many bytes at a time.
+ghost use Rattle.std.specs.Prelude.{◌≡◌, ◌+◌, ◌≤◌, ◌<◌, ℕ, false, length, slice_index, map};
 ghost use Rattle.std.specs.List.{position_or_len};
-ghost use Rattle.std.specs.Simd.Lanes.{chunk};
+ghost use Rattle.std.specs.Simd.Lanes.{chunk, mask_l};
 ghost use Rattle.bw_text.specs.Words.{is_either};
 
 use std::simd::prelude::*;
 
-// Bytes of a wide load, and of a narrow one.
-const WIDE: usize = 16;
-
+// Bytes of a load: a narrow, a middle and a wide one.
 const NARROW: usize = 8;
+
+const MIDDLE: usize = 16;
+
+const WIDE: usize = 32;
 
 /// Number of bytes in front of the first that is one of two. It is all bytes if none is.
 ///
-/// It tests 16 bytes at a time, with no set-up. So it suits short words too.
+/// It tests up to 32 bytes at a time, with no set-up. So it suits short words too.
 pub fn len_before(text: &[u8], one: u8, other: u8) -> usize
     ensures { result ≡ position_or_len (is_either one other) text.now }
 {
-    let mut at = 0;
-    while text.len() - at >= WIDE {
-        let run = wide_run(text, at, one, other);
-        if run < WIDE {
-            return at + run;
-        }
-        at += WIDE;
+    let len = text.len();
+    if len < NARROW {
+        len_by_one(text, one, other)
+    } else if len < MIDDLE {
+        len_by::<NARROW>(text, one, other)
+    } else if len < WIDE {
+        len_by::<MIDDLE>(text, one, other)
+    } else {
+        len_by::<WIDE>(text, one, other)
     }
-    len_at_end(text, at, one, other)
 }
 
-// Number of bytes in front of the first of the two, where fewer than 16 are left to be tested.
+/// Places of two bytes among N bytes, at most 64: bit k is set if the byte k after `at` is one of
+/// them.
 #[inline(always)]
-fn len_at_end(text: &[u8], at: usize, one: u8, other: u8) -> usize
-    requires within { at ≤ length text.now }
-    requires passed { (k : ℕ) → k < at → is_either one other (slice_index text.now k) ≡ false }
-    ensures { result ≡ position_or_len (is_either one other) text.now }
+pub fn places_among<const N: usize>(text: &[u8], at: usize, one: u8, other: u8) -> u64
+    requires room { at + N ≤ length text.now }
+    requires few { N ≤ 64 }
+    ensures { result ≡ mask_l (map (is_either one other) (chunk at N text.now)) }
 {
-    if text.len() - at < NARROW {
-        return len_by_one(text, at, one, other);
-    }
-    let run = narrow_run(text, at, one, other);
-    if run < NARROW {
-        return at + run;
-    }
-    len_by_one(text, at + NARROW, one, other)
+    let bytes = Simd::<u8, N>::from_slice(&text[at..]);
+    (bytes.simd_eq(Simd::splat(one)) | bytes.simd_eq(Simd::splat(other))).to_bitmask()
 }
 
 // Number of bytes in front of the first of the two, tested one by one.
 #[inline(always)]
-fn len_by_one(text: &[u8], from: usize, one: u8, other: u8) -> usize
-    requires within { from ≤ length text.now }
-    requires passed { (k : ℕ) → k < from → is_either one other (slice_index text.now k) ≡ false }
+fn len_by_one(text: &[u8], one: u8, other: u8) -> usize
     ensures { result ≡ position_or_len (is_either one other) text.now }
 {
-    for at in from..text.len() {
+    for at in 0..text.len() {
         if is_either(one, other, text[at]) {
             return at;
         }
@@ -66,34 +62,38 @@ fn is_either(one: u8, other: u8, byte: u8) -> bool
     byte == one || byte == other
 }
 
-// Number of bytes in front of the first of the two among 16 bytes, or 16.
+// Number of bytes in front of the first of the two, tested N at a time.
 #[inline(always)]
-fn wide_run(text: &[u8], at: usize, one: u8, other: u8) -> usize
-    requires { at + WIDE ≤ length text.now }
-    ensures { result ≡ position_or_len (is_either one other) (chunk at WIDE text.now) }
+fn len_by<const N: usize>(text: &[u8], one: u8, other: u8) -> usize
+    requires some { 1 ≤ N }
+    requires few { N ≤ 64 }
+    requires room { N ≤ length text.now }
+    ensures { result ≡ position_or_len (is_either one other) text.now }
 {
-    let bytes = u8x16::from_slice(&text[at..]);
-    let found = bytes.simd_eq(u8x16::splat(one)) | bytes.simd_eq(u8x16::splat(other));
-    let mask = found.to_bitmask();
-    if mask == 0 {
-        WIDE
-    } else {
-        mask.trailing_zeros() as usize
+    // the last load may overlap the one before it
+    let last = text.len() - N;
+    let mut at = 0;
+    while at < last {
+        let run = run_among::<N>(text, at, one, other);
+        if run < N {
+            return at + run;
+        }
+        at += N;
     }
+    last + run_among::<N>(text, last, one, other)
 }
 
-// Number of bytes in front of the first of the two among 8 bytes, or 8.
+// Number of bytes in front of the first of the two among N bytes, or N.
 #[inline(always)]
-fn narrow_run(text: &[u8], at: usize, one: u8, other: u8) -> usize
-    requires { at + NARROW ≤ length text.now }
-    ensures { result ≡ position_or_len (is_either one other) (chunk at NARROW text.now) }
+fn run_among<const N: usize>(text: &[u8], at: usize, one: u8, other: u8) -> usize
+    requires room { at + N ≤ length text.now }
+    requires few { N ≤ 64 }
+    ensures { result ≡ position_or_len (is_either one other) (chunk at N text.now) }
 {
-    let bytes = u8x8::from_slice(&text[at..]);
-    let found = bytes.simd_eq(u8x8::splat(one)) | bytes.simd_eq(u8x8::splat(other));
-    let mask = found.to_bitmask();
-    if mask == 0 {
-        NARROW
+    let places = places_among::<N>(text, at, one, other);
+    if places == 0 {
+        N
     } else {
-        mask.trailing_zeros() as usize
+        places.trailing_zeros() as usize
     }
 }
