@@ -21,3 +21,9 @@ pub record Gathers {W T : Type 0} (contents : W → Option (List ℕ)) (old new 
       × AppendsFront (contents (inner_of old)) (contents (inner_of new)) (waits_old ++ text))
   pub blame : OnErr result ((has_failed new || has_stalled new) ≡ true)
   pub fault : IfErr result (λ f. f ≡ Write)
+
+-- The text is this one, formed or not.
+abbrev pub GathersText : {W T : Type 0} → (W → Option (List ℕ)) → Watched W → Watched W → List ℕ
+    → List ℕ → Result T RunFault → List ℕ → Type 0
+GathersText contents old new waits_old waits_new result text =
+    Gathers contents old new waits_old waits_new result (λ t. t ≡ text) (λ t. t ≡ text)

@@ -5,7 +5,7 @@ ghost use Rattle.bw_commands.specs.Command.{Period};
 ghost use Rattle.bw_commands.specs.Parsed.{request_of};
 ghost use Rattle.bw_commands.specs.Script.{kept_of, request_of_kept};
 ghost use Rattle.bw_streams.specs.Watched.{is_flushed, HasNoFault};
-ghost use Rattle.bw_shell.specs.Gathers.{Gathers};
+ghost use Rattle.bw_shell.specs.Gathers.{GathersText};
 ghost use Rattle.bw_shell.specs.Piece.{bytes_of};
 ghost use Rattle.bw_commands.specs.declared.refusal.TheConstants.{REFUSAL_BYTES};
 
@@ -49,8 +49,8 @@ fn flush_before<W: Write>(
     waiting: &mut Vec<u8>,
 ) -> Result<(), RunFault>
     requires { HasNoFault writer.old }
-    ensures gathers { Gathers W.contents writer.old writer.new waiting.old.items waiting.new.items
-        result (λ none. none ≡ []) (λ none. none ≡ []) }
+    ensures gathers { GathersText W.contents writer.old writer.new waiting.old.items
+        waiting.new.items result [] }
     ensures empty { OnOk result (request_of asked.entry ≡ Ok Period → waiting.new.items ≡ []) }
     ensures flushed { OnOk result (request_of asked.entry ≡ Ok Period → is_flushed writer.new
         ≡ true) }
@@ -92,7 +92,7 @@ impl<'a, G: Gate> Responder<'a, G> {
     ghost use Rattle.bw_commands.specs.Script.{outcome_of_request, IsAnswer, IsOutcome};
     ghost use Rattle.bw_commands.specs.Script.{Performs, ok_line};
     ghost use Rattle.bw_commands.specs.State.{State, start};
-    ghost use Rattle.bw_shell.specs.Gathers.{Gathers};
+    ghost use Rattle.bw_shell.specs.Gathers.{Gathers, GathersText};
     ghost use Rattle.bw_shell.specs.Piece.{bytes_of};
     ghost use Rattle.bw_shell.specs.Responder.{responder_state, responder_waits, change_text};
     ghost use Rattle.bw_streams.specs.Watched.{is_flushed, HasNoFault};
@@ -169,9 +169,8 @@ impl<'a, G: Gate> Responder<'a, G> {
         writer: &mut Watched<W>,
     ) -> Result<(), RunFault>
         requires { HasNoFault writer.old }
-        ensures gathers { Gathers W.contents writer.old writer.new (responder_waits self.old)
-            (responder_waits self.new) result
-            (λ text. text ≡ change_text done) (λ text. text ≡ change_text done) }
+        ensures gathers { GathersText W.contents writer.old writer.new (responder_waits self.old)
+            (responder_waits self.new) result (change_text done) }
         ensures state { responder_state G.used self.new ≡ responder_state G.used self.old }
     {
         match done {
@@ -188,9 +187,8 @@ impl<'a, G: Gate> Responder<'a, G> {
         writer: &mut Watched<W>,
     ) -> Result<(), RunFault>
         requires { HasNoFault writer.old }
-        ensures gathers { Gathers W.contents writer.old writer.new (responder_waits self.old)
-            (responder_waits self.new) result
-            (λ text. text ≡ error_line fault) (λ text. text ≡ error_line fault) }
+        ensures gathers { GathersText W.contents writer.old writer.new (responder_waits self.old)
+            (responder_waits self.new) result (error_line fault) }
         ensures state { responder_state G.used self.new ≡ responder_state G.used self.old }
     {
         self.answer.clear();

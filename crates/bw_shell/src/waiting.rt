@@ -1,7 +1,7 @@
 //! Answers that wait in a buffer in front of the writer, and are written together.
 ghost use Rattle.std.specs.Prelude.{◌≡◌, ◌≤◌, [], true, OnOk};
 ghost use Rattle.std.specs.Vec.{vec_capacity};
-ghost use Rattle.bw_shell.specs.Gathers.{Gathers};
+ghost use Rattle.bw_shell.specs.Gathers.{GathersText};
 ghost use Rattle.bw_streams.specs.Watched.{is_flushed, HasNoFault};
 ghost use Rattle.bw_streams.specs.Writes.{Writes};
 
@@ -23,8 +23,8 @@ pub(crate) fn gather<W: Write>(
     text: &[u8],
 ) -> Result<(), RunFault>
     requires { HasNoFault writer.old }
-    ensures { Gathers W.contents writer.old writer.new waiting.old.items waiting.new.items result
-        (λ t. t ≡ text.now) (λ t. t ≡ text.now) }
+    ensures { GathersText W.contents writer.old writer.new waiting.old.items waiting.new.items result
+        text.now }
 {
     if text.len() <= waiting.capacity() - waiting.len() {
         put(waiting, text);
@@ -41,8 +41,8 @@ fn send_both<W: Write>(
     text: &[u8],
 ) -> Result<(), RunFault>
     requires { HasNoFault writer.old }
-    ensures { Gathers W.contents writer.old writer.new waiting.old.items waiting.new.items result
-        (λ t. t ≡ text.now) (λ t. t ≡ text.now) }
+    ensures { GathersText W.contents writer.old writer.new waiting.old.items waiting.new.items result
+        text.now }
 {
     match send_waiting(writer, waiting) {
         Ok(()) => send(writer, text),
