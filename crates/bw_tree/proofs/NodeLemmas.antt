@@ -79,15 +79,20 @@ pub as_many : (gs : Groups) (fronts : ℕ → PathHash) (ns : List Node) → Are
 as_many gs fronts ns =
     AllZip-long (λ (e : ℕ × GroupFields) (n : Node). IsNodeOf gs fronts e.0 n) gs ns
 
+-- beside the place of a group there is a node
+pub node_within : (gs : Groups) (fronts : ℕ → PathHash) (ns : List Node) (id i : ℕ)
+    → AreNodesOf gs fronts ns → position (eqb id) (keys_of gs) ≡ Some i → i < length ns
+node_within gs fronts ns id i all place =
+    omega (arith, (stands_at gs id i place).within, as_many gs fronts ns all)
+
 -- what is read at the place of a group is its node
 pub node_found : (gs : Groups) (fronts : ℕ → PathHash) (ns : List Node) (id i : ℕ) (node : Node)
     → AreNodesOf gs fronts ns → position (eqb id) (keys_of gs) ≡ Some i
     → node ≡ get_or ns i node → IsNodeOf gs fronts id node
 node_found gs fronts ns id i node all place is =
-    let at = stands_at gs id i place in
-    let within : i < length ns = omega (arith, at.within, as_many gs fronts ns all) in
+    let within = node_within gs fronts ns id i all place in
     subst (IsNodeOf gs fronts id) (sym (is ∙ get_or_default ns i node (root_node no_tail) within))
-    (node_read (IsNodeOf gs fronts) gs ns id i at all)
+    (node_read (IsNodeOf gs fronts) gs ns id i (stands_at gs id i place) all)
 
 module _ (P Q : ℕ → Node → Type 0) where
   -- other groups with the same ids

@@ -5,13 +5,13 @@ use Rattle.std.proofs.Common.{sym, ap, ◌∙◌, arith, eqb}
 use Rattle.std.specs.Prelude.{codes}
 use Rattle.std.specs.List.{join_with_byte}
 use Rattle.std.specs.Map.{keys_of}
-use Rattle.std.proofs.lemmas.Bool.{eq-eqb, ne_eqb, eqb-true}
-use Rattle.std.proofs.lemmas.List.{get_or-map, length-map}
-use Rattle.std.proofs.lemmas.List.Quantifiers.{position-Some}
+use Rattle.std.proofs.lemmas.Bool.{eq-eqb, ne_eqb}
+use Rattle.std.proofs.lemmas.List.{get_or-map}
 use Rattle.bw_model.proofs.CallerLemmas.{inside}
 use Rattle.bw_tree.specs.Groups.{GroupFields, TreeState, group_at, has_group, IsTree}
 use Rattle.bw_tree.specs.Paths.{names_to, path_at}
 use Rattle.bw_tree.specs.Snapshot.{row_above}
+use Rattle.bw_tree.proofs.PlaceLemmas.{stands_at, key_there}
 use Rattle.bw_tree.proofs.SnapshotLemmas.{found_at, place_found, place_le, parent_place}
 use Rattle.bw_tree.proofs.WayLemmas.{joined_below, joined_first}
 
@@ -46,15 +46,12 @@ module _ (t : TreeState) (ok : IsTree t) where
   -- the first row is the root's
   first_id : get_or (keys_of t.groups) 0 0 ≡ 0
   first_id =
-      let there = place_found t.groups 0 (ap is_some ok.root.1) in
-      let at = position-Some (eqb 0) (keys_of t.groups) there.0 0 there.1 in
-      let within : there.0 < length t.groups =
-      omega (arith, at.0, length-map t.groups (λ (e : ℕ × GroupFields). e.0)) in
-      let same : get_or (keys_of t.groups) there.0 0 ≡ 0 =
-      sym (eqb-true 0 (get_or (keys_of t.groups) there.0 0) at.1) in
-      let low = place_le t.groups there.0 other ok.rising within in
-      let first : there.0 ≡ 0 = omega (arith, low, id_is there.0 within, same) in
-      ap (λ k. get_or (keys_of t.groups) k 0) (sym first) ∙ same
+      let j = place_found t.groups 0 (ap is_some ok.root.1) in
+      let there = stands_at t.groups 0 j.0 j.1 in
+      let key = key_there t.groups 0 j.0 other there in
+      let low = place_le t.groups j.0 other ok.rising there.within in
+      let first : j.0 ≡ 0 = omega (arith, low, key) in
+      ap (λ k. get_or (keys_of t.groups) k 0) (sym first) ∙ id_is j.0 there.within ∙ key
 
   -- and no other is
   later_id : (p : ℕ) → p < length t.groups → p ≢ 0 → get_or (keys_of t.groups) p 0 ≢ 0

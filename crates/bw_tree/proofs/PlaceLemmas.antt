@@ -3,11 +3,11 @@ use Rattle.std.proofs.Common.{◌≡◌, ℕ, zero, suc, ◌<◌, Bool, true, fa
 use Rattle.std.proofs.Common.{length}
 use Rattle.std.proofs.Common.{get_or, Option, Some, None, position, refl, sym, ap, ◌∙◌, eqb, arith}
 use Rattle.std.proofs.Common.{◌+◌, is_some, ltb, not}
-use Rattle.std.proofs.lemmas.Bool.{lt-ltb}
+use Rattle.std.proofs.lemmas.Bool.{lt-ltb, eqb-true}
 use Rattle.std.proofs.lemmas.Bool.Decides.{nat_tests}
 use Rattle.std.specs.List.{position_or_len}
 use Rattle.std.specs.Prelude.{slice_set}
-use Rattle.std.proofs.lemmas.List.{length-map}
+use Rattle.std.proofs.lemmas.List.{length-map, get_or-map}
 use Rattle.std.proofs.lemmas.List.Quantifiers.{position-Some}
 use Rattle.std.specs.List.{remove}
 use Rattle.std.specs.Map.{keys_of, remove_entry, set_value}
@@ -29,6 +29,14 @@ stands_at gs id i at =
       before = first.2;
       within = omega (arith, first.0, length-map gs (λ (e : ℕ × GroupFields). e.0));
     }
+
+-- what is read there is its group
+pub key_there : (gs : List (ℕ × GroupFields)) (id i : ℕ) (d : ℕ × GroupFields) → StandsAt gs id i
+    → (get_or gs i d).0 ≡ id
+key_there gs id i d at =
+    sym (eqb-true id (get_or gs i d).0
+    (ap (eqb id) (sym (get_or-map (λ (e : ℕ × GroupFields). e.0) gs i d 0 at.within))
+    ∙ at.here))
 
 pub stands_later : (e : ℕ × GroupFields) (es : List (ℕ × GroupFields)) (id i : ℕ)
     → StandsAt (e ∷ es) id (suc i) → StandsAt es id i

@@ -1,7 +1,7 @@
 -- What a search finds among groups whose ids rise.
 use Rattle.std.proofs.Common.{◌≡◌, ◌⊎◌, inl, inr, ℕ, ◌<◌, ◌≤◌, List, length, get_or, Option, Some}
 use Rattle.std.proofs.Common.{None, Result, Ok, Err, position, refl, sym, ap, ◌∙◌, arith, eqb}
-use Rattle.std.proofs.lemmas.Bool.{eqb-true, cases_order}
+use Rattle.std.proofs.lemmas.Bool.{cases_order}
 use Rattle.std.proofs.lemmas.Bool.Decides.{nat_tests}
 use Rattle.std.proofs.lemmas.Cmp.{ranked}
 use Rattle.std.proofs.lemmas.List.{get_or-map, length-map}
@@ -12,7 +12,7 @@ use Rattle.std.specs.Ordering.{nat_cmp, ordering_index}
 use Rattle.std.specs.Result.{result_ok}
 use Rattle.bw_tree.specs.Groups.{GroupFields, AreRising}
 use Rattle.bw_tree.specs.Tree.{root_group}
-use Rattle.bw_tree.proofs.PlaceLemmas.{stands_at}
+use Rattle.bw_tree.proofs.PlaceLemmas.{stands_at, key_there}
 use Rattle.bw_tree.proofs.SnapshotLemmas.{rising_at, place_read}
 
 module _ (gs : List (ℕ × GroupFields)) (up : AreRising gs) (id : ℕ) where
@@ -55,8 +55,7 @@ module _ (gs : List (ℕ × GroupFields)) (up : AreRising gs) (id : ℕ) where
       by (Some j) at = absurd (clash (cases_order j i))
         where
           here : (get_or gs j d).0 ≡ id
-          here = sym (key_at j (stands_at gs id j at).within)
-              ∙ sym (eqb-true id (get_or (keys_of gs) j 0) (stands_at gs id j at).here)
+          here = key_there gs id j d (stands_at gs id j at)
 
           from : i ≤ j → ⊥
           from le = let more : id < (get_or gs j d).0 =

@@ -4,10 +4,9 @@ use Rattle.std.proofs.Common.{map, subst, ◌==◌, ◌||◌, ◌&&◌, not, Lis
 use Rattle.std.proofs.Common.{cond, get_or, Option}
 use Rattle.std.proofs.Common.{Some, None, is_some, refl, sym, ap, ◌∙◌, arith, eqb, ltb, position}
 use Rattle.std.proofs.Common.{zero-add}
-use Rattle.std.proofs.lemmas.Bool.{eq-eqb, ne_eqb, eqb-true, lt-ltb, le-ltb, cases_order, cases_lt}
+use Rattle.std.proofs.lemmas.Bool.{eq-eqb, ne_eqb, lt-ltb, le-ltb, cases_order, cases_lt}
 use Rattle.std.proofs.lemmas.List.{get_or-map, length-map}
 use Rattle.std.proofs.lemmas.List.FromFn.{get_or-enumerate_from, length-enumerate_from}
-use Rattle.std.proofs.lemmas.List.Quantifiers.{position-Some}
 use Rattle.std.specs.List.{list_any, list_all, enumerate_from, AllByRecursion, IsDistinct}
 use Rattle.std.specs.Map.{keys_of, values_of}
 use Rattle.bw_model.specs.declared.row.Row.{Row}
@@ -28,7 +27,7 @@ use Rattle.bw_tree.specs.Snapshot.{row_above, bursting, row_of, rows_of, instanc
 use Rattle.bw_tree.specs.Tree.{root_group}
 use Rattle.bw_tree.proofs.GroupLemmas.{above_more, above_here, some_of}
 use Rattle.bw_tree.proofs.RemoveLemmas.{children_found}
-use Rattle.bw_tree.proofs.PlaceLemmas.{some_place}
+use Rattle.bw_tree.proofs.PlaceLemmas.{StandsAt, stands_at, key_there, some_place}
 use Rattle.bw_model.proofs.CallerLemmas.{goes_on, earlier-AreTreeRows, refused_none-IsInstance}
 use Rattle.bw_model.proofs.CallerLemmas.{depth_of-top, depth_of-step}
 
@@ -118,31 +117,24 @@ place_read gs i id up lt read = same (cases_order j.0 i)
     j : (k : ℕ) × (position (eqb id) (keys_of gs) ≡ Some k)
     j = place_found gs id (ap (has_group gs) (sym here) ∙ ap is_some (found_at gs i d up within))
 
-    there : j.0 < length gs
-    there = omega (
-      arith,
-      (position-Some (eqb id) (keys_of gs) j.0 0 j.1).0,
-      length-map gs (λ (e : ℕ × GroupFields). e.0),
-    )
+    there : StandsAt gs id j.0
+    there = stands_at gs id j.0 j.1
 
     key : (get_or gs j.0 d).0 ≡ id
-    key =
-        sym (eqb-true id (get_or gs j.0 d).0
-        (ap (eqb id) (sym (get_or-map (λ (e : ℕ × GroupFields). e.0) gs j.0 d 0 there))
-        ∙ (position-Some (eqb id) (keys_of gs) j.0 0 j.1).1))
+    key = key_there gs id j.0 d there
 
     same : (j.0 ≡ i) ⊎ ((j.0 < i) ⊎ (i < j.0)) → position (eqb id) (keys_of gs) ≡ Some i
     same (inl is) = j.1 ∙ ap Some is
     same (inr (inl before)) = let low = rising_at gs j.0 i d up before within in
         absurd (omega (arith, low, key, here))
-    same (inr (inr after)) = let high = rising_at gs i j.0 d up after there in
+    same (inr (inr after)) = let high = rising_at gs i j.0 d up after there.within in
         absurd (omega (arith, high, key, here))
 
 -- where no group was removed each id is its place
 pub whole_place : (t : TreeState) → IsTree t → t.next ≡ length t.groups → (id : ℕ)
     → has_group t.groups id ≡ true
     → (position (eqb id) (keys_of t.groups) ≡ Some id) × (id < length t.groups)
-whole_place t ok whole id there = (j.1 ∙ ap Some same, omega (arith, within, same))
+whole_place t ok whole id there = (j.1 ∙ ap Some same, omega (arith, at.within, same))
   where
     d : ℕ × GroupFields
     d = (0, root_group)
@@ -150,23 +142,16 @@ whole_place t ok whole id there = (j.1 ∙ ap Some same, omega (arith, within, s
     j : (k : ℕ) × (position (eqb id) (keys_of t.groups) ≡ Some k)
     j = place_found t.groups id there
 
-    within : j.0 < length t.groups
-    within = omega (
-      arith,
-      (position-Some (eqb id) (keys_of t.groups) j.0 0 j.1).0,
-      length-map t.groups (λ (e : ℕ × GroupFields). e.0),
-    )
+    at : StandsAt t.groups id j.0
+    at = stands_at t.groups id j.0 j.1
 
     key : (get_or t.groups j.0 d).0 ≡ id
-    key =
-        sym (eqb-true id (get_or t.groups j.0 d).0
-        (ap (eqb id) (sym (get_or-map (λ (e : ℕ × GroupFields). e.0) t.groups j.0 d 0 within))
-        ∙ (position-Some (eqb id) (keys_of t.groups) j.0 0 j.1).1))
+    key = key_there t.groups id j.0 d at
 
     same : j.0 ≡ id
     same =
-        let low = place_le t.groups j.0 d ok.rising within in
-        let high = place_ge t.groups j.0 t.next d ok.rising ok.below_next within in
+        let low = place_le t.groups j.0 d ok.rising at.within in
+        let high = place_ge t.groups j.0 t.next d ok.rising ok.below_next at.within in
         omega (arith, low, high, key, whole)
 
 -- the values of the group at a place are in range
@@ -229,17 +214,12 @@ module _ (t : TreeState) (ok : IsTree t) (d : ℕ × GroupFields) where
       let found = found_at t.groups i d ok.rising within in
       let above_it = ok.parents (get_or t.groups i d).0 p (get_or t.groups i d).1 found up in
       let j = place_found t.groups p above_it.1 in
-      let at = position-Some (eqb p) (keys_of t.groups) j.0 0 j.1 in
-      let there : j.0 < length t.groups =
-      omega (arith, at.0, length-map t.groups (λ (e : ℕ × GroupFields). e.0)) in
-      let key : (get_or t.groups j.0 d).0 ≡ p =
-      sym (eqb-true p (get_or t.groups j.0 d).0
-      (ap (eqb p) (sym (get_or-map (λ (e : ℕ × GroupFields). e.0) t.groups j.0 d 0 there))
-      ∙ at.1)) in
+      let there = stands_at t.groups p j.0 j.1 in
+      let key = key_there t.groups p j.0 d there in
       record {
         place = j.0;
         is = j.1;
-        before = earlier j.0 (cases_order j.0 i) key above_it.0 there;
+        before = earlier j.0 (cases_order j.0 i) key above_it.0 there.within;
         key = key;
       }
     where
@@ -290,16 +270,10 @@ module _ (t : TreeState) (ok : IsTree t) (s : Shape) (d : ℕ × GroupFields) (r
     where
       some_rows : length (rows_of t.groups s) == 0 ≡ false
       some_rows =
-          let there = place_found t.groups 0 (ap is_some ok.root.1) in
-          let at = position-Some (eqb 0) (keys_of t.groups) there.0 0 there.1 in
+          let j = place_found t.groups 0 (ap is_some ok.root.1) in
+          let there = stands_at t.groups 0 j.0 j.1 in
           ne_eqb (length (rows_of t.groups s)) 0
-          (λ e. omega (
-            arith,
-            e,
-            at.0,
-            length-map t.groups (λ (x : ℕ × GroupFields). x.0),
-            length_rows t.groups s,
-          ))
+          (λ e. omega (arith, e, there.within, length_rows t.groups s))
 
   -- the row's parent is the parent's place
   pub row_parent : (i : ℕ) → i < length t.groups
@@ -421,17 +395,12 @@ module _ (t : TreeState) (ok : IsTree t) (s : Shape) (d : ℕ × GroupFields) (r
   pub root_first : RootFirst
   root_first =
       let j = place_found t.groups 0 (ap is_some ok.root.1) in
-      let at = position-Some (eqb 0) (keys_of t.groups) j.0 0 j.1 in
-      let there : j.0 < length t.groups =
-      omega (arith, at.0, length-map t.groups (λ (e : ℕ × GroupFields). e.0)) in
-      let key : (get_or t.groups j.0 d).0 ≡ 0 =
-      sym (eqb-true 0 (get_or t.groups j.0 d).0
-      (ap (eqb 0) (sym (get_or-map (λ (e : ℕ × GroupFields). e.0) t.groups j.0 d 0 there))
-      ∙ at.1)) in
-      let low = place_le t.groups j.0 d ok.rising there in
+      let there = stands_at t.groups 0 j.0 j.1 in
+      let key = key_there t.groups 0 j.0 d there in
+      let low = place_le t.groups j.0 d ok.rising there.within in
       let zeroth : j.0 ≡ 0 = omega (arith, low, key) in
       record {
-        some = omega (arith, there);
+        some = omega (arith, there.within);
         key = ap (λ k. (get_or t.groups k d).0) (sym zeroth) ∙ key;
       }
 

@@ -8,7 +8,7 @@ ghost use Rattle.bw_tree.specs.Groups.{IsTree, has_group, find_path, walk};
 ghost use Rattle.bw_tree.specs.Tails.{IsWay};
 ghost use Rattle.bw_tree.specs.Tree.{IsRefused, path_refusal};
 
-use crate::by_id::place_of;
+use crate::by_id::{group_there, place_of};
 use crate::fault::TreeFault;
 use crate::group::GroupId;
 use crate::names::split_front;
@@ -58,7 +58,7 @@ impl Tree {
     {
         let mut at = id;
         let mut left = text;
-        while let Some((top, front)) = self.cut_tail(at, left) {
+        while let Some((top, front)) = self.cut_end(at, left) {
             let Some((slash, above)) = front.split_last() else {
                 return top == 0;
             };
@@ -71,34 +71,32 @@ impl Tree {
         false
     }
 
-    // Group above the last names of a path, and the text before these names: of all that its tail
-    // has, or of its own name alone.
-    fn cut_tail<'a>(&self, id: GroupId, text: &'a [u8]) -> Option<(GroupId, &'a [u8])>
+    // Group above the last names of a path, and the text before these names.
+    fn cut_end<'a>(&self, id: GroupId, text: &'a [u8]) -> Option<(GroupId, &'a [u8])>
         ensures within { IfSome result (λ x. length x.1.now ≤ length text.now) }
         ensures cut { IfSome result (λ x. (way : List ℕ) × IsWay self.now.groups way x.0 id
             × (text.now ≡ x.1.now ++ way)) }
         ensures valid { IsTree self.now }
     {
+        let (above, end) = self.end_of_path(id)?;
+        let front = text.strip_suffix(end)?;
+        Some((above, front))
+    }
+
+    // Last names of a group's path, joined by `/`, and the group above them: all names that its
+    // tail has, or its own alone. The root has none.
+    fn end_of_path(&self, id: GroupId) -> Option<(GroupId, &[u8])>
+        ensures way { IfSome result (λ x. IsWay self.now.groups x.1.now x.0 id) }
+        ensures valid { IsTree self.now }
+    {
         let place = place_of(&self.groups, id)?;
         let tail = &self.nodes[place].tail;
         if tail.is_none() {
-            return self.cut_name(id, text);
+            let group = group_there(&self.groups, id, place);
+            let parent = group.parent?;
+            return Some((parent, group.name.as_str().as_bytes()));
         }
-        tail.cut(text)
-    }
-
-    // Parent of a group, and the text before the group's name.
-    fn cut_name<'a>(&self, id: GroupId, text: &'a [u8]) -> Option<(GroupId, &'a [u8])>
-        ensures within { IfSome result (λ x. length x.1.now ≤ length text.now) }
-        ensures cut { IfSome result (λ x. (way : List ℕ) × IsWay self.now.groups way x.0 id
-            × (text.now ≡ x.1.now ++ way)) }
-    {
-        let group = self.group(id)?;
-        let Some(parent) = group.parent else {
-            return None;
-        };
-        let front = text.strip_suffix(group.name.as_str().as_bytes())?;
-        Some((parent, front))
+        Some((tail.top(), tail.text().as_bytes()))
     }
 
     /// Path of a group: the one text with which [`Tree::find`] finds it.

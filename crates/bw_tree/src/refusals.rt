@@ -2,7 +2,7 @@
 ghost use Rattle.std.specs.Prelude.{◌≡◌, is_some, position, nat_eq, Some};
 ghost use Rattle.std.specs.Map.{keys_of};
 ghost use Rattle.bw_tree.specs.Groups.{above, child_of, demand_at, has_children, IsTree};
-ghost use Rattle.bw_tree.specs.Tree.{mkdir_refusal, demand_refusal, setting_refusal, rmdir_refusal};
+ghost use Rattle.bw_tree.specs.Tree.{mkdir_refusal, demand_refusal, rmdir_refusal};
 
 use crate::by_id::group_there;
 use crate::fault::TreeFault;
@@ -47,17 +47,16 @@ impl Tree {
         None
     }
 
-    // Refusal of the removal of a group.
-    pub(crate) fn rmdir_refusal(&self, id: GroupId) -> Option<TreeFault>
+    // Refusal of the removal of a group, which stands at this place.
+    pub(crate) fn rmdir_refusal(&self, id: GroupId, place: usize) -> Option<TreeFault>
+        requires { position (nat_eq id) (keys_of self.now.groups) ≡ Some place }
         ensures { result ≡ rmdir_refusal self.now id }
     {
-        let Some(group) = self.group(id) else {
-            return Some(TreeFault::NotFound);
-        };
+        let group = group_there(&self.groups, id, place);
         if id == 0 {
             return Some(TreeFault::RootFixed);
         }
-        if self.has_children(id) {
+        if self.has_children_there(id, place) {
             return Some(TreeFault::HasChildren);
         }
         if group.demand > 0 {
@@ -66,48 +65,36 @@ impl Tree {
         None
     }
 
-    // Refusal of a demand in slices.
-    pub(crate) fn demand_refusal(&self, id: GroupId, demand: u64) -> Option<TreeFault>
+    // Refusal of a demand in slices of a group, which stands at this place.
+    pub(crate) fn demand_refusal(&self, id: GroupId, place: usize, demand: u64) -> Option<TreeFault>
+        requires { position (nat_eq id) (keys_of self.now.groups) ≡ Some place }
         ensures { result ≡ demand_refusal self.now id demand }
     {
-        let Some(group) = self.group(id) else {
-            return Some(TreeFault::NotFound);
-        };
+        let group = group_there(&self.groups, id, place);
         if id == 0 {
             return Some(TreeFault::RootFixed);
         }
         if demand > MAX_DEMAND {
             return Some(TreeFault::DemandTooLarge);
         }
-        if demand > 0 && self.is_inner(id, group.demand) {
+        if demand > 0 && self.is_inner(id, place, group.demand) {
             return Some(TreeFault::InnerDemand);
         }
         None
     }
 
-    // Whether a group with this demand has children. One with a demand has none: no look-up.
-    fn is_inner(&self, id: GroupId, demand: u64) -> bool
+    // Whether a group with this demand, which stands at this place, has children. One with a
+    // demand has none: no look at its node.
+    fn is_inner(&self, id: GroupId, place: usize, demand: u64) -> bool
         requires tree { IsTree self.now }
+        requires place { position (nat_eq id) (keys_of self.now.groups) ≡ Some place }
         requires demand { demand ≡ demand_at self.now.groups id }
         ensures { result ≡ has_children self.now.groups id }
     {
         if demand > 0 {
             return false;
         }
-        self.has_children(id)
-    }
-
-    // Refusal of a weight, a limit, a period or a burst.
-    pub(crate) fn setting_refusal(&self, id: GroupId) -> Option<TreeFault>
-        ensures { result ≡ setting_refusal self.now id }
-    {
-        if self.group(id).is_none() {
-            return Some(TreeFault::NotFound);
-        }
-        if id == 0 {
-            return Some(TreeFault::RootFixed);
-        }
-        None
+        self.has_children_there(id, place)
     }
 
     // Whether the group that stands at this place is `MAX_DEPTH` groups below the root.

@@ -1,5 +1,5 @@
 //! End of the way from the root down to a group.
-ghost use Rattle.std.specs.Prelude.{◌≡◌, ◌<◌, ◌≤◌, ◌==◌, ◌++◌, ℕ, List, [], length, IfSome, Some};
+ghost use Rattle.std.specs.Prelude.{◌≡◌, ◌<◌, ◌==◌, ℕ, List, [], length, Some};
 ghost use Rattle.bw_tree.specs.Groups.{GroupFields, child_of};
 ghost use Rattle.bw_tree.specs.Tails.{IsTailOf};
 
@@ -66,13 +66,17 @@ impl Tail {
         self.text.is_empty()
     }
 
-    // Group where the tail begins, and what stands before it in a text that ends by it.
-    pub(crate) fn cut<'a>(&self, text: &'a [u8]) -> Option<(GroupId, &'a [u8])>
-        ensures within { IfSome result (λ x. length x.1.now ≤ length text.now) }
-        ensures top { IfSome result (λ x. x.0 ≡ self.now.top) }
-        ensures front { IfSome result (λ x. text.now ≡ x.1.now ++ self.now.text.bytes) }
+    // Group where it begins.
+    pub(crate) fn top(&self) -> GroupId
+        ensures { result ≡ self.now.top }
     {
-        let front = text.strip_suffix(self.text.as_str().as_bytes())?;
-        Some((self.top, front))
+        self.top
+    }
+
+    // Names from there down to the group, joined by `/`.
+    pub(crate) fn text(&self) -> &str
+        ensures { result.now ≡ self.now.text.bytes }
+    {
+        self.text.as_str()
     }
 }

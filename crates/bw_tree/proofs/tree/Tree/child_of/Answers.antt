@@ -1,20 +1,19 @@
 -- The goals of `Tree::child_of` that are answered by hand.
-use Rattle.std.proofs.Common.{◌≡◌, length, is_some, false, sym, ap, ◌∙◌, arith}
+use Rattle.std.proofs.Common.{◌≡◌, is_some, false, sym, ap, ◌∙◌}
 use Rattle.bw_tree.specs.Groups.{TreeState, has_group, child_of}
 use Rattle.bw_tree.specs.Children.{child_at}
 use Rattle.bw_tree.specs.Keys.{number, with_bytes}
 use Rattle.bw_tree.specs.Nodes.{IsNodeOf}
 use Rattle.bw_tree.proofs.IndexLemmas.{no_child}
-use Rattle.bw_tree.proofs.NodeLemmas.{as_many, childless, node_read}
+use Rattle.bw_tree.proofs.NodeLemmas.{childless, node_read, node_within}
 use Rattle.bw_tree.proofs.PlaceLemmas.{stands_at}
 use Rattle.bw_tree.proofs.tree.Tree.child_of.Goals as goal
 
 pub path_below-path-requires : goal.path_below-path-requires
 path_below-path-requires c =
-    let gs = c.self.inside.groups.items in
-    let long : length c.self.inside.nodes.items ≡ length gs =
-    as_many gs c.self.invariant.fronts c.self.inside.nodes.items c.self.invariant.nodes in
-    omega (arith, c.in-Some.ensures.within, long)
+    node_within c.self.inside.groups.items c.self.invariant.fronts c.self.inside.nodes.items
+    c.args.parent c.in-Some.above c.self.invariant.nodes
+    (sym c.place_of.ensures.place ∙ c.in-Some.is)
 
 pub returns-in_default : goal.returns-in_default
 returns-in_default c =
