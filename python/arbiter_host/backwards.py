@@ -16,12 +16,11 @@ from typing import Any
 
 from arbiter import Columns, Host
 from arbiter_host import demands, progress
-from arbiter_host.engine import Engine, asking
 from arbiter_host.faults import HostFault
 from arbiter_host.model import MAX_PROCESSORS, Model, planned
 from arbiter_host.names import shown
 from arbiter_host.owned import Owned, Range, Setting
-from arbiter_host.plan import Plan, Planned, plan
+from arbiter_host.plan import Engine, Plan, Planned, asking, plan
 from arbiter_host.units import Slices
 
 

@@ -14,9 +14,9 @@ from typing import Any
 
 from arbiter import Host
 from arbiter_host import units
+from arbiter_host.atomic_files import CHANGED, collected_folder, faults, place_of
 from arbiter_host.faults import HostFault
 from arbiter_host.names import label
-from arbiter_host.whole import CHANGED, collected_folder, faults, place_of
 
 # What the file begins with.
 MARK = "# TYPE arbiter_hold_"

@@ -16,16 +16,16 @@ from fractions import Fraction
 from typing import Any, NamedTuple
 
 from arbiter import Columns, Host, Row
-from arbiter_host import apply, awake, beneath, demands, output, units, weights
+from arbiter_host import apply, awake, demands, output, safe_files, units, weights
 from arbiter_host.apply import Back, By, Change, Settings
 from arbiter_host.awake import Tasks
-from arbiter_host.beneath import Gone, Identity, Root
 from arbiter_host.demands import Reading
-from arbiter_host.engine import Engine, asking
 from arbiter_host.faults import HostFault
 from arbiter_host.model import MAX_DEPTH, Group, Model, checked, planned
 from arbiter_host.names import shown
+from arbiter_host.plan import Engine, asking
 from arbiter_host.record import Record
+from arbiter_host.safe_files import Gone, Identity, Root
 from arbiter_host.sources import cgroup1, cgroup2, cgroups
 from arbiter_host.sources.cgroups import Node, Wish, keyed
 
@@ -189,7 +189,7 @@ def of_kubelet(path: str) -> str:
 def is_trusted(folder: str) -> bool:
     """Whether a group is root's or this user's. Others may give theirs any name."""
     try:
-        return not beneath.is_of_others(os.lstat(folder))
+        return not safe_files.is_of_others(os.lstat(folder))
     except OSError:
         return False
 
@@ -246,7 +246,7 @@ class Loop:
     def take_up(self, node: Node) -> None:
         """Opens a group that is new, and reads what stands in it."""
         path, folder = node.group.path, apply.folder_of(node.group, self.root)
-        if len(self.groups) >= beneath.most_files() - SPARE_FILES:
+        if len(self.groups) >= safe_files.most_files() - SPARE_FILES:
             self.tell([f"more than {len(self.groups)} groups: the others are left alone, since each"
                        " takes an open file (ulimit -n)"])
             return
@@ -497,7 +497,7 @@ class Loop:
         """Whether users that are not trusted may set the limit of a group. What they set there must
         end no loop."""
         found = self.root.status(kept.folder, "cpu.max")
-        return found is None or beneath.is_of_others(found, 0o022)
+        return found is None or safe_files.is_of_others(found, 0o022)
 
     def undo_text(self) -> str:
         """What stood in each group, and what it may hold by this loop."""

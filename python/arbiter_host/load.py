@@ -18,11 +18,11 @@ from fractions import Fraction
 from typing import TYPE_CHECKING, BinaryIO, Protocol
 
 from arbiter import Host, Library
-from arbiter_host import beneath, demands, names, output, units
-from arbiter_host.engine import Engine
+from arbiter_host import demands, names, output, safe_files, units
 from arbiter_host.faults import HostFault, RefusedLines, UsageFault, strerror
 from arbiter_host.model import MAX_DEPTH, Model, checked
 from arbiter_host.owned import Owned, Range, Setting
+from arbiter_host.plan import Engine
 
 if TYPE_CHECKING:
     from arbiter_host.sources import cgroups
@@ -155,7 +155,7 @@ def bounded(file: BinaryIO) -> bytes:
 
 def check_trusted(path: str, found: os.stat_result) -> None:
     """A fault where another user may say what a file holds."""
-    if beneath.is_of_others(found, 0o002):
+    if safe_files.is_of_others(found, 0o002):
         raise HostFault(f"{names.shown(path)}: other users may change this file, and what it sets;"
                         " nothing is changed (chown it once it is looked at)")
 

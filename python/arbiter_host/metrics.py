@@ -15,10 +15,10 @@ from prometheus_client import CollectorRegistry, generate_latest, make_wsgi_app
 from prometheus_client.core import GaugeMetricFamily
 from prometheus_client.registry import Collector
 
+from arbiter_host.atomic_files import collected_folder, faults, place_of
 from arbiter_host.faults import HostFault, UsageFault, strerror
 from arbiter_host.names import shown
 from arbiter_host.watch import Alert, Figures
-from arbiter_host.whole import collected_folder, faults, place_of
 
 # What the first lines of the file hold.
 MARK = "# HELP arbiter_"

@@ -14,12 +14,11 @@ from fractions import Fraction
 from typing import Any
 
 from arbiter_host import backwards, demands, names, samples, units
-from arbiter_host.engine import Engine
 from arbiter_host.faults import HostFault, UsageFault
 from arbiter_host.kinds import Kind, Use, kind_of
 from arbiter_host.model import Model
 from arbiter_host.owned import Setting
-from arbiter_host.plan import Plan, plan
+from arbiter_host.plan import Engine, Plan, plan
 from arbiter_host.sources import usage
 from arbiter_host.sources.pods import Amounts
 

@@ -12,9 +12,9 @@ import time
 from contextlib import suppress
 from dataclasses import replace
 
+from arbiter_host.atomic_files import FLAGS, faults, own_folder, place_of
 from arbiter_host.faults import HostFault
 from arbiter_host.names import shown
-from arbiter_host.whole import FLAGS, faults, own_folder, place_of
 
 FOLDER = "/run/arbiter"
 LOCK = "hold.lock"

@@ -13,11 +13,10 @@ from dataclasses import dataclass
 from fractions import Fraction
 
 from arbiter_host import demands, svg, text, units
-from arbiter_host.engine import Engine
 from arbiter_host.faults import HostFault
 from arbiter_host.model import Model
 from arbiter_host.names import cut, label, padded, short, shown, width
-from arbiter_host.plan import Plan, plan
+from arbiter_host.plan import Engine, Plan, plan
 from arbiter_host.samples import Sample, columns
 from arbiter_host.units import Slices
 

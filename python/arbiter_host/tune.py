@@ -21,13 +21,12 @@ from typing import Any, NamedTuple
 
 from arbiter import Columns, Unmet
 from arbiter.columns import U64
-from arbiter_host import backwards, demands, others, owned, progress, units
-from arbiter_host.engine import asking
+from arbiter_host import backwards, demands, other_limits, owned, progress, units
 from arbiter_host.faults import HostFault, UsageFault
 from arbiter_host.model import Model, planned
 from arbiter_host.names import parent_path, shown
 from arbiter_host.owned import Owned, Range, Setting
-from arbiter_host.plan import Plan, Planned, plan
+from arbiter_host.plan import Plan, Planned, asking, plan
 from arbiter_host.units import Slices
 
 # At most so many weights are put back one by one, settings are raised one by one, and ways down the
@@ -388,7 +387,7 @@ def without_needless(asked: Asked, weights: Sequence[int], told: str) -> tuple[l
     def of_rows(some: Sequence[int]) -> list[int]:
         return [weight if row in some else now[row] for row, weight in enumerate(weights)]
 
-    kept = others.needed(rows, lambda some: asked.short(asked.plan(of_rows(some))) is None)
+    kept = other_limits.needed(rows, lambda some: asked.short(asked.plan(of_rows(some))) is None)
     return of_rows(kept), told + NEEDED
 
 
@@ -418,11 +417,11 @@ def by_limits(asked: Asked) -> Way | None:
     weights as they are, else with other weights of the goals' groups too. None: none are found."""
     before = asked.before
     closed = asked.kept | {goal.group.row for goal in asked.goals}
-    caps = others.caps_of(before, closed, lambda group: (
+    caps = other_limits.caps_of(before, closed, lambda group: (
         (group.weight, group.gets) if asked.is_guaranteed else (group.gets, group.weight)))
 
     def limited(values: Mapping[int, int]) -> Asked:
-        model = others.with_limits(before.model, caps, values)
+        model = other_limits.with_limits(before.model, caps, values)
         return replace(asked, before=plan(before.engine, model))
 
     def changes(values: Mapping[int, int]) -> list[Change]:
@@ -436,12 +435,12 @@ def by_limits(asked: Asked) -> Way | None:
     def cost(values: Mapping[int, int]) -> int:
         return sum(lost for _, lost in backwards.payers(before, limited(values).before, ""))
 
-    found = others.lowered(caps, is_met, cost)
+    found = other_limits.lowered(caps, is_met, cost)
     if found is not None:
         return asked.way(limited(found).before, changes(found), LIMITED + NEEDED)
     if before.model.owned is not None:
         return None
-    found = others.lowered(caps, lambda values: not isinstance(weights_of(limited(values)), Unmet),
+    found = other_limits.lowered(caps, lambda values: not isinstance(weights_of(limited(values)), Unmet),
                            cost)
     way = None if found is None else by_weights(limited(found))
     if found is None or not isinstance(way, Way):
@@ -573,7 +572,7 @@ def without_needless_settings(known: Owning, found: Plan) -> tuple[Owning, Plan,
     engine = known.asked.before.engine
     if len(known.settings) > MOST_BACK:
         return known, found, RAISED
-    rows = others.needed(sorted(known.settings), lambda rows: known.asked.short(
+    rows = other_limits.needed(sorted(known.settings), lambda rows: known.asked.short(
         plan(engine, known.only(rows).model)) is None)
     kept = known.only(rows)
     return kept, plan(engine, kept.model), RAISED + NEEDED

@@ -11,13 +11,12 @@ from typing import Any, NamedTuple
 
 from arbiter import Host
 from arbiter_host import demands, names, units
-from arbiter_host.beneath import Identity
 from arbiter_host.demands import Measured, Reading
-from arbiter_host.engine import Engine
 from arbiter_host.faults import HostFault, UsageFault
 from arbiter_host.model import Group, Model, checked
 from arbiter_host.names import shown
-from arbiter_host.plan import Plan, Planned, plan
+from arbiter_host.plan import Engine, Plan, Planned, plan
+from arbiter_host.safe_files import Identity
 from arbiter_host.sources import cgroup1, cgroup2, cgroups
 from arbiter_host.sources.cgroups import Node, Walk, Wish
 

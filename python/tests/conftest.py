@@ -25,7 +25,7 @@ def calls(library):
 @pytest.fixture(scope="session")
 def engine(calls):
     """The engine over the C library under test."""
-    from arbiter_host.engine import Engine
+    from arbiter_host.plan import Engine
     return Engine(calls)
 
 

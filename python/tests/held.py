@@ -6,7 +6,7 @@ import sys
 
 import trees
 from arbiter import Host
-from arbiter_host import awake, beneath, hold, record
+from arbiter_host import awake, hold, record, safe_files
 from places import PACKAGE
 
 TWO = Host(2, 100000, 1000)
@@ -58,7 +58,7 @@ class World:
 
     def loop(self, engine, undo=None, **words):
         kept = None if undo is None else record.Record(str(undo))
-        return hold.Loop(engine, beneath.Root(str(self.tree)), str(self.tree), TWO, kept,
+        return hold.Loop(engine, safe_files.Root(str(self.tree)), str(self.tree), TWO, kept,
                          clock=lambda: self.now, **words)
 
     def run(self, loop, *steps, times=hold.Times(SECOND)):

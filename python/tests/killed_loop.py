@@ -15,7 +15,7 @@ from pathlib import Path
 
 from arbiter import Library
 from arbiter_host import apply, hold
-from arbiter_host.engine import Engine
+from arbiter_host.plan import Engine
 from held import FREE, World
 
 CALLS = ("open", "write", "fsync", "rename", "link", "unlink", "ftruncate")

@@ -9,7 +9,7 @@ from fractions import Fraction
 import pytest
 import trees
 from arbiter import Host
-from arbiter_host import apply, beneath
+from arbiter_host import apply, safe_files
 from arbiter_host.apply import By, Change, Settings
 from arbiter_host.faults import HostFault
 from arbiter_host.sources import cgroup2, cgroups
@@ -28,7 +28,7 @@ def host(folder, found=(("web.service", OLD), ("box", OLD), ("box/in", OLD))):
 
 def holds(folder, path):
     """What the files of a group hold."""
-    return apply.current(beneath.Root(str(folder)), path)
+    return apply.current(safe_files.Root(str(folder)), path)
 
 
 def imported(ctl, folder, name="before"):
@@ -161,7 +161,7 @@ def test_no_path_leads_out(folder, path):
     host(folder / "t", [("a", OLD)])
     trees.group2(folder / "out", 5)
     with pytest.raises(HostFault):
-        beneath.Root(str(folder / "t")).write(path, "cpu.weight", "7")
+        safe_files.Root(str(folder / "t")).write(path, "cpu.weight", "7")
     assert (folder / "out/cpu.weight").read_text() == "5\n"
 
 
@@ -176,7 +176,7 @@ def test_no_link_is_followed(folder):
     os.link(folder / "out/cpu.weight", folder / "t/b/cpu.weight")
     for path in ("link", "a", "b"):
         with pytest.raises(HostFault):
-            beneath.Root(str(folder / "t")).write(path, "cpu.weight", "7")
+            safe_files.Root(str(folder / "t")).write(path, "cpu.weight", "7")
     assert (folder / "out/cpu.weight").read_text() == "5\n"
 
 
@@ -186,7 +186,7 @@ def test_no_file_is_made(folder):
     os.mkfifo(folder / "t/a/pipe")
     for file in ("cpu.weight", "pipe"):
         with pytest.raises(HostFault):
-            beneath.Root(str(folder / "t")).write("a", file, "7")
+            safe_files.Root(str(folder / "t")).write("a", file, "7")
     assert not (folder / "t/a/cpu.weight").exists()
 
 
@@ -200,7 +200,7 @@ class Stop(BaseException):
     """An interruption."""
 
 
-class Kernel(beneath.Root):
+class Kernel(safe_files.Root):
     """A tree that refuses a burst above the quota, and stops at a write."""
 
     def __init__(self, path, stop=None, late=False):
@@ -260,7 +260,7 @@ def test_stopped_inside_a_write_and_undone(folder, monkeypatch, call, late, want
     with monkeypatch.context() as patched:
         patched.setattr(os, call, stop)
         with pytest.raises(Stop):
-            apply.make(beneath.Root(str(folder)), [Change("a", old, new)], By.FILES,
+            apply.make(safe_files.Root(str(folder)), [Change("a", old, new)], By.FILES,
                        str(folder / "undo"), [])
     assert holds(folder, "a").weight == wanted
     apply.undo(apply.read_undo((folder / "undo").read_bytes(), "undo"), [])
@@ -273,7 +273,7 @@ def test_write_leaves_one_line(folder, old, new):
     trees.root2(folder)
     trees.group2(folder / "a", 1)
     (folder / "a/cpu.weight").write_text(f"{old}\n")
-    beneath.Root(str(folder)).write("a", "cpu.weight", new)
+    safe_files.Root(str(folder)).write("a", "cpu.weight", new)
     assert (folder / "a/cpu.weight").read_text() == f"{new}\n"
 
 
@@ -296,11 +296,11 @@ def test_group_that_goes_while_others_are_undone(folder):
     host(folder / "t", [("a", OLD), ("b", OLD)])
     new = Settings(7, 50000, 100000, 20000)
     found = [Change(name, OLD, new) for name in "ab"]
-    apply.make(beneath.Root(str(folder / "t")), found, By.FILES, str(folder / "undo"), [])
+    apply.make(safe_files.Root(str(folder / "t")), found, By.FILES, str(folder / "undo"), [])
     back = apply.read_undo((folder / "undo").read_bytes(), "undo")
     assert back.left == []
 
-    class Going(beneath.Root):
+    class Going(safe_files.Root):
         """A tree from which the first group goes when it is written."""
 
         def write(self, folder, file, text):
@@ -331,7 +331,7 @@ def test_idle_group(folder):
     (folder / "t/a/cpu.weight").write_text("0\n")
     found = [Change("a", Settings(1, 100000, 100000, 20000), OLD)]
     with pytest.raises(HostFault, match="idle"):
-        apply.make(beneath.Root(str(folder / "t")), found, By.FILES, str(folder / "undo"), [])
+        apply.make(safe_files.Root(str(folder / "t")), found, By.FILES, str(folder / "undo"), [])
 
 
 def test_quota_that_systemd_cannot_hold():
@@ -352,7 +352,7 @@ def test_places_of_an_import(folder):
     before = cgroup2.read(str(folder / "t"), Host(2, 100000, 1000), wish)
     after = before.copy()
     after.groups["a%20b"].weight = 5
-    found, left = apply.changes(before, after, beneath.Root(str(folder / "t")))
+    found, left = apply.changes(before, after, safe_files.Root(str(folder / "t")))
     assert ([each.folder for each in found], left) == (["a b"], [])
 
 

@@ -12,11 +12,11 @@ from types import SimpleNamespace
 import pytest
 from arbiter import Certificate
 from arbiter_host import command
-from arbiter_host.engine import Certified, Engine, columns_of
 from arbiter_host.faults import HostFault, UsageFault
 from arbiter_host.fleet import demands, evidence, figures, forms, gather, hosts, pieces, work
 from arbiter_host.fleet.pool import Here
 from arbiter_host.fleet.store import Row, Store
+from arbiter_host.plan import Certified, Engine, columns_of
 from arbiter_host.sources import script
 from places import PACKAGE
 

@@ -13,7 +13,7 @@ import time
 import killed_loop
 import pytest
 import trees
-from arbiter_host import apply, beneath, hold, record
+from arbiter_host import apply, hold, record, safe_files
 from arbiter_host.apply import Settings
 from arbiter_host.faults import HostFault
 from held import FREE, SECOND, World, content, limit, said, started
@@ -248,7 +248,7 @@ def test_own_group_is_left_alone(world, engine, folder, capsys, monkeypatch):
 
 def test_a_writing_that_fails_puts_back(world, engine, folder):
     """A tree that takes one limit and refuses the next holds what stood."""
-    class Refusing(beneath.Root):
+    class Refusing(safe_files.Root):
         """A tree that refuses the limit of b."""
 
         def write(self, folder, file, text):

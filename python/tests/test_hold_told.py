@@ -14,7 +14,7 @@ from pathlib import Path
 import killed_loop
 import pytest
 from arbiter import Host
-from arbiter_host import apply, awake, beneath, gauges, hold, notify, weights
+from arbiter_host import apply, awake, gauges, hold, notify, safe_files, weights
 from arbiter_host.apply import Settings
 from arbiter_host.faults import HostFault
 from arbiter_host.model import Group, Model
@@ -258,7 +258,7 @@ def test_many_tasks_are_read_whole(folder):
     """A list of tasks is longer than a page of the kernel."""
     (folder / "g").mkdir()
     (folder / "g/cgroup.threads").write_text("".join(f"{number}\n" for number in range(5000)))
-    root = beneath.Root(str(folder))
+    root = safe_files.Root(str(folder))
     assert len(root.read("g", "cgroup.threads", awake.MOST_TEXT).split()) == 5000
     root.close()
 

@@ -12,7 +12,7 @@ import time
 
 import pytest
 import trees
-from arbiter_host import apply, beneath, hold, output, record
+from arbiter_host import apply, hold, output, record, safe_files
 from arbiter_host.apply import By, Change, Settings
 from arbiter_host.faults import HostFault
 from arbiter_host.subcommands import apply as applying
@@ -31,7 +31,7 @@ def give(path):
         os.chown(each, NOBODY, NOBODY)
 
 
-class Kernel(beneath.Root):
+class Kernel(safe_files.Root):
     """A tree that refuses a quota below the burst, as the kernel does, and files of `refused`."""
 
     refused = ()
@@ -211,7 +211,7 @@ def test_undo_of_a_loop_that_was_killed(folder, engine):
 
 def test_more_groups_than_files(world, engine, folder, monkeypatch, capsys):
     """Those that cannot be open are left alone, and the loop goes on."""
-    monkeypatch.setattr(beneath, "most_files", lambda: hold.SPARE_FILES + 2)
+    monkeypatch.setattr(safe_files, "most_files", lambda: hold.SPARE_FILES + 2)
     lines = world.run(world.loop(engine, folder / "undo"), lambda: None, lambda: None)
     assert [sorted(line["groups"]) for line, _ in lines] == [["a", "b"]] * 2
     assert capsys.readouterr().err.count("more than 2 groups: the others are left alone") == 1
@@ -298,7 +298,7 @@ def test_a_hangup_that_is_ignored(ctl, world, folder):
 def test_apply_and_undo_beside_a_loop(folder, monkeypatch):
     """What a loop wrote is not taken for the operator's own. Elsewhere both run."""
     monkeypatch.setattr(record, "FOLDER", str(folder / "run"))
-    root = beneath.Root(str(folder))
+    root = safe_files.Root(str(folder))
     applying.check_no_loop(root, ["held/a", "other"])
     held = record.lock(str(folder / "run"), str(folder / "held"))
     applying.check_no_loop(root, ["other", "held-not"])
@@ -330,7 +330,7 @@ def test_who_asks_for_the_lock_stops_no_loop(folder):
 
 def test_a_real_tree_by_another_path(folder, monkeypatch):
     """A tree is the host's if its device is: there is one lock for all paths to it."""
-    root = beneath.Root(str(folder))
+    root = safe_files.Root(str(folder))
     for place, is_real in ((hold.HOST_TREE, False), ("/proc", False), (folder / "none", False),
                            (folder, True), (folder.parent, True)):
         monkeypatch.setattr(holding.hold, "HOST_TREE", str(place))
@@ -371,7 +371,7 @@ def test_a_weight_set_between_reading_and_writing(folder, tree, monkeypatch):
 
     monkeypatch.setattr(apply, "write_synced", write_synced)
     with pytest.raises(HostFault, match="b: somebody set cpu.weight to 55 meanwhile\nto undo: "):
-        apply.make(beneath.Root(str(tree)), new(9), By.FILES, str(folder / "u"), [])
+        apply.make(safe_files.Root(str(tree)), new(9), By.FILES, str(folder / "u"), [])
     assert weights(tree) == [9, 55, 100]
     (tree / "b/cpu.weight").write_text("9\n")
     back = apply.read_undo((folder / "u").read_bytes(), "u")
@@ -394,7 +394,7 @@ def test_an_interrupt_says_how_to_undo(folder, tree, monkeypatch, capsys):
     monkeypatch.setattr(apply, "do", do)
     options = argparse.Namespace(persistent=False, yes=True, undo=str(folder / "u"))
     with pytest.raises(KeyboardInterrupt):
-        applying.set_host(options, (new(9), []), beneath.Root(str(tree)), By.FILES)
+        applying.set_host(options, (new(9), []), safe_files.Root(str(tree)), By.FILES)
     assert capsys.readouterr().err == ("arbiterctl: interrupted after 1 of 3 steps; to undo:"
                                        f" arbiterctl undo {folder / 'u'} --yes\n")
     assert weights(tree) == [9, 100, 100]
@@ -405,7 +405,7 @@ def test_an_interrupt_says_how_to_undo(folder, tree, monkeypatch, capsys):
 
 def test_undo_goes_on_after_a_fault(folder, tree):
     """One group that cannot be written costs the others nothing."""
-    apply.make(beneath.Root(str(tree)), new(9), By.FILES, str(folder / "u"), [])
+    apply.make(safe_files.Root(str(tree)), new(9), By.FILES, str(folder / "u"), [])
     back, done = apply.read_undo((folder / "u").read_bytes(), "u"), []
     back.root = Kernel(str(tree))
     back.root.refused = ("a",)
@@ -432,7 +432,7 @@ def test_undo_after_all_groups_of_a_loop_went(ctl, folder, world, engine):
 
 def test_an_undo_file_of_another_user(ctl, folder, tree):
     """What it sets would be that user's choice. One that everybody may write is none either."""
-    apply.make(beneath.Root(str(tree)), new(9), By.FILES, str(folder / "u"), [])
+    apply.make(safe_files.Root(str(tree)), new(9), By.FILES, str(folder / "u"), [])
     os.chmod(folder / "u", 0o666)
     assert "other users may change this file" in ctl.run("undo", folder / "u", status=1)[1]
     os.chmod(folder / "u", 0o640)

@@ -7,7 +7,7 @@ from fractions import Fraction
 import pytest
 import trees
 from arbiter import Host
-from arbiter_host import apply, beneath, names
+from arbiter_host import apply, names, safe_files
 from arbiter_host.apply import By, Change, Settings
 from arbiter_host.faults import HostFault
 from arbiter_host.model import Group, Model
@@ -110,7 +110,7 @@ def test_the_way_through_a_script(tmp_path_factory, engine, raws):
     trees.root2(top)
     for number, raw in enumerate(raws, 1):
         trees.group2(os.path.join(top, os.fsdecode(raw)), number)
-    root = beneath.Root(str(top))
+    root = safe_files.Root(str(top))
     written = script.write(read(top), engine.library).encode()
     found = script.read(written, "s", engine).groups
     assert len(found) == len(raws)
@@ -199,7 +199,7 @@ def test_a_group_without_a_place(engine):
     for found in (by_script, hostfile.read(hostfile.write_toml(model).encode(), "s", "toml")):
         assert [each.place for each in found.groups.values()] == ["elsewhere", "."]
     with pytest.raises(HostFault, match="a/pause: its place on the host is not known"):
-        apply.folder_of(model.groups["a/pause"], beneath.Root("/"))
+        apply.folder_of(model.groups["a/pause"], safe_files.Root("/"))
 
 
 def test_a_place_of_any_bytes(engine):
@@ -223,7 +223,7 @@ def test_a_group_made_again_after_the_reading(folder, tree):
     trees.group2(tree / "box")
     after = before.copy()
     after.groups["box"].weight = 9
-    root = beneath.Root(str(tree))
+    root = safe_files.Root(str(tree))
     found, _ = apply.changes(before, after, root)
     with pytest.raises(HostFault, match="box: is another group than the one that was read"):
         apply.make(root, found, By.FILES, str(folder / "u"), [])
@@ -241,7 +241,7 @@ def test_a_group_made_again_before_the_writing(folder, tree, monkeypatch):
 
     monkeypatch.setattr(apply, "write_synced", write_synced)
     new = Settings(9, None, 100000, 0)
-    apply.make(beneath.Root(str(tree)), [Change("box", OLD, new)], By.FILES, str(folder / "u"), [])
+    apply.make(safe_files.Root(str(tree)), [Change("box", OLD, new)], By.FILES, str(folder / "u"), [])
     assert weights(folder, "t/box", "old") == [100, 9]
 
 
@@ -257,7 +257,7 @@ def test_a_link_put_in_place_of_a_group(folder, tree, monkeypatch):
 
     monkeypatch.setattr(apply, "write_synced", write_synced)
     new = Settings(9, None, 100000, 0)
-    apply.make(beneath.Root(str(tree)), [Change("box", OLD, new)], By.FILES, str(folder / "u"), [])
+    apply.make(safe_files.Root(str(tree)), [Change("box", OLD, new)], By.FILES, str(folder / "u"), [])
     assert weights(folder, "out", "old") == [100, 9]
 
 
@@ -267,7 +267,7 @@ def test_two_trees_that_differ(folder, tree):
     trees.root2(other)
     trees.group2(other / "box", 9)
     with pytest.raises(HostFault, match="read from two groups"):
-        apply.changes(before, read(other), beneath.Root(str(tree)))
+        apply.changes(before, read(other), safe_files.Root(str(tree)))
 
 
 def test_many_groups(folder):
@@ -278,7 +278,7 @@ def test_many_groups(folder):
         trees.group2(folder / "t" / change.folder)
     limits = resource.getrlimit(resource.RLIMIT_NOFILE)
     resource.setrlimit(resource.RLIMIT_NOFILE, (256, limits[1]))
-    root = beneath.Root(str(folder / "t"))
+    root = safe_files.Root(str(folder / "t"))
     try:
         apply.make(root, found, By.FILES, str(folder / "u"), [])
     finally:
@@ -315,7 +315,7 @@ def test_a_folder_with_the_name_of_a_unit(ctl, folder):
 def test_undo_of_a_unit_that_has_another_group_now(ctl, folder, tree):
     """The file of the group is written, and the unit is left alone."""
     new = Settings(9, None, 100000, 0)
-    root = beneath.Root(str(tree))
+    root = safe_files.Root(str(tree))
     (tree / "web.service/cpu.weight").write_text("9\n")
     (folder / "u").write_text(apply.undo_text(root, [Change("web.service", OLD, new)], By.RUNTIME))
     systemctl(ctl, folder, "/user.slice/web.service")

@@ -5,10 +5,9 @@ import arbiter
 import pytest
 from arbiter import Host, Kind, Reason
 from arbiter_host import backwards, explain
-from arbiter_host.engine import Engine, asking
 from arbiter_host.faults import HostFault
 from arbiter_host.model import Group, Model
-from arbiter_host.plan import plan
+from arbiter_host.plan import Engine, asking, plan
 
 
 def host_of_each_reason():

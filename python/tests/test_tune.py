@@ -11,10 +11,9 @@ from fractions import Fraction
 import pytest
 from arbiter import Host, Unmet
 from arbiter_host import change, demands, tune
-from arbiter_host.engine import Engine
 from arbiter_host.faults import HostFault
 from arbiter_host.model import Group, Model
-from arbiter_host.plan import plan
+from arbiter_host.plan import Engine, plan
 from hypothesis import HealthCheck, given, settings
 from hypothesis import strategies as st
 

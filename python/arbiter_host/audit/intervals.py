@@ -10,11 +10,10 @@ from typing import NamedTuple
 from arbiter_host import awake, demands, units
 from arbiter_host.audit.looks import Counted, Look
 from arbiter_host.demands import Measured, Reading, rise
-from arbiter_host.engine import Engine
 from arbiter_host.faults import HostFault
 from arbiter_host.model import Group, Model
 from arbiter_host.names import shown
-from arbiter_host.plan import Plan, plan
+from arbiter_host.plan import Engine, Plan, plan
 from arbiter_host.sources.usage import some
 
 CAME, FELL, STILL, AWAY = ("groups that came or went", "groups whose counters fell",

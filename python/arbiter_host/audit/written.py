@@ -6,7 +6,7 @@ from collections.abc import Sequence
 from contextlib import ExitStack, closing
 from typing import NamedTuple
 
-from arbiter_host.whole import WRITTEN, Place, faults, place_of
+from arbiter_host.atomic_files import WRITTEN, Place, faults, place_of
 
 
 class Document(NamedTuple):

@@ -7,11 +7,11 @@ from typing import NamedTuple
 
 from arbiter import Library
 from arbiter_host import apply, load
-from arbiter_host.beneath import Root
 from arbiter_host.faults import HostFault
 from arbiter_host.hold import KUBELET
 from arbiter_host.model import Group, Model, check_settings
 from arbiter_host.names import shown
+from arbiter_host.safe_files import Root
 
 # What the first lines of each written file hold.
 MARK = "Written by arbiterctl apply --as "

@@ -8,12 +8,12 @@ import os
 from collections.abc import Sequence
 from contextlib import ExitStack
 
-from arbiter_host.beneath import check_path, parts_of
+from arbiter_host.atomic_files import WRITTEN, Place, check_own, faults, folder_in, own_folder
 from arbiter_host.exports.base import MARK, Document
 from arbiter_host.faults import UsageFault
 from arbiter_host.names import shown
 from arbiter_host.output import emit
-from arbiter_host.whole import WRITTEN, Place, check_own, faults, folder_in, own_folder
+from arbiter_host.safe_files import check_path, parts_of
 
 
 class Written:

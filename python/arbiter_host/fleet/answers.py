@@ -7,11 +7,10 @@ from dataclasses import replace
 from typing import Any
 
 from arbiter_host import change, demands, load, names
-from arbiter_host.engine import Engine
 from arbiter_host.faults import HostFault
 from arbiter_host.fleet.job import Job
 from arbiter_host.model import Model
-from arbiter_host.plan import Plan, Planned, plan
+from arbiter_host.plan import Engine, Plan, Planned, plan
 
 # Most groups that an answer names for one reason.
 MOST_NAMED = 5

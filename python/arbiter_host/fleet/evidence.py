@@ -13,8 +13,8 @@ from array import array
 from collections.abc import Sequence
 
 from arbiter import Certificate, Host, Library, Row
-from arbiter_host.engine import Answer, Certified, Engine, columns_of
 from arbiter_host.faults import HostFault
+from arbiter_host.plan import Answer, Certified, Engine, columns_of
 
 # The types of the columns: amounts, flags, and the levels' numerators, denominators and places.
 KINDS = ("Q", "B", "Q", "Q", "I")

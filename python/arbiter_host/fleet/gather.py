@@ -19,7 +19,6 @@ from typing import Any
 
 from arbiter import Library
 from arbiter_host import load, output
-from arbiter_host.engine import Engine
 from arbiter_host.faults import HostFault
 from arbiter_host.fleet import forms, pieces, work
 from arbiter_host.fleet.evidence import Replaying
@@ -28,6 +27,7 @@ from arbiter_host.fleet.job import Job, canonical
 from arbiter_host.fleet.pool import Pool, PoolGone, Reply
 from arbiter_host.fleet.store import Row, Store
 from arbiter_host.fleet.work import Item
+from arbiter_host.plan import Engine
 
 # Seconds of a processor that a batch should hold. A batch costs some milliseconds beside it.
 TARGET_SECONDS = 1.0

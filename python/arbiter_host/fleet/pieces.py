@@ -6,11 +6,11 @@ from fractions import Fraction
 from typing import Any
 
 from arbiter_host import samples, series
-from arbiter_host.engine import Engine
 from arbiter_host.faults import HostFault
 from arbiter_host.fleet import answers
 from arbiter_host.fleet.job import Job
 from arbiter_host.model import Model
+from arbiter_host.plan import Engine
 
 # Most periods of one sample.
 MOST_PERIODS = 86400000

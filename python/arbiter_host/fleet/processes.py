@@ -18,11 +18,11 @@ from dataclasses import dataclass, field
 from multiprocessing.connection import Connection, wait
 from multiprocessing.context import SpawnProcess
 
-from arbiter_host.beneath import open_more_files
 from arbiter_host.faults import HostFault, strerror
 from arbiter_host.fleet import work
 from arbiter_host.fleet.pool import PoolGone, Reply
 from arbiter_host.fleet.work import Item
+from arbiter_host.safe_files import open_more_files
 
 Answering = Callable[[str, Sequence[Item]], bytes]
 Batch = tuple[int, str, list[Item]]

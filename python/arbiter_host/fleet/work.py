@@ -11,12 +11,12 @@ from dataclasses import dataclass, field
 from typing import Any
 
 from arbiter import Library
-from arbiter_host import engine, load
-from arbiter_host.engine import Engine
+from arbiter_host import load
 from arbiter_host.faults import HostFault
 from arbiter_host.fleet import answers, job as jobs, pieces
 from arbiter_host.fleet.evidence import Recording
 from arbiter_host.fleet.job import Job, canonical
+from arbiter_host.plan import Engine, engine_of
 
 
 @dataclass(frozen=True)
@@ -35,7 +35,7 @@ class Item:
 @functools.lru_cache(maxsize=4)
 def library(path: str | None) -> Library:
     """The C library, once for each process."""
-    return engine.find(path).library
+    return engine_of(path).library
 
 
 def answer_of(job: Job, item: Item, by: Engine) -> dict[str, Any]:

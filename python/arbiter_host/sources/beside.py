@@ -5,10 +5,10 @@ from collections.abc import Mapping, Sequence
 from contextlib import suppress
 from fractions import Fraction
 
-from arbiter_host.beneath import Root
 from arbiter_host.demands import Measured, Reading
 from arbiter_host.faults import HostFault
 from arbiter_host.names import shown
+from arbiter_host.safe_files import Root
 from arbiter_host.sources import cgroup2, cgroups
 from arbiter_host.sources.cgroups import Version, Wish
 

@@ -14,7 +14,7 @@ from fractions import Fraction
 from typing import Protocol
 
 from arbiter import Host
-from arbiter_host import beneath, demands, names, progress, units
+from arbiter_host import demands, names, progress, safe_files, units
 from arbiter_host.demands import Measured, Reading
 from arbiter_host.faults import HostFault, strerror
 from arbiter_host.model import MAX_DEPTH, OWN, Group, Model, checked, told_bound
@@ -165,7 +165,7 @@ class Walk:
         """Adds one group and those below it."""
         folder = os.path.join(node.folder, raw)
         try:
-            handle = os.open(folder, beneath.FOLDER)
+            handle = os.open(folder, safe_files.FOLDER)
         except OSError:
             self.model.notes.append(f"{names.joined(node.group.path, names.shown(raw))}: gone while"
                                     " the tree was read")
@@ -173,7 +173,7 @@ class Walk:
         name = names.path_name(raw, taken)
         taken.add(name)
         group = Group(names.joined(node.group.path, name), place=folder,
-                      identity=beneath.identity_of(handle))
+                      identity=safe_files.identity_of(handle))
         if name != raw:
             self.model.notes.append(f"{group.path}: its name on the host is {raw!r}")
         child = Node(folder, group, node.depth + 1, handle)

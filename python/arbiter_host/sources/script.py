@@ -11,9 +11,9 @@ from dataclasses import replace
 from arbiter import Host, Library, Script
 from arbiter.c import NO_LIMIT
 from arbiter_host import names, units
-from arbiter_host.engine import Engine, asking
 from arbiter_host.faults import HostFault
 from arbiter_host.model import MAX_PROCESSORS, Group, Model, checked
+from arbiter_host.plan import Engine, asking
 from arbiter_host.units import Slices
 
 HEAD = re.compile(r"^#\s*(?:\./)?arbiter run((?:\s+--[a-z]+[ =][0-9]{1,9})+)\s*(?:<.*)?$")

@@ -8,20 +8,21 @@ import time
 from collections.abc import Iterable, Iterator, Sequence
 from contextlib import contextmanager, suppress
 
-from arbiter_host import apply, beneath, change, engine, exports, load, names, output, record
+from arbiter_host import apply, change, exports, load, names, output, record, safe_files
 from arbiter_host.exports import files
 from arbiter_host.faults import HostFault, UsageFault
 from arbiter_host.output import emit
+from arbiter_host.plan import engine_of
 from arbiter_host.subcommands.base import Subcommand, add_reading_options
 
 
-def print_steps(root: beneath.Root, steps: Sequence[apply.Step]) -> None:
+def print_steps(root: safe_files.Root, steps: Sequence[apply.Step]) -> None:
     """Prints steps, one line each."""
     emit("".join(f"{names.shown(step.words(root))}\n" for step in steps) or "# no change\n")
 
 
 @contextmanager
-def printing(root: beneath.Root) -> Iterator[list[apply.Step]]:
+def printing(root: safe_files.Root) -> Iterator[list[apply.Step]]:
     """A list whose steps are printed at the end: those that were made, also where a fault ends it.
 
     Nothing is printed before: a reader that goes away stops no change halfway.
@@ -77,10 +78,10 @@ def run_apply(options: argparse.Namespace) -> None:
     sources = load.sources(options, options.source)
     if len(sources) > 2 or (len(sources) == 1) != bool(options.set):
         raise UsageFault("apply takes BEFORE and AFTER, or BEFORE and --set")
-    by = engine.find(options.library)
+    by = engine_of(options.library)
     models = [load.of_files(options, found, by) for found in sources]
     after = change.told(models[-1], change.changed(models[-1], options.set))
-    root, way = beneath.Root(options.root), way_of(options)
+    root, way = safe_files.Root(options.root), way_of(options)
     if options.form:
         asked = exports.Asked(models[0], after, sources[0], root, way, by.library,
                               options.runtime or options.conversion,
@@ -91,7 +92,7 @@ def run_apply(options: argparse.Namespace) -> None:
     set_host(options, apply.changes(models[0], after, root), root, way)
 
 
-def check_no_loop(root: beneath.Root, folders: Iterable[str]) -> None:
+def check_no_loop(root: safe_files.Root, folders: Iterable[str]) -> None:
     """A fault where a loop of `hold` has limits in a group: they would be taken for the operator's
     own, and an undo would bring them back for good."""
     top = record.holder(record.FOLDER)
@@ -103,7 +104,7 @@ def check_no_loop(root: beneath.Root, folders: Iterable[str]) -> None:
 
 
 def set_host(options: argparse.Namespace, asked: tuple[list[apply.Change], list[str]],
-             root: beneath.Root, way: apply.By) -> None:
+             root: safe_files.Root, way: apply.By) -> None:
     """Prints the steps of some changes; with --yes makes them."""
     found, left = asked
     check_no_loop(root, [each.folder for each in found] if options.yes else [])

@@ -5,11 +5,11 @@ import argparse
 from collections.abc import Callable, Sequence
 from typing import NamedTuple
 
-from arbiter_host import engine, explain, load, names, text
+from arbiter_host import explain, load, names, text
 from arbiter_host.explain import View
 from arbiter_host.faults import UsageFault
 from arbiter_host.model import MAX_DEPTH
-from arbiter_host.plan import Plan, plan
+from arbiter_host.plan import Engine, Plan, engine_of, plan
 from arbiter_host.subcommands import PLACES
 
 
@@ -32,9 +32,9 @@ class Subcommand(NamedTuple):
         return PLACES[self.name].summary
 
 
-def found_engine(options: argparse.Namespace) -> engine.Engine:
+def found_engine(options: argparse.Namespace) -> Engine:
     """The engine that the options name, else the first that is found."""
-    return engine.find(options.library)
+    return engine_of(options.library)
 
 
 def source_name(paths: Sequence[str]) -> str:

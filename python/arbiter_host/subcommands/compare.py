@@ -5,11 +5,10 @@ import argparse
 from collections.abc import Sequence
 
 from arbiter_host import change, compare, load
-from arbiter_host.engine import Engine
 from arbiter_host.faults import NoHost, UsageFault
 from arbiter_host.model import Model
 from arbiter_host.output import emit_json, emit_styled
-from arbiter_host.plan import Plan, plan
+from arbiter_host.plan import Engine, Plan, plan
 from arbiter_host.subcommands.base import (Subcommand, add_answer_options, found_engine,
                                            source_name, view_of)
 

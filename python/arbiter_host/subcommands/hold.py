@@ -11,7 +11,7 @@ from contextlib import ExitStack, contextmanager
 from dataclasses import replace
 
 from arbiter import Host
-from arbiter_host import beneath, gauges, hold, load, output, record
+from arbiter_host import gauges, hold, load, output, record, safe_files
 from arbiter_host.faults import HostFault, UsageFault
 from arbiter_host.model import MAX_CAPACITY, MAX_DEPTH
 from arbiter_host.notify import Notifier
@@ -119,7 +119,7 @@ def times_of(options: argparse.Namespace, period: int) -> hold.Times:
     return hold.Times(interval, whole, options.once)
 
 
-def locked(root: beneath.Root, options: argparse.Namespace, stack: ExitStack) -> record.Record:
+def locked(root: safe_files.Root, options: argparse.Namespace, stack: ExitStack) -> record.Record:
     """The undo file, after no second loop was found."""
     undo = options.undo
     where = record.FOLDER if is_real(root) else os.path.dirname(os.path.abspath(undo))
@@ -138,7 +138,7 @@ def depth_of(options: argparse.Namespace) -> int:
     return depth
 
 
-def machine(options: argparse.Namespace, root: beneath.Root) -> Host:
+def machine(options: argparse.Namespace, root: safe_files.Root) -> Host:
     """The host. That of a real tree has no more CPUs than this machine.
 
     Without --slice a host that has too many slices of 1 ms for the planner has slices of 10 ms.
@@ -154,7 +154,7 @@ def machine(options: argparse.Namespace, root: beneath.Root) -> Host:
     return host
 
 
-def is_real(root: beneath.Root) -> bool:
+def is_real(root: safe_files.Root) -> bool:
     """Whether a tree is that of this machine, by whatever path it is reached."""
     def device(path: str) -> int | None:
         try:
@@ -179,7 +179,7 @@ def metrics(options: argparse.Namespace, stack: ExitStack) -> gauges.File | None
 
 def run(options: argparse.Namespace) -> None:
     """Holds the plan on a tree until an end, a signal, or two failed readings."""
-    root = beneath.Root(options.root)
+    root = safe_files.Root(options.root)
     host = machine(options, root)
     times, engine = times_of(options, host.period_us), found_engine(options)
     ways = hold.Ways(options.force, options.weights, options.burst, depth_of(options))

@@ -6,9 +6,10 @@ from collections.abc import Callable
 from dataclasses import replace
 
 from arbiter import Library
-from arbiter_host import change, engine, load
+from arbiter_host import change, load
 from arbiter_host.model import Model
 from arbiter_host.output import say, write_file
+from arbiter_host.plan import engine_of
 from arbiter_host.sources import hostfile, script
 from arbiter_host.subcommands.base import Subcommand, add_reading_options, source_name
 
@@ -23,7 +24,7 @@ DESCRIPTION = "Writes what a source holds as a script or a host file."
 def run(options: argparse.Namespace) -> None:
     """Writes what a source holds as a script or a host file."""
     options.kind = options.kind or (options.what if options.what != "any" else None)
-    by = engine.find(options.library)
+    by = engine_of(options.library)
     model = load.load(options, options.source, by)
     if options.set:
         model = change.changed(model, options.set)

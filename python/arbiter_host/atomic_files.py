@@ -14,9 +14,9 @@ from collections.abc import Callable, Iterator
 from contextlib import ExitStack, contextmanager, suppress
 from dataclasses import dataclass, field
 
-from arbiter_host.beneath import check_path, is_of_others
 from arbiter_host.faults import HostFault, strerror
 from arbiter_host.names import shown
+from arbiter_host.safe_files import check_path, is_of_others
 
 FLAGS = os.O_NOFOLLOW | os.O_CLOEXEC
 PLACE, FOLDERS = os.O_PATH | FLAGS, os.O_RDONLY | os.O_DIRECTORY | FLAGS
