@@ -7,7 +7,7 @@ import sys
 from collections.abc import Sequence
 from typing import TYPE_CHECKING, Any, NoReturn
 
-from arbiter_host import __version__, helps, names
+from arbiter_host import __version__, helps, names, options as table
 from arbiter_host.faults import HostFault, missing_module
 from arbiter_host.output import drop_output, tell
 from arbiter_host.subcommands import PLACES, find
@@ -76,7 +76,7 @@ def parsed(words: Sequence[str]) -> argparse.Namespace:
         if at or unknown:
             parser.error(f"unrecognized arguments: {' '.join([*words[:at], *unknown])}")
         options = argparse.Namespace(**{**vars(options), **vars(mixed)})
-    return options
+    return table.fill(options)
 
 
 def die_by_interrupt() -> NoReturn:

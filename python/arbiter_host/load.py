@@ -18,7 +18,8 @@ from fractions import Fraction
 from typing import TYPE_CHECKING, BinaryIO, Protocol
 
 from arbiter import Host, Library
-from arbiter_host import demands, names, output, safe_files, units
+from arbiter_host import demands, names, options as table, output, safe_files, units
+from arbiter_host.engine import Engine
 from arbiter_host.faults import HostFault, RefusedLines, UsageFault, strerror
 from arbiter_host.model import MAX_DEPTH, Model, checked
 from arbiter_host.owned import Owned, Range, Setting
@@ -456,6 +457,7 @@ def load(options: argparse.Namespace, paths: Sequence[str], engine: Engine) -> M
 def of_files(options: argparse.Namespace, files: Sequence[File], engine: Engine) -> Model:
     """The model of one source whose files were read."""
     kind = options.kind or kind_of(*files[0])
+    table.check(options, kind)
     found = [(names.shown(path), data) for path, data in files if data is not None]
     if kind == "cgroup":
         if len(files) > 1:

@@ -1,0 +1,86 @@
+"""The one table of options: its size, what parsers make of it, and what has no effect."""
+import argparse
+import re
+
+import pytest
+from arbiter_host import options as table
+from arbiter_host.faults import UsageFault
+
+
+def parsed(subcommand, *words):
+    """What words ask of a subcommand that has the options of the table alone."""
+    parser = argparse.ArgumentParser(exit_on_error=False)
+    table.add(parser, subcommand)
+    return table.fill(parser.parse_args(words))
+
+
+def test_size():
+    """At most 45 options, help among them, each with a flag and a dest of its own."""
+    assert len(table.TABLE) + 1 <= table.MOST
+    flags = [flag for each in table.TABLE for flag in each.flags]
+    assert len(flags) == len(set(flags))
+    assert len({each.dest for each in table.TABLE}) == len(table.TABLE)
+
+
+def test_rows_are_of_subcommands_that_are_there():
+    """Texts and defaults of a subcommand belong to one that has the option."""
+    for each in table.TABLE:
+        for words in (each.helps, each.defaults, each.kinds_of):
+            assert set(words) <= set(each.subcommands), each.name
+        assert set(each.kinds) <= set(table.ALL), each.name
+
+
+def test_every_dest_has_its_value():
+    """Each dest of the table is there after `fill`; those that were given are named."""
+    found = parsed("explain", "--node", "n1", "-g", "a", "-g", "b", "--unit", "cpu")
+    assert found.given == {"node", "group", "unit"}
+    assert (found.node, found.group, found.depth, found.yes) == ("n1", ["a", "b"], 64, False)
+    assert all(hasattr(found, each.dest) for each in table.TABLE)
+
+
+@pytest.mark.parametrize("subcommand,words,kind,said", [
+    ("explain", ["--node", "zz"], "toml", "--node: it has no effect on a source of the kind toml"),
+    ("explain", ["--node-weights", "log"], "script", "--node-weights: it has no effect on "),
+    ("explain", ["--read", "5x1s"], "script", "--read: it has no effect on "),
+    ("explain", ["--strict"], "kubernetes", "--strict: it has no effect on "),
+    ("explain", ["--workers", "0"], "toml", "--workers: it has no effect on "),
+    ("explain", ["-g", "web"], "hosts", "--group: it has no effect on many hosts"),
+    ("explain", ["-n", "prod"], "docker", "--namespace: it has no effect on "),
+    ("explain", ["--used", "f"], "systemd", "--used: it has no effect on "),
+    ("explain", ["--range", "7d"], "kubernetes", "--range: it needs --used with a url"),
+    ("recommend", ["--map", "a=b"], "docker", "--map: it needs --used with a file or folder or"),
+])
+def test_no_effect_is_refused(subcommand, words, kind, said):
+    with pytest.raises(UsageFault, match=re.escape(said)):
+        table.check(parsed(subcommand, *words), kind)
+
+
+@pytest.mark.parametrize("subcommand,words,kind", [
+    ("explain", ["--node", "n1", "-n", "prod", "--node-weights", "log"], "kubernetes"),
+    ("explain", ["--used", "http://127.0.0.1:9090", "--range", "7d"], "docker"),
+    ("explain", ["--used", "/", "--read", "10x1s"], "kubernetes"),
+    ("explain", ["--read", "10x1s"], "cgroup"), ("top", ["--read", "x5s"], "toml"),
+    ("replay", ["--used", "day.csv", "--step", "30m", "--map", "a=b"], "toml"),
+    ("diff", ["--workers", "2", "--set", "web.weight=1"], "hosts"),
+])
+def test_what_has_an_effect_is_taken(subcommand, words, kind):
+    table.check(parsed(subcommand, *words), kind)
+
+
+def test_outputs():
+    def found(*words):
+        return [tuple(each) for each in table.outputs(parsed("explain", *words))]
+
+    assert found() == [("text", "-")]
+    assert found("-o", "json", "-o", "html=a=b") == [("json", "-"), ("html", "a=b")]
+    for words in (("-o", "yaml"), ("-o", "html="), ("-o", "json", "-o", "text")):
+        with pytest.raises(UsageFault):
+            found(*words)
+
+
+def test_readings():
+    assert table.readings("10x1s") == (10, "1s")
+    assert table.readings("x5min") == (None, "5min")
+    for text in ("10", "x", "0x1s", "10001x1s", "-1x1s"):
+        with pytest.raises(UsageFault):
+            table.readings(text)
