@@ -45,6 +45,13 @@ class Alerted(HostFault):
                          or "alert: none holds any more", 5)
 
 
+class NothingFound(HostFault):
+    """A search that ended with nothing, or a pattern that fits no group: status 6."""
+
+    def __init__(self, message: str) -> None:
+        super().__init__(message, 6)
+
+
 # Debian's packages of modules that are imported where they are needed.
 PACKAGES = {"rich": "python3-rich", "yaml": "python3-yaml", "jinja2": "python3-jinja2",
             "prometheus_client": "python3-prometheus-client", "dask": "python3-distributed",

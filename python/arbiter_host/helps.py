@@ -11,7 +11,8 @@ STATUSES = {
     2: "the words of the command line or the host were refused",
     3: "the C library is missing, or older than arbiterctl",
     4: "lines of a script were refused, under --strict",
-    5: "an alert of watch was raised",
+    5: "an alert was raised",
+    6: "nothing was found: no setting, no host, or no group of that name",
 }
 ENVIRONMENT = {
     "ARBITER_LIBRARY": "The C library, as of --library.",

@@ -19,7 +19,6 @@ from typing import TYPE_CHECKING, BinaryIO, Protocol
 
 from arbiter import Host, Library
 from arbiter_host import demands, names, options as table, output, safe_files, units
-from arbiter_host.engine import Engine
 from arbiter_host.faults import HostFault, RefusedLines, UsageFault, strerror
 from arbiter_host.model import MAX_DEPTH, Model, checked
 from arbiter_host.owned import Owned, Range, Setting
