@@ -224,17 +224,6 @@ def payers(before: Plan, after: Plan, path: str) -> list[tuple[str, int]]:
     return sorted([each for each in found if each[1] > 0], key=lambda each: -each[1])
 
 
-def guarantees(before: Plan, chosen: Sequence[Planned]) -> list[int]:
-    """What each group gets whatever the groups that are not under it ask for, in slices."""
-    library, host, found = before.engine.library, planned(before.model.host), []
-    with progress.bar("groups", len(chosen)) as step:
-        for group in chosen:
-            with asking("guarantee"):
-                found.append(library.guarantee(host, before.columns, group.row))
-            step()
-    return found
-
-
 def as_data(found: Need) -> dict[str, Any]:
     """The answers of `need` as data. Amounts are thousandths of a CPU."""
     before = found.before

@@ -1,15 +1,18 @@
-"""Says why each group gets what it gets: a tree as wide as the terminal, a flat list, or JSON."""
+"""Says why each group gets what it gets: a tree as wide as the terminal, a flat list, JSON, CSV."""
 from __future__ import annotations
 
+import csv
+import io
 import math
-from collections.abc import Callable, Iterator, Sequence
+from collections.abc import Callable, Iterator, Mapping, Sequence, Set
 from typing import Any, NamedTuple
 
 from arbiter_host import text
 from arbiter_host.model import MAX_DEPTH
-from arbiter_host.names import cut, last_name, listed, padded, short, shown, tail, width
+from arbiter_host.names import cut, last_name, listed, short, shown, tail, width
 from arbiter_host.placement import Outlook, Range
-from arbiter_host.plan import Plan, Planned, marks
+from arbiter_host.plan import Plan, Planned, marks, walk
+from arbiter_host.text import BAR_HEAD, LEAST_NAME, WIDE, Reasoned
 
 ONLY: dict[str, Callable[[Planned], bool]] = {
     "starved": lambda group: group.is_starved,
@@ -27,15 +30,18 @@ SORTS: dict[str, Callable[[Planned], Any]] = {
 }
 STYLES = {"STARVED": "bold red", "own limit": "yellow", "limit above": "yellow",
           "the host is full": "magenta", "all": "green", "tasks": "cyan", "nothing asked": "dim"}
-# From this width on the reasons are whole sentences and a bar is shown.
-WIDE = 110
-LEAST_NAME = 16
+# Letters of a bar, which a wide table has.
+BAR = 12
 MOST_RANGES = 20
 THROTTLED_NOTE = "* throttled, not by its limit: it gets less than its limit"
 
 
 class View(NamedTuple):
-    """What is shown: filters, order, depth, unit, width, and whether idle groups are."""
+    """What is shown: filters, order, depth, unit, width, and whether idle groups are.
+
+    `chosen` are the paths of the groups that are shown, and None for all. `guaranteed` are the
+    slices that a group gets whatever the others ask for, by row, where they are shown.
+    """
 
     only: tuple[str, ...] = ()
     sort: str = ""
@@ -43,24 +49,17 @@ class View(NamedTuple):
     unit: str = "cpu"
     width: int = text.STANDARD_WIDTH
     everything: bool = False
-    full_names: bool = False
+    chosen: Set[str] | None = None
+    guaranteed: Mapping[int, int] | None = None
 
     @property
     def is_flat(self) -> bool:
         """Whether groups are a list of paths and no tree."""
         return bool(self.only)
 
-
-class Line(NamedTuple):
-    """One line of the table: its cells, and the style of its reason."""
-
-    cells: tuple[str, str, str]
-    part: int
-    whole: int
-    # Its reason, from long to short.
-    forms: tuple[str, ...]
-    label: str
-    style: str = ""
+    def has(self, group: Planned) -> bool:
+        """Whether a group is among those that are chosen."""
+        return self.chosen is None or group.path in self.chosen
 
 
 def why(plan: Plan, group: Planned, is_wide: bool) -> str:
@@ -82,31 +81,35 @@ def narrow(plan: Plan, group: Planned) -> str:
     return words.get(reason.name, reason.name) + part
 
 
-def label(plan: Plan, group: Planned, view: View) -> str:
-    """The name of a group: in a tree its last name, indented; in a list its path."""
-    def shortened(name: str) -> str:
-        return shown(name) if view.full_names else short(shown(name))
-
+def label(group: Planned, view: View, depth: int) -> str:
+    """The name of a group: in a tree its last name, indented; in a list, and at the top of what was
+    chosen, its path."""
     if group.parent is None:
         return "the host (.)"
     title = group.group.title if group.group else ""
-    if view.is_flat:
-        return shortened(group.path)
-    name = shortened(last_name(group.path))
+    if view.is_flat or depth == 0:
+        return short(shown(group.path))
     folded = size(group) - 1 if group.depth >= view.depth else 0
     more = f" (+{folded} below)" if folded else ""
     people = f"  {shown(title)}" if title and "/" not in title else ""
-    return "  " * group.depth + name + more + people
+    return "  " * depth + short(shown(last_name(group.path))) + more + people
 
 
-def line_of(plan: Plan, group: Planned, view: View) -> Line:
-    """The line of a group."""
-    cells = tuple(text.amount(plan, value, view.unit)
-                  for value in (group.gets, group.want, group.limit))
-    name = "STARVED" if group.is_starved else plan.reason(group).name
-    return Line((cells[0], cells[1], cells[2]), group.gets, group.want,
-                forms(why(plan, group, True), why(plan, group, False), view),
-                label(plan, group, view), STYLES.get(name, ""))
+def line_of(plan: Plan, group: Planned, view: View, depth: int) -> Reasoned:
+    """The line of a group that stands so deep in the tree that is shown."""
+    cells = [text.amount(plan, value, view.unit)
+             for value in (group.gets, group.want, group.limit)]
+    if view.guaranteed is not None:
+        cells.append(text.amount(plan, view.guaranteed.get(group.row), view.unit))
+    if view.width >= WIDE:
+        cells.append(text.bar(group.gets, group.want, BAR))
+    return Reasoned(tuple(cells), forms(why(plan, group, True), why(plan, group, False), view),
+                    label(group, view, depth))
+
+
+def style_of(plan: Plan, group: Planned) -> str:
+    """The style of a group's line, by its reason."""
+    return STYLES.get("STARVED" if group.is_starved else plan.reason(group).name, "")
 
 
 def forms(whole: str, brief: str, view: View) -> tuple[str, ...]:
@@ -119,49 +122,60 @@ def starred(words: str) -> str:
     return words.replace("THROTTLED, NOT BY ITS LIMIT", "THROTTLED*")
 
 
-def fitting(found: Sequence[tuple[str, ...]], room: int) -> list[str]:
-    """The reasons whole where none is cut, else each in the longest other form that fits."""
-    if all(width(each[0]) <= room for each in found):
-        return [each[0] for each in found]
-    return [next((form for form in each[1:] if width(form) <= room), each[-1]) for each in found]
-
-
 def ordered(groups: Sequence[Planned], view: View) -> list[Planned]:
     """Groups in the order asked for; that of creation without one."""
     return sorted(groups, key=SORTS[view.sort]) if view.sort else list(groups)
 
 
-def tree_lines(plan: Plan, view: View) -> Iterator[Line]:
-    """The lines of a tree. Groups that ask for nothing are left out, unless all are asked for."""
-    waiting = [plan.root]
-    while waiting:
-        group = waiting.pop()
-        yield line_of(plan, group, view)
-        waiting += reversed(below(group, view))
-
-
 def below(group: Planned, view: View) -> list[Planned]:
-    """The children of a group that are shown."""
+    """The children of a group that are shown. Those that ask for nothing are left out, unless all
+    are asked for, or some groups are chosen."""
     if group.depth >= view.depth:
         return []
-    return ordered([each for each in group.children if each.want > 0 or view.everything], view)
+    has_all = view.everything or view.chosen is not None
+    return ordered([each for each in group.children if each.want > 0 or has_all], view)
+
+
+def tops(plan: Plan, view: View) -> list[Planned]:
+    """The groups at the top of the tree that is shown."""
+    if view.chosen is None:
+        return [plan.root]
+    found = [each for each in plan.groups[1:] if view.has(each) and each.depth <= view.depth]
+    return ordered([each for each in found if not view.has(plan.groups[each.parent or 0])], view)
+
+
+def family(plan: Plan, view: View) -> list[Planned]:
+    """The groups of a page or a picture in the order of the tree: those chosen, and all above."""
+    if view.chosen is None:
+        return list(walk([plan.root]))
+    rows = {0}
+    for group in plan.groups:
+        above: Planned | None = group if group.path in view.chosen else None
+        while above is not None and above.row not in rows:
+            rows.add(above.row)
+            above = None if above.parent is None else plan.groups[above.parent]
+    return [group for group in walk([plan.root]) if group.row in rows]
 
 
 def size(group: Planned) -> int:
     """The number of groups from a group on down."""
-    count, waiting = 0, [group]
-    while waiting:
-        each = waiting.pop()
-        count += 1
-        waiting += each.children
-    return count
+    return sum(1 for _ in walk([group]))
 
 
-def flat_lines(plan: Plan, view: View) -> Iterator[Line]:
-    """The lines of the groups that a filter lets through."""
-    for group in ordered(plan.groups, view):
-        if group.depth <= view.depth and any(ONLY[name](group) for name in view.only):
-            yield line_of(plan, group, view)
+def is_one_of(group: Planned, view: View) -> bool:
+    """Whether a group is chosen, deep enough, and in one of the states asked for."""
+    return (group.depth <= view.depth and view.has(group)
+            and (not view.only or any(ONLY[name](group) for name in view.only)))
+
+
+def shown_groups(plan: Plan, view: View) -> Iterator[tuple[Planned, int]]:
+    """The groups of the table in its order, and how deep each stands in it."""
+    if view.is_flat:
+        yield from ((each, 0) for each in ordered(plan.groups, view) if is_one_of(each, view))
+        return
+    for top in tops(plan, view):
+        for group in walk([top], lambda each: below(each, view)):
+            yield group, group.depth - top.depth
 
 
 def head(plan: Plan, view: View) -> Iterator[str]:
@@ -217,11 +231,11 @@ def placed(plan: Plan, view: View, found: Outlook) -> Iterator[str]:
         yield "Linux may differ by where tasks run; how far is not known:"
         yield f"  {found.why_not}"
         return
-    ranged = [group for group in plan.groups[1:] if group.path in found.ranges
-              and not is_firm(plan, group, found.ranges[group.path])]
-    firm = len(found.ranges) - len(ranged) - 1
+    known = [group for group in plan.groups[1:] if group.path in found.ranges and view.has(group)]
+    ranged = [group for group in known if not is_firm(plan, group, found.ranges[group.path])]
+    firm = len(known) - len(ranged)
     if firm:
-        yield f"firm to 0.03 CPUs, wherever tasks run: {firm} of {len(found.ranges) - 1} groups"
+        yield f"firm to 0.03 CPUs, wherever tasks run: {firm} of {len(known)} groups"
     if ranged:
         yield "what Linux may give a group by where tasks run (a model):"
         yield from range_lines(plan, view, found, ranged)
@@ -232,17 +246,14 @@ def range_lines(plan: Plan, view: View, found: Outlook, ranged: Sequence[Planned
     spans = {group.row: span(plan, group, found.ranges[group.path]) for group in ranged}
     widest = sorted(ranged, key=lambda group: spans[group.row][0] - spans[group.row][1])
     shown_ = {group.row for group in widest[:MOST_RANGES]}
-    rows = [["from", "to", "gets", "group"]]
-    rows += [[*(text.amount(plan, each, view.unit) for each in (*spans[group.row], group.gets)),
-              shown(group.path) if view.full_names else short(shown(group.path))]
+    rows = [["from", "to", "gets"]]
+    rows += [[text.amount(plan, each, view.unit) for each in (*spans[group.row], group.gets)]
              for group in ranged if group.row in shown_]
-    widths = [max(len(row[at]) for row in rows) for at in range(3)]
-    for row in rows:
-        numbers = "  ".join(each.rjust(most) for each, most in zip(row, widths))
-        room = max(view.width - width(numbers) - 4, LEAST_NAME)
-        yield f"  {numbers}  {row[3] if view.full_names else tail(row[3], room)}"
+    paths = ["group", *(short(shown(group.path)) for group in ranged if group.row in shown_)]
+    for numbers, path in zip(text.table(rows), paths):
+        yield f"  {numbers}  {tail(path, max(view.width - width(numbers) - 4, LEAST_NAME))}"
     if len(ranged) > MOST_RANGES:
-        yield f"  and {len(ranged) - MOST_RANGES} with narrower ranges; --json has all"
+        yield f"  and {len(ranged) - MOST_RANGES} with narrower ranges; -o json has all"
 
 
 def foot(plan: Plan, view: View, lines: Sequence[str]) -> Iterator[str]:
@@ -250,42 +261,25 @@ def foot(plan: Plan, view: View, lines: Sequence[str]) -> Iterator[str]:
     if any("THROTTLED*" in line for line in lines):
         yield THROTTLED_NOTE
     idle = sum(1 for group in plan.groups[1:] if group.want == 0)
-    if idle and not view.everything and not view.is_flat:
+    if idle and not view.everything and not view.is_flat and view.chosen is None:
         yield f"groups that ask for nothing and are left out (--all shows them): {idle}"
 
 
-def rendered(lines: Sequence[Line], view: View) -> list[tuple[str, Line | None]]:
-    """The table: numbers, the reason, and the name last, within the width."""
-    names_ = ("gets", "wants", "limit")
-    widths = [max(len(name), *(len(line.cells[at]) for line in lines), 5)
-              for at, name in enumerate(names_)]
-    cells = 12 if view.width >= WIDE else 0
-    left = sum(widths) + 4 + (cells + 4 if cells else 0)
-    longest = max([width(line.label) for line in lines] + [5])
-    room = max(view.width - left - 4, 30)
-    most = max(room - max(min(longest, room // 2), LEAST_NAME), 12)
-    reasons = fitting([line.forms for line in lines], most)
-    whys = min(max([width(each) for each in reasons] + [3]), most)
-    found: list[tuple[str, Line | None]] = []
-    heads = "  ".join(name.rjust(widths[at]) for at, name in enumerate(names_))
-    heads += "  " + padded("gets of wants"[:cells + 2], cells + 2) if cells else ""
-    found.append((f"{heads}  {padded('why', whys)}  group", None))
-    for line, reason in zip(lines, reasons):
-        numbers = "  ".join(each.rjust(widths[at]) for at, each in enumerate(line.cells))
-        numbers += "  " + text.bar(line.part, line.whole, cells) if cells else ""
-        fit = tail if view.is_flat else cut
-        room = max(view.width - left - whys - 4, LEAST_NAME)
-        name = line.label if view.full_names else fit(line.label, room)
-        found.append((f"{numbers}  {padded(cut(reason, whys), whys)}  {name}".rstrip(), line))
-    return found
+def heads(view: View) -> list[str]:
+    """The heads of the columns of numbers and of the bar."""
+    return ["gets", "wants", "limit", *(["guaranteed"] if view.guaranteed is not None else []),
+            *([BAR_HEAD] if view.width >= WIDE else [])]
 
 
 def table(plan: Plan, view: View) -> list[tuple[str, str]]:
     """All lines with their styles."""
-    lines = list(flat_lines(plan, view) if view.is_flat else tree_lines(plan, view))
+    groups = list(shown_groups(plan, view))
     found = [(cut(each, max(view.width, 80)), "") for each in head(plan, view)] + [("", "")]
-    if lines:
-        found += [(each, line.style if line else "bold") for each, line in rendered(lines, view)]
+    if groups:
+        lines = text.reasoned_table(
+            heads(view), [line_of(plan, group, view, depth) for group, depth in groups],
+            view.width, cut if view.chosen is None and not view.is_flat else tail, 5)
+        found += zip(lines, ["bold", *(style_of(plan, group) for group, _ in groups)])
     else:
         found.append((f"no group is {' or '.join(view.only)}", ""))
     return found + [(each, "") for each in foot(plan, view, [each for each, _ in found])]
@@ -341,8 +335,7 @@ def group_data(plan: Plan, group: Planned) -> dict[str, Any]:
 def as_data(plan: Plan, view: View = View()) -> dict[str, Any]:
     """A plan as data. Filters, order and depth hold as in the table."""
     host = plan.model.host
-    groups = [group for group in ordered(plan.groups, view) if group.depth <= view.depth
-              and (not view.only or any(ONLY[name](group) for name in view.only))]
+    groups = [group for group in ordered(plan.groups, view) if is_one_of(group, view)]
     return {
         "host": {"cpus": host.processors, "period_usec": host.period_us,
                  "slice_usec": host.slice_us, "capacity": amounts(plan, plan.capacity)},
@@ -351,5 +344,33 @@ def as_data(plan: Plan, view: View = View()) -> dict[str, Any]:
         "limiting": [{"group": group.path, "limit": amounts(plan, group.limit)}
                      for group in plan.limiting],
         "refused": plan.model.refused, "notes": plan.model.notes,
-        "groups": [group_data(plan, group) for group in groups],
+        "groups": [group_data(plan, group) | guaranteed_data(plan, group, view)
+                   for group in groups],
     }
+
+
+def guaranteed_data(plan: Plan, group: Planned, view: View) -> dict[str, Any]:
+    """What a group is guaranteed as data, where that is asked for."""
+    if view.guaranteed is None:
+        return {}
+    return {"guaranteed": amounts(plan, view.guaranteed.get(group.row))}
+
+
+def as_csv(plan: Plan, view: View) -> str:
+    """A plan as CSV: a row for each group, with amounts in the unit. Filters hold as in the table.
+    """
+    written = io.StringIO()
+    out = csv.writer(written, lineterminator="\n")
+    more = [] if view.guaranteed is None else ["guaranteed"]
+    out.writerow(["group", "title", "weight", "gets", "wants", "limit", *more, "reason", "why"])
+    for group in ordered(plan.groups, view):
+        if not is_one_of(group, view):
+            continue
+        values = [group.gets, group.want, group.limit]
+        if view.guaranteed is not None:
+            values.append(view.guaranteed.get(group.row))
+        out.writerow([shown(group.path), shown(group.group.title if group.group else ""),
+                      group.weight, *(text.amount(plan, each, view.unit) if each is not None else ""
+                                      for each in values),
+                      plan.reason(group).name, why(plan, group, True)])
+    return written.getvalue()

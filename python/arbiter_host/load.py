@@ -499,6 +499,10 @@ class Loaded:
         """The groups whose settings a path means."""
         return self.source.meant(path)
 
+    def pods_where(self, namespaces: Sequence[str], labels: Mapping[str, str]) -> list[str]:
+        """The groups of the pods of some namespaces that have all labels."""
+        return self.source.pods_where(namespaces, labels)
+
     def changed(self, settings: Sequence[Setting]) -> Loaded:
         """The same with other settings."""
         return replace(self, source=self.source.changed(settings))

@@ -3,13 +3,16 @@ from __future__ import annotations
 
 import os
 import sys
-from collections.abc import Iterable, Sequence
+from collections.abc import Callable, Iterable, Mapping, Sequence
 from contextlib import suppress
 from typing import Any
 
 from arbiter_host import names
 from arbiter_host.faults import HostFault, strerror
+from arbiter_host.options import Output
 
+# Lines with their styles on a terminal.
+Styled = Sequence[tuple[str, str]]
 # Remarks that are remembered, and those that are told at a time.
 MOST_TOLD, MOST_AT_ONCE = 10000, 100
 
@@ -27,7 +30,7 @@ def emit(lines: str) -> None:
         raise HostFault(f"standard output: {strerror(error)}") from error
 
 
-def emit_styled(lines: Sequence[tuple[str, str]]) -> None:
+def emit_styled(lines: Styled) -> None:
     """Writes lines, with their styles on a terminal."""
     if sys.stdout is None or not sys.stdout.isatty() or "NO_COLOR" in os.environ:
         emit("".join(f"{line}\n" for line, _ in lines))
@@ -43,12 +46,17 @@ def emit_styled(lines: Sequence[tuple[str, str]]) -> None:
         console.print(Text(line, style=style))
 
 
-def emit_json(data: Any) -> None:
-    """Writes data as JSON. Letters that a terminal could take as a command are escaped."""
+def json_text(data: Any) -> str:
+    """Data as JSON. Letters that a terminal could take as a command are escaped."""
     import json
     dumped = json.dumps(data, indent=2, ensure_ascii=False)
-    emit("".join(f"\\u{ord(each):04x}" if names.is_raw(each) and each != "\n" and
-                 ord(each) < 0x10000 else each for each in dumped) + "\n")
+    return "".join(f"\\u{ord(each):04x}" if names.is_raw(each) and each != "\n" and
+                   ord(each) < 0x10000 else each for each in dumped) + "\n"
+
+
+def emit_json(data: Any) -> None:
+    """Writes data as JSON to standard output."""
+    emit(json_text(data))
 
 
 def write_file(path: str, data: str) -> None:
@@ -62,6 +70,18 @@ def write_file(path: str, data: str) -> None:
     except (OSError, ValueError) as error:
         why = strerror(error) if isinstance(error, OSError) else "no path"
         raise HostFault(f"{names.shown(path)}: {why}") from error
+
+
+def write_forms(outputs: Sequence[Output],
+                forms: Mapping[str, Callable[[], str | Styled]]) -> None:
+    """Writes an answer in the forms asked for, after all of them were made."""
+    for path, answer in [(path, forms[form]()) for form, path in outputs]:
+        if isinstance(answer, str):
+            write_file(path, answer)
+        elif path == "-":
+            emit_styled(answer)
+        else:
+            write_file(path, "".join(f"{line}\n" for line, _ in answer))
 
 
 def drop_output() -> None:

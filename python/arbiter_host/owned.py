@@ -5,7 +5,7 @@ limits follow by the source's own formulas.
 """
 from __future__ import annotations
 
-from collections.abc import Callable, Sequence
+from collections.abc import Callable, Mapping, Sequence
 from typing import TYPE_CHECKING, NamedTuple, Protocol
 
 from arbiter_host.faults import HostFault
@@ -62,6 +62,9 @@ class Owned(Protocol):
     def meant(self, path: str) -> list[str]:
         """The groups whose settings a path means: itself, or of a pod its containers."""
 
+    def pods_where(self, namespaces: Sequence[str], labels: Mapping[str, str]) -> list[str]:
+        """The groups of the pods of some namespaces (none for any) that have all labels."""
+
     def changed(self, settings: Sequence[Setting]) -> Owned:
         """The same with other settings. Paths are those of the model as it is."""
 
@@ -85,6 +88,10 @@ class Lone:
     def meant(self, path: str) -> list[str]:
         """The group itself, if it has settings."""
         return [path] if self.has(path) else []
+
+    def pods_where(self, _: Sequence[str], __: Mapping[str, str]) -> list[str]:
+        """None: it has no pods."""
+        return []
 
     def joined(self, _: Owned) -> None:
         """None: it takes no groups of another."""

@@ -7,10 +7,11 @@ The scale is repeated every few rows.
 """
 from __future__ import annotations
 
-from collections.abc import Iterator
+from collections.abc import Iterator, Set
 from dataclasses import dataclass, field
 
 from arbiter_host import explain, svg, text
+from arbiter_host.explain import View
 from arbiter_host.names import cut, last_name, short, shown
 from arbiter_host.plan import Plan, Planned
 
@@ -18,7 +19,8 @@ ROW, INDENT, BARS, EDGE, HEAD = 20, 14, 400, 16, 70
 NAME_CELLS, NOTE_CELLS = 40, 128
 # Rows from one scale to the next.
 SCALE_ROWS = 24
-MOST_ROWS = 1000
+# Rows below the host's.
+MOST_ROWS = 120
 
 
 @dataclass
@@ -38,10 +40,10 @@ class Entry:
     below: list[int] = field(default_factory=list)
 
 
-def chosen(plan: Plan, rows: int) -> set[int]:
-    """The rows of the groups that are shown: the greatest wants, each with those above it."""
+def chosen(plan: Plan, own: Set[int], rows: int) -> set[int]:
+    """The rows of so many of some groups: the greatest wants, each with those above it."""
     limiting = {group.row for group in plan.limiting}
-    order = sorted(plan.groups[1:], key=lambda group: (group.row not in limiting, -group.want))
+    order = sorted((group for group in plan.groups[1:] if group.row in own), key=lambda group: (group.row not in limiting, -group.want))
     found = {0}
     for group in order:
         above = [group.row]
@@ -54,19 +56,21 @@ def chosen(plan: Plan, rows: int) -> set[int]:
     return found
 
 
-def entry_of(plan: Plan, group: Planned, unit: str) -> Entry:
+def entry_of(plan: Plan, group: Planned, view: View) -> Entry:
     """The row of a group."""
     is_limiting = group in plan.limiting
-    gets, want, limit = (text.amount(plan, each, unit)
+    gets, want, limit = (text.amount(plan, each, view.unit)
                          for each in (group.gets, group.want, group.limit))
-    at_most = "" if group.limit is None or group.parent is None else f", at most {limit}"
+    more = "" if group.limit is None or group.parent is None else f", at most {limit}"
+    if view.guaranteed is not None and group.row in view.guaranteed:
+        more += f", guaranteed {text.amount(plan, view.guaranteed[group.row], view.unit)}"
     name = "the host" if group.parent is None else short(shown(last_name(group.path)))
     title = group.group.title if group.group else ""
     if title and "/" not in title:
         name = f"{name}  {title}"
     why = explain.why(plan, group, True)
     return Entry(group.depth, name, group.gets, group.want, group.limit,
-                 f"{gets} of {want}{at_most}: {why}", f"{group.path}: {why}", is_limiting,
+                 f"{gets} of {want}{more}: {why}", f"{group.path}: {why}", is_limiting,
                  group.is_starved or group.is_throttled_elsewhere)
 
 
@@ -91,38 +95,39 @@ def fold_into(entry: Entry, groups: list[Planned]) -> None:
         entry.is_marked = True
 
 
-def fitting(plan: Plan, unit: str, depth: int, rows: int) -> list[Entry]:
+def fitting(plan: Plan, view: View, rows: int) -> list[Entry]:
     """The rows of as many groups as leave room for the rows of the folds."""
     shown_ = rows
     while True:
-        found = entries(plan, unit, depth, shown_)
+        found = entries(plan, view, shown_)
         if len(found) <= rows + 1 or shown_ <= 1:
             return found
         shown_ = shown_ * 7 // 8
 
 
-def entries(plan: Plan, unit: str, depth: int, rows: int) -> list[Entry]:
+def entries(plan: Plan, view: View, rows: int) -> list[Entry]:
     """All rows as a tree is read, each with the places of the rows right below it."""
-    shows = chosen(plan, rows)
+    own = {group.row for group in explain.family(plan, view)}
+    shows = chosen(plan, own, rows)
     found: list[Entry] = []
     waiting: list[tuple[Planned | Entry, int | None]] = [(plan.root, None)]
     while waiting:
         each, above = waiting.pop()
-        entry = each if isinstance(each, Entry) else entry_of(plan, each, unit)
+        entry = each if isinstance(each, Entry) else entry_of(plan, each, view)
         if above is not None:
             found[above].below.append(len(found))
         found.append(entry)
-        if isinstance(each, Entry) or each.depth >= depth:
+        if isinstance(each, Entry) or each.depth >= view.depth:
             continue
-        place = len(found) - 1
-        rest = [child for child in each.children if child.row not in shows and child.want]
+        place, children = len(found) - 1, [child for child in each.children if child.row in own]
+        rest = [child for child in children if child.row not in shows and child.want]
         if len(rest) == 1 and not rest[0].children:
             shows.add(rest.pop().row)
-        if rest and len(rest) == sum(1 for child in each.children if child.want):
+        if rest and len(rest) == sum(1 for child in children if child.want):
             fold_into(entry, rest)
         elif rest:
-            waiting.append((folded(plan, rest, each.depth + 1, unit), place))
-        waiting += [(child, place) for child in reversed(each.children) if child.row in shows]
+            waiting.append((folded(plan, rest, each.depth + 1, view.unit), place))
+        waiting += [(child, place) for child in reversed(children) if child.row in shows]
     return found
 
 
@@ -221,10 +226,10 @@ def title_of(plan: Plan, unit: str) -> str:
     return f"{served} of {most} {text.UNIT_WORDS[unit]} served, {want} wanted"
 
 
-def picture(plan: Plan, unit: str = "cpu", depth: int = 64, rows: int = 120) -> str:
+def picture(plan: Plan, view: View = View(), rows: int = MOST_ROWS) -> str:
     """A plan as SVG, of at most so many rows below the host's."""
-    drawing = Drawing(plan, fitting(plan, unit, depth, rows), unit)
-    title = title_of(plan, unit)
+    drawing = Drawing(plan, fitting(plan, view, rows), view.unit)
+    title = title_of(plan, view.unit)
     parts = [svg.words((EDGE, 20), title, svg.INK, 13, "start", True), *legend(40),
              *drawing.scale(), *drawing.branches()]
     for place, entry in enumerate(drawing.found):

@@ -7,7 +7,7 @@ library gives the reasons, which are proved; this module words them.
 from __future__ import annotations
 
 import functools
-from collections.abc import Iterator, Sequence
+from collections.abc import Callable, Iterator, Sequence
 from contextlib import contextmanager
 from dataclasses import dataclass, field
 from fractions import Fraction
@@ -16,7 +16,7 @@ from typing import NamedTuple
 import arbiter
 from arbiter import (Certificate, Columns, Figures, Host, Kind, Library, Refused, Row,
                      Unavailable)
-from arbiter_host import units
+from arbiter_host import progress, units
 from arbiter_host.faults import HostFault, NoLibrary
 from arbiter_host.model import Group, Model, checked, planned
 from arbiter_host.names import last_name, short, shown
@@ -241,6 +241,32 @@ class Plan:
             return Reason(name, f"{words}: the only one that asks here", cut.path)
         words = f"{words}: weight {group.weight} of {above.active_weight}"
         return Reason(name, words, cut.path, group.weight, above.active_weight)
+
+
+def children_of(group: Planned) -> Sequence[Planned]:
+    """All children of a group, in order of creation."""
+    return group.children
+
+
+def walk(tops: Sequence[Planned],
+         below: Callable[[Planned], Sequence[Planned]] = children_of) -> Iterator[Planned]:
+    """Groups from some on down, each right before those that `below` gives of it."""
+    waiting = list(reversed(tops))
+    while waiting:
+        group = waiting.pop()
+        yield group
+        waiting += reversed(below(group))
+
+
+def guarantees(before: Plan, chosen: Sequence[Planned]) -> list[int]:
+    """What each group gets whatever the groups that are not under it ask for, in slices."""
+    library, host, amounts = before.engine.library, planned(before.model.host), []
+    with progress.bar("groups", len(chosen)) as step:
+        for group in chosen:
+            with asking("guarantee"):
+                amounts.append(library.guarantee(host, before.columns, group.row))
+            step()
+    return amounts
 
 
 def all_reason(group: Planned) -> Reason:

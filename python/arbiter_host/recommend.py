@@ -13,12 +13,12 @@ from dataclasses import dataclass
 from fractions import Fraction
 from typing import Any
 
-from arbiter_host import backwards, demands, names, samples, units
+from arbiter_host import demands, names, samples, units
 from arbiter_host.faults import HostFault, UsageFault
 from arbiter_host.kinds import Kind, Use, kind_of
 from arbiter_host.model import Model
 from arbiter_host.owned import Setting
-from arbiter_host.plan import Engine, Plan, plan
+from arbiter_host.plan import Engine, Plan, guarantees, plan
 from arbiter_host.sources import usage
 from arbiter_host.sources.pods import Amounts
 
@@ -144,7 +144,7 @@ def recommended(engine: Engine, model: Model, uses: Mapping[str, Use],
     totals, then = kind.totals(), kind_of(changed).totals()
     return Recommendation(rule, tuple(found), before, after,
                           tuple(each.path for each in chosen),
-                          tuple(backwards.guarantees(after, chosen)),
+                          tuple(guarantees(after, chosen)),
                           (totals[0], then[0]) if totals and then else None,
                           totals[1] if totals else None, kind.noun, kind.keys)
 

@@ -8,7 +8,7 @@ from arbiter import Host
 from arbiter_host import backwards, units
 from arbiter_host.faults import HostFault
 from arbiter_host.model import Group, Model
-from arbiter_host.plan import plan
+from arbiter_host.plan import guarantees, plan
 from hypothesis import HealthCheck, given, settings
 from hypothesis import strategies as st
 
@@ -96,7 +96,7 @@ def test_guarantee_of_the_inside(engine):
     for path, demand in (("pod", 0), ("pod/one", 200), ("pod/two", 200), ("other", 0)):
         model.add(Group(path, demand=Fraction(demand)))
     found = plan(engine, model)
-    owed = backwards.guarantees(found, found.groups[1:])
+    owed = guarantees(found, found.groups[1:])
     assert owed == [8, 4, 4, 0]
 
 
@@ -144,7 +144,7 @@ def test_least_values(engine, model, path, slices):
 def test_no_demands_of_the_others_give_less(engine, model, demands):
     """Each group gets its guarantee with any demands of the groups that are not under it."""
     before = plan(engine, model)
-    owed = backwards.guarantees(before, before.groups[1:])
+    owed = guarantees(before, before.groups[1:])
     for group, least in zip(before.groups[1:], owed):
         after = model.copy()
         for path, slices in zip(PATHS[1:], demands):

@@ -7,7 +7,7 @@ from arbiter import Host, Kind, Reason
 from arbiter_host import backwards, explain
 from arbiter_host.faults import HostFault
 from arbiter_host.model import Group, Model
-from arbiter_host.plan import Engine, asking, plan
+from arbiter_host.plan import Engine, asking, guarantees, plan
 
 
 def host_of_each_reason():
@@ -85,7 +85,7 @@ def test_answers_follow_the_library(answering):
     engine = answering(guarantee=7, least_weight=5000, least_limit=None, least_processors=None)
     model = two_groups()
     found = plan(engine, model)
-    assert backwards.guarantees(found, found.groups[1:]) == [7, 7]
+    assert guarantees(found, found.groups[1:]) == [7, 7]
     knobs = backwards.need(engine, model, "a", Fraction(550)).knobs
     assert [(knob.least, knob.plan is None) for knob in knobs] == (
         [(5000, False), (None, True), (None, True)])

@@ -55,6 +55,7 @@ def made_by(maker: dict[str, Any]) -> dict[str, Any]:
     owner = {"kind": text(maker, "kind"), "name": text(metadata, "name"), "controller": True}
     return {"kind": "Pod", "spec": table(template, "spec"),
             "metadata": {"name": text(metadata, "name"), "namespace": text(metadata, "namespace"),
+                         "labels": table(template, "metadata", "labels"),
                          "ownerReferences": [owner]}}
 
 
@@ -349,6 +350,13 @@ class Source:
         found = self.built[1]
         return [path] if path in found else [each for each in found
                                              if names.parent_path(each) == path]
+
+    def pods_where(self, namespaces: Sequence[str], labels: Mapping[str, str]) -> list[str]:
+        """The groups of the pods of some namespaces (none for any) that have all labels."""
+        fits = [(not namespaces or pod.namespace in namespaces) and labels.items() <= set(pod.labels)
+                for pod in self.pods]
+        return list(dict.fromkeys(names.parent_path(path)
+                                  for path, (place, _) in self.built[1].items() if fits[place]))
 
     def changed(self, settings: Sequence[Setting]) -> Source:
         """The same with other requests and limits. All are made before they are checked."""

@@ -86,6 +86,7 @@ class Pod:
     # The labels that its node must have, and the taints of a node that it tolerates.
     selector: tuple[tuple[str, str], ...] = ()
     tolerations: tuple[Toleration, ...] = ()
+    labels: tuple[tuple[str, str], ...] = ()
 
     @property
     def title(self) -> str:
@@ -265,13 +266,14 @@ def pod_of(pod: dict[str, Any], notes: list[str]) -> Pod:
     asks = any(memory_of(each, key) for each in raw for key in ("requests", "limits"))
     return Pod(namespace, name, uid_of(metadata), parts, overhead, own, is_whole,
                told if told in CLASSES else "", asks, all(map(is_memory_limited, raw)),
-               selector_of(spec), tuple(map(toleration_of, tables(spec, "tolerations"))))
+               pairs_of(table(spec, "nodeSelector")),
+               tuple(map(toleration_of, tables(spec, "tolerations"))),
+               pairs_of(table(metadata, "labels")))
 
 
-def selector_of(spec: dict[str, Any]) -> tuple[tuple[str, str], ...]:
-    """The labels that a pod's node must have."""
-    found = table(spec, "nodeSelector")
-    return tuple(sorted((key, text(found, key)) for key in found))
+def pairs_of(labels: dict[str, Any]) -> tuple[tuple[str, str], ...]:
+    """Labels in order: those of a pod, or those that its node must have."""
+    return tuple(sorted((key, text(labels, key)) for key in labels))
 
 
 def toleration_of(found: dict[str, Any]) -> Toleration:

@@ -21,23 +21,20 @@ class Place(NamedTuple):
 
 PLACES = {
     "explain": Place("explain", "EXPLAIN", "why each group gets what it gets"),
-    "compare": Place("compare", "COMPARE", "what changes from one plan to another"),
+    "diff": Place("diff", "DIFF", "what a change does, or what differs between two plans"),
     "need": Place("backwards", "NEED", "the least setting with which a group gets an amount"),
-    "tune": Place("tune", "TUNE", "weights with which several groups get their goals at once"),
+    "tune": Place("tune", "TUNE", "settings with which groups get their goals at once"),
     "recommend": Place("recommend", "RECOMMEND", "propose requests and limits from what was used"),
     "guarantee": Place("backwards", "GUARANTEE", "what groups get whatever the others ask for"),
-    "picture": Place("picture", "PICTURE", "draw a plan as SVG"),
-    "report": Place("report", "REPORT", "write a plan as one HTML page"),
     "series": Place("series", "SERIES", "plan many samples of demands"),
     "top": Place("top", "TOP", "live view over a host's cgroups and their plan"),
     "watch": Place("watch", "WATCH", "tell when a host gets bad: alerts and metrics"),
+    "export": Place("export", "EXPORT", "write what a source holds as a script or a host file"),
     "audit": Place("audit", "AUDIT", "the plan beside what groups used: how far off, and why"),
     "fleet": Place("fleet", "FLEET", "ask many hosts at once, on all processors"),
     "apply": Place("apply", "APPLY", "set weights and limits on a host; without --yes only print"),
     "undo": Place("apply", "UNDO", "bring the settings before `apply` back"),
     "hold": Place("hold", "HOLD", "hold the plan on a host by limits of each round"),
-    "import": Place("imports", "IMPORT", "write what a source holds as a script or a host file"),
-    "from-cgroup": Place("imports", "FROM_CGROUP", "the same as import cgroup"),
 }
 
 

@@ -10,7 +10,7 @@ from arbiter_host.faults import HostFault, UsageFault
 from arbiter_host.model import MAX_PROCESSORS
 from arbiter_host.names import short, shown
 from arbiter_host.output import emit_json, emit_styled
-from arbiter_host.plan import Plan, Planned
+from arbiter_host.plan import Plan, Planned, guarantees
 from arbiter_host.subcommands.base import (Subcommand, add_reading_options, found_engine,
                                            loaded_plan, source_name)
 
@@ -132,7 +132,7 @@ def run_guarantee(options: argparse.Namespace) -> None:
     """Prints what groups are guaranteed."""
     found = loaded_plan(options, options.source)
     chosen = chosen_groups(found, options.group)
-    owed = backwards.guarantees(found, chosen)
+    owed = guarantees(found, chosen)
     if options.json:
         emit_json([{"group": group.path, "guaranteed_millicpu": found.millicpu(slices),
                     "gets_millicpu": found.millicpu(group.gets),

@@ -50,33 +50,29 @@ def loaded_plan(options: argparse.Namespace, paths: Sequence[str]) -> Plan:
     return plan(by, model)
 
 
-def view_of(options: argparse.Namespace) -> View:
-    """The view that the options ask for."""
-    only = tuple(each for each in (options.only or "").split(",") if each)
-    for each in only:
+def view_of(options: argparse.Namespace, chosen: frozenset[str] | None = None) -> View:
+    """The view that the options ask for, of the groups that are chosen."""
+    states = tuple(each for each in (options.state or "").split(",") if each)
+    for each in states:
         if each not in explain.ONLY:
-            raise UsageFault(f"--only {names.shown(each)}: {', '.join(explain.ONLY)}")
+            raise UsageFault(f"--state {names.shown(each)}: {', '.join(explain.ONLY)}")
     if not 0 <= options.depth <= MAX_DEPTH:
         raise UsageFault(f"--depth: 0 to {MAX_DEPTH}")
-    if options.width is not None and not 40 <= options.width <= 10000:
-        raise UsageFault("--width: 40 to 10000")
-    return View(only, options.sort or "", options.depth, options.unit,
-                options.width or text.terminal_width(), options.all, options.full_names)
+    return View(states, options.sort or "", options.depth, options.unit, text.terminal_width(),
+                options.everything, chosen)
 
 
 def add_view_options(parser: argparse.ArgumentParser) -> None:
     """The options that say what is shown."""
     group = parser.add_argument_group("view")
-    group.add_argument("--only", metavar="WORD,..", help="the groups that are one of: "
+    group.add_argument("--only", dest="state", metavar="WORD,..", help="the groups that are one of: "
                        + ", ".join(explain.ONLY))
     group.add_argument("--sort", choices=tuple(explain.SORTS), help="order of the groups")
     group.add_argument("--depth", type=int, default=MAX_DEPTH, metavar="N",
                        help="leave out groups more than N below the root, 0 to 64")
     group.add_argument("--unit", choices=text.UNITS, default="cpu", help="unit (default cpu)")
-    group.add_argument("--width", type=int, metavar="N", help="columns (default: the terminal's,"
-                       " else 120)")
-    group.add_argument("--all", action="store_true", help="show groups that ask for nothing too")
-    group.add_argument("--full-names", action="store_true", help="show identifiers whole")
+    group.add_argument("--all", dest="everything", action="store_true",
+                       help="show groups that ask for nothing too")
     group.add_argument("--json", action="store_true", help="print the same as JSON")
 
 
@@ -90,11 +86,3 @@ def add_answer_options(parser: argparse.ArgumentParser) -> None:
     """The options that all tables have."""
     add_view_options(parser)
     add_reading_options(parser)
-
-
-def add_drawn_options(parser: argparse.ArgumentParser) -> None:
-    """The words that pictures and pages have."""
-    parser.add_argument("source", nargs="+", metavar="SOURCE", help="a source, as of explain")
-    parser.add_argument("-o", "--output", default="-", metavar="FILE",
-                        help="the file that is written (default: standard output)")
-    parser.add_argument("--unit", choices=text.UNITS, default="cpu", help="unit (default cpu)")

@@ -8,10 +8,11 @@ from typing import Any
 
 from arbiter_host import explain, text
 from arbiter_host.explain import View
-from arbiter_host.names import cut, padded, short, shown, tail, width
+from arbiter_host.names import cut, short, shown, tail
 from arbiter_host.plan import Plan, Planned
+from arbiter_host.text import WIDE, Reasoned
 
-LEAST_NAME = 16
+HEADS = ("gets", "then", "change", "wants", "then")
 
 
 @dataclass(frozen=True)
@@ -23,10 +24,11 @@ class Pair:
     two: Planned | None
 
 
-def pairs(one: Plan, two: Plan) -> list[Pair]:
-    """The groups of both plans, those of the first in its order first."""
+def pairs(one: Plan, two: Plan, view: View = View()) -> list[Pair]:
+    """The groups of both plans that are chosen, those of the first in its order first."""
     first, second = one.by_path(), two.by_path()
-    return [Pair(path, first.get(path), second.get(path)) for path in {**first, **second}]
+    return [Pair(path, first.get(path), second.get(path)) for path in {**first, **second}
+            if view.chosen is None or path in view.chosen]
 
 
 def facts(plan: Plan, group: Planned) -> tuple[Any, ...]:
@@ -71,7 +73,7 @@ def cell(plan: Plan, group: Planned | None, key: str, unit: str) -> str:
 
 def reasons(one: Plan, two: Plan, pair: Pair, view: View) -> tuple[str, ...]:
     """The forms of a reason that the table may have, from long to short."""
-    if view.width < explain.WIDE:
+    if view.width < WIDE:
         return (reason(one, two, pair, False, False),)
     whole = reason(one, two, pair, True, True)
     return (whole, explain.starred(whole), reason(one, two, pair, False, True),
@@ -89,17 +91,20 @@ def reason(one: Plan, two: Plan, pair: Pair, is_wide: bool, has_before: bool) ->
     return after if before == after or not has_before else f"{after} (before: {before})"
 
 
-def row(one: Plan, two: Plan, pair: Pair,
-        view: View) -> tuple[list[str], tuple[str, ...], str, str]:
-    """The numbers, the forms of the reason, the name and the style of a group's line."""
+def row(one: Plan, two: Plan, pair: Pair, view: View) -> Reasoned:
+    """The numbers, the forms of the reason and the name of a group's line."""
     unit = view.unit
-    cells = [cell(one, pair.one, "gets", unit), cell(two, pair.two, "gets", unit),
+    cells = (cell(one, pair.one, "gets", unit), cell(two, pair.two, "gets", unit),
              signed(one, two, pair, unit), cell(one, pair.one, "want", unit),
-             cell(two, pair.two, "want", unit)]
-    change = gain(one, two, pair)
-    style = "green" if change > 0 else "red" if change < 0 else ""
+             cell(two, pair.two, "want", unit))
     name = "the host (.)" if pair.path == "." else short(shown(pair.path))
-    return cells, reasons(one, two, pair, view), name, style
+    return Reasoned(cells, reasons(one, two, pair, view), name)
+
+
+def style_of(one: Plan, two: Plan, pair: Pair) -> str:
+    """The style of a group's line: whether it gains or loses."""
+    change = gain(one, two, pair)
+    return "green" if change > 0 else "red" if change < 0 else ""
 
 
 def heads(one: Plan, two: Plan, view: View) -> Iterator[tuple[str, str]]:
@@ -115,34 +120,24 @@ def heads(one: Plan, two: Plan, view: View) -> Iterator[tuple[str, str]]:
 def table(one: Plan, two: Plan, view: View) -> list[tuple[str, str]]:
     """All lines with their styles. Groups that are the same are counted."""
     found = list(heads(one, two, view))
-    all_ = pairs(one, two)
-    chosen = [pair for pair in all_ if differs(one, two, pair)]
+    all_ = pairs(one, two, view)
+    differ = [pair for pair in all_ if differs(one, two, pair)]
     if view.sort:
-        chosen.sort(key=lambda pair: -abs(gain(one, two, pair)))
-    rows = [row(one, two, pair, view) for pair in chosen]
-    names_ = ["gets", "then", "change", "wants", "then"]
-    widths = [max([len(names_[at]), *(len(each[0][at]) for each in rows)]) for at in range(5)]
-    left = sum(widths) + 12
-    room = max(view.width - left, 30)
-    # In a narrow table names are cut and not reasons.
-    longest = max([width(each[2]) for each in rows] + [5]) if view.width >= explain.WIDE else 0
-    most = max(room - max(min(longest, room // 2), LEAST_NAME), 12)
-    why_ = explain.fitting([each[1] for each in rows], most)
-    whys = min(max([width(each) for each in why_] + [3]), most)
-    lines = [(names_, "why", "group", "bold"),
-             *((cells, why, name, style) for (cells, _, name, style), why in zip(rows, why_))]
-    for cells, why, name, style in lines if rows else []:
-        numbers = "  ".join(each.rjust(widths[at]) for at, each in enumerate(cells))
-        end = tail(name, max(view.width - left - whys, LEAST_NAME))
-        found.append((f"{numbers}  {padded(cut(why, whys), whys)}  {end}".rstrip(), style))
-    found.append((f"{len(all_) - len(chosen)} of {len(all_)} groups are the same in both", ""))
-    if any("THROTTLED*" in each for each in why_):
+        differ.sort(key=lambda pair: -abs(gain(one, two, pair)))
+    if differ:
+        # In a narrow table names are cut and not reasons.
+        lines = text.reasoned_table(HEADS, [row(one, two, pair, view) for pair in differ],
+                                    view.width, tail, keeps_names=view.width >= WIDE)
+        found += zip(lines, ["bold", *(style_of(one, two, pair) for pair in differ)])
+    found.append((f"{len(all_) - len(differ)} of {len(all_)} groups are the same in both", ""))
+    if any("THROTTLED*" in line for line, _ in found):
         found.append((explain.THROTTLED_NOTE, ""))
     return found
 
 
-def as_data(one: Plan, two: Plan) -> dict[str, Any]:
+def as_data(one: Plan, two: Plan, view: View = View()) -> dict[str, Any]:
     """Both plans as data, and the paths that differ with their change."""
     changed = [{"group": pair.path, "change_millicpu": gain(one, two, pair)}
-               for pair in pairs(one, two) if differs(one, two, pair)]
-    return {"before": explain.as_data(one), "after": explain.as_data(two), "changed": changed}
+               for pair in pairs(one, two, view) if differs(one, two, pair)]
+    return {"before": explain.as_data(one, view), "after": explain.as_data(two, view),
+            "changed": changed}

@@ -1,0 +1,66 @@
+"""The groups that -g, -n and -l choose, each with what is below it."""
+from __future__ import annotations
+
+import argparse
+from collections.abc import Iterable, Sequence
+
+from arbiter_host import demands
+from arbiter_host.faults import HostFault, NothingFound, UsageFault
+from arbiter_host.model import Model
+from arbiter_host.names import parent_path, shown
+
+
+def chosen(model: Model, options: argparse.Namespace) -> frozenset[str] | None:
+    """The paths that are chosen; None where no option chooses. A fault of status 6 where nothing
+    fits."""
+    parts = []
+    if options.group:
+        parts.append(with_below(model, named(model, options.group)))
+    if options.namespace or options.selector:
+        parts.append(with_below(model, pods(model, options)))
+    if not parts:
+        return None
+    found = frozenset.intersection(*parts)
+    if not found:
+        raise NothingFound("no group is chosen by all of -g, -n and -l")
+    return found
+
+
+def named(model: Model, patterns: Sequence[str]) -> list[str]:
+    """The groups that patterns name."""
+    try:
+        return [group.path for word in patterns for group in demands.matching(model, word)]
+    except HostFault as fault:
+        raise NothingFound(fault.message) from fault
+
+
+def labels_of(words: Sequence[str]) -> dict[str, str]:
+    """The labels that -l asks for, all of which a pod has to have."""
+    labels = {}
+    for word in (part for each in words for part in each.split(",")):
+        key, equals, value = word.partition("=")
+        if not key or not equals:
+            raise UsageFault(f"-l {shown(word)}: not LABEL=VALUE")
+        labels[key] = value.removeprefix("=")
+    return labels
+
+
+def pods(model: Model, options: argparse.Namespace) -> list[str]:
+    """The groups of the pods of some namespaces that have all labels asked for."""
+    labels = labels_of(options.selector)
+    source = model.owned
+    found = source.pods_where(options.namespace, labels) if source else []
+    if not found:
+        words = [*(f"-n {each}" for each in options.namespace),
+                 *(f"-l {key}={value}" for key, value in labels.items())]
+        raise NothingFound(f"no pod of {shown(' '.join(words))}")
+    return found
+
+
+def with_below(model: Model, tops: Iterable[str]) -> frozenset[str]:
+    """Some groups and all below them."""
+    found = set(tops)
+    for path in model.groups:
+        if parent_path(path) in found:
+            found.add(path)
+    return frozenset(found)

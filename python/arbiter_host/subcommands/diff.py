@@ -1,0 +1,126 @@
+"""`arbiterctl diff`."""
+from __future__ import annotations
+
+import argparse
+from collections.abc import Sequence
+
+from arbiter import Host
+from arbiter_host import change, choosing, diff, load, options as table
+from arbiter_host.explain import View
+from arbiter_host.faults import NoHost, NothingFound, UsageFault
+from arbiter_host.model import Model
+from arbiter_host.names import shown
+from arbiter_host.output import json_text, write_forms
+from arbiter_host.plan import Engine, Plan, plan
+from arbiter_host.subcommands.base import Subcommand, found_engine, source_name, view_of
+
+
+def on_host(options: argparse.Namespace, host: Host) -> argparse.Namespace:
+    """The options with a host in the place of what a source says."""
+    return argparse.Namespace(**{**vars(options), "cpus": host.processors,
+                                 "period": f"{host.period_us}us", "slice": f"{host.slice_us}us"})
+
+
+def read(options: argparse.Namespace, files: Sequence[load.File], by: Engine) -> Model | None:
+    """The model of a source; None where it does not say how many CPUs its host has."""
+    try:
+        return load.of_files(options, files, by)
+    except NoHost:
+        return None
+
+
+def models_of(options: argparse.Namespace, sources: Sequence[Sequence[load.File]],
+              by: Engine) -> list[Model]:
+    """The models of sources on one host: that of the last which names one. Another that names its
+    own keeps it."""
+    models = [read(options, files, by) for files in sources]
+    known = [each for each in models if each is not None]
+    host = next((each.host for each in reversed(known) if each.names_host),
+                known[-1].host if known else None)
+    if host is None:
+        raise NoHost("number of CPUs unknown: pass the node's JSON or --cpus")
+    return [each if each is not None and (each.names_host or each.host == host)
+            else load.of_files(on_host(options, host), files, by)
+            for each, files in zip(models, sources)]
+
+
+def compared(options: argparse.Namespace, by: Engine) -> tuple[Model, Model]:
+    """The models before and after: of two sources, or of one and of it with changes."""
+    sources = load.sources(options, options.source)
+    if len(sources) > 2 or len(sources) == 1 and not options.set:
+        raise UsageFault("diff takes BEFORE and AFTER, or BEFORE and --set")
+    models = models_of(options, sources, by)
+    for model, files in zip(models, sources):
+        load.warn(model, source_name([path for path, _ in files]))
+    return models[0], change.told(models[-1], change.changed(models[-1], options.set))
+
+
+def chosen(options: argparse.Namespace, models: Sequence[Model]) -> frozenset[str] | None:
+    """The groups that are chosen in one of the models."""
+    found: frozenset[str] | None = None
+    faults = []
+    for model in models:
+        try:
+            paths = choosing.chosen(model, options)
+        except NothingFound as fault:
+            faults.append(fault)
+            continue
+        found = paths if found is None else found | (paths or frozenset())
+    if len(faults) == len(models):
+        raise faults[0]
+    return found
+
+
+def page(options: argparse.Namespace, one: Plan, two: Plan, view: View) -> str:
+    """The page of a change."""
+    from arbiter_host import report
+    return report.page(two, view, f"Change of {source_name(options.source)}", one,
+                       [shown(word) for word in options.set])
+
+
+def run(options: argparse.Namespace) -> None:
+    """Writes what differs between two plans."""
+    outputs, by = table.outputs(options), found_engine(options)
+    before, after = compared(options, by)
+    view = view_of(options, chosen(options, [before, after]))
+    one, two = plan(by, before), plan(by, after)
+    write_forms(outputs, {"text": lambda: diff.table(one, two, view),
+                          "json": lambda: json_text(diff.as_data(one, two, view)),
+                          "html": lambda: page(options, one, two, view)})
+
+
+def add_words(parser: argparse.ArgumentParser) -> None:
+    """The words of `diff`."""
+    parser.add_argument("source", nargs="+", metavar="BEFORE [AFTER]", help="sources, as of"
+                        " explain; with --set a source of many hosts too")
+    table.add(parser, "diff")
+
+
+DETAILS = (
+    "A change is GROUP.KEY=VALUE, with KEY one of weight, max, burst, period, demand, tasks. `*`"
+    " in GROUP stands for any letters. Groups that are the same in both plans are counted alone.",
+    "Of pods, KEY may also be request or limit: the weights and limits of the container, its pod,"
+    " its class and kubepods follow by the formulas of kubelet and the runtime. Of units, also of"
+    " those in a tree of cgroup v2, it may be CPUWeight or CPUQuota, of containers of docker cpus"
+    " or cpu-shares. These changes are made first.",
+    "Both plans are of one host: that of --cpus, else the one that AFTER names, else that of"
+    " BEFORE. `.cpus=8`, `.period=1s` and `.slice=5ms` change the host of the plan after. Two"
+    " sources that each name a host keep theirs.",
+    "The JSON of pods and that of their node, side by side, are one source. Of many hosts the"
+    " change is made on each.",
+)
+EXAMPLES = (
+    ("a greater weight on a host with more CPUs",
+     "arbiterctl diff host.toml --set web.weight=400 --set .cpus=32"),
+    ("another request on a Kubernetes node",
+     "arbiterctl diff pods.json node.json --set prod/web-7c9f/nginx.request=500m"),
+    ("the same as a page, with the pods of one namespace",
+     "arbiterctl diff pods.json node.json --set prod/web-7c9f/nginx.request=500m -n prod"
+     " -o html=change.html"),
+    ("two sources, as JSON", "arbiterctl diff before.script after.script -o json"),
+    ("a greater weight on every host that has the group",
+     "arbiterctl diff hosts --set web.weight=400"),
+)
+DIFF = Subcommand("diff",
+                  "Says what changes from BEFORE to AFTER. Without AFTER it is BEFORE with the"
+                  " changes of --set.", add_words, run, DETAILS, EXAMPLES)

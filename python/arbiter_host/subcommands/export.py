@@ -1,0 +1,57 @@
+"""`arbiterctl export`."""
+from __future__ import annotations
+
+import argparse
+from collections.abc import Callable, Mapping
+from dataclasses import replace
+
+from arbiter import Library
+from arbiter_host import change, load, options as table
+from arbiter_host.model import Model
+from arbiter_host.output import say, write_file
+from arbiter_host.sources import hostfile, script
+from arbiter_host.subcommands.base import Subcommand, found_engine, source_name
+
+WRITERS: Mapping[str, Callable[[Model, Library], str]] = {
+    "script": script.write, "toml": lambda model, _: hostfile.write_toml(model),
+    "json": lambda model, _: hostfile.write_json(model),
+}
+
+
+def run(options: argparse.Namespace) -> None:
+    """Writes what a source holds as a script or a host file."""
+    outputs, by = table.outputs(options), found_engine(options)
+    model = load.load(options, options.source, by)
+    if options.set:
+        model = change.told(model, change.changed(model, options.set))
+    # A script and TOML have the warnings in them.
+    has_notes = all(each.form != "json" for each in outputs)
+    load.warn(replace(model, notes=[]) if has_notes else model, source_name(options.source))
+    for form, path in outputs:
+        write_file(path, WRITERS[form](model, by.library))
+    warned = f"; warnings: {len(model.notes)} (lines '# !')" if model.notes and has_notes else ""
+    say(f"groups: {len(model.groups)}{warned}")
+
+
+def add_words(parser: argparse.ArgumentParser) -> None:
+    """The words of `export`."""
+    parser.add_argument("source", nargs="+", metavar="SOURCE", help="a source, as of explain")
+    table.add(parser, "export")
+
+
+DETAILS = (
+    "It only reads. What the script or host file cannot hold stands in it in lines that begin with"
+    " `# !`; for JSON it is printed as warnings. The first line of a script is the host, so that"
+    " the other subcommands need no options for it.",
+)
+EXAMPLES = (
+    ("this machine, by what it used in ten seconds",
+     "arbiterctl export /sys/fs/cgroup --read 2x10s -o script=host.script"),
+    ("a Kubernetes node as a host file",
+     "arbiterctl export pods.json node.json -o toml=node.toml"),
+    ("units of systemd, all of them busy",
+     "systemctl show '*.slice' '*.service' '*.scope' |"
+     " arbiterctl export - --want busy -o script=host.script"),
+)
+EXPORT = Subcommand("export", "Writes what a source holds as a script or a host file.", add_words,
+                    run, DETAILS, EXAMPLES)
