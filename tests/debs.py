@@ -168,10 +168,10 @@ def test_arbiterctl_runs(installed):
     for name, text in (("cpu.weight", "200"), ("cpu.max", "50000 100000"),
                        ("cpu.stat", "usage_usec 5")):
         (group / name).write_text(f"{text}\n")
-    script = within(installed, "arbiterctl", "import", "cgroup", "/srv/cgroup", "--want", "busy",
-                    "--cpus", "2", "--interval", "10ms", user="65534:65534")
+    script = within(installed, "arbiterctl", "export", "/srv/cgroup", "--want", "busy",
+                    "--cpus", "2", "--read", "2x10ms", user="65534:65534")
     assert "write web.service cpu.weight 200\n" in script, script
-    found = json.loads(within(installed, "arbiterctl", "explain", "--json", "-",
+    found = json.loads(within(installed, "arbiterctl", "explain", "-o", "json", "-",
                               given=script.encode(), user="65534:65534"))
     assert found["engine"].endswith("libarbiter.so.1"), found["engine"]
     same(found["check"], "accepted", "the check")

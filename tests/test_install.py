@@ -285,7 +285,7 @@ def test_arbiterctl_of_the_installation(copy, program, library):
     shutil.copy(library, f"{folder}/lib/libarbiter.so.{VERSION}")
     script = b"# arbiter run --processors 2\nmkdir a\ndemand a 7\n"
     command = ["/usr/bin/python3", "-B", f"{folder}/bin/arbiterctl"]
-    ended = run([*command, "explain", "--json", "-"], script, env={}, cwd="/")
+    ended = run([*command, "explain", "-o", "json", "-"], script, env={}, cwd="/")
     same((ended.status, ended.err), (0, b""), "explain")
     found = json.loads(ended.out)
     same(found["engine"], f"library {folder}/lib/{SONAME}", "the engine")

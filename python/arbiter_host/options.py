@@ -72,10 +72,13 @@ class Option(NamedTuple):
     is_flag: bool = False
     is_many: bool = False
     is_number: bool = False
+    # Its value is several words of `choices`, with commas between them.
+    is_list: bool = False
     # The kinds of sources for which it holds, and the forms of --used with which it does.
     kinds: tuple[str, ...] = ALL
     used: tuple[str, ...] = ()
     kinds_of: Mapping[str, tuple[str, ...]] = {}
+    choices_of: Mapping[str, tuple[str, ...]] = {}
     helps: Mapping[str, str] = {}
     defaults: Mapping[str, Any] = {}
 
@@ -90,8 +93,10 @@ class Option(NamedTuple):
         return text.replace("FORMS", ", ".join(FORMS.get(subcommand, ())))
 
     def words_of(self, subcommand: str) -> tuple[str, ...]:
-        """The words that its value may be or begin with."""
-        return FORMS[subcommand] if self.dest == "output" else self.choices
+        """The words of which its value is one, or that it begins with."""
+        if self.dest == "output":
+            return FORMS[subcommand]
+        return self.choices_of.get(subcommand, self.choices)
 
     def default_of(self, subcommand: str) -> Any:
         """Its value where it is not given."""
@@ -187,9 +192,10 @@ TABLE = (
                          " `openmetrics=FILE` keeps the last round in a file for a textfile"
                          " collector; may be said again"}),
     Option(("--state",), "state", "view", ("explain", "top"), "the groups alone that are one of: "
-           + ", ".join(STATES), "WORD,..", kinds=KINDS),
-    Option(("--sort",), "sort", "view", ("explain", "top"), "order of the groups", choices=SORTS,
-           kinds=KINDS),
+           + ", ".join(STATES), "WORD,..", STATES, is_list=True, kinds=KINDS),
+    Option(("--sort",), "sort", "view", ("explain", "diff", "top"), "order of the groups",
+           choices=SORTS, kinds=KINDS, choices_of={"diff": ("change",)},
+           helps={"diff": "`change`: the groups that change most first"}),
     Option(("--depth",), "depth", "view", ("explain", "top", "hold"), "leave out groups more than N"
            " below the root, 0 to 64", "N", is_number=True, default=MAX_DEPTH, kinds=KINDS,
            helps={"hold": "hold groups N below DIR as one, 1 to 64 (default 64): who owns the"
@@ -281,11 +287,13 @@ def add(parser: argparse.ArgumentParser, subcommand: str) -> None:
             groups[each.title] = parser.add_argument_group(each.title)
         words: dict[str, Any] = {"dest": each.dest, "default": argparse.SUPPRESS,
                                  "help": each.help_of(subcommand).replace("%", "%%")}
+        choices = () if each.dest == "output" else each.words_of(subcommand)
         if each.is_flag:
             words["action"] = "store_true"
         else:
             words |= {"action": "append" if each.is_many else "store",
-                      "metavar": each.metavar or None, "choices": each.choices or None,
+                      "metavar": each.metavar or None,
+                      "choices": None if each.is_list else choices or None,
                       "type": int if each.is_number else None}
         groups[each.title].add_argument(*each.flags, **words)
     parser.set_defaults(asked=subcommand)

@@ -43,7 +43,8 @@ class Entry:
 def chosen(plan: Plan, own: Set[int], rows: int) -> set[int]:
     """The rows of so many of some groups: the greatest wants, each with those above it."""
     limiting = {group.row for group in plan.limiting}
-    order = sorted((group for group in plan.groups[1:] if group.row in own), key=lambda group: (group.row not in limiting, -group.want))
+    order = sorted((group for group in plan.groups[1:] if group.row in own),
+                   key=lambda group: (group.row not in limiting, -group.want))
     found = {0}
     for group in order:
         above = [group.row]

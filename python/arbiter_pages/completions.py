@@ -59,12 +59,8 @@ def bash_case(each: Subcommand) -> Iterator[str]:
             yield f"                {'|'.join(word.names)}) {bash_reply(' '.join(word.values))} ;;"
         elif word.takes_value:
             yield f"                {'|'.join(word.names)}) ;;"
-    kinds = next((word.values for word in words.arguments(each) if word.values), ())
     yield "                *)"
     yield f"                    [[ $word == -* ]] && {bash_reply(names_of(found))}"
-    if kinds:
-        offered = bash_reply(" ".join(kinds))
-        yield f"                    ((COMP_CWORD == 2)) && [[ $word != -* ]] && {offered}"
     yield from ("                    ;;", "            esac", "            ;;")
 
 
@@ -109,8 +105,7 @@ def zsh_option(word: Word) -> str:
 
 def zsh_argument(word: Word) -> str:
     """An argument as _arguments takes it."""
-    place = "*" if word.is_many else ""
-    return f"'{place}{zsh_value(word) if word.values or place else ':' + zsh_value(word)}'"
+    return f"'{'*' if word.is_many else ':'}{zsh_value(word)}'"
 
 
 def zsh_case(each: Subcommand) -> Iterator[str]:
@@ -164,12 +159,6 @@ def fish() -> str:
     for each in words.subcommands():
         condition = f" -n '__fish_seen_subcommand_from {each.name}'"
         lines += ["", *(fish_option(word, condition) for word in words.options(each))]
-        kind = next((word for word in words.arguments(each) if word.values), None)
-        if kind:
-            listed, what = " ".join(kind.values), kind.help.partition(":")[0]
-            none = f"__fish_seen_subcommand_from {each.name}; and not __fish_seen_subcommand_from"
-            lines.append(f"complete -c arbiterctl -n '{none} {listed}' -f -a '{listed}'"
-                         f" -d {fish_text(what)}")
     return "\n".join(lines) + "\n"
 
 

@@ -8,13 +8,10 @@ from collections.abc import Iterable, Iterator
 from arbiter_host import helps
 from arbiter_host.subcommands.base import Subcommand
 from arbiter_pages import words
-from arbiter_pages.words import Section, Word
+from arbiter_pages.words import ARGUMENTS, Section, Word
 
 DATE = "November 25, 2026"
 HEAD = '.\\" Made from the help of arbiterctl by python/arbiter_pages; a test compares them.'
-TITLES = {"view": "View", "host": "Host", "engine": "Engine", "source": "Source",
-          "prometheus": "Prometheus", "series": "Series", "workers": "Workers",
-          "options": "Options", "positional arguments": "Arguments"}
 
 
 def quoted(text: str) -> str:
@@ -77,7 +74,7 @@ def item(word: Word) -> Iterator[str]:
 
 def listed(part: Section) -> Iterator[str]:
     """The words under one title."""
-    yield f".Ss {TITLES[part.title]}"
+    yield f".Ss {'Arguments' if part.title == ARGUMENTS else part.title.capitalize()}"
     yield ".Bl -tag -width Ds"
     for word in part.words:
         yield from item(word)

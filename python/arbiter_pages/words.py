@@ -5,14 +5,13 @@ import argparse
 from collections.abc import Sequence
 from dataclasses import dataclass
 
-from arbiter_host import command, explain
+from arbiter_host import command, options as table
 from arbiter_host.subcommands import every
 from arbiter_host.subcommands.base import Subcommand
 
+ARGUMENTS = "positional arguments"
 # Names of values that are files or folders.
-FILES = ("FILE", "DIR", "DIR|FILE", "PATH", "SOURCE", "DEMANDS", "BEFORE [AFTER]")
-# Values of options that take several words, joined by commas.
-LISTS = {"--only": tuple(explain.ONLY)}
+FILES = ("FILE", "DIR", "FILE|DIR|URL", "PATH", "SOURCE", "BEFORE [AFTER]")
 
 
 @dataclass(frozen=True)
@@ -45,27 +44,28 @@ class Section:
     words: tuple[Word, ...]
 
 
-def word_of(action: argparse.Action) -> Word:
-    """A word of the parser."""
-    names = tuple(action.option_strings)
-    values = tuple(map(str, action.choices or ())) or next(
-        (LISTS[name] for name in names if name in LISTS), ())
-    metavar = action.metavar if isinstance(action.metavar, str) else ""
-    value = "" if action.nargs == 0 else metavar or (action.dest.upper() if not values else "")
-    text = (action.help or "").replace("%%", "%")
-    return Word(names, value, values, text, action.nargs == "+" or bool(
-        names and isinstance(action.default, list)), action.nargs not in ("?", 0) and not names)
+def option_of(option: table.Option, subcommand: str) -> Word:
+    """A word of the table."""
+    return Word(option.flags, option.metavar, option.words_of(subcommand),
+                option.help_of(subcommand), option.is_many)
+
+
+def argument_of(action: argparse.Action) -> Word:
+    """An argument of the parser."""
+    value = action.metavar if isinstance(action.metavar, str) else action.dest.upper()
+    return Word((), value, (), (action.help or "").replace("%%", "%"), action.nargs in ("+", "*"),
+                action.nargs not in ("?", "*"))
 
 
 def sections(each: Subcommand) -> list[Section]:
     """The words of a subcommand by the titles of its help, without that for help itself."""
-    found = []
-    for group in command.parser_of(each)._action_groups:  # no public name has them
-        words = tuple(word_of(action) for action in group._group_actions
-                      if action.dest != "help")
-        if words:
-            found.append(Section(group.title or "", words))
-    return found
+    found: dict[str, list[Word]] = {}
+    for action in command.parser_of(each)._actions:  # no public name has them
+        if not action.option_strings:
+            found.setdefault(ARGUMENTS, []).append(argument_of(action))
+    for option in table.of(each.name):
+        found.setdefault(option.title, []).append(option_of(option, each.name))
+    return [Section(title, tuple(part)) for title, part in found.items()]
 
 
 def arguments(each: Subcommand) -> list[Word]:

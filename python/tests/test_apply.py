@@ -34,7 +34,7 @@ def holds(folder, path):
 def imported(ctl, folder, name="before"):
     """A script of the tree."""
     path = folder.parent / f"{name}.script"
-    ctl.run("import", "cgroup", folder, "--want", "busy", "--cpus", "4", "-o", path)
+    ctl.run("export", folder, "--want", "busy", "--cpus", "4", "-o", f"script={path}")
     return path
 
 

@@ -83,11 +83,14 @@ def test_guarantee_by_hand(ctl, folder):
     """7 of 20 slices are a's whatever b asks for, also where b asks for nothing now."""
     source = folder / "host.script"
     source.write_text(TWO + "demand b 0\n")
-    found = json.loads(ctl.run("guarantee", source, "--json")[0])
-    assert [(each["group"], each["guaranteed_millicpu"], each["gets_millicpu"])
-            for each in found] == [("a", 350, 1000), ("b", 0, 0)]
-    out, _ = ctl.run("guarantee", source, "--group", "a", "--unit", "slices")
-    assert out.split("\n")[-2].split() == ["7", "20", "20", "a"]
+    found = json.loads(ctl.run("explain", source, "--guaranteed", "-o", "json")[0])["groups"]
+    assert [(each["group"], each["guaranteed"], each["gets"]["millicpu"]) for each in found] == [
+        (".", None, 1000),
+        ("a", {"slices": 7, "millicpu": 350.0, "usec": 35000}, 1000),
+        ("b", {"slices": 0, "millicpu": 0.0, "usec": 0}, 0)]
+    out, _ = ctl.run("explain", source, "--guaranteed", "-g", "a", "--unit", "slices")
+    row = next(line for line in out.split("\n") if line.endswith(" a"))
+    assert row.split()[:4] == ["20", "20", "-", "7"]
 
 
 def test_guarantee_of_the_inside(engine):

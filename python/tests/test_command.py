@@ -62,7 +62,7 @@ def slices(amount):
 
 def test_explain_reasons(ctl):
     """Reasons, causes and weights as fields."""
-    whole = json.loads(ctl.run("explain", "--json", "-", given=REASONS.encode())[0])
+    whole = json.loads(ctl.run("explain", "-o", "json", "-", given=REASONS.encode())[0])
     found = {group["group"]: (*(slices(group[key]) for key in ("gets", "wants", "limit")),
                               group["reason"], group["starved"], group["throttled"],
                               group["throttled_not_by_its_limit"]) for group in whole["groups"]}
@@ -94,7 +94,7 @@ def test_as_wide_as_the_terminal(ctl, columns):
 
 
 @pytest.mark.parametrize("columns", [80, 120, 200])
-@pytest.mark.parametrize("words", [["explain"], ["compare", "--set", "burstable.weight=300"]])
+@pytest.mark.parametrize("words", [["explain"], ["diff", "--set", "burstable.weight=300"]])
 def test_no_reason_is_cut(ctl, columns, words):
     """Reasons are shorter where a terminal is narrow, and whole in each width."""
     ctl.environment["COLUMNS"] = str(columns)
@@ -110,14 +110,15 @@ def test_long_identifiers_are_short(ctl):
     given = f"{HEAD}mkdir {name}\ndemand {name} 30\n".encode()
     out, _ = ctl.run("explain", "-", given=given)
     assert "abababababab\u2026" in out and name not in out
-    assert name in ctl.run("explain", "--full-names", "-", given=given)[0]
+    assert name in ctl.run("explain", "-o", "json", "-", given=given)[0]
 
 
 def test_only_and_sort(ctl):
-    out, _ = ctl.run("explain", "--only", "starved", "-", given=REASONS.encode())
+    out, _ = ctl.run("explain", "--state", "starved", "-", given=REASONS.encode())
     assert [line.split()[-1] for line in out.split("\n")[6:-1]] == ["small", "none"]
-    out, _ = ctl.run("explain", "--only", "asking", "--sort", "lack", "--unit", "slices", "-",
-                     "--width", "200", given=REASONS.encode())
+    ctl.environment["COLUMNS"] = "200"
+    out, _ = ctl.run("explain", "--state", "asking", "--sort", "lack", "--unit", "slices", "-",
+                     given=REASONS.encode())
     rows = [line.split() for line in out.split("\n")[6:-1]]
     lacks = [int(row[1]) - int(row[0]) for row in rows]
     assert lacks == sorted(lacks, reverse=True) and len(rows) == 8
@@ -132,7 +133,7 @@ def test_head_line_is_the_host(ctl, folder):
     """What is imported is explained without options as with them."""
     trees.root2(folder / "t")
     trees.group2(folder / "t/web", usage=5)
-    made = ctl.run("import", "cgroup", folder / "t", "--cpus", "16", "--want", "busy")[0]
+    made = ctl.run("export", folder / "t", "--cpus", "16", "--want", "busy")[0]
     (folder / "s").write_text(made)
     plain, err = ctl.run("explain", folder / "s")
     assert err == "" and plain.startswith("16 CPUs, period 100 ms, slice 1 ms")
@@ -141,16 +142,16 @@ def test_head_line_is_the_host(ctl, folder):
     assert "differ from its head line: arbiter run --processors 16" in err
 
 
-def test_import_and_explain_are_the_same_from_each_form(ctl, folder):
-    """A script, TOML, YAML and JSON of one host give one plan."""
+def test_export_and_explain_are_the_same_from_each_form(ctl, folder):
+    """A script, TOML and JSON of one host give one plan."""
     pods = (FIXTURES / "pods.json", FIXTURES / "node.json")
     found = set()
-    for form in ("script", "toml", "yaml", "json"):
+    for form in ("script", "toml", "json"):
         path = folder / f"h.{form}"
-        ctl.run("import", "kubernetes", *pods, "--to", form, "-o", path)
-        whole = json.loads(ctl.run("explain", "--json", path)[0])
+        ctl.run("export", *pods, "-o", f"{form}={path}")
+        whole = json.loads(ctl.run("explain", "-o", "json", path)[0])
         found.add(json.dumps([(each["group"], each["gets"]) for each in whole["groups"]]))
-    direct = json.loads(ctl.run("explain", "--json", *pods)[0])
+    direct = json.loads(ctl.run("explain", "-o", "json", *pods)[0])
     found.add(json.dumps([(each["group"], each["gets"]) for each in direct["groups"]]))
     assert len(found) == 1 and len(direct["groups"]) == 18
 
@@ -159,35 +160,51 @@ def test_import_and_explain_are_the_same_from_each_form(ctl, folder):
                                         ("podman.json", "docker")])
 def test_kinds_are_found(ctl, name, kind):
     """A source's kind is found from its bytes."""
-    words = ["--json", "--cpus", "4", FIXTURES / name]
+    words = ["-o", "json", "--cpus", "4", FIXTURES / name]
     assert ctl.run("explain", *words) == ctl.run("explain", "--from", kind, *words)
 
 
 def test_scale_and_set(ctl):
-    words = ["import", "script", "-", "--scale", "a=1.5", "--set", "b.cpu.weight=7",
+    words = ["export", "-", "--scale", "a=1.5", "--set", "b.cpu.weight=7",
              "--set", "b.max=50%"]
     out, _ = ctl.run(*words, given=f"{HEAD}mkdir a\nmkdir b\ndemand a 4\n".encode())
     assert out == (f"{HEAD}mkdir a\nmkdir b\nwrite b cpu.weight 7\nwrite b cpu.max 50000 100000\n"
                    "demand a 6\n")
 
 
-def test_compare(ctl, folder):
+def test_diff(ctl, folder):
     """A group that is only in one, one that changes, one that does not."""
     (folder / "one").write_text(f"{HEAD}mkdir a\nmkdir b\nmkdir c\ndemand a 3\ndemand b 2\n")
     (folder / "two").write_text(f"{HEAD}mkdir a\nmkdir b\nmkdir d\ndemand a 5\ndemand b 2\n"
                                 "demand d 1\n")
-    words = ["compare", folder / "one", folder / "two", "--unit", "slices"]
+    words = ["diff", folder / "one", folder / "two", "--unit", "slices"]
     rows = [" ".join(line.split()) for line in ctl.run(*words)[0].split("\n")]
     for row in ("5 8 +3 5 8 all that it wants the host (.)", "3 5 +2 3 5 all that it wants a",
                 "0 - 0 0 - only before: nothing asked c", "1 of 5 groups are the same in both"):
         assert row in rows
-    changed = json.loads(ctl.run(*words, "--json")[0])["changed"]
+    changed = json.loads(ctl.run(*words, "-o", "json")[0])["changed"]
     assert [each["group"] for each in changed] == [".", "a", "c", "d"]
 
 
-def test_compare_with_changes(ctl):
-    out, _ = ctl.run("compare", ROOT / "examples/pod.script", "--set", "pod.max=75%", "--cpus", "2")
-    assert "after   2 CPUs" in out and "pod (0.75)" in out
+def test_diff_with_changes(ctl):
+    """Both plans are of the host of --cpus; `.cpus` changes that of the second."""
+    words = ["diff", ROOT / "examples/pod.script", "--set", "pod.max=75%"]
+    out, _ = ctl.run(*words, "--cpus", "2")
+    assert "before  2 CPUs" in out and "after   2 CPUs" in out and "pod (0.75)" in out
+    out, _ = ctl.run(*words, "--set", ".cpus=2")
+    assert "before  1 CPU," in out and "after   2 CPUs" in out and "pod (0.75)" in out
+    assert "BEFORE and AFTER, or BEFORE and --set" in ctl.run(*words[:2], status=2)[1]
+
+
+def test_diff_is_of_one_host(ctl, folder):
+    """A source that names no host is planned on that of the other one."""
+    docker = FIXTURES / "docker.json"
+    out, _ = ctl.run("diff", docker, "--cpus", "64", "--set", "*web*.cpu-shares=512")
+    assert "before  64 CPUs" in out and "after   64 CPUs" in out
+    ctl.run("export", docker, "--cpus", "48", "-o", f"script={folder / 's'}")
+    for words in ([folder / "s", docker], [docker, folder / "s"]):
+        out, _ = ctl.run("diff", *words)
+        assert "before  48 CPUs" in out and "after   48 CPUs" in out
 
 
 PODS, NODE = FIXTURES / "pods.json", FIXTURES / "node.json"
@@ -195,30 +212,30 @@ HALF = ("--set", "prod/db-0/postgres.max=500m")
 
 
 @pytest.mark.parametrize("files", [(PODS, NODE), (NODE, PODS)])
-def test_compare_of_pods_and_their_node(ctl, files):
+def test_diff_of_pods_and_their_node(ctl, files):
     """The two files are one source: requests of 1950m, and 500m less where postgres may not."""
-    out, _ = ctl.run("compare", *files, *HALF, "--json")
+    out, _ = ctl.run("diff", *files, *HALF, "-o", "json")
     changed = {each["group"]: each for each in json.loads(out)["changed"]}
     assert set(changed) == {".", "kubepods", "kubepods/prod:db-0", "kubepods/prod:db-0/postgres"}
-    assert "1.45 of 4.00 CPUs" in ctl.run("compare", *files, *HALF)[0]
+    assert "1.45 of 4.00 CPUs" in ctl.run("diff", *files, *HALF)[0]
 
 
-def test_compare_of_two_nodes(ctl, folder):
+def test_diff_of_two_nodes(ctl, folder):
     """Two pairs are BEFORE and AFTER."""
     found = json.loads(NODE.read_bytes())
     found["status"]["capacity"]["cpu"] = "8"
     (folder / "node8.json").write_text(json.dumps(found))
-    out, _ = ctl.run("compare", PODS, NODE, PODS, folder / "node8.json")
+    out, _ = ctl.run("diff", PODS, NODE, PODS, folder / "node8.json")
     assert "before  4 CPUs" in out and "after   8 CPUs" in out
-    words = ["compare", PODS, NODE, PODS, NODE, PODS]
-    assert "compare takes one source or two" in ctl.run(*words, status=2)[1]
+    words = ["diff", PODS, NODE, PODS, NODE, PODS]
+    assert "diff takes BEFORE and AFTER" in ctl.run(*words, status=2)[1]
 
 
-def test_compare_of_pods_without_their_node(ctl):
+def test_diff_of_pods_without_their_node(ctl):
     """The CPUs of the command are those of both plans."""
-    out, _ = ctl.run("compare", PODS, "--cpus", "16", *HALF)
+    out, _ = ctl.run("diff", PODS, "--cpus", "16", *HALF)
     assert "before  16 CPUs" in out and "after   16 CPUs" in out
-    assert "pass the node's JSON or --cpus" in ctl.run("compare", PODS, *HALF, status=1)[1]
+    assert "pass the node's JSON or --cpus" in ctl.run("diff", PODS, *HALF, status=1)[1]
 
 
 def test_apply_of_pods_and_their_node(ctl):
@@ -245,9 +262,7 @@ def test_strict(ctl, folder):
 @pytest.mark.parametrize("words, range_", [
     (["--cpus", "0"], "1 to 64000"), (["--slice", "300us"], "1000"),
     (["--period", "2s"], "1000000"),
-    (["--interval", "inf"], "--interval"), (["--interval", "1e300"], "--interval"),
-    (["--interval", "0"], "--interval"), (["--samples", "1"], "2 to 10000"),
-    (["--depth", "65"], "0 to 64"), (["--only", "x"], "starved"), (["--width", "3"], "40 to 10000"),
+    (["--depth", "65"], "0 to 64"), (["--state", "x"], "starved"), (["-o", "yaml"], "text, json"),
     (["--frob"], "unrecognized"), (["--scale", "a"], "GROUP=FACTOR"), (["--unit", "x"], "cpu"),
 ])
 def test_words_that_are_refused_show_the_range(ctl, words, range_):
@@ -282,8 +297,8 @@ def test_a_group_that_is_not_there(ctl):
 def test_no_raw_control_character(ctl, folder):
     """Neither in a table, nor in JSON, a message or a fault."""
     given = f"{HEAD}mkdir a\x1b[31m\x07\u202e\ndemand a\x1b[31m\x07\u202e 3\nmkdir \x1b\n\x1b[2J\n"
-    for words in (["explain", "-"], ["explain", "--json", "-"], ["explain", "-", "--\x1b"],
-                  ["explain", "/no\x1b/file"], ["compare", "-", "--set", "\x1b.weight=1"]):
+    for words in (["explain", "-"], ["explain", "-o", "json", "-"], ["explain", "-", "--\x1b"],
+                  ["explain", "/no\x1b/file"], ["diff", "-", "--set", "\x1b.weight=1"]):
         ended = ctl.ended(*words, given=given.encode())
         said = (ended.stdout + ended.stderr).decode()
         assert not any(letter in said for letter in "\x1b\x07\u202e"), words
@@ -305,8 +320,8 @@ def test_full_and_closed_output(ctl):
 def test_interrupt(ctl, folder):
     """Ctrl-C ends quietly, by the signal."""
     trees.root2(folder)
-    words = [sys.executable, str(PACKAGE / "arbiterctl"), "import", "cgroup", str(folder),
-             "--interval", "50"]
+    words = [sys.executable, str(PACKAGE / "arbiterctl"), "export", str(folder),
+             "--read", "2x50s"]
     running = subprocess.Popen(words, env=ctl.environment, stdout=subprocess.PIPE,
                                stderr=subprocess.PIPE)
     time.sleep(1.5)
@@ -331,7 +346,7 @@ def test_small_memory(ctl, folder, from_input):
     """A source takes memory for what it holds, and not for the greatest file."""
     script = folder / "s"
     script.write_text("mkdir a\n")
-    words = ["import", "script", "-" if from_input else script]
+    words = ["export", "-" if from_input else script]
     ended = ctl.ended(*words, given=script.read_bytes(), preexec_fn=lambda: resource.setrlimit(
         resource.RLIMIT_AS, (400 << 20, 400 << 20)))
     assert ended.returncode == 0 and ended.stderr.startswith(b"arbiterctl: groups: 1")

@@ -17,6 +17,7 @@ import pytest
 import trees
 from arbiter import Host
 from arbiter_host import explain, picture, report, samples, series, top
+from arbiter_host.explain import View
 from arbiter_host.faults import HostFault
 from arbiter_host.model import Group, Model
 from arbiter_host.plan import plan
@@ -60,7 +61,7 @@ def test_picture_is_legible(engine, count):
 def test_picture_cuts_no_reason(engine):
     """Each note is whole, a group's marks and reason with it, and idle rows take no room."""
     for count in (5, 111, 1950):
-        found = picture.fitting(plan(engine, wide_host(count)), "cpu", 64, 120)
+        found = picture.fitting(plan(engine, wide_host(count)), View(), 120)
         assert max(len(entry.note) for entry in found) <= picture.NOTE_CELLS
         own = [entry for entry in found if "below)" in entry.name]
         assert bool(own) == (count == 1950) and not any(entry.below for entry in own)
@@ -71,7 +72,7 @@ def test_picture_cuts_no_reason(engine):
 @pytest.mark.parametrize("rows", [1, 10, 1000])
 def test_folds_keep_the_sums(engine, rows):
     """The rows right below a group add up to what the group gets."""
-    found = picture.fitting(plan(engine, wide_host(400)), "slices", 64, rows)
+    found = picture.fitting(plan(engine, wide_host(400)), View(unit="slices"), rows)
     for entry in found:
         if entry.below:
             assert sum(found[place].gets for place in entry.below) == entry.gets
@@ -110,9 +111,9 @@ def test_page_escapes_names(engine):
 
 
 def test_page_before_and_after(ctl, folder):
-    ctl.run("report", ROOT / "examples/pod.script", "--set", "pod.max=75%", "-o", folder / "p.html")
-    page = (folder / "p.html").read_text()
+    page, _ = ctl.run("diff", ROOT / "examples/pod.script", "--set", "pod.max=75%", "-o", "html")
     assert "Before and after" in page and "Groups that differ: 4" in page
+    assert "<code>pod.max=75%</code>" in page
 
 
 def test_page_in_a_browser(ctl, folder):
@@ -120,7 +121,7 @@ def test_page_in_a_browser(ctl, folder):
     chromium = shutil.which("chromium")
     if chromium is None:
         pytest.skip("no chromium here")
-    ctl.run("report", ROOT / "examples/node.script", "-o", folder / "p.html")
+    ctl.run("explain", ROOT / "examples/node.script", "-o", f"html={folder / 'p.html'}")
     page = (folder / "p.html").read_text()
     probe = ("find.value='redis';find.dispatchEvent(new Event('input'));"
              "return inTree.filter(each=>!each.hidden).length")
@@ -199,7 +200,7 @@ def test_page_is_legible_in_a_browser(ctl, folder, source, width, mode):
     if chromium is None:
         pytest.skip("no chromium here")
     change = ["--set", "kubepods/burstable.weight=900", "--set", "kubepods/burstable.max=1cpu"]
-    ctl.run("report", *source, *change, "-o", folder / "p.html")
+    ctl.run("diff", *source, *change, "-o", f"html={folder / 'p.html'}")
     page = (folder / "p.html").read_text()
     prefers = ["--blink-settings=preferredColorScheme=0"] if mode == "dark" else []
     found = seen_in(chromium, folder, page, LOOK, width, *prefers)
@@ -215,7 +216,7 @@ def cells_of(page):
 
 def test_page_has_requests_and_names_once(ctl, folder):
     """web's containers request 250m and 100m; a name stands once, where its title repeats it."""
-    ctl.run("report", *PODS, "-o", folder / "p.html")
+    ctl.run("explain", *PODS, "-o", f"html={folder / 'p.html'}")
     page = (folder / "p.html").read_text()
     found = cells_of(page)
     assert (found["nginx"]["request"], found["nginx"]["limit"]) == ("0.250", "1.00")
@@ -223,7 +224,7 @@ def test_page_has_requests_and_names_once(ctl, folder):
     row = re.search(r"<tr data-path[^>]*>\s*<th(?:(?!</tr>).)*>nginx<.*?</th>", page, re.S).group()
     assert re.sub(r"<[^>]+>", " ", row).split() == ["nginx", "in",
                                                     "kubepods/burstable/prod:web-7c9f"]
-    ctl.run("report", ROOT / "examples/node.script", "-o", folder / "s.html")
+    ctl.run("explain", ROOT / "examples/node.script", "-o", f"html={folder / 's.html'}")
     assert 'data-head="request"' not in (folder / "s.html").read_text()
 
 
@@ -232,7 +233,7 @@ def test_keys_of_the_page(ctl, folder):
     chromium = shutil.which("chromium")
     if chromium is None:
         pytest.skip("no chromium here")
-    ctl.run("report", ROOT / "examples/node.script", "-o", folder / "p.html")
+    ctl.run("explain", ROOT / "examples/node.script", "-o", f"html={folder / 'p.html'}")
     page = (folder / "p.html").read_text()
     script = ("const at=()=>document.activeElement.querySelector?.('.name')?.textContent,seen=[];"
               "const press=key=>document.activeElement.dispatchEvent(new KeyboardEvent('keydown',"

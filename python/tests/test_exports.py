@@ -149,7 +149,7 @@ def test_shell(ctl, folder):
     odd = "b'\"$(id) \x1b[31m\n\udcff"
     for name in ("a.box", odd):
         trees.group2(tree / name, 100, "100000 100000", 20000)
-    ctl.run("import", "cgroup", tree, "--want", "busy", "--cpus", "4", "-o", folder / "b.script")
+    ctl.run("export", tree, "--want", "busy", "--cpus", "4", "-o", f"script={folder / 'b.script'}")
     words = [folder / "b.script", "--root", tree, "--set", "*.weight=7", "--set", "*.max=50%",
              "--set", "*.burst=0"]
     found, _ = applied(ctl, folder, "shell", *words)

@@ -48,7 +48,7 @@ def test_plan_is_that_of_explain(ctl, fleet):
     names = [host["host"] for host in found["hosts"]]
     assert names == sorted(names) == [f"host-{number:05}" for number in range(HOSTS)]
     for host in found["hosts"][:5]:
-        whole = json.loads(ctl.run("explain", fleet / f"{host['host']}.script", "--json")[0])
+        whole = json.loads(ctl.run("explain", fleet / f"{host['host']}.script", "-o", "json")[0])
         ends = [group for group in whole["groups"]
                 if not any(each["parent"] == group["group"] for each in whole["groups"])]
         assert host["served"] == whole["served"]["slices"]
@@ -72,7 +72,7 @@ def test_what_if_is_that_of_compare(ctl, fleet):
                                "--json")[0])
     for host in found["hosts"][:4]:
         source = fleet / f"{host['host']}.script"
-        both = json.loads(ctl.run("compare", source, *change, "--json")[0])
+        both = json.loads(ctl.run("diff", source, *change, "-o", "json")[0])
         rises = {group["group"]: after["gets"]["slices"] - group["gets"]["slices"]
                  for group, after in zip(both["before"]["groups"], both["after"]["groups"])
                  if group["group"] not in (".", "t0")}
@@ -98,7 +98,7 @@ def test_place_is_the_plan_with_the_pod(ctl, fleet, rule):
         with_pod = fleet.parent / "with-pod.script"
         with_pod.write_text((fleet / f"{host['host']}.script").read_text() + "mkdir pod\n"
                             "write pod cpu.max 100000\nmkdir pod/a\ndemand pod/a 200\n")
-        before, after = (json.loads(ctl.run("explain", source, "--json", "--all")[0])
+        before, after = (json.loads(ctl.run("explain", source, "-o", "json", "--all")[0])
                          for source in (fleet / f"{host['host']}.script", with_pod))
         then = {group["group"]: group["gets"]["slices"] for group in after["groups"]}
         (placed,) = host["pods"]

@@ -123,8 +123,8 @@ def test_escaped_names(ctl, folder):
     trees.root2(folder / "t")
     trees.group2(folder / "t/a\nb")
     trees.group2(folder / "t/a%0Ab")
-    ctl.run("import", "cgroup", folder / "t", "--want", "busy", "--cpus", "4", "-o",
-            folder / "s.script")
+    ctl.run("export", folder / "t", "--want", "busy", "--cpus", "4", "-o",
+            f"script={folder / 's.script'}")
     for number, (path, found) in enumerate((("a%0Ab", [55, 100]), ("a%250Ab", [55, 77]))):
         ctl.run("apply", folder / "s.script", "--set", f"{path}.weight={found[number]}", "--root",
                 folder / "t", "--by", "files", "--yes", "--undo", folder / f"u{number}")
@@ -182,7 +182,7 @@ def test_a_container_of_the_name_of_a_unit(ctl, folder):
     (folder / "c.json").write_text(json.dumps(found))
     for kind in ("script", "toml"):
         source = folder / f"c.{kind}"
-        ctl.run("import", "docker", folder / "c.json", "--cpus", "4", "--to", kind, "-o", source)
+        ctl.run("export", folder / "c.json", "--cpus", "4", "-o", f"{kind}={source}")
         words = ["apply", source, "--set", "system.slice/ssh.service.weight=9", "--root",
                  folder / "t", "--by", "files"]
         out, _ = ctl.run(*words)

@@ -113,8 +113,8 @@ def examples(ctl, folder):
     for name in ("web.service", "system.slice"):
         trees.group2(folder / "cgroup" / name, usage=5)
     trees.group2(folder / "cgroup/system.slice/db.service", usage=5)
-    ctl.run("import", "cgroup", folder / "cgroup", "--interval", "1ms", "-o",
-            folder / "host.script")
+    ctl.run("export", folder / "cgroup", "--read", "2x1ms", "-o",
+            f"script={folder / 'host.script'}")
     for at in (1, 2):
         trees.root2(folder / f"copy-{at}")
         trees.group2(folder / f"copy-{at}/web.service", usage=at * 10**6)
@@ -231,8 +231,8 @@ def test_bash_offers_the_words():
     assert completed("explain", "--unit", "") == {"cpu", "m", "%", "slices", "us"}
     assert completed("explain", "--unit", "=", "s") == {"slices"}
     assert completed("explain", "--unit", "=") == {"cpu", "m", "%", "slices", "us"}
-    assert completed("import", "k") == {"kubernetes"}
-    assert completed("import", "cgroup", "") == set()
+    assert completed("export", "-o", "") == {"script", "toml", "json"}
+    assert completed("explain", "--state", "st") == {"starved"}
     for mark in ("<", ">", ">>", "2>", "&>"):
         assert completed("explain", mark, "") == set() == completed("explain", mark)
 

@@ -41,18 +41,18 @@ def tree(folder):
 @pytest.mark.parametrize("kind, names, form", [
     ("kubernetes", ("pods.json", "node.json"), "script"), ("systemd", ("units.show",), "script"),
     ("docker", ("docker.json",), "script"), ("docker", ("podman.json",), "script"),
-    *(("cgroup", (), form) for form in ("script", "toml", "yaml", "json")),
+    *(("cgroup", (), form) for form in ("script", "toml", "json")),
 ])
-def test_import_piped_into_explain(ctl, tree, kind, names, form):
-    """What is imported is explained without options as the source is with them."""
+def test_export_piped_into_explain(ctl, tree, kind, names, form):
+    """What is exported is explained without options as the source is with them."""
     sources = [FIXTURES / name for name in names] or [tree]
     options = ["--want", "busy"] + ([] if kind == "kubernetes" else ["--cpus", "6"])
-    options += ["--interval", "1ms"] if kind == "cgroup" else []
-    made, _ = ctl.run("import", kind, *sources, *options, "--to", form)
+    options += ["--read", "2x1ms"] if kind == "cgroup" else []
+    made, _ = ctl.run("export", "--from", kind, *sources, *options, "-o", form)
     words = ["--from", form] if form != "script" else []
-    out, err = ctl.run("explain", "--json", *words, "-", given=made.encode())
+    out, err = ctl.run("explain", "-o", "json", *words, "-", given=made.encode())
     assert "warning" not in err
-    assert told(out) == told(ctl.run("explain", "--json", *sources, *options)[0])
+    assert told(out) == told(ctl.run("explain", "-o", "json", *sources, *options)[0])
 
 
 def test_control_characters_from_a_tree(ctl, folder):
@@ -60,17 +60,18 @@ def test_control_characters_from_a_tree(ctl, folder):
     name = "a\x1b[31m\x07\u202e"
     trees.root2(folder / "t")
     trees.group2(folder / "t" / name)
-    words = [folder / "t", "--want", "busy", "--cpus", "2", "--interval", "1ms"]
-    made = ctl.run("import", "cgroup", *words)
+    words = [folder / "t", "--want", "busy", "--cpus", "2", "--read", "2x1ms"]
+    made = ctl.run("export", *words)
     (folder / "s").write_text(made[0])
     said = [made[1], *ctl.run("explain", *words), *ctl.run("explain", folder / "s"),
-            *ctl.run("explain", "--json", *words), *ctl.run("report", *words),
-            *ctl.run("picture", *words), *ctl.run("top", *words, "--count", "1"),
-            *ctl.run("compare", folder / "s", "--set", "*.weight=7"),
+            *(each for form in ("json", "html", "svg", "csv")
+              for each in ctl.run("explain", "-o", form, *words)),
+            *ctl.run("top", *words[:-2], "--interval", "1ms", "--count", "1"),
+            *ctl.run("diff", folder / "s", "--set", "*.weight=7"),
             *ctl.run("apply", folder / "s", "--set", "*.weight=7", "--root", folder / "t")]
     for each in said:
         assert not any(letter in each for letter in "\x1b\x07\u202e"), each
-    assert sum("a%1B[31m%07%E2%80%AE" in each for each in said) >= 7
+    assert sum("a%1B[31m%07%E2%80%AE" in each for each in said) >= 8
 
 
 REFUSED = (
@@ -87,8 +88,8 @@ REFUSED = (
 
 
 @pytest.mark.parametrize("subcommand, status", [
-    (["explain", "--strict"], 4), (["compare", "--strict", "--set", "web.weight=2"], 4),
-    (["import", "script", "--strict"], 4), (["report", "--strict"], 4), (["explain"], 0),
+    (["explain", "--strict"], 4), (["diff", "--strict", "--set", "web.weight=2"], 4),
+    (["export", "--strict"], 4), (["explain", "--strict", "-o", "html"], 4), (["explain"], 0),
 ])
 def test_refusals_name_line_number_name_and_range(ctl, folder, subcommand, status):
     """Each refused line has its file, line, number, name and range. Strict runs end with 4."""

@@ -29,7 +29,7 @@ CONTAINERS = {"nginx": ("prod/web-7c9f/nginx", 0), "app": ("prod/proxy-1/app", 3
 
 def groups_of(ctl, *words):
     """The groups that `import` writes."""
-    return json.loads(ctl.run("import", "any", *words, "--to", "json")[0])["groups"]
+    return json.loads(ctl.run("export", *words, "-o", "json")[0])["groups"]
 
 
 def test_weights_follow_a_request(ctl):
@@ -89,7 +89,7 @@ def test_a_change_is_an_edit_of_the_json(ctl, folder, name, requests, limits, wo
 
 def test_a_class_that_changes_is_told(ctl):
     """Best effort with a request is burstable: another path, told."""
-    out, err = ctl.run("compare", PODS, NODE, "--set", "batch/report-x/report.request=200m",
+    out, err = ctl.run("diff", PODS, NODE, "--set", "batch/report-x/report.request=200m",
                        "--want", "busy", "--json")
     assert ("warning: --set: batch/report-x: Burstable and no more BestEffort: its class is that of"
             " a pod that is made anew") in err
@@ -100,7 +100,7 @@ def test_a_class_that_changes_is_told(ctl):
 
 def test_requests_are_data(ctl):
     """What a container requests stands beside what it asks for; other groups have none."""
-    out, _ = ctl.run("explain", PODS, NODE, "--want", "busy", "--json", "--cpus", "2")
+    out, _ = ctl.run("explain", PODS, NODE, "--want", "busy", "-o", "json", "--cpus", "2")
     found = {each["group"]: (each["request_millicpu"], each["asks_millicpu"])
              for each in json.loads(out)["groups"]}
     assert (found[f"{WEB}/nginx"], found[WEB], found["."]) == ((250, 2000), (None, 0), (None, None))
@@ -108,7 +108,7 @@ def test_requests_are_data(ctl):
 
 def test_more_than_the_node_has_is_told(ctl):
     """3200m are requested of 3500m; 550m more are not there."""
-    words = ("compare", PODS, NODE, "--set")
+    words = ("diff", PODS, NODE, "--set")
     assert "warning: --set" not in ctl.run(*words, "prod/web-7c9f/nginx.request=550m")[1]
     assert ("the pods request 3501m of the 3500m that the node has for them"
             in ctl.run(*words, "prod/web-7c9f/nginx.request=551m")[1])
@@ -128,10 +128,10 @@ def test_other_changes_come_after(ctl):
     assert (found[WEB]["weight"], found[f"{WEB}/nginx"]["weight"]) == (7, 39)
 
 
-def test_report_and_apply_take_requests(ctl, folder):
+def test_pages_and_apply_take_requests(ctl, folder):
     """The page has the new amounts, and the steps are those of all weights that follow."""
     words = ("--set", "prod/web-7c9f/nginx.request=1cpu")
-    ctl.run("report", PODS, NODE, *words, "-o", folder / "page.html")
+    ctl.run("diff", PODS, NODE, *words, "-o", f"html={folder / 'page.html'}")
     assert "prod:web-7c9f" in (folder / "page.html").read_text()
     trees.root2(folder / "t")
     for line in (FIXTURES / "node.cgroups").read_text().split("\n")[1:-1]:
@@ -159,7 +159,7 @@ def test_report_and_apply_take_requests(ctl, folder):
 ], ids=lambda each: ascii(each)[:30])
 def test_bad_requests_of_pods(ctl, word, words):
     """One line names the word, and nothing is planned."""
-    out, err = ctl.run("compare", PODS, NODE, "--set", word, status=2)
+    out, err = ctl.run("diff", PODS, NODE, "--set", word, status=2)
     assert out == "" and words in err and "\x1b" not in err
     assert err.split("\n")[-2].startswith("arbiterctl: --set ")
 
@@ -182,7 +182,7 @@ def test_pod_level_amounts_bound_their_containers(engine):
 def test_a_source_without_such_settings(ctl, folder):
     """A script has no requests."""
     (folder / "s").write_text("# arbiter run --processors 1\nmkdir a\n")
-    _, err = ctl.run("compare", folder / "s", "--set", "a.request=1", status=2)
+    _, err = ctl.run("diff", folder / "s", "--set", "a.request=1", status=2)
     assert "request is a setting of pods, which this source has none of" in err
 
 
@@ -276,7 +276,7 @@ def test_one_thousandth_less_does_not_reach(ctl, amount):
     asked = int(amount[:-1])
 
     def gets(request):
-        out, _ = ctl.run("compare", PODS, NODE, "--want", "busy", "--json", "--set",
+        out, _ = ctl.run("diff", PODS, NODE, "--want", "busy", "-o", "json", "--set",
                          f"prod/web-7c9f/nginx.request={request}m")
         (found,) = [each["gets"]["millicpu"] for each in json.loads(out)["after"]["groups"]
                     if each["group"] == f"{WEB}/nginx"]
@@ -296,7 +296,7 @@ def test_the_limit_of_a_container_is_that_of_its_pod_too(ctl):
     """
     by, found = needed(ctl, "prod/proxy-1/app", "900m", PODS, NODE)
     assert (by["limit"]["now"], by["limit"]["least"]) == ("500m", "900m")
-    out, _ = ctl.run("compare", PODS, NODE, "--set", "prod/web-7c9f/nginx.limit=3", "--json")
+    out, _ = ctl.run("diff", PODS, NODE, "--set", "prod/web-7c9f/nginx.limit=3", "-o", "json")
     pod = [each for each in json.loads(out)["after"]["groups"] if each["group"] == WEB]
     assert pod[0]["quota_usec"] == 320000 and found["gets_millicpu"] == 500
 
@@ -445,7 +445,7 @@ def test_a_fleet_takes_requests(ctl, folder):
                                "prod/web-7c9f/nginx.request=1cpu", "--want", "busy", "--workers",
                                "0", "--json")[0])
     one, two = found["hosts"]
-    whole = json.loads(ctl.run("compare", PODS, NODE, "--want", "busy", "--set",
+    whole = json.loads(ctl.run("diff", PODS, NODE, "--want", "busy", "--set",
                                "prod/web-7c9f/nginx.request=1cpu", "--json")[0])
     rise = [each["change_millicpu"] for each in whole["changed"]
             if each["group"] == f"{WEB}/nginx"]
@@ -482,8 +482,7 @@ def unit_tree(folder):
 def of_tree(ctl, folder, *changes):
     """The groups of the tree with changes, and what is told."""
     sets = [word for each in changes for word in ("--set", each)]
-    out, err = ctl.run("import", "cgroup", unit_tree(folder), "--interval", "1ms", *sets, "--to",
-                       "json")
+    out, err = ctl.run("export", unit_tree(folder), "--read", "2x1ms", *sets, "-o", "json")
     return json.loads(out)["groups"], err
 
 
@@ -516,8 +515,7 @@ def test_an_idle_unit_of_a_tree(ctl, folder):
 ])
 def test_what_units_of_a_tree_have_not(ctl, folder, change_, words):
     """What is below a service is that service's, and a folder of another name is no unit."""
-    _, err = ctl.run("import", "cgroup", unit_tree(folder), "--interval", "1ms", "--set", change_,
-                     status=2)
+    _, err = ctl.run("export", unit_tree(folder), "--read", "2x1ms", "--set", change_, status=2)
     assert words in err and err.count("\n") == 1
 
 

@@ -77,7 +77,7 @@ def test_what_is_proposed_can_be_compared(ctl, folder):
     words = (node_of(folder, "1"), "--usage", top_of(folder, a="900m", b="600m"))
     by, _, _ = recommended(ctl, *words)
     sets = [word for each in by.values() for one in each["set"] for word in ("--set", one)]
-    out, _ = ctl.run("compare", *words, *sets, "--json")
+    out, _ = ctl.run("diff", *words, *sets, "-o", "json")
     gets = {each["group"]: each["gets"]["millicpu"] for each in json.loads(out)["after"]["groups"]}
     assert [gets[f"kubepods/burstable/x:{name}/c"] for name in "ab"] == [600, 400]
 
@@ -232,7 +232,7 @@ def test_containers_of_docker(ctl, folder):
     assert [each["guaranteed_millicpu"] for each in by.values()] == [500, 300]
     assert found["requests_millicpu"] is found["allocatable_millicpu"] is None and err == ""
     sets = [word for each in by.values() for one in each["set"] for word in ("--set", one)]
-    out, _ = ctl.run("compare", *words[:3], *sets, "--json")
+    out, _ = ctl.run("diff", *words[:3], *sets, "-o", "json")
     assert {each["group"]: each["weight"] for each in json.loads(out)["after"]["groups"][2:]} == {
         "system.slice/a": 23, "system.slice/b": 14}
     out, _ = ctl.run("recommend", *words)

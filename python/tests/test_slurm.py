@@ -125,7 +125,7 @@ def test_tasks_of_arrays_are_one_job():
 
 def test_plan_of_jobs(ctl):
     """Two CPUs for 3.01 and 0.25: the weights are equal, so the small one gets all it wants."""
-    out, err = ctl.run("explain", JOBS, NODES, SACCT, "--cpus", "2", "--json")
+    out, err = ctl.run("explain", JOBS, NODES, SACCT, "--cpus", "2", "-o", "json")
     found = {each["group"]: each["gets"]["slices"] for each in json.loads(out)["groups"]}
     assert found == {".": 200, TRAIN: 175, f"{TRAIN}/step_batch": 0, f"{TRAIN}/step_0": 175,
                      SIM: 25}
@@ -135,19 +135,18 @@ def test_plan_of_jobs(ctl):
 
 
 def test_files_are_known_by_their_bytes(ctl, folder):
-    """Each is found without --from; `import` writes them; the three side by side are one source."""
+    """Each is found without --from; `export` writes them; the three side by side are one source."""
     assert [load.kind_of("-", path.read_bytes()) for path in (JOBS, NODES, SACCT)] == ["slurm"] * 3
-    out, _ = ctl.run("import", "slurm", JOBS, NODES, SACCT)
+    out, _ = ctl.run("export", JOBS, NODES, SACCT)
     assert out.startswith("# arbiter run --processors 8 --period 100000 --slice 1000\n")
     assert (f"# {SIM} is bob/sim/124\n# at system.slice/slurmstepd.scope/job_124\n"
             f"mkdir {SIM}\n") in out
     assert f"# tasks 4\ndemand {TRAIN}/step_0 301\n" in out
     (folder / "f.script").write_text(out)
-    again, _ = ctl.run("import", "script", folder / "f.script")
+    again, _ = ctl.run("export", folder / "f.script")
     assert [line for line in again.split("\n") if line[:1] != "#"] == [
         line for line in out.split("\n") if line[:1] != "#"]
-    words = ["compare", JOBS, NODES, "--set", "bob/sim/124.demand=3cpu", "--width", "100"]
-    assert SIM in ctl.run(*words)[0]
+    assert SIM in ctl.run("diff", JOBS, NODES, "--set", "bob/sim/124.demand=3cpu")[0]
     piped = ctl.run("explain", "-", "--cpus", "4", "--node", "n1", given=SACCT.read_bytes())[0]
     assert SIM in piped
 
@@ -221,7 +220,7 @@ def test_hostile_names(ctl):
     """Names of jobs and users reach no terminal, path or script raw."""
     text = json.dumps({"jobs": [{"job_id": 1, "job_state": ["RUNNING"], "nodes": "n1", "cpus": 1,
                                  "name": "../../x\x1b[31m\n# at /etc", "user_name": "\u202eroot"}]})
-    for command in (["explain"], ["import", "slurm"], ["import", "slurm", "--to", "toml"]):
+    for command in (["explain"], ["export"], ["export", "-o", "toml"]):
         out, err = ctl.run(*command, "-", "--cpus", "2", given=text.encode())
         assert "\x1b" not in out + err and "\u202e" not in out + err
         assert "\n# at /etc" not in out and "root:..%2F..%2Fx%1B[31m%0A#%20at%20%2Fetc:1" in out

@@ -480,7 +480,8 @@ def test_want_of_what_says_its_demands(ctl, folder, name, text):
     """A limit of 30 slices; two CPUs, 200 slices, of which one task can use 100."""
     (folder / name).write_text(text)
     for want, wants in (("limit", [30, 100]), ("busy", [200, 100])):
-        found = json.loads(ctl.run("explain", folder / name, "--want", want, "--json")[0])["groups"]
+        out, _ = ctl.run("explain", folder / name, "--want", want, "-o", "json")
+        found = json.loads(out)["groups"]
         assert [each["wants"]["slices"] for each in found if each["group"] in ("a", "b/c")] == wants
     _, err = ctl.run("explain", folder / name, "--want", "psi", status=2)
     assert "--want psi: a" in err and "takes limit or busy, or says its demands itself" in err
@@ -521,7 +522,7 @@ def test_files_of_powershell(ctl, folder, form):
     for name in ("pods.json", "node.json"):
         text = "\ufeff" + fixture(name)[1].decode().replace("\n", "\r\n")
         (folder / name).write_bytes(text.encode(form))
-    words = ("import", "any", "--to", "json")
+    words = ("export", "-o", "json")
     assert (ctl.run(*words, folder / "pods.json", folder / "node.json")[0]
             == ctl.run(*words, FIXTURES / "pods.json", FIXTURES / "node.json")[0])
 
@@ -595,13 +596,12 @@ CONVERTED = ("kubepods", "kubepods/burstable", "kubepods/prod:db-0", "kubepods/p
     ((), [137, 47, 79, 39, 10]),
     (("--runtime", "log"), [137, 47, 79, 100, 35]),
     (("--kubelet", "log"), [272, 116, 174, 39, 10]),
-    (("--conversion", "log"), [272, 116, 174, 100, 35]),
-    (("--conversion", "log", "--kubelet", "linear"), [137, 47, 79, 100, 35]),
+    (("--node-weights", "log"), [272, 116, 174, 100, 35]),
+    (("--node-weights", "runtime-log"), [137, 47, 79, 100, 35]),
 ])
 def test_conversions_of_kubelet_and_runtime(ctl, words, wanted):
     """kubelet's weights and those of the runtime are two choices."""
-    out, _ = ctl.run("import", "kubernetes", FIXTURES / "pods.json", FIXTURES / "node.json",
-                     "--to", "json", *words)
+    out, _ = ctl.run("export", FIXTURES / "pods.json", FIXTURES / "node.json", "-o", "json", *words)
     groups = json.loads(out)["groups"]
     assert [groups[path].get("weight", 100) for path in CONVERTED] == wanted
 
@@ -609,8 +609,8 @@ def test_conversions_of_kubelet_and_runtime(ctl, words, wanted):
 def test_docker_by_a_newer_runtime(ctl):
     """2048 shares are 174 where the runtime is a newer one; kubelet has no part in it."""
     file = FIXTURES / "docker.json"
-    for word, wanted in (("--runtime", 174), ("--kubelet", 79)):
-        out, _ = ctl.run("import", "docker", file, "--to", "json", "--cpus", "8", word, "log")
+    for word, wanted in (("log", 174), ("runtime-log", 174), ("linear", 79)):
+        out, _ = ctl.run("export", file, "-o", "json", "--cpus", "8", "--node-weights", word)
         assert json.loads(out)["groups"]["system.slice/web"]["weight"] == wanted
 
 

@@ -24,7 +24,7 @@ TOLD = {"prod/web-7c9f/nginx": "1cpu", "prod/web-7c9f/metrics": "40m", "prod/pro
 
 def demands_of(ctl, *words, **options):
     """The demands of containers by their titles, and what is warned of."""
-    out, err = ctl.run("import", "any", *words, "--to", "json", **options)
+    out, err = ctl.run("export", *words, "-o", "json", **options)
     found = json.loads(out)["groups"].values()
     return {each["title"]: each["demand"] for each in found if "demand" in each}, err
 
@@ -47,7 +47,7 @@ def test_usage_from_standard_input(ctl):
     sums = b"%62s________   ________     \n%62s3070m      1261Mi    \n" % (b"", b"")
     assert demands_of(ctl, PODS, NODE, "--usage", "-", given=data + sums)[0] == TOLD
     # A source that is loaded twice has it twice.
-    out, _ = ctl.run("compare", PODS, NODE, "--usage", "-", "--cpus", "3", "--json", given=data)
+    out, _ = ctl.run("diff", PODS, NODE, "--usage", "-", "--cpus", "3", "-o", "json", given=data)
     assert json.loads(out)["after"]["wanted"]["millicpu"] == 3080
 
 

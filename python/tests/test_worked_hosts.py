@@ -24,8 +24,8 @@ GETS, WANTS, RED = "#2b6cb0", "#bcd4ec", "#b4231f"
 
 
 def explained(ctl, script, *words):
-    """What `explain --json` says of each group, and all that it says."""
-    whole = json.loads(ctl.run("explain", "--json", *words, "-", given=script.encode())[0])
+    """What `explain -o json` says of each group, and all that it says."""
+    whole = json.loads(ctl.run("explain", "-o", "json", *words, "-", given=script.encode())[0])
     return {group["group"]: group for group in whole["groups"]}, whole
 
 
@@ -115,8 +115,7 @@ def host_copies(folder):
             whole = 4800000 if path == "system.slice" else usage
             trees.group2(folder / copy / path, usage=whole * factor, **entry, **told)
         trees.put(folder / copy / "user.slice/user-1000.slice", cpu_stat="usage_usec 5")
-    return ["import", "cgroup", folder / "one", "--later", folder / "two", "--interval", "10",
-            "--cpus", "4"]
+    return ["export", folder / "one", folder / "two", "--read", "x10s", "--cpus", "4"]
 
 
 def test_host_of_services(ctl, folder):
@@ -153,7 +152,7 @@ def test_malformed_files(ctl, folder):
         trees.group2(folder / copy / "low", weight=4, maximum="500 100000")
         trees.group2(folder / copy / "back", usage=900 if copy == "one" else 800)
     os.remove(folder / "one/app/cpu.max.burst")
-    words = ["import", "cgroup", folder / "one", "--later", folder / "two", "--cpus", "4"]
+    words = ["export", folder / "one", folder / "two", "--cpus", "4"]
     told = sorted(line[4:] for line in ctl.run(*words)[0].split("\n") if line.startswith("# ! "))
     assert told == [
         "app: cpu.max is '20000': no limit is taken",
@@ -167,13 +166,12 @@ def test_an_import_changes_nothing(ctl, folder):
     host_copies(folder)
     place = folder / "one/system.slice/web.service"
     before = {name: os.stat(place / name).st_mtime_ns for name in os.listdir(place)}
-    ctl.run("from-cgroup", folder / "one", "--interval", "50ms")
+    ctl.run("export", folder / "one", "--read", "2x50ms")
     assert {name: os.stat(place / name).st_mtime_ns for name in os.listdir(place)} == before
-    out, _ = ctl.run("from-cgroup", place, "--interval", "50ms")
+    out, _ = ctl.run("export", place, "--read", "2x50ms")
     assert "itself is 30500 100000: the root has no limit but the CPUs" in out
-    for words, part in (([folder / "no"], "No such file"), ([folder / "one", "--later",
-                                                             folder / "no"], "no folder")):
-        assert part in ctl.run("from-cgroup", *words, status=1)[1]
+    for words in ([folder / "no"], [folder / "one", folder / "no"]):
+        assert "No such file" in ctl.run("export", *words, status=1)[1]
 
 
 def real_mount():
@@ -187,7 +185,7 @@ def test_the_tree_of_this_machine(ctl, program):
     mount = real_mount()
     if mount is None:
         pytest.skip("no mount of cgroup v2 here")
-    out, _ = ctl.run("import", "cgroup", mount, "--interval", "100ms", "--cpus", "4")
+    out, _ = ctl.run("export", mount, "--read", "2x100ms", "--cpus", "4")
     said = program.run(["run", "--processors", "4", "--slice", "1000"], out.encode()).out
     assert set(said.decode().split("\n")) <= {"ok", ""}
 
@@ -218,6 +216,9 @@ def test_random_bytes_under_strict(ctl):
 
 # pictures
 
+SLICES = ("explain", "-", "-o", "svg", "--unit", "slices")
+
+
 def drawn(text):
     """A picture's boxes by colour, in order, and its texts."""
     root = xml.etree.ElementTree.fromstring(text)
@@ -232,7 +233,7 @@ def test_picture_to_scale(ctl):
     """Each bar is as long as its number says, from one edge, in the order of the tree."""
     script = HEAD + ("mkdir a\nmkdir a/x\nmkdir a/y\nmkdir b\nwrite a cpu.max 25000\n"
                      "demand a/x 4\ndemand a/y 4\ndemand b 30\n")
-    boxes, texts, _ = drawn(ctl.run("picture", "-", "--unit", "slices", given=script.encode())[0])
+    boxes, texts, _ = drawn(ctl.run(*SLICES, given=script.encode())[0])
     # a has its 5: 3 and 2; b has the rest. The host wants 5 + 30, of which 20 are drawn.
     for colour, wanted in ((GETS, (20, 5, 3, 2, 15)), (WANTS, (20, 8, 4, 4, 20))):
         bars = boxes[colour][1:]
@@ -246,13 +247,13 @@ def test_picture_to_scale(ctl):
 def test_picture_of_odd_trees(ctl):
     """Names that XML does not hold, a demand far above the capacity, no groups."""
     script = HEAD + 'mkdir a<b>&"c\nmkdir a<b>&"c/x\x01y\ndemand a<b>&"c/x\x01y 1000000\n'
-    out, _ = ctl.run("picture", "-", "--unit", "slices", given=script.encode())
+    out, _ = ctl.run(*SLICES, given=script.encode())
     boxes, texts, _ = drawn(out)
     assert 'a<b>&"c' in texts and "x\\x01y" in texts
     assert {bar["width"] for bar in boxes[WANTS][1:]} == {float(picture.BARS)}
-    drawn(ctl.run("picture", "-", given=HEAD.encode())[0])
+    drawn(ctl.run(*SLICES, given=HEAD.encode())[0])
     script = HEAD + "mkdir a\nmkdir a/b\ndemand a/b 1\n"
-    _, texts, _ = drawn(ctl.run("picture", "--depth", "1", "-", given=script.encode())[0])
+    _, texts, _ = drawn(ctl.run(*SLICES, "--depth", "1", given=script.encode())[0])
     assert ("a" in texts, "b" in texts) == (True, False)
 
 
@@ -349,7 +350,7 @@ def test_library_that_the_system_finds(ctl, folder, library):
     shutil.copy(library, folder / "libarbiter.so.1")
     ctl.environment.pop("ARBITER_LIBRARY")
     ctl.environment.update(LD_LIBRARY_PATH=str(folder), PYTHONPATH=str(folder / "p"))
-    words = [sys.executable, "-m", "arbiter_host", "explain", "--json", "-"]
+    words = [sys.executable, "-m", "arbiter_host", "explain", "-o", "json", "-"]
     ended = subprocess.run(words, input=HEAD.encode(), capture_output=True, check=False,
                            env=ctl.environment, timeout=60, cwd=folder)
     assert json.loads(ended.stdout)["engine"] == "library libarbiter.so.1", ended.stderr

@@ -15,537 +15,277 @@ _arbiterctl() {
         given=$before
     fi
     if ((COMP_CWORD == 1)); then
-        mapfile -t COMPREPLY < <(compgen -W "explain compare need tune recommend guarantee picture report series top watch audit fleet apply undo hold import from-cgroup -h --help -V --version" -- "$word")
+        mapfile -t COMPREPLY < <(compgen -W "explain diff need tune recommend guarantee series top watch export audit fleet apply undo hold -h --help -V --version" -- "$word")
         return
     fi
     case ${COMP_WORDS[1]} in
         explain)
             case $given in
-                --only) mapfile -t COMPREPLY < <(compgen -W "starved throttled hurt asking tasks" -- "$word") ;;
-                --sort) mapfile -t COMPREPLY < <(compgen -W "lack gets wants weight name" -- "$word") ;;
-                --depth) ;;
-                --unit) mapfile -t COMPREPLY < <(compgen -W "cpu m % slices us" -- "$word") ;;
-                --width) ;;
-                --cpus|--processors) ;;
+                --cpus) ;;
                 --period) ;;
                 --slice) ;;
                 --library) ;;
-                --from) mapfile -t COMPREPLY < <(compgen -W "script toml yaml json cgroup kubernetes systemd docker slurm" -- "$word") ;;
+                --from) mapfile -t COMPREPLY < <(compgen -W "script toml json cgroup kubernetes systemd docker slurm" -- "$word") ;;
                 --want) mapfile -t COMPREPLY < <(compgen -W "usage peak p95 psi limit request busy" -- "$word") ;;
                 --scale) ;;
-                --interval) ;;
-                --samples) ;;
-                --later) ;;
-                --depth-read) ;;
-                --usage) ;;
-                --cgroup) ;;
+                --read) ;;
+                --used) ;;
+                --range) ;;
+                --step) ;;
+                --query) ;;
                 --node) ;;
-                --conversion) mapfile -t COMPREPLY < <(compgen -W "linear log" -- "$word") ;;
-                --kubelet) mapfile -t COMPREPLY < <(compgen -W "linear log" -- "$word") ;;
-                --runtime) mapfile -t COMPREPLY < <(compgen -W "linear log" -- "$word") ;;
-                --driver) mapfile -t COMPREPLY < <(compgen -W "systemd cgroupfs" -- "$word") ;;
+                --node-weights) mapfile -t COMPREPLY < <(compgen -W "linear log runtime-log" -- "$word") ;;
+                -g|--group) ;;
+                -n|--namespace) ;;
+                -l|--selector) ;;
+                -o|--output) mapfile -t COMPREPLY < <(compgen -W "text json html svg csv" -- "$word") ;;
+                --state) mapfile -t COMPREPLY < <(compgen -W "starved throttled hurt asking tasks" -- "$word") ;;
+                --sort) mapfile -t COMPREPLY < <(compgen -W "lack gets wants weight name" -- "$word") ;;
+                --depth) ;;
+                --unit) mapfile -t COMPREPLY < <(compgen -W "cpu m % slices us" -- "$word") ;;
+                --rank) mapfile -t COMPREPLY < <(compgen -W "least-loss most-left" -- "$word") ;;
+                --workers) ;;
+                --scheduler) ;;
                 *)
-                    [[ $word == -* ]] && mapfile -t COMPREPLY < <(compgen -W "--only --sort --depth --unit --width --all --full-names --json --cpus --processors --period --slice --library --from --want --scale --interval --samples --later --own --depth-read --usage --cgroup --node --conversion --kubelet --runtime --driver --strict -h --help" -- "$word")
+                    [[ $word == -* ]] && mapfile -t COMPREPLY < <(compgen -W "--cpus --period --slice --library --from --want --scale --read --used --range --step --query --node --node-weights --strict -g --group -n --namespace -l --selector -o --output --state --sort --depth --unit --all -v --verbose --guaranteed --rank --workers --scheduler -h --help" -- "$word")
                     ;;
             esac
             ;;
-        compare)
+        diff)
             case $given in
-                --set) ;;
-                --only) mapfile -t COMPREPLY < <(compgen -W "starved throttled hurt asking tasks" -- "$word") ;;
-                --sort) mapfile -t COMPREPLY < <(compgen -W "lack gets wants weight name" -- "$word") ;;
-                --depth) ;;
-                --unit) mapfile -t COMPREPLY < <(compgen -W "cpu m % slices us" -- "$word") ;;
-                --width) ;;
-                --cpus|--processors) ;;
+                --cpus) ;;
                 --period) ;;
                 --slice) ;;
                 --library) ;;
-                --from) mapfile -t COMPREPLY < <(compgen -W "script toml yaml json cgroup kubernetes systemd docker slurm" -- "$word") ;;
+                --from) mapfile -t COMPREPLY < <(compgen -W "script toml json cgroup kubernetes systemd docker slurm" -- "$word") ;;
                 --want) mapfile -t COMPREPLY < <(compgen -W "usage peak p95 psi limit request busy" -- "$word") ;;
                 --scale) ;;
-                --interval) ;;
-                --samples) ;;
-                --later) ;;
-                --depth-read) ;;
-                --usage) ;;
-                --cgroup) ;;
+                --read) ;;
+                --used) ;;
+                --range) ;;
+                --step) ;;
+                --query) ;;
                 --node) ;;
-                --conversion) mapfile -t COMPREPLY < <(compgen -W "linear log" -- "$word") ;;
-                --kubelet) mapfile -t COMPREPLY < <(compgen -W "linear log" -- "$word") ;;
-                --runtime) mapfile -t COMPREPLY < <(compgen -W "linear log" -- "$word") ;;
-                --driver) mapfile -t COMPREPLY < <(compgen -W "systemd cgroupfs" -- "$word") ;;
+                --node-weights) mapfile -t COMPREPLY < <(compgen -W "linear log runtime-log" -- "$word") ;;
+                -g|--group) ;;
+                -n|--namespace) ;;
+                -l|--selector) ;;
+                -o|--output) mapfile -t COMPREPLY < <(compgen -W "text json html" -- "$word") ;;
+                --sort) mapfile -t COMPREPLY < <(compgen -W "change" -- "$word") ;;
+                --unit) mapfile -t COMPREPLY < <(compgen -W "cpu m % slices us" -- "$word") ;;
+                --set) ;;
+                --workers) ;;
+                --scheduler) ;;
                 *)
-                    [[ $word == -* ]] && mapfile -t COMPREPLY < <(compgen -W "--set --only --sort --depth --unit --width --all --full-names --json --cpus --processors --period --slice --library --from --want --scale --interval --samples --later --own --depth-read --usage --cgroup --node --conversion --kubelet --runtime --driver --strict -h --help" -- "$word")
+                    [[ $word == -* ]] && mapfile -t COMPREPLY < <(compgen -W "--cpus --period --slice --library --from --want --scale --read --used --range --step --query --node --node-weights --strict -g --group -n --namespace -l --selector -o --output --sort --unit --all -v --verbose --set --workers --scheduler -h --help" -- "$word")
                     ;;
             esac
             ;;
         need)
             case $given in
-                --unit) mapfile -t COMPREPLY < <(compgen -W "cpu m % slices us" -- "$word") ;;
-                --cpus|--processors) ;;
-                --period) ;;
-                --slice) ;;
-                --library) ;;
-                --from) mapfile -t COMPREPLY < <(compgen -W "script toml yaml json cgroup kubernetes systemd docker slurm" -- "$word") ;;
-                --want) mapfile -t COMPREPLY < <(compgen -W "usage peak p95 psi limit request busy" -- "$word") ;;
-                --scale) ;;
-                --interval) ;;
-                --samples) ;;
-                --later) ;;
-                --depth-read) ;;
-                --usage) ;;
-                --cgroup) ;;
-                --node) ;;
-                --conversion) mapfile -t COMPREPLY < <(compgen -W "linear log" -- "$word") ;;
-                --kubelet) mapfile -t COMPREPLY < <(compgen -W "linear log" -- "$word") ;;
-                --runtime) mapfile -t COMPREPLY < <(compgen -W "linear log" -- "$word") ;;
-                --driver) mapfile -t COMPREPLY < <(compgen -W "systemd cgroupfs" -- "$word") ;;
                 *)
-                    [[ $word == -* ]] && mapfile -t COMPREPLY < <(compgen -W "--unit --json --cpus --processors --period --slice --library --from --want --scale --interval --samples --later --own --depth-read --usage --cgroup --node --conversion --kubelet --runtime --driver --strict -h --help" -- "$word")
+                    [[ $word == -* ]] && mapfile -t COMPREPLY < <(compgen -W "-h --help" -- "$word")
                     ;;
             esac
             ;;
         tune)
             case $given in
-                --goal) ;;
-                --keep) ;;
-                --set) ;;
-                --unit) mapfile -t COMPREPLY < <(compgen -W "cpu m % slices us" -- "$word") ;;
-                --cpus|--processors) ;;
+                --cpus) ;;
                 --period) ;;
                 --slice) ;;
                 --library) ;;
-                --from) mapfile -t COMPREPLY < <(compgen -W "script toml yaml json cgroup kubernetes systemd docker slurm" -- "$word") ;;
+                --from) mapfile -t COMPREPLY < <(compgen -W "script toml json cgroup kubernetes systemd docker slurm" -- "$word") ;;
                 --want) mapfile -t COMPREPLY < <(compgen -W "usage peak p95 psi limit request busy" -- "$word") ;;
                 --scale) ;;
-                --interval) ;;
-                --samples) ;;
-                --later) ;;
-                --depth-read) ;;
-                --usage) ;;
-                --cgroup) ;;
+                --read) ;;
+                --used) ;;
+                --range) ;;
+                --step) ;;
+                --query) ;;
                 --node) ;;
-                --conversion) mapfile -t COMPREPLY < <(compgen -W "linear log" -- "$word") ;;
-                --kubelet) mapfile -t COMPREPLY < <(compgen -W "linear log" -- "$word") ;;
-                --runtime) mapfile -t COMPREPLY < <(compgen -W "linear log" -- "$word") ;;
-                --driver) mapfile -t COMPREPLY < <(compgen -W "systemd cgroupfs" -- "$word") ;;
+                --node-weights) mapfile -t COMPREPLY < <(compgen -W "linear log runtime-log" -- "$word") ;;
+                -g|--group) ;;
+                -o|--output) mapfile -t COMPREPLY < <(compgen -W "text json" -- "$word") ;;
+                --unit) mapfile -t COMPREPLY < <(compgen -W "cpu m % slices us" -- "$word") ;;
+                --set) ;;
+                --goal) ;;
                 *)
-                    [[ $word == -* ]] && mapfile -t COMPREPLY < <(compgen -W "--goal --guarantee --keep --set --unit --json --cpus --processors --period --slice --library --from --want --scale --interval --samples --later --own --depth-read --usage --cgroup --node --conversion --kubelet --runtime --driver --strict -h --help" -- "$word")
+                    [[ $word == -* ]] && mapfile -t COMPREPLY < <(compgen -W "--cpus --period --slice --library --from --want --scale --read --used --range --step --query --node --node-weights --strict -g --group -o --output --unit -v --verbose --set --goal --guaranteed -h --help" -- "$word")
                     ;;
             esac
             ;;
         recommend)
             case $given in
-                --target) ;;
-                --headroom) ;;
-                --history) ;;
-                --unit) mapfile -t COMPREPLY < <(compgen -W "cpu m % slices us" -- "$word") ;;
-                --map) ;;
-                --prometheus) ;;
-                --query) ;;
-                --start) ;;
-                --end) ;;
-                --step) ;;
-                --label) ;;
-                --cpus|--processors) ;;
+                --cpus) ;;
                 --period) ;;
                 --slice) ;;
                 --library) ;;
-                --from) mapfile -t COMPREPLY < <(compgen -W "script toml yaml json cgroup kubernetes systemd docker slurm" -- "$word") ;;
+                --from) mapfile -t COMPREPLY < <(compgen -W "script toml json cgroup kubernetes systemd docker slurm" -- "$word") ;;
                 --want) mapfile -t COMPREPLY < <(compgen -W "usage peak p95 psi limit request busy" -- "$word") ;;
                 --scale) ;;
-                --interval) ;;
-                --samples) ;;
-                --later) ;;
-                --depth-read) ;;
-                --usage) ;;
-                --cgroup) ;;
+                --read) ;;
+                --used) ;;
+                --range) ;;
+                --step) ;;
+                --query) ;;
+                --map) ;;
                 --node) ;;
-                --conversion) mapfile -t COMPREPLY < <(compgen -W "linear log" -- "$word") ;;
-                --kubelet) mapfile -t COMPREPLY < <(compgen -W "linear log" -- "$word") ;;
-                --runtime) mapfile -t COMPREPLY < <(compgen -W "linear log" -- "$word") ;;
-                --driver) mapfile -t COMPREPLY < <(compgen -W "systemd cgroupfs" -- "$word") ;;
+                --node-weights) mapfile -t COMPREPLY < <(compgen -W "linear log runtime-log" -- "$word") ;;
+                -g|--group) ;;
+                -n|--namespace) ;;
+                -l|--selector) ;;
+                -o|--output) mapfile -t COMPREPLY < <(compgen -W "text json" -- "$word") ;;
+                --unit) mapfile -t COMPREPLY < <(compgen -W "cpu m % slices us" -- "$word") ;;
+                --target) ;;
+                --headroom) ;;
                 *)
-                    [[ $word == -* ]] && mapfile -t COMPREPLY < <(compgen -W "--target --headroom --history --csv --unit --map --json --prometheus --query --start --end --step --label --cpus --processors --period --slice --library --from --want --scale --interval --samples --later --own --depth-read --usage --cgroup --node --conversion --kubelet --runtime --driver --strict -h --help" -- "$word")
+                    [[ $word == -* ]] && mapfile -t COMPREPLY < <(compgen -W "--cpus --period --slice --library --from --want --scale --read --used --range --step --query --map --node --node-weights --strict -g --group -n --namespace -l --selector -o --output --unit -v --verbose --target --headroom -h --help" -- "$word")
                     ;;
             esac
             ;;
         guarantee)
             case $given in
-                --group) ;;
-                --unit) mapfile -t COMPREPLY < <(compgen -W "cpu m % slices us" -- "$word") ;;
-                --cpus|--processors) ;;
-                --period) ;;
-                --slice) ;;
-                --library) ;;
-                --from) mapfile -t COMPREPLY < <(compgen -W "script toml yaml json cgroup kubernetes systemd docker slurm" -- "$word") ;;
-                --want) mapfile -t COMPREPLY < <(compgen -W "usage peak p95 psi limit request busy" -- "$word") ;;
-                --scale) ;;
-                --interval) ;;
-                --samples) ;;
-                --later) ;;
-                --depth-read) ;;
-                --usage) ;;
-                --cgroup) ;;
-                --node) ;;
-                --conversion) mapfile -t COMPREPLY < <(compgen -W "linear log" -- "$word") ;;
-                --kubelet) mapfile -t COMPREPLY < <(compgen -W "linear log" -- "$word") ;;
-                --runtime) mapfile -t COMPREPLY < <(compgen -W "linear log" -- "$word") ;;
-                --driver) mapfile -t COMPREPLY < <(compgen -W "systemd cgroupfs" -- "$word") ;;
                 *)
-                    [[ $word == -* ]] && mapfile -t COMPREPLY < <(compgen -W "--group --unit --json --cpus --processors --period --slice --library --from --want --scale --interval --samples --later --own --depth-read --usage --cgroup --node --conversion --kubelet --runtime --driver --strict -h --help" -- "$word")
-                    ;;
-            esac
-            ;;
-        picture)
-            case $given in
-                -o|--output) ;;
-                --unit) mapfile -t COMPREPLY < <(compgen -W "cpu m % slices us" -- "$word") ;;
-                --depth) ;;
-                --rows) ;;
-                --cpus|--processors) ;;
-                --period) ;;
-                --slice) ;;
-                --library) ;;
-                --from) mapfile -t COMPREPLY < <(compgen -W "script toml yaml json cgroup kubernetes systemd docker slurm" -- "$word") ;;
-                --want) mapfile -t COMPREPLY < <(compgen -W "usage peak p95 psi limit request busy" -- "$word") ;;
-                --scale) ;;
-                --interval) ;;
-                --samples) ;;
-                --later) ;;
-                --depth-read) ;;
-                --usage) ;;
-                --cgroup) ;;
-                --node) ;;
-                --conversion) mapfile -t COMPREPLY < <(compgen -W "linear log" -- "$word") ;;
-                --kubelet) mapfile -t COMPREPLY < <(compgen -W "linear log" -- "$word") ;;
-                --runtime) mapfile -t COMPREPLY < <(compgen -W "linear log" -- "$word") ;;
-                --driver) mapfile -t COMPREPLY < <(compgen -W "systemd cgroupfs" -- "$word") ;;
-                *)
-                    [[ $word == -* ]] && mapfile -t COMPREPLY < <(compgen -W "-o --output --unit --depth --rows --cpus --processors --period --slice --library --from --want --scale --interval --samples --later --own --depth-read --usage --cgroup --node --conversion --kubelet --runtime --driver --strict -h --help" -- "$word")
-                    ;;
-            esac
-            ;;
-        report)
-            case $given in
-                -o|--output) ;;
-                --unit) mapfile -t COMPREPLY < <(compgen -W "cpu m % slices us" -- "$word") ;;
-                --before) ;;
-                --set) ;;
-                --title) ;;
-                --cpus|--processors) ;;
-                --period) ;;
-                --slice) ;;
-                --library) ;;
-                --from) mapfile -t COMPREPLY < <(compgen -W "script toml yaml json cgroup kubernetes systemd docker slurm" -- "$word") ;;
-                --want) mapfile -t COMPREPLY < <(compgen -W "usage peak p95 psi limit request busy" -- "$word") ;;
-                --scale) ;;
-                --interval) ;;
-                --samples) ;;
-                --later) ;;
-                --depth-read) ;;
-                --usage) ;;
-                --cgroup) ;;
-                --node) ;;
-                --conversion) mapfile -t COMPREPLY < <(compgen -W "linear log" -- "$word") ;;
-                --kubelet) mapfile -t COMPREPLY < <(compgen -W "linear log" -- "$word") ;;
-                --runtime) mapfile -t COMPREPLY < <(compgen -W "linear log" -- "$word") ;;
-                --driver) mapfile -t COMPREPLY < <(compgen -W "systemd cgroupfs" -- "$word") ;;
-                *)
-                    [[ $word == -* ]] && mapfile -t COMPREPLY < <(compgen -W "-o --output --unit --before --set --title --cpus --processors --period --slice --library --from --want --scale --interval --samples --later --own --depth-read --usage --cgroup --node --conversion --kubelet --runtime --driver --strict -h --help" -- "$word")
+                    [[ $word == -* ]] && mapfile -t COMPREPLY < <(compgen -W "-h --help" -- "$word")
                     ;;
             esac
             ;;
         series)
             case $given in
-                --unit) mapfile -t COMPREPLY < <(compgen -W "cpu m % slices us" -- "$word") ;;
-                --sample) ;;
-                --groups) ;;
-                --map) ;;
-                --holes) mapfile -t COMPREPLY < <(compgen -W "zero keep" -- "$word") ;;
-                --to) mapfile -t COMPREPLY < <(compgen -W "table csv json openmetrics svg" -- "$word") ;;
-                -o|--output) ;;
-                --prometheus) ;;
-                --query) ;;
-                --start) ;;
-                --end) ;;
-                --step) ;;
-                --label) ;;
-                --cpus|--processors) ;;
-                --period) ;;
-                --slice) ;;
-                --library) ;;
-                --from) mapfile -t COMPREPLY < <(compgen -W "script toml yaml json cgroup kubernetes systemd docker slurm" -- "$word") ;;
-                --want) mapfile -t COMPREPLY < <(compgen -W "usage peak p95 psi limit request busy" -- "$word") ;;
-                --scale) ;;
-                --interval) ;;
-                --samples) ;;
-                --later) ;;
-                --depth-read) ;;
-                --usage) ;;
-                --cgroup) ;;
-                --node) ;;
-                --conversion) mapfile -t COMPREPLY < <(compgen -W "linear log" -- "$word") ;;
-                --kubelet) mapfile -t COMPREPLY < <(compgen -W "linear log" -- "$word") ;;
-                --runtime) mapfile -t COMPREPLY < <(compgen -W "linear log" -- "$word") ;;
-                --driver) mapfile -t COMPREPLY < <(compgen -W "systemd cgroupfs" -- "$word") ;;
                 *)
-                    [[ $word == -* ]] && mapfile -t COMPREPLY < <(compgen -W "--csv --unit --sample --groups --map --holes --summary --to -o --output --prometheus --query --start --end --step --label --cpus --processors --period --slice --library --from --want --scale --interval --samples --later --own --depth-read --usage --cgroup --node --conversion --kubelet --runtime --driver --strict -h --help" -- "$word")
+                    [[ $word == -* ]] && mapfile -t COMPREPLY < <(compgen -W "-h --help" -- "$word")
                     ;;
             esac
             ;;
         top)
             case $given in
-                --count) ;;
-                --only) mapfile -t COMPREPLY < <(compgen -W "starved throttled hurt asking tasks" -- "$word") ;;
-                --sort) mapfile -t COMPREPLY < <(compgen -W "lack gets wants weight name" -- "$word") ;;
-                --depth) ;;
-                --unit) mapfile -t COMPREPLY < <(compgen -W "cpu m % slices us" -- "$word") ;;
-                --width) ;;
-                --cpus|--processors) ;;
+                --cpus) ;;
                 --period) ;;
                 --slice) ;;
                 --library) ;;
-                --from) mapfile -t COMPREPLY < <(compgen -W "script toml yaml json cgroup kubernetes systemd docker slurm" -- "$word") ;;
+                --from) mapfile -t COMPREPLY < <(compgen -W "script toml json cgroup kubernetes systemd docker slurm" -- "$word") ;;
                 --want) mapfile -t COMPREPLY < <(compgen -W "usage peak p95 psi limit request busy" -- "$word") ;;
                 --scale) ;;
-                --interval) ;;
-                --samples) ;;
-                --later) ;;
-                --depth-read) ;;
-                --usage) ;;
-                --cgroup) ;;
+                --read) ;;
+                --used) ;;
+                --range) ;;
+                --step) ;;
+                --query) ;;
                 --node) ;;
-                --conversion) mapfile -t COMPREPLY < <(compgen -W "linear log" -- "$word") ;;
-                --kubelet) mapfile -t COMPREPLY < <(compgen -W "linear log" -- "$word") ;;
-                --runtime) mapfile -t COMPREPLY < <(compgen -W "linear log" -- "$word") ;;
-                --driver) mapfile -t COMPREPLY < <(compgen -W "systemd cgroupfs" -- "$word") ;;
+                --node-weights) mapfile -t COMPREPLY < <(compgen -W "linear log runtime-log" -- "$word") ;;
+                -g|--group) ;;
+                -n|--namespace) ;;
+                -l|--selector) ;;
+                -o|--output) mapfile -t COMPREPLY < <(compgen -W "text json openmetrics" -- "$word") ;;
+                --state) mapfile -t COMPREPLY < <(compgen -W "starved throttled hurt asking tasks" -- "$word") ;;
+                --sort) mapfile -t COMPREPLY < <(compgen -W "lack gets wants weight name" -- "$word") ;;
+                --depth) ;;
+                --unit) mapfile -t COMPREPLY < <(compgen -W "cpu m % slices us" -- "$word") ;;
+                --alert) ;;
+                --command) ;;
+                --listen) ;;
                 *)
-                    [[ $word == -* ]] && mapfile -t COMPREPLY < <(compgen -W "--count --once --only --sort --depth --unit --width --all --full-names --json --cpus --processors --period --slice --library --from --want --scale --interval --samples --later --own --depth-read --usage --cgroup --node --conversion --kubelet --runtime --driver --strict -h --help" -- "$word")
+                    [[ $word == -* ]] && mapfile -t COMPREPLY < <(compgen -W "--cpus --period --slice --library --from --want --scale --read --used --range --step --query --node --node-weights --strict -g --group -n --namespace -l --selector -o --output --state --sort --depth --unit --all -v --verbose --alert --command --listen -h --help" -- "$word")
                     ;;
             esac
             ;;
         watch)
             case $given in
-                --alert) ;;
-                --after) ;;
-                --command) ;;
-                --listen) ;;
-                --textfile) ;;
-                --for) ;;
-                --cpus|--processors) ;;
+                *)
+                    [[ $word == -* ]] && mapfile -t COMPREPLY < <(compgen -W "-h --help" -- "$word")
+                    ;;
+            esac
+            ;;
+        export)
+            case $given in
+                --cpus) ;;
                 --period) ;;
                 --slice) ;;
                 --library) ;;
-                --from) mapfile -t COMPREPLY < <(compgen -W "script toml yaml json cgroup kubernetes systemd docker slurm" -- "$word") ;;
+                --from) mapfile -t COMPREPLY < <(compgen -W "script toml json cgroup kubernetes systemd docker slurm" -- "$word") ;;
                 --want) mapfile -t COMPREPLY < <(compgen -W "usage peak p95 psi limit request busy" -- "$word") ;;
                 --scale) ;;
-                --interval) ;;
-                --samples) ;;
-                --later) ;;
-                --depth-read) ;;
-                --usage) ;;
-                --cgroup) ;;
+                --read) ;;
+                --used) ;;
+                --range) ;;
+                --step) ;;
+                --query) ;;
                 --node) ;;
-                --conversion) mapfile -t COMPREPLY < <(compgen -W "linear log" -- "$word") ;;
-                --kubelet) mapfile -t COMPREPLY < <(compgen -W "linear log" -- "$word") ;;
-                --runtime) mapfile -t COMPREPLY < <(compgen -W "linear log" -- "$word") ;;
-                --driver) mapfile -t COMPREPLY < <(compgen -W "systemd cgroupfs" -- "$word") ;;
+                --node-weights) mapfile -t COMPREPLY < <(compgen -W "linear log runtime-log" -- "$word") ;;
+                -o|--output) mapfile -t COMPREPLY < <(compgen -W "script toml json" -- "$word") ;;
+                --set) ;;
                 *)
-                    [[ $word == -* ]] && mapfile -t COMPREPLY < <(compgen -W "--alert --after --command --listen --textfile --for --once --cpus --processors --period --slice --library --from --want --scale --interval --samples --later --own --depth-read --usage --cgroup --node --conversion --kubelet --runtime --driver --strict -h --help" -- "$word")
+                    [[ $word == -* ]] && mapfile -t COMPREPLY < <(compgen -W "--cpus --period --slice --library --from --want --scale --read --used --range --step --query --node --node-weights --strict -o --output -v --verbose --set -h --help" -- "$word")
                     ;;
             esac
             ;;
         audit)
             case $given in
-                --for) ;;
-                --html) ;;
-                --anonymous) ;;
-                --prometheus) ;;
-                --query) ;;
-                --start) ;;
-                --end) ;;
-                --step) ;;
-                --label) ;;
-                --cpus|--processors) ;;
+                --cpus) ;;
                 --period) ;;
                 --slice) ;;
                 --library) ;;
-                --from) mapfile -t COMPREPLY < <(compgen -W "script toml yaml json cgroup kubernetes systemd docker slurm" -- "$word") ;;
+                --from) mapfile -t COMPREPLY < <(compgen -W "script toml json cgroup kubernetes systemd docker slurm" -- "$word") ;;
                 --want) mapfile -t COMPREPLY < <(compgen -W "usage peak p95 psi limit request busy" -- "$word") ;;
-                --scale) ;;
-                --interval) ;;
-                --samples) ;;
-                --later) ;;
-                --depth-read) ;;
-                --usage) ;;
-                --cgroup) ;;
+                --read) ;;
+                --used) ;;
+                --range) ;;
+                --step) ;;
+                --query) ;;
                 --node) ;;
-                --conversion) mapfile -t COMPREPLY < <(compgen -W "linear log" -- "$word") ;;
-                --kubelet) mapfile -t COMPREPLY < <(compgen -W "linear log" -- "$word") ;;
-                --runtime) mapfile -t COMPREPLY < <(compgen -W "linear log" -- "$word") ;;
-                --driver) mapfile -t COMPREPLY < <(compgen -W "systemd cgroupfs" -- "$word") ;;
+                --node-weights) mapfile -t COMPREPLY < <(compgen -W "linear log runtime-log" -- "$word") ;;
+                -o|--output) mapfile -t COMPREPLY < <(compgen -W "text json html" -- "$word") ;;
                 *)
-                    [[ $word == -* ]] && mapfile -t COMPREPLY < <(compgen -W "--for --json --html --anonymous --prometheus --query --start --end --step --label --cpus --processors --period --slice --library --from --want --scale --interval --samples --later --own --depth-read --usage --cgroup --node --conversion --kubelet --runtime --driver --strict -h --help" -- "$word")
+                    [[ $word == -* ]] && mapfile -t COMPREPLY < <(compgen -W "--cpus --period --slice --library --from --want --read --used --range --step --query --node --node-weights --strict -o --output -v --verbose -h --help" -- "$word")
                     ;;
             esac
             ;;
         fleet)
             case $given in
-                --hosts) ;;
-                --by) mapfile -t COMPREPLY < <(compgen -W "least-loss most-left" -- "$word") ;;
-                --set) ;;
-                --html) ;;
-                --db) ;;
-                --rows) ;;
-                --unit) mapfile -t COMPREPLY < <(compgen -W "cpu m % slices us" -- "$word") ;;
-                --sample) ;;
-                --map) ;;
-                --host-label) ;;
-                --prometheus) ;;
-                --query) ;;
-                --start) ;;
-                --end) ;;
-                --step) ;;
-                --label) ;;
-                --workers) ;;
-                --scheduler) ;;
-                --recheck) ;;
-                --deadline) ;;
-                --cpus|--processors) ;;
-                --period) ;;
-                --slice) ;;
-                --library) ;;
-                --from) mapfile -t COMPREPLY < <(compgen -W "script toml yaml json cgroup kubernetes systemd docker slurm" -- "$word") ;;
-                --want) mapfile -t COMPREPLY < <(compgen -W "usage peak p95 psi limit request busy" -- "$word") ;;
-                --scale) ;;
-                --interval) ;;
-                --samples) ;;
-                --later) ;;
-                --depth-read) ;;
-                --usage) ;;
-                --cgroup) ;;
-                --node) ;;
-                --conversion) mapfile -t COMPREPLY < <(compgen -W "linear log" -- "$word") ;;
-                --kubelet) mapfile -t COMPREPLY < <(compgen -W "linear log" -- "$word") ;;
-                --runtime) mapfile -t COMPREPLY < <(compgen -W "linear log" -- "$word") ;;
-                --driver) mapfile -t COMPREPLY < <(compgen -W "systemd cgroupfs" -- "$word") ;;
                 *)
-                    [[ $word == -* ]] && mapfile -t COMPREPLY < <(compgen -W "--hosts --by --set --json --html --db --rows --unit --sample --map --host-label --prometheus --query --start --end --step --label --workers --scheduler --recheck --deadline --cpus --processors --period --slice --library --from --want --scale --interval --samples --later --own --depth-read --usage --cgroup --node --conversion --kubelet --runtime --driver --strict -h --help" -- "$word")
-                    ((COMP_CWORD == 2)) && [[ $word != -* ]] && mapfile -t COMPREPLY < <(compgen -W "plan series place what-if" -- "$word")
+                    [[ $word == -* ]] && mapfile -t COMPREPLY < <(compgen -W "-h --help" -- "$word")
                     ;;
             esac
             ;;
         apply)
             case $given in
-                --set) ;;
-                --root) ;;
-                --by) mapfile -t COMPREPLY < <(compgen -W "systemd files" -- "$word") ;;
-                --as) mapfile -t COMPREPLY < <(compgen -W "dropin kubectl-patch compose ansible slurm shell" -- "$word") ;;
-                --to) ;;
-                --undo) ;;
-                --cpus|--processors) ;;
+                --cpus) ;;
                 --period) ;;
                 --slice) ;;
                 --library) ;;
-                --from) mapfile -t COMPREPLY < <(compgen -W "script toml yaml json cgroup kubernetes systemd docker slurm" -- "$word") ;;
-                --want) mapfile -t COMPREPLY < <(compgen -W "usage peak p95 psi limit request busy" -- "$word") ;;
-                --scale) ;;
-                --interval) ;;
-                --samples) ;;
-                --later) ;;
-                --depth-read) ;;
-                --usage) ;;
-                --cgroup) ;;
+                --from) mapfile -t COMPREPLY < <(compgen -W "script toml json cgroup kubernetes systemd docker slurm" -- "$word") ;;
                 --node) ;;
-                --conversion) mapfile -t COMPREPLY < <(compgen -W "linear log" -- "$word") ;;
-                --kubelet) mapfile -t COMPREPLY < <(compgen -W "linear log" -- "$word") ;;
-                --runtime) mapfile -t COMPREPLY < <(compgen -W "linear log" -- "$word") ;;
-                --driver) mapfile -t COMPREPLY < <(compgen -W "systemd cgroupfs" -- "$word") ;;
+                --node-weights) mapfile -t COMPREPLY < <(compgen -W "linear log runtime-log" -- "$word") ;;
+                -o|--output) mapfile -t COMPREPLY < <(compgen -W "text kubectl dropin compose shell slurm" -- "$word") ;;
+                --set) ;;
+                --root) ;;
+                --by) mapfile -t COMPREPLY < <(compgen -W "systemd persistent files" -- "$word") ;;
+                --undo) ;;
                 *)
-                    [[ $word == -* ]] && mapfile -t COMPREPLY < <(compgen -W "--set --root --by --persistent --as --to --undo --yes --dry-run --cpus --processors --period --slice --library --from --want --scale --interval --samples --later --own --depth-read --usage --cgroup --node --conversion --kubelet --runtime --driver --strict -h --help" -- "$word")
+                    [[ $word == -* ]] && mapfile -t COMPREPLY < <(compgen -W "--cpus --period --slice --library --from --node --node-weights --strict -o --output -v --verbose --set --yes --root --by --undo -h --help" -- "$word")
                     ;;
             esac
             ;;
         undo)
             case $given in
                 *)
-                    [[ $word == -* ]] && mapfile -t COMPREPLY < <(compgen -W "--force --yes --dry-run -h --help" -- "$word")
+                    [[ $word == -* ]] && mapfile -t COMPREPLY < <(compgen -W "-v --verbose --yes --force -h --help" -- "$word")
                     ;;
             esac
             ;;
         hold)
             case $given in
+                --cpus) ;;
+                --period) ;;
+                --slice) ;;
+                --library) ;;
+                --read) ;;
+                -o|--output) mapfile -t COMPREPLY < <(compgen -W "json openmetrics" -- "$word") ;;
+                --depth) ;;
                 --root) ;;
-                --interval) ;;
-                --for) ;;
                 --undo) ;;
-                --openmetrics) ;;
-                --depth-read) ;;
-                --cpus|--processors) ;;
-                --period) ;;
-                --slice) ;;
-                --library) ;;
                 *)
-                    [[ $word == -* ]] && mapfile -t COMPREPLY < <(compgen -W "--root --interval --for --once --dry-run --undo --weights --burst --openmetrics --depth-read --force --cpus --processors --period --slice --library -h --help" -- "$word")
-                    ;;
-            esac
-            ;;
-        import)
-            case $given in
-                --to) mapfile -t COMPREPLY < <(compgen -W "script toml yaml json" -- "$word") ;;
-                -o|--output) ;;
-                --set) ;;
-                --cpus|--processors) ;;
-                --period) ;;
-                --slice) ;;
-                --library) ;;
-                --from) mapfile -t COMPREPLY < <(compgen -W "script toml yaml json cgroup kubernetes systemd docker slurm" -- "$word") ;;
-                --want) mapfile -t COMPREPLY < <(compgen -W "usage peak p95 psi limit request busy" -- "$word") ;;
-                --scale) ;;
-                --interval) ;;
-                --samples) ;;
-                --later) ;;
-                --depth-read) ;;
-                --usage) ;;
-                --cgroup) ;;
-                --node) ;;
-                --conversion) mapfile -t COMPREPLY < <(compgen -W "linear log" -- "$word") ;;
-                --kubelet) mapfile -t COMPREPLY < <(compgen -W "linear log" -- "$word") ;;
-                --runtime) mapfile -t COMPREPLY < <(compgen -W "linear log" -- "$word") ;;
-                --driver) mapfile -t COMPREPLY < <(compgen -W "systemd cgroupfs" -- "$word") ;;
-                *)
-                    [[ $word == -* ]] && mapfile -t COMPREPLY < <(compgen -W "--to -o --output --set --cpus --processors --period --slice --library --from --want --scale --interval --samples --later --own --depth-read --usage --cgroup --node --conversion --kubelet --runtime --driver --strict -h --help" -- "$word")
-                    ((COMP_CWORD == 2)) && [[ $word != -* ]] && mapfile -t COMPREPLY < <(compgen -W "script toml yaml json cgroup kubernetes systemd docker slurm any" -- "$word")
-                    ;;
-            esac
-            ;;
-        from-cgroup)
-            case $given in
-                --to) mapfile -t COMPREPLY < <(compgen -W "script toml yaml json" -- "$word") ;;
-                -o|--output) ;;
-                --set) ;;
-                --cpus|--processors) ;;
-                --period) ;;
-                --slice) ;;
-                --library) ;;
-                --from) mapfile -t COMPREPLY < <(compgen -W "script toml yaml json cgroup kubernetes systemd docker slurm" -- "$word") ;;
-                --want) mapfile -t COMPREPLY < <(compgen -W "usage peak p95 psi limit request busy" -- "$word") ;;
-                --scale) ;;
-                --interval) ;;
-                --samples) ;;
-                --later) ;;
-                --depth-read) ;;
-                --usage) ;;
-                --cgroup) ;;
-                --node) ;;
-                --conversion) mapfile -t COMPREPLY < <(compgen -W "linear log" -- "$word") ;;
-                --kubelet) mapfile -t COMPREPLY < <(compgen -W "linear log" -- "$word") ;;
-                --runtime) mapfile -t COMPREPLY < <(compgen -W "linear log" -- "$word") ;;
-                --driver) mapfile -t COMPREPLY < <(compgen -W "systemd cgroupfs" -- "$word") ;;
-                *)
-                    [[ $word == -* ]] && mapfile -t COMPREPLY < <(compgen -W "--to -o --output --set --cpus --processors --period --slice --library --from --want --scale --interval --samples --later --own --depth-read --usage --cgroup --node --conversion --kubelet --runtime --driver --strict -h --help" -- "$word")
+                    [[ $word == -* ]] && mapfile -t COMPREPLY < <(compgen -W "--cpus --period --slice --library --read -o --output --depth -v --verbose --yes --root --undo --force --weights -h --help" -- "$word")
                     ;;
             esac
             ;;

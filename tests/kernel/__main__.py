@@ -26,7 +26,7 @@ LATER = 21300
 BATCH = 12
 # Seconds of a processor for a second of a guest of one processor, and of up to four, about.
 ONE_GUEST, SEVERAL = 0.5, 1
-# What `arbiterctl import` writes above the demand of a group whose tasks are known.
+# What `arbiterctl export` writes above the demand of a group whose tasks are known.
 TASKS = re.compile(r"# tasks ([0-9]+)")
 
 EPILOG = """\
@@ -42,8 +42,8 @@ def sources(words: list[str]) -> list[Scenario]:
     found = []
     for word in words or [""]:
         path = Path(word)
-        if path.suffix in (".toml", ".yaml", ".json") and path.is_file():
-            text = packages.said([sys.executable, str(ARBITERCTL), "import", path.suffix[1:], word])
+        if path.suffix in (".toml", ".json") and path.is_file():
+            text = packages.said([sys.executable, str(ARBITERCTL), "export", word])
             found.append(scenario.parse(path.stem, with_host(text)))
         elif path.suffix == ".script" and path.is_file():
             found.append(scenario.read(path))
@@ -57,7 +57,7 @@ def sources(words: list[str]) -> list[Scenario]:
 
 
 def with_host(text: str) -> str:
-    """A script of `arbiterctl import` with what its comments say as options: the first line has
+    """A script of `arbiterctl export` with what its comments say as options: the first line has
     the host, and a line above a demand the number of the group's tasks."""
     head, *rest = text.splitlines()
     lines = ["# a host file", f"#: {head.partition(' run ')[2]}"]
@@ -117,7 +117,7 @@ def arguments(words: list[str]) -> argparse.Namespace:
                         help="give the guest something else than the plan, which has to be seen")
     parser.add_argument("--files", action="store_true",
                         help="test the real files instead: what the kernel takes and shows, and"
-                        " arbiterctl import, apply, undo and hold")
+                        " arbiterctl export, apply, undo and hold")
     parser.add_argument("--list", action="store_true", help="print the scenarios and end")
     return parser.parse_args(words)
 

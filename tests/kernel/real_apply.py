@@ -1,4 +1,4 @@
-"""`arbiterctl import`, `apply` and `undo` on the real files of a guest, by the guest's Python."""
+"""`arbiterctl export`, `apply` and `undo` on the real files of a guest, by the guest's Python."""
 from __future__ import annotations
 
 import json
@@ -42,9 +42,9 @@ class Phase:
 
 
 def imported(to: str) -> list[str]:
-    """The words of `import`."""
-    return ["import", "cgroup", layout.HOME, "--want", "limit", "--cpus", "2", "--slice", "1ms",
-            "-o", to]
+    """The words of `export`."""
+    return ["export", layout.HOME, "--want", "limit", "--cpus", "2", "--slice", "1ms",
+            "-o", f"script={to}"]
 
 
 def applied(undo: str) -> list[str]:
@@ -61,7 +61,7 @@ def undone(undo: str) -> list[str]:
 
 def steps() -> Iterator[dict[str, Any]]:
     """The steps in order. A command with `kill` is killed when a file holds a text."""
-    yield {"name": "import", "words": imported(BEFORE)}
+    yield {"name": "export", "words": imported(BEFORE)}
     yield {"name": "print", "words": applied("none")[:-1]}
     yield {"name": "apply", "words": applied("one")}
     yield {"name": "undo", "words": undone("one")}

@@ -1,4 +1,4 @@
-"""The real files of cgroup v2: what texts the kernel takes, and `arbiterctl import` of its tree.
+"""The real files of cgroup v2: what texts the kernel takes, and `arbiterctl export` of its tree.
 
 The tree is brought out of the guest as an archive, and imported here.
 """
@@ -113,8 +113,8 @@ def settings(tree: Path) -> dict[str, tuple[str, str, str]]:
 
 
 def imported(tree: Path) -> Scenario:
-    """The script that `arbiterctl import` makes of a copy of the tree, on this machine."""
-    words = [PYTHON, str(PACKAGE / "arbiterctl"), "import", "cgroup", str(tree), "--want", "limit",
+    """The script that `arbiterctl export` makes of a copy of the tree, on this machine."""
+    words = [PYTHON, str(PACKAGE / "arbiterctl"), "export", str(tree), "--want", "limit",
              "--cpus", "2", "--slice", "1ms"]
     ended = subprocess.run(words, capture_output=True, text=True, check=False, timeout=120)
     if ended.returncode:

@@ -71,7 +71,7 @@ def settings_of(phase):
 
 
 @pytest.mark.parametrize("name, wanted", [
-    ("made", OLD), ("import", OLD), ("print", OLD), ("apply", NEW), ("undo", OLD),
+    ("made", OLD), ("export", OLD), ("print", OLD), ("apply", NEW), ("undo", OLD),
     ("undone a00", OLD), ("undone a13", OLD), ("undone b00", OLD), ("apply again", NEW),
     ("undone again", OLD), ("churn import", OLD), ("churn apply", NEW), ("churn undo", OLD),
 ])

@@ -353,8 +353,8 @@ class Source:
 
     def pods_where(self, namespaces: Sequence[str], labels: Mapping[str, str]) -> list[str]:
         """The groups of the pods of some namespaces (none for any) that have all labels."""
-        fits = [(not namespaces or pod.namespace in namespaces) and labels.items() <= set(pod.labels)
-                for pod in self.pods]
+        fits = [(not namespaces or pod.namespace in namespaces)
+                and labels.items() <= set(pod.labels) for pod in self.pods]
         return list(dict.fromkeys(names.parent_path(path)
                                   for path, (place, _) in self.built[1].items() if fits[place]))
 
