@@ -4,12 +4,13 @@ from __future__ import annotations
 import argparse
 import os
 import sys
+import time
 from collections.abc import Sequence
 from typing import TYPE_CHECKING, Any, NoReturn
 
 from arbiter_host import __version__, helps, names, options as table
 from arbiter_host.faults import HostFault, missing_module
-from arbiter_host.output import drop_output, tell
+from arbiter_host.output import drop_output, say, tell
 from arbiter_host.subcommands import PLACES, find
 
 if TYPE_CHECKING:
@@ -91,8 +92,10 @@ def run(words: Sequence[str] | None = None) -> int:
     """Runs the command and returns its exit status."""
     try:
         words = sys.argv[1:] if words is None else words
-        options = parsed(words)
+        began, options = time.monotonic(), parsed(words)
         options.run(options)
+        if options.verbose:
+            say(f"{time.monotonic() - began:.2f} seconds")
     except HostFault as fault:
         tell(fault)
         drop_output()

@@ -31,6 +31,12 @@ def pairs(one: Plan, two: Plan, view: View = View()) -> list[Pair]:
             if view.chosen is None or path in view.chosen]
 
 
+def differing(one: Plan, two: Plan, view: View = View()) -> list[Pair]:
+    """The chosen groups that are not the same in both plans, in the order asked for."""
+    found = [pair for pair in pairs(one, two, view) if differs(one, two, pair)]
+    return sorted(found, key=lambda pair: -abs(gain(one, two, pair))) if view.sort else found
+
+
 def facts(plan: Plan, group: Planned) -> tuple[Any, ...]:
     """What is compared of a group, in thousandths of a CPU: hosts may have other slices."""
     limit = None if group.limit is None else plan.thousandths(group.limit)
@@ -120,16 +126,13 @@ def heads(one: Plan, two: Plan, view: View) -> Iterator[tuple[str, str]]:
 def table(one: Plan, two: Plan, view: View) -> list[tuple[str, str]]:
     """All lines with their styles. Groups that are the same are counted."""
     found = list(heads(one, two, view))
-    all_ = pairs(one, two, view)
-    differ = [pair for pair in all_ if differs(one, two, pair)]
-    if view.sort:
-        differ.sort(key=lambda pair: -abs(gain(one, two, pair)))
+    count, differ = len(pairs(one, two, view)), differing(one, two, view)
     if differ:
         # In a narrow table names are cut and not reasons.
         lines = text.reasoned_table(HEADS, [row(one, two, pair, view) for pair in differ],
                                     view.width, tail, keeps_names=view.width >= WIDE)
         found += zip(lines, ["bold", *(style_of(one, two, pair) for pair in differ)])
-    found.append((f"{len(all_) - len(differ)} of {len(all_)} groups are the same in both", ""))
+    found.append((f"{count - len(differ)} of {count} groups are the same in both", ""))
     if any("THROTTLED*" in line for line, _ in found):
         found.append((explain.THROTTLED_NOTE, ""))
     return found
@@ -138,6 +141,6 @@ def table(one: Plan, two: Plan, view: View) -> list[tuple[str, str]]:
 def as_data(one: Plan, two: Plan, view: View = View()) -> dict[str, Any]:
     """Both plans as data, and the paths that differ with their change."""
     changed = [{"group": pair.path, "change_millicpu": gain(one, two, pair)}
-               for pair in pairs(one, two, view) if differs(one, two, pair)]
+               for pair in differing(one, two, view)]
     return {"before": explain.as_data(one, view), "after": explain.as_data(two, view),
             "changed": changed}

@@ -129,11 +129,10 @@ def ordered(groups: Sequence[Planned], view: View) -> list[Planned]:
 
 def below(group: Planned, view: View) -> list[Planned]:
     """The children of a group that are shown. Those that ask for nothing are left out, unless all
-    are asked for, or some groups are chosen."""
+    are asked for."""
     if group.depth >= view.depth:
         return []
-    has_all = view.everything or view.chosen is not None
-    return ordered([each for each in group.children if each.want > 0 or has_all], view)
+    return ordered([each for each in group.children if each.want > 0 or view.everything], view)
 
 
 def tops(plan: Plan, view: View) -> list[Planned]:
@@ -146,15 +145,16 @@ def tops(plan: Plan, view: View) -> list[Planned]:
 
 def family(plan: Plan, view: View) -> list[Planned]:
     """The groups of a page or a picture in the order of the tree: those chosen, and all above."""
+    tree = list(walk([plan.root], lambda group: ordered(group.children, view)))
     if view.chosen is None:
-        return list(walk([plan.root]))
+        return tree
     rows = {0}
     for group in plan.groups:
         above: Planned | None = group if group.path in view.chosen else None
         while above is not None and above.row not in rows:
             rows.add(above.row)
             above = None if above.parent is None else plan.groups[above.parent]
-    return [group for group in walk([plan.root]) if group.row in rows]
+    return [group for group in tree if group.row in rows]
 
 
 def size(group: Planned) -> int:
@@ -260,8 +260,9 @@ def foot(plan: Plan, view: View, lines: Sequence[str]) -> Iterator[str]:
     """The lines below the table."""
     if any("THROTTLED*" in line for line in lines):
         yield THROTTLED_NOTE
-    idle = sum(1 for group in plan.groups[1:] if group.want == 0)
-    if idle and not view.everything and not view.is_flat and view.chosen is None:
+    idle = sum(1 for group in plan.groups[1:] if group.want == 0 and view.has(group)
+               and view.has(plan.groups[group.parent or 0]))
+    if idle and not view.everything and not view.is_flat:
         yield f"groups that ask for nothing and are left out (--all shows them): {idle}"
 
 

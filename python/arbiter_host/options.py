@@ -16,7 +16,7 @@ from __future__ import annotations
 import argparse
 import os
 import re
-from collections.abc import Mapping
+from collections.abc import Mapping, Sequence
 from typing import Any, NamedTuple
 
 from arbiter_host.faults import UsageFault
@@ -50,6 +50,8 @@ FORMS: dict[str, tuple[str, ...]] = {
     "apply": ("text", "kubectl", "dropin", "compose", "shell", "slurm"),
     "hold": ("json", "openmetrics"),
 }
+# Forms that list groups.
+LISTS = ("text", "json", "csv")
 # Subcommands that read a source, that measure one, and that take many hosts.
 READ = ("explain", "diff", "tune", "recommend", "replay", "top", "place", "export", "audit",
         "apply")
@@ -74,9 +76,11 @@ class Option(NamedTuple):
     is_number: bool = False
     # Its value is several words of `choices`, with commas between them.
     is_list: bool = False
-    # The kinds of sources for which it holds, and the forms of --used with which it does.
+    # The kinds of sources for which it holds, the forms of --used with which it does, and the forms
+    # of -o in which it shows (empty for all).
     kinds: tuple[str, ...] = ALL
     used: tuple[str, ...] = ()
+    forms: tuple[str, ...] = ()
     kinds_of: Mapping[str, tuple[str, ...]] = {}
     choices_of: Mapping[str, tuple[str, ...]] = {}
     helps: Mapping[str, str] = {}
@@ -192,12 +196,14 @@ TABLE = (
                          " `openmetrics=FILE` keeps the last round in a file for a textfile"
                          " collector; may be said again"}),
     Option(("--state",), "state", "view", ("explain", "top"), "the groups alone that are one of: "
-           + ", ".join(STATES), "WORD,..", STATES, is_list=True, kinds=KINDS),
+           + ", ".join(STATES), "WORD,..", STATES, is_list=True, kinds=KINDS,
+           forms=LISTS),
     Option(("--sort",), "sort", "view", ("explain", "diff", "top"), "order of the groups",
-           choices=SORTS, kinds=KINDS, choices_of={"diff": ("change",)},
+           choices=SORTS, kinds=KINDS, forms=(*LISTS, "html"), choices_of={"diff": ("change",)},
            helps={"diff": "`change`: the groups that change most first"}),
     Option(("--depth",), "depth", "view", ("explain", "top", "hold"), "leave out groups more than N"
            " below the root, 0 to 64", "N", is_number=True, default=MAX_DEPTH, kinds=KINDS,
+           forms=(*LISTS, "svg", "openmetrics"),
            helps={"hold": "hold groups N below DIR as one, 1 to 64 (default 64): who owns the"
                           " groups below can set their limits"}),
     Option(("--unit",), "unit", "view", ("explain", "diff", "tune", "recommend", "replay", "top"),
@@ -207,7 +213,7 @@ TABLE = (
                   "recommend": "unit of a history (default cpu)"}),
     Option(("--all",), "everything", "view", ("explain", "diff", "replay", "top", "place"), "show"
            " all: groups that ask for nothing, and each host of many", is_flag=True,
-           kinds_of={"diff": (HOSTS,), "replay": (HOSTS,)}),
+           forms=("text",), kinds_of={"diff": (HOSTS,), "replay": (HOSTS,)}),
     Option(("-v", "--verbose"), "verbose", "view", (*READ, "undo", "hold"), "say on standard error"
            " how long it took", is_flag=True),
     Option(("--set",), "set", "change", ("diff", "tune", "apply", "export"), "a change, such as"
@@ -345,13 +351,23 @@ def check(options: argparse.Namespace, kind: str) -> None:
         raise UsageFault(f"{each.name}: it has no effect on {words_of_kind(kind)}")
 
 
+def check_forms(options: argparse.Namespace, outputs_: Sequence[Output]) -> None:
+    """A fault where an option was given that shows in none of the forms asked for."""
+    for each in of(options.asked):
+        if each.dest in options.given and each.forms and not any(
+                form in each.forms for form, _ in outputs_):
+            raise UsageFault(f"{each.name}: it has no effect on"
+                             f" -o {' and '.join(form for form, _ in outputs_)}")
+
+
 def words_of_kind(kind: str) -> str:
     """A kind of source, for messages."""
     return "many hosts" if kind == HOSTS else f"a source of the kind {kind}"
 
 
 def outputs(options: argparse.Namespace) -> list[Output]:
-    """The forms and files that are asked for, at most one on standard output."""
+    """The forms and files that are asked for, at most one on standard output. A fault where an
+    option was given that shows in none of them."""
     forms = FORMS[options.asked]
     found = []
     for word in options.output or [forms[0]]:
@@ -362,6 +378,7 @@ def outputs(options: argparse.Namespace) -> list[Output]:
         found.append(Output(form, path or "-"))
     if sum(1 for each in found if each.path == "-") > 1:
         raise UsageFault("-o: one form alone has room on standard output: write -o FORM=FILE")
+    check_forms(options, found)
     return found
 
 

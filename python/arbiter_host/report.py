@@ -70,12 +70,11 @@ def changes(before: Plan, plan: Plan, view: View, words: Sequence[str]) -> dict[
     """The table of what differs from an earlier plan, and the words that change it."""
     wide = view._replace(width=1000)
     rows = []
-    for pair in diff.pairs(before, plan, view):
-        if diff.differs(before, plan, pair):
-            cells, (why, *_), name = diff.row(before, plan, pair, wide)
-            keys = ("got", "gets", "change", "wanted", "wants")
-            rows.append({**dict(zip(keys, cells)), "why": why, "name": name,
-                         "kind": KINDS.get(diff.style_of(before, plan, pair), "")})
+    for pair in diff.differing(before, plan, view):
+        cells, (why, *_), name = diff.row(before, plan, pair, wide)
+        keys = ("got", "gets", "change", "wanted", "wants")
+        rows.append({**dict(zip(keys, cells)), "why": why, "name": name,
+                     "kind": KINDS.get(diff.style_of(before, plan, pair), "")})
     heads = [next(explain.head(each, view)) for each in (before, plan)]
     return {"before": heads[0], "after": heads[1], "rows": rows, "words": list(words)}
 

@@ -78,6 +78,16 @@ def test_outputs():
             found(*words)
 
 
+@pytest.mark.parametrize("words, said", [
+    (["--state", "hurt", "-o", "svg"], "--state: it has no effect on -o svg"),
+    (["--all", "-o", "json", "-o", "csv=f"], "--all: it has no effect on -o json and csv"),
+])
+def test_no_effect_on_a_form_is_refused(words, said):
+    with pytest.raises(UsageFault, match=re.escape(said)):
+        table.outputs(parsed("explain", *words))
+    table.outputs(parsed("explain", *words, "-o", "text=g"))
+
+
 def test_readings():
     assert table.readings("10x1s") == (10, "1s")
     assert table.readings("x5min") == (None, "5min")
