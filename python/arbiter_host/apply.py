@@ -31,13 +31,11 @@ VERSION = 1
 
 
 class By(Enum):
-    """By which changes are made: files alone, or properties of units where a group is one.
-
-    systemd drops properties at the next boot, or keeps them.
-    """
+    """By which changes are made, as --by has it: files alone, or properties of units where a group
+    is one, which systemd drops at the next boot or keeps."""
 
     FILES = "files"
-    RUNTIME = "runtime"
+    RUNTIME = "systemd"
     PERSISTENT = "persistent"
 
 

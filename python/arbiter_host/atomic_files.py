@@ -10,9 +10,10 @@ import errno
 import os
 import secrets
 import stat
-from collections.abc import Callable, Iterator
-from contextlib import ExitStack, contextmanager, suppress
+from collections.abc import Callable, Iterator, Sequence
+from contextlib import ExitStack, closing, contextmanager, suppress
 from dataclasses import dataclass, field
+from typing import NamedTuple
 
 from arbiter_host.faults import HostFault, strerror
 from arbiter_host.names import shown
@@ -210,6 +211,32 @@ class Place:
     def close(self) -> None:
         """Closes the folder."""
         os.close(self.folder)
+
+
+class Document(NamedTuple):
+    """A file that is to be written: its path, and its text."""
+
+    path: str
+    text: str
+
+
+def put_all(documents: Sequence[Document], mark: str, by: str) -> None:
+    """Writes files, all whole or none. They get their names when each is on the disk.
+
+    A file that is there has to have a mark at its beginning, as all have that `by` writes.
+    """
+    with ExitStack() as opened:
+        places = []
+        for path, text in documents:
+            place = opened.enter_context(closing(place_of(path)))
+            with faults(path, WRITTEN):
+                place.check_ours(path, mark, f"was not written by {by}{WRITTEN}")
+                opened.enter_context(place.waiting(text.encode("utf-8", "surrogateescape")))
+            places.append(place)
+        for (path, _), place in zip(documents, places):
+            with faults(path, WRITTEN):
+                place.give_name()
+                os.fsync(place.folder)
 
 
 def place_of(path: str, opens: Callable[[str], int] = own_folder, mode: int = 0o600,

@@ -1,11 +1,12 @@
-"""Changes of a model by words such as `web.weight=200` and `prod/web/app.request=500m`."""
+"""Changes of a model by words such as `web.weight=200`, `prod/web/app.request=500m`, `.cpus=8`."""
 from __future__ import annotations
 
 from collections.abc import Sequence
+from dataclasses import replace
 
-from arbiter_host import demands, names, output, owned
+from arbiter_host import demands, names, output, owned, units
 from arbiter_host.faults import HostFault, UsageFault
-from arbiter_host.model import Group, Model, check_settings
+from arbiter_host.model import Group, Model, check_settings, checked
 from arbiter_host.owned import Owned, Setting
 from arbiter_host.sources import hostfile
 
@@ -29,10 +30,15 @@ def is_owned(word: str) -> bool:
     return split(word)[1] in owned.KEYS
 
 
+def is_host(word: str) -> bool:
+    """Whether a word changes the host."""
+    return word.startswith(".") and word[1:].partition("=")[0] in hostfile.HOST_KEYS
+
+
 def taken(key: str, value: str) -> object:
     """A value as a host file has it."""
     is_number = value.isascii() and value.isdigit() and len(value) < 30
-    return int(value) if key in ("weight", "tasks") and is_number else value
+    return int(value) if key in ("weight", "tasks", "cpus") and is_number else value
 
 
 def apply(model: Model, group: Group, key: str, value: str, has_children: bool) -> None:
@@ -90,8 +96,26 @@ def made_again(model: Model, words: Sequence[str]) -> Model:
     return after if after.host == model.host else after.with_host(model.host)
 
 
+def on_host(model: Model, words: Sequence[str]) -> Model:
+    """The model on another host, by words such as `.cpus=8`."""
+    host = model.host
+    for word in words:
+        key, _, value = word[1:].partition("=")
+        try:
+            host = replace(host, **{hostfile.HOST_KEYS[key]: hostfile.whole(taken(key, value))
+                                    if key == "cpus" else units.parse_time(value)})
+        except HostFault as fault:
+            raise UsageFault(f"--set {names.shown(word)}: {fault.message}") from fault
+    host = checked(host)
+    return model.with_host(host) if model.owned is None else model.owned.on_host(host).model()
+
+
 def changed(model: Model, words: Sequence[str]) -> Model:
-    """A copy of a model with the changes: first those of settings that people own, then others."""
+    """A copy of a model with the changes: first those of the host, then those of settings that
+    people own, then others."""
+    of_host = [word for word in words if is_host(word)]
+    model = on_host(model, of_host) if of_host else model
+    words = [word for word in words if not is_host(word)]
     own = [word for word in words if is_owned(word)]
     rest = [word for word in words if not is_owned(word)]
     after = made_again(model, own) if own else model.copy()

@@ -3,13 +3,13 @@ from __future__ import annotations
 
 import math
 from collections.abc import Sequence
-from dataclasses import dataclass, field
+from dataclasses import dataclass, field, replace
 from fractions import Fraction
 from typing import NamedTuple
 
 from arbiter import Host
 from arbiter_host import names, units
-from arbiter_host.faults import HostFault, UsageFault
+from arbiter_host.faults import NothingFound, UsageFault
 from arbiter_host.model import Group, Model
 
 WANTS = ("usage", "peak", "p95", "psi", "limit", "request", "busy")
@@ -41,6 +41,19 @@ class Measured:
     tasks: int | None = None
     # Thousandths of a CPU that it used, as others have measured it.
     told: Fraction | None = None
+
+
+# The place of a group among what a source has read.
+Place = tuple[int, int]
+
+
+@dataclass(frozen=True)
+class Use:
+    """What was seen of a group: thousandths in each sample, and what it wanted at least where its
+    limit has throttled it."""
+
+    values: tuple[Fraction, ...]
+    wanted: Fraction = Fraction(0)
 
 
 def rise(before: int | None, after: int | None) -> int | None:
@@ -99,6 +112,17 @@ def pressed(group: Group, measured: Measured, host: Host, seconds: Fraction) -> 
         raised = limit_of(group, host) * Fraction(periods, max(periods - throttled, 1))
         found = max(found, min(raised, Fraction(1000 * host.processors)))
     return found
+
+
+def use_of(group: Group, measured: Measured, host: Host, seconds: Fraction) -> Use | None:
+    """What was seen of a group. Its waiting does not count: it may be for others, not its limit."""
+    values = used(measured, seconds)
+    if not values:
+        return None
+    if not sum(rises(measured.readings, "throttled")):
+        return Use(tuple(values))
+    counted = replace(measured, readings=[each._replace(pressure=0) for each in measured.readings])
+    return Use(tuple(values), pressed(group, counted, host, seconds))
 
 
 def wanted(want: str, group: Group, measured: Measured, host: Host,
@@ -176,13 +200,23 @@ def matching(model: Model, pattern: str) -> list[Group]:
     return found
 
 
-def absent(model: Model, pattern: str) -> HostFault:
+def below(model: Model, patterns: Sequence[str]) -> set[str]:
+    """The groups that patterns match, and those below them."""
+    tops = {group.path for pattern in patterns for group in matching(model, pattern)}
+    found = set[str]()
+    for path in model.groups:
+        if path in tops or names.parent_path(path) in found:
+            found.add(path)
+    return found
+
+
+def absent(model: Model, pattern: str) -> NothingFound:
     """The fault of a group that is not there. It names some whose names have its letters."""
     part = pattern.strip("*/").lower()
     like = [names.shown(path) for path, group in model.groups.items()
             if part and part in f"{path} {group.title}".lower()]
     there = f" (there is {names.few(like, 3)})" if like else ""
-    return HostFault(f"no group {names.shown(pattern)}{there}")
+    return NothingFound(f"no group {names.shown(pattern)}{there}")
 
 
 def scale(model: Model, words: Sequence[str]) -> None:

@@ -3,6 +3,9 @@ from __future__ import annotations
 
 import argparse
 
+from arbiter_host import options
+from arbiter_host.sources.register import READERS
+
 ABOUT = ("Plans for the groups of a real host, each accepted by the proved check before it is"
          " shown.")
 STATUSES = {
@@ -20,21 +23,7 @@ ENVIRONMENT = {
     "NO_COLOR": "If it is set, answers have no colours.",
 }
 # What a source is, by its kind.
-KINDS = {
-    "script": "A script of arbiter(1). Its first line, `# arbiter run --processors N --period U"
-              " --slice U`, is the host.",
-    "toml": "A host file, with amounts such as 250m, 1.5cpu or 40%.",
-    "yaml": "The same in YAML.",
-    "json": "The same in JSON.",
-    "cgroup": "A tree of cgroup v2 or v1, such as /sys/fs/cgroup, or a copy of its files.",
-    "kubernetes": "What `kubectl get pods -o json` prints, and a node's JSON beside it.",
-    "systemd": "What `systemctl show '*.slice' '*.service' '*.scope'` prints.",
-    "docker": "What `docker inspect` or `podman inspect` prints.",
-    "slurm": "What `squeue --json` or `sacct --parsable2` print, and beside them `sstat"
-             " --parsable2` and `sinfo --json`. Newer versions have `scontrol show job --json` and"
-             " `scontrol show node --json`. Columns of sacct that are read: JobID, JobIDRaw,"
-             " JobName, User, State, AllocCPUS, Elapsed, TotalCPU, NodeList.",
-}
+KINDS = {kind: READERS[kind].about for kind in options.KINDS}
 
 
 class Formatter(argparse.HelpFormatter):

@@ -7,29 +7,29 @@ from __future__ import annotations
 import argparse
 import codecs
 import functools
+import importlib
 import os
-import re
 import stat
 import sys
-from collections.abc import Mapping, Sequence
+from collections.abc import Callable, Sequence
 from contextlib import suppress
-from dataclasses import dataclass, replace
+from dataclasses import replace
 from fractions import Fraction
-from typing import TYPE_CHECKING, BinaryIO, Protocol
+from typing import TYPE_CHECKING, BinaryIO
 
 from arbiter import Host, Library
 from arbiter_host import demands, names, options as table, output, safe_files, units
 from arbiter_host.faults import HostFault, RefusedLines, UsageFault, strerror
-from arbiter_host.model import MAX_DEPTH, Model, checked
-from arbiter_host.owned import Owned, Range, Setting
+from arbiter_host.model import MAX_DEPTH, Model
 from arbiter_host.plan import Engine
+from arbiter_host.sources.register import READERS
+from arbiter_host.sources.wish import File, Measurable, Wish
 
 if TYPE_CHECKING:
+    from arbiter_host.owned import Owned
     from arbiter_host.sources import cgroups
     from arbiter_host.sources.usage import Used
 
-KINDS = ("script", "toml", "yaml", "json", "cgroup", "kubernetes", "systemd", "docker",
-         "slurm")
 MAX_FILE = 512 << 20
 TOO_LONG = f"more than {MAX_FILE >> 20} MiB"
 PIECE = 1 << 20
@@ -38,8 +38,8 @@ PACKED = {b"\x1f\x8b": "gzip", b"\xfd7zXZ\0": "xz", b"(\xb5/\xfd": "zstd"}
 # Bytes of UTF-16 that are taken, which PowerShell writes.
 MAX_WIDE = 128 << 20
 MAX_SECONDS = 86400
-# A name and its bytes; None stands for a folder.
-File = tuple[str, bytes | None]
+# A path and its bytes; None stands for a folder.
+Opened = tuple[str, bytes | None]
 
 
 def add_host_options(parser: argparse.ArgumentParser,
@@ -60,7 +60,8 @@ def add_host_options(parser: argparse.ArgumentParser,
 def add_source_options(parser: argparse.ArgumentParser) -> None:
     """The options that say how a source is read."""
     group = parser.add_argument_group("source")
-    group.add_argument("--from", dest="kind", choices=KINDS, help="what the source is (default:"
+    group.add_argument("--from", dest="kind", choices=table.KINDS, help="what the source is ("
+                       "default:"
                        " found from its name and its first bytes)")
     group.add_argument("--want", choices=demands.WANTS, help="what the demands are taken from"
                        " (default: usage of cgroups and with --usage or --cgroup, request of pods,"
@@ -123,22 +124,6 @@ def check_options(options: argparse.Namespace) -> None:
         raise UsageFault("--samples: 2 to 10000")
     if not 1 <= options.depth_read <= MAX_DEPTH:
         raise UsageFault(f"--depth-read: 1 to {MAX_DEPTH}")
-
-
-def chosen_host(options: argparse.Namespace, told: Host) -> Host:
-    """The host that a source tells, with the options in its place."""
-    changes: dict[str, int] = {}
-    for key, name in (("period_us", "period"), ("slice_us", "slice")):
-        if getattr(options, name) is not None:
-            changes[key] = time_option(getattr(options, name), f"--{name}")
-    if options.cpus is not None:
-        changes["processors"] = options.cpus
-    return checked(replace(told, **changes))
-
-
-def is_chosen(options: argparse.Namespace) -> bool:
-    """Whether an option names a part of the host."""
-    return any(each is not None for each in (options.cpus, options.period, options.slice))
 
 
 def bounded(file: BinaryIO) -> bytes:
@@ -210,43 +195,17 @@ def file_bytes(path: str, is_plain: bool = False, is_trusted: bool = False) -> b
     return in_utf8(path, data)
 
 
-def slurm_part(data: bytes) -> str:
-    """Which of Slurm's files this is; empty for none."""
-    from arbiter_host.sources import slurm
-    return slurm.part_of(data)
-
-
-def kind_of_json(data: bytes) -> str:
-    """What JSON holds, by its first keys."""
-    if slurm_part(data):
-        return "slurm"
-    if re.search(rb'"HostConfig"\s*:', data):
-        return "docker"
-    if re.search(rb'"kind"\s*:\s*"(Pod|PodList|Node|NodeList|List|Deployment|StatefulSet|DaemonSet'
-                 rb'|ReplicaSet)"', data):
-        return "kubernetes"
-    return "json"
-
-
 def kind_of(path: str, data: bytes | None) -> str:
     """What a source is: by its name, else by its first bytes. No data stands for a folder."""
     if data is None:
         return "cgroup"
-    ending = path.rpartition(".")[2].lower()
-    known = {"toml": "toml", "yaml": "yaml", "yml": "yaml", "script": "script"}
-    if ending in known:
-        return known[ending]
-    begin = data.lstrip(b"\xef\xbb\xbf \t\r\n")
-    if begin[:1] in (b"{", b"["):
-        return "toml" if re.match(rb"\[[A-Za-z]", begin) else kind_of_json(data)
-    if re.search(rb"^(ControlGroup|Slice|CPUWeight)=", data, re.M):
-        return "systemd"
-    return "slurm" if slurm_part(data) else "script"
-
-
-def machine(options: argparse.Namespace) -> Host:
-    """This machine with slices of 1 ms, with the options in its place."""
-    return chosen_host(options, Host(os.cpu_count() or 1, units.DEFAULT_PERIOD, 1000))
+    name = path.lower()
+    if name.endswith((".yaml", ".yml")):
+        raise HostFault(f"{names.shown(path)}: YAML is not read: write TOML or JSON (of pods:"
+                        " kubectl get pods -o json)")
+    is_named = name.endswith((".toml", ".script"))
+    return next((kind for kind, each in READERS.items()
+                 if each.is_one(name, b"" if is_named else data)), "script")
 
 
 def readings_of(options: argparse.Namespace, want: str) -> cgroups.Wish:
@@ -256,46 +215,24 @@ def readings_of(options: argparse.Namespace, want: str) -> cgroups.Wish:
                         options.depth_read, options.own, want)
 
 
-def read_cgroup(options: argparse.Namespace, path: str) -> Model:
-    """A tree of cgroups."""
-    from arbiter_host.sources import cgroup2
-    wish = readings_of(options, options.want or "usage")
-    if wish.want == "request":
-        raise UsageFault("--want request: cgroups have no requests")
-    return cgroup2.read(path, machine(options), wish)
+def machine(options: argparse.Namespace) -> Host:
+    """This machine with slices of 1 ms, with the options in its place."""
+    return wish_of(options).machine()
 
 
-class Measurable(Owned, Protocol):
-    """A source whose groups are measured elsewhere."""
-
-    def folders(self) -> dict[tuple[int, int], tuple[str, ...]]:
-        """Where each group may be below the top of a tree."""
-
-    def with_readings(self, known: Mapping[tuple[int, int], demands.Measured],
-                      seconds: Fraction) -> Owned:
-        """The same with what was measured in a tree of cgroups."""
-
-    def with_usage(self, entries: Sequence[Used], name: str) -> Owned:
-        """The same with what others measured."""
+def chosen_host(options: argparse.Namespace, told: Host) -> Host:
+    """The host that a source tells, with the options in its place."""
+    return wish_of(options).host(told)
 
 
-def is_measured(options: argparse.Namespace) -> bool:
-    """Whether an option says what groups used that the source has no counters of."""
-    return options.usage is not None or options.cgroup is not None
-
-
-def want_of(options: argparse.Namespace, default: str) -> str:
-    """What the demands are taken from. A fault where that is not what an option says."""
-    if not is_measured(options):
-        return options.want or default
+def check_measured(options: argparse.Namespace) -> None:
+    """A fault where the options say twice what was used, or take demands from something else."""
+    which, want = "--usage" if options.cgroup is None else "--cgroup", options.want
     if options.usage is not None and options.cgroup is not None:
         raise UsageFault("--usage and --cgroup say the same: one of both")
-    want: str = options.want or "usage"
-    if want not in demands.OF_USE or options.usage is not None and want != "usage":
-        which = "--usage belongs to --want usage" if options.usage is not None else (
-            f"--cgroup belongs to --want {', '.join(demands.OF_USE)}")
-        raise UsageFault(f"{which}, and not to {want}")
-    return want
+    if want and (want not in demands.OF_USE or options.cgroup is None and want != "usage"):
+        of = "usage" if options.cgroup is None else ", ".join(demands.OF_USE)
+        raise UsageFault(f"{which} belongs to --want {of}, and not to {want}")
 
 
 @functools.lru_cache(maxsize=1)
@@ -314,160 +251,98 @@ def usage_of(options: argparse.Namespace) -> list[Used]:
     return usage.read(data, names.shown(options.usage))
 
 
-def with_use(options: argparse.Namespace, source: Measurable) -> Owned:
-    """A source with what its groups used, where an option says it."""
-    if options.usage is not None:
-        return source.with_usage(usage_of(options), names.shown(options.usage))
-    if options.cgroup is not None:
+def measured_by(options: argparse.Namespace) -> Callable[[Measurable], Owned] | None:
+    """What gives a source the use of its groups; None where no option says it."""
+    if options.usage is None and options.cgroup is None:
+        return None
+    check_measured(options)
+
+    def measured(source: Measurable) -> Owned:
+        if options.usage is not None:
+            return source.with_usage(usage_of(options), names.shown(options.usage))
         from arbiter_host.sources import beside
         known, seconds = beside.measured(options.cgroup, source.folders(),
                                          readings_of(options, options.want or "usage"))
         return source.with_readings(known, seconds)
-    return source
+
+    return measured
 
 
-def read_script(options: argparse.Namespace, name: str, data: bytes, engine: Engine) -> Model:
-    """A script. Its head line is the host, with the options in its place."""
-    from arbiter_host.sources import script
-    told = script.head_host(script.script_lines(data))
-    host = chosen_host(options, told or Host()) if is_chosen(options) else None
-    return script.read(data, name, engine, host)
+def wish_of(options: argparse.Namespace) -> Wish:
+    """What the options ask of a source."""
+    period, slice_ = (None if getattr(options, name) is None
+                      else time_option(getattr(options, name), f"--{name}")
+                      for name in ("period", "slice"))
+    tree = options.cgroup or (options.root if getattr(options, "asked", "") == "apply"
+                              else "")
+    return Wish(options.cpus, period, slice_, options.node, options.kubelet or options.conversion,
+                options.runtime or options.conversion, options.driver, tree, options.want or "",
+                interval_of(options.interval), measured_by(options))
 
 
-def read_pods(options: argparse.Namespace, files: Sequence[tuple[str, bytes]],
-              library: Library) -> Model:
-    """Pods and a node."""
-    from arbiter_host.sources import kubernetes
-    wish = kubernetes.Wish(options.node, options.kubelet or options.conversion,
-                           options.runtime or options.conversion, options.driver,
-                           want_of(options, "request"))
-    host = None if options.cpus is None else machine(options)
-    return with_use(options, kubernetes.source_of(files, host, library, wish)).model()
-
-
-def read_containers(options: argparse.Namespace, files: Sequence[tuple[str, bytes]],
-                    library: Library) -> Model:
-    """Containers."""
-    from arbiter_host.sources import containers
-    wish = containers.Wish(options.runtime or options.conversion, options.driver,
-                           want_of(options, "limit"))
-    return with_use(options, containers.source_of(files, machine(options), library, wish)).model()
-
-
-def read_units(options: argparse.Namespace, files: Sequence[tuple[str, bytes]]) -> Model:
-    """Units of systemd."""
-    from arbiter_host.sources import systemd
-    later = [(each, file_bytes(each)) for each in options.later]
-    want = options.want or ("usage" if later else "busy")
-    return systemd.read([*files, *later], machine(options), want, interval_of(options.interval))
-
-
-def read_jobs(options: argparse.Namespace, files: Sequence[tuple[str, bytes]]) -> Model:
-    """Jobs of a node of Slurm."""
-    from arbiter_host.sources import slurm
-    if options.cpus is not None:
-        return slurm.read(files, machine(options), options.node, options.want or "")
-    model = slurm.read(files, None, options.node, options.want or "")
-    return model.with_host(chosen_host(options, model.host))
-
-
-def read_host_file(options: argparse.Namespace, kind: str, name: str, data: bytes) -> Model:
-    """A host file, with the options in place of its host."""
-    from arbiter_host.sources import hostfile
-    model = hostfile.read(data, name, kind)
-    return model.with_host(chosen_host(options, model.host)) if is_chosen(options) else model
-
-
-def check_measured(options: argparse.Namespace, kind: str) -> None:
-    """A fault where an option says what was used of a source that has no such groups."""
-    if is_measured(options) and kind not in ("kubernetes", "docker"):
-        which = "--cgroup" if options.usage is None else "--usage"
-        raise UsageFault(f"{which} belongs to pods and containers, and not to {kind}")
-
-
-def with_want(options: argparse.Namespace, kind: str, model: Model) -> Model:
-    """A model whose source says its demands; with --want those that are asked in their place."""
-    if options.want is not None:
-        if options.want not in ("limit", "busy"):
-            raise UsageFault(f"--want {options.want}: a {kind} has no readings and no requests: it"
-                             " takes limit or busy, or says its demands itself")
-        demands.set_demands(model, {}, options.want, Fraction(1))
-    return model
-
-
-def read_files(options: argparse.Namespace, kind: str, files: Sequence[tuple[str, bytes]],
-               engine: Engine) -> Model:
-    """Files of one kind."""
-    name, data = files[0]
-    check_measured(options, kind)
-    if kind == "kubernetes":
-        return read_pods(options, files, engine.library)
-    if kind == "docker":
-        return read_containers(options, files, engine.library)
-    if kind == "systemd":
-        return read_units(options, files)
-    if kind == "slurm":
-        return read_jobs(options, files)
-    if len(files) > 1:
-        raise UsageFault(f"{len(files)} files: a {kind} is one")
-    if kind == "script":
-        return with_want(options, kind, read_script(options, name, data, engine))
-    return with_want(options, "host file", read_host_file(options, kind, name, data))
-
-
-def opened(options: argparse.Namespace, paths: Sequence[str]) -> list[File]:
+def opened(options: argparse.Namespace, paths: Sequence[str]) -> list[Opened]:
     """The files of some paths, after the options were checked."""
     check_options(options)
     return [(path, None if os.path.isdir(path) else file_bytes(path)) for path in paths]
 
 
-def part_of(options: argparse.Namespace, file: File) -> str:
-    """What a file is a part of: `pods`, `node` for one of nodes alone, else its kind."""
-    kind = str(options.kind or kind_of(*file))
-    if kind == "slurm" and file[1] is not None:
-        return f"slurm {slurm_part(file[1])}"
-    if kind != "kubernetes" or file[1] is None:
-        return kind
-    kinds = set(re.findall(rb'"kind"\s*:\s*"(Pod|Node)(?:List)?"', file[1]))
-    return "node" if kinds == {b"Node"} else "pods"
-
-
-def sources(options: argparse.Namespace, paths: Sequence[str]) -> list[list[File]]:
-    """The sources that some paths are: pods and their node, side by side, are one.
-
-    So are the files of Slurm.
+def sources(options: argparse.Namespace, paths: Sequence[str]) -> list[list[Opened]]:
+    """The sources that some paths are: files of one kind and several parts, side by side, are one.
     """
-    found: list[list[File]] = []
+    found: list[list[Opened]] = []
+    before: list[tuple[str, str]] = []
     for file in opened(options, paths):
-        pair = [part_of(options, each) for each in (*(found[-1] if found else ()), file)]
-        is_slurm = all(each.startswith("slurm ") for each in pair) and len(set(pair)) == len(pair)
-        if sorted(pair) == ["node", "pods"] or is_slurm and len(pair) > 1:
+        path, data = file
+        kind = options.kind or kind_of(path, data)
+        part_of = READERS[kind].part
+        part = part_of(data) if part_of and data is not None else ""
+        if part and before and before[0][0] == kind and (kind, part) not in before:
             found[-1].append(file)
+            before.append((kind, part))
         else:
             found.append([file])
+            before = [(kind, part)] if part else []
     return found
 
 
 def load(options: argparse.Namespace, paths: Sequence[str], engine: Engine) -> Model:
     """The model of one source, which may be several files."""
-    return of_files(options, opened(options, paths), engine)
+    return model_of(options, opened(options, paths), engine)
 
 
-def of_files(options: argparse.Namespace, files: Sequence[File], engine: Engine) -> Model:
+def model_of(options: argparse.Namespace, files: Sequence[Opened], engine: Engine) -> Model:
     """The model of one source whose files were read."""
     kind = options.kind or kind_of(*files[0])
     table.check(options, kind)
     found = [(names.shown(path), data) for path, data in files if data is not None]
     if kind == "cgroup":
-        if len(files) > 1:
-            raise UsageFault("one folder is one tree")
-        check_measured(options, kind)
-        model = read_cgroup(options, files[0][0])
-    elif len(found) < len(files):
+        return finished(options, read_tree(options, [path for path, _ in files]))
+    if len(found) < len(files):
         raise HostFault(f"{names.shown(files[0][0])}: Is a directory")
-    else:
-        model = read_files(options, kind, found, engine)
-        check_known(options, found[0][0], model)
+    model = read_files(options, kind, found, engine.library)
+    check_known(options, found[0][0], model)
+    return model
+
+
+def read_tree(options: argparse.Namespace, paths: Sequence[str]) -> Model:
+    """A tree of cgroups."""
+    from arbiter_host.sources import cgroup2
+    if len(paths) > 1:
+        raise UsageFault("one folder is one tree")
+    wish = readings_of(options, options.want or "usage")
+    if wish.want == "request":
+        raise UsageFault("--want request: cgroups have no requests")
+    return cgroup2.read(paths[0], machine(options), wish)
+
+
+def read_files(options: argparse.Namespace, kind: str, files: Sequence[File],
+               library: Library) -> Model:
+    """The model of files of one kind, by the reader of the register."""
+    reader = importlib.import_module(f"arbiter_host.sources.{READERS[kind].module}")
+    if not READERS[kind].is_measured and (options.usage or options.cgroup) is not None:
+        which = "--cgroup" if options.usage is None else "--usage"
+        raise UsageFault(f"{which} belongs to pods and containers, and not to {kind}")
+    model: Model = reader.read(files, library, wish_of(options))
     return finished(options, model)
 
 
@@ -479,54 +354,10 @@ def check_known(options: argparse.Namespace, name: str, model: Model) -> None:
                         f" {names.shown(names.cut(model.refused[0], 200))}")
 
 
-@dataclass(frozen=True)
-class Loaded:
-    """What people own of a source, with the options that hold for every kind of source."""
-
-    options: argparse.Namespace
-    source: Owned
-
-    @property
-    def keys(self) -> Sequence[str]:
-        """The keys of the settings."""
-        return self.source.keys
-
-    def has(self, path: str) -> bool:
-        """Whether a group of the model has such settings."""
-        return self.source.has(path)
-
-    def meant(self, path: str) -> list[str]:
-        """The groups whose settings a path means."""
-        return self.source.meant(path)
-
-    def pods_where(self, namespaces: Sequence[str], labels: Mapping[str, str]) -> list[str]:
-        """The groups of the pods of some namespaces that have all labels."""
-        return self.source.pods_where(namespaces, labels)
-
-    def changed(self, settings: Sequence[Setting]) -> Loaded:
-        """The same with other settings."""
-        return replace(self, source=self.source.changed(settings))
-
-    def ranges(self, path: str) -> list[Range]:
-        """What can be asked for of one group."""
-        return self.source.ranges(path)
-
-    def joined(self, other: Owned) -> Owned | None:
-        """This with what another source of its kind has."""
-        found = self.source.joined(other.source) if isinstance(other, Loaded) else None
-        return None if found is None else replace(self, source=found)
-
-    def model(self) -> Model:
-        """The model, as it was loaded."""
-        return finished(self.options, self.source.model())
-
-
 def finished(options: argparse.Namespace, model: Model) -> Model:
     """A model that was read, with the options that hold for every kind of source."""
     if model.owned is not None:
-        host = chosen_host(options, model.host)
-        model = model if host == model.host else model.with_host(host)
-        model.owned = Loaded(options, model.owned) if model.owned else None
+        model.owned = replace(model.owned, scales=tuple(options.scale))
     demands.scale(model, options.scale)
     if options.strict and model.refused:
         raise RefusedLines(model.refused)
@@ -538,11 +369,10 @@ def of_bytes(options: argparse.Namespace, path: str, data: bytes, engine: Engine
     check_options(options)
     kind = options.kind or kind_of(path, data)
     if kind == "cgroup":
-        raise HostFault(f"{names.shown(path)}: a file is no tree of cgroups: `import cgroup` writes"
-                        " one")
-    if kind in ("docker", "systemd") and options.cpus is None:
+        raise HostFault(f"{names.shown(path)}: a file is no tree of cgroups: `export` writes one")
+    if READERS[kind].is_here and options.cpus is None:
         raise HostFault(f"{names.shown(path)}: number of CPUs unknown: pass --cpus")
-    return finished(options, read_files(options, kind, [(names.shown(path), data)], engine))
+    return read_files(options, kind, [(names.shown(path), data)], engine.library)
 
 
 def warn(model: Model, source: str) -> None:

@@ -6,22 +6,24 @@ plans.
 """
 from __future__ import annotations
 
-import bisect
-from collections.abc import Callable, Collection, Iterator, Mapping, Sequence
+from collections.abc import Callable, Iterator, Mapping
+from dataclasses import dataclass, replace
 from fractions import Fraction
-from typing import NamedTuple, TypeAlias, TypeVar
+from typing import NamedTuple, TypeAlias
 
-from arbiter_host import backwards, change, progress, units
+from arbiter import Unmet
+from arbiter_host import change, owned, progress, search, units
 from arbiter_host.faults import HostFault
+from arbiter_host.goals import NEEDED, Goals, NewSetting, Way
 from arbiter_host.model import Model
-from arbiter_host.owned import Owned, Range, Setting
-from arbiter_host.plan import Plan, Planned
+from arbiter_host.owned import Owned, Setting
+from arbiter_host.plan import Plan, Planned, payers
+from arbiter_host.tune_weights import LEAST, by_weights, own_weights
 
 # At most so many limits are lowered.
 MOST_LOWERED = 64
-# Settings that people own and that limits follow from.
-LIMITING = ("limit", "CPUQuota", "cpus")
-K = TypeVar("K")
+LIMITED = ("without limits of other groups the goals are not met; not proved to be the fewest"
+           " changes")
 # Limits in slices by the places of their caps, and whether goals are met with such.
 Limits: TypeAlias = Mapping[int, int]
 Meets: TypeAlias = Callable[[Limits], bool]
@@ -39,21 +41,22 @@ class Cap(NamedTuple):
     written: Callable[[int], str]
 
 
-def beside(before: Plan, closed: Collection[int], can_be: Callable[[Planned], bool]
-           ) -> Iterator[Planned]:
-    """The highest groups that can be limited: none of the closed ones, and none below or above
-    them."""
-    above = set()
-    for row in closed:
+def limitable(goals: Goals, can_be: Callable[[Planned], bool]) -> Iterator[Planned]:
+    """The highest groups that can be limited and may change: none of a goal, and none below or
+    above one."""
+    before, above = goals.before, set()
+    for row in goals.rows:
         while row:
             row = before.groups[row].parent or 0
             above.add(row)
     ways = [before.root]
     while ways:
         for child in ways.pop().children:
-            if child.row in above or child.row not in closed and not can_be(child):
+            if child.row in goals.rows:
+                continue
+            if child.row in above or child.row in goals.kept or not can_be(child):
                 ways.append(child)
-            elif child.row not in closed:
+            else:
                 yield child
 
 
@@ -77,22 +80,19 @@ def cap_of(before: Plan, group: Planned) -> Cap:
 
 def owned_cap_of(before: Plan, source: Owned, group: Planned) -> Cap | None:
     """The limit of a group as people own it; None where it cannot be lowered by itself."""
-    found = next((each for each in source.ranges(group.path) if each.key in LIMITING), None)
-    if found is None or not found.parts:
+    of = source.limiting(group.path)
+    first, last = of.parts[-1] if of.parts else (1, 0)
+    if first > last:
         return None
-    of: Range = found
-    numbers = range(of.parts[-1][0], of.parts[-1][1] + 1)
 
     def written(slices: int) -> str:
-        at = bisect.bisect_left(numbers, before.thousandths(slices),
-                                key=lambda each: units.parse_cpu(of.written(each)))
-        return of.written(numbers[min(at, len(numbers) - 1)])
+        return of.written(search.least(first, last, lambda each: units.parse_cpu(
+            of.written(each)) >= before.thousandths(slices)))
 
-    per_slice = before.thousandths(1)
-    least = max(-(-units.parse_cpu(of.written(numbers[0])) // per_slice), 1) if numbers else 1
+    least = max(-(-units.parse_cpu(of.written(first)) // before.thousandths(1)), 1)
     most = before.capacity if group.limit is None else min(group.limit, before.capacity)
     cap = Cap(group.path, of.key, of.now, int(least), most, written)
-    return cap if numbers and is_lone(before.model, source, cap) else None
+    return cap if is_lone(before.model, source, cap) else None
 
 
 def is_lone(model: Model, source: Owned, cap: Cap) -> bool:
@@ -100,100 +100,123 @@ def is_lone(model: Model, source: Owned, cap: Cap) -> bool:
     if cap.least >= cap.most:
         return False
     try:
-        after = source.changed([Setting(cap.path, cap.key, cap.written(cap.least))]).model()
+        after = source.changed([Setting(cap.path, cap.key, cap.written(cap.least))]).plain()
     except HostFault:
         return False
     return [(path, each.weight) for path, each in after.groups.items()] == [
         (path, each.weight) for path, each in model.groups.items()]
 
 
-def caps_of(before: Plan, closed: Collection[int], order: Callable[[Planned], tuple[int, int]]
-            ) -> list[Cap]:
-    """The limits that can be lowered of groups apart from closed ones, the greatest of an order
-    first."""
-    source = before.model.owned
-    if source is not None and not set(LIMITING).intersection(source.keys):
-        source = None
+def caps_of(goals: Goals) -> tuple[Cap, ...]:
+    """The limits that can be lowered, of those that have most first."""
+    before, source, caps = goals.before, goals.before.model.owned, list[Cap]()
 
     def can_be(group: Planned) -> bool:
         return source.has(group.path) if source else not (group.group and group.group.burst)
 
-    groups = sorted(beside(before, closed, can_be), key=order, reverse=True)
-    found: list[Cap] = []
-    for group in groups:
+    def order(group: Planned) -> tuple[int, int]:
+        by_weight = (group.weight, group.gets)
+        return by_weight if goals.is_guaranteed else by_weight[::-1]
+
+    for group in sorted(limitable(goals, can_be), key=order, reverse=True):
         cap = owned_cap_of(before, source, group) if source else cap_of(before, group)
-        if cap is not None and cap.least < cap.most and len(found) < MOST_LOWERED:
-            found.append(cap)
-    return found
+        if cap is not None and cap.least < cap.most and len(caps) < MOST_LOWERED:
+            caps.append(cap)
+    return tuple(caps)
 
 
-def with_limits(model: Model, caps: Sequence[Cap], values: Limits) -> Model:
-    """The model with other limits, by the places of their caps."""
-    settings = [Setting(caps[place].path, caps[place].key, caps[place].written(value))
-                for place, value in values.items()]
-    if model.owned is not None and settings and settings[0].key != "max":
-        return backwards.with_settings(model, model.owned, settings)
-    after = model.copy()
-    for each in settings:
-        change.apply(after, after.groups[each.path], each.key, each.value, False)
-    return after
+@dataclass(frozen=True)
+class Lowering:
+    """Goals, and the limits of other groups that can be lowered for them."""
+
+    goals: Goals
+    caps: tuple[Cap, ...]
+
+    def model(self, limits: Limits) -> Model:
+        """The model with some limits."""
+        before = self.goals.before.model
+        settings = [Setting(self.caps[place].path, self.caps[place].key,
+                            self.caps[place].written(value)) for place, value in limits.items()]
+        if before.owned is not None and settings:
+            return owned.remade(before, before.owned, settings)
+        after = before.copy()
+        for each in settings:
+            change.apply(after, after.groups[each.path], each.key, each.value, False)
+        return after
+
+    def limited(self, limits: Limits) -> Goals:
+        """The goals on the accepted plan with some limits."""
+        return replace(self.goals, before=self.goals.plan_of(self.model(limits)))
+
+    def changes(self, limits: Limits) -> list[NewSetting]:
+        """What some limits change."""
+        return [NewSetting(cap.path, cap.key, cap.now, cap.written(limits[place]))
+                for place, cap in enumerate(self.caps) if place in limits]
+
+    def cost(self, limits: Limits) -> int:
+        """The slices that other groups lose by some limits."""
+        return sum(lost for _, lost in payers(self.goals.before, self.limited(limits).before))
+
+    def lowered(self, meets: Meets) -> Limits | None:
+        """Limits with which goals are met; None where none are found.
+
+        All get one level where they can. Then each is raised as far as the goals allow. None of
+        them can be left out. Fewer limits are taken where they cost the other groups no more.
+        """
+        least = {place: cap.least for place, cap in enumerate(self.caps)}
+        if not least or not meets(least):
+            return None
+        even = self.at_one_level(least, meets)
+        many = search.least(1, len(least), lambda many: meets(
+            {place: least[place] for place in range(many)}))
+        few = self.at_one_level(without_needless(
+            {place: least[place] for place in range(many)}, meets), meets)
+        return few if len(few) < len(even) and self.cost(few) <= self.cost(even) else even
+
+    def at_one_level(self, places: Limits, meets: Meets) -> Limits:
+        """The limits of some caps, with whose least ones goals are met: at the highest level, then
+        each as high as it can be."""
+        def at_most(level: int) -> Limits:
+            return {place: min(max(level, self.caps[place].least), self.caps[place].most)
+                    for place in places}
+
+        top = max(self.caps[place].most for place in places)
+        lost = search.least(0, top, lambda lost: meets(at_most(top - lost)))
+        limits = without_needless(at_most(top - lost), meets)
+        return without_needless(self.raised(limits, meets), meets)
+
+    def raised(self, limits: Limits, meets: Meets) -> Limits:
+        """The limits, each raised as far as goals are met beside the others."""
+        with progress.bar("limits", len(limits)) as step:
+            for place in limits:
+                most, now = self.caps[place].most, limits
+                lost = search.least(0, most - limits[place], lambda lost: meets(
+                    {**now, place: most - lost}))
+                limits = {**limits, place: most - lost}
+                step()
+        return limits
 
 
-def lowered(caps: Sequence[Cap], meets: Meets, cost: Callable[[Limits], int]) -> Limits | None:
-    """Limits with which goals are met, by the places of their caps; None where none are found.
+def without_needless(limits: Limits, meets: Meets) -> Limits:
+    """The limits of which none can be left out. The last ones are left out first."""
+    kept = search.needed(sorted(limits, reverse=True), lambda places: meets(
+        {place: limits[place] for place in places}), "limits")
+    return {place: limits[place] for place in sorted(kept)}
 
-    All limits are at one level where they can be, and each is the greatest beside the others. None
-    of them can be left out. Fewer limits are taken where they cost the other groups no more.
-    """
-    least = {place: cap.least for place, cap in enumerate(caps)}
-    if not caps or not meets(least):
+
+def by_limits(goals: Goals) -> Way | None:
+    """Limits of other groups that meet all goals: with the weights as they are, else with other
+    weights of the goals' groups too. None: none are found."""
+    known = Lowering(goals, caps_of(goals))
+    limits = known.lowered(lambda some: goals.are_met(known.limited(some).before))
+    if limits is not None:
+        return goals.way(known.limited(limits).before, known.changes(limits), LIMITED + NEEDED)
+    if goals.before.model.owned is not None:
         return None
-    even = at_one_level(caps, list(least), meets)
-    many = bisect.bisect_left(range(len(caps)), True, lo=1, key=lambda many: meets(
-        {place: least[place] for place in range(many)}))
-    few = at_one_level(caps, list(without_needless(
-        {place: least[place] for place in range(many)}, meets)), meets)
-    return few if len(few) < len(even) and cost(few) <= cost(even) else even
-
-
-def without_needless(found: Limits, meets: Meets) -> Limits:
-    """The limits of which none can be left out. The last ones are put back first."""
-    kept = needed(sorted(found, reverse=True), lambda places: meets(
-        {place: found[place] for place in places}))
-    return {place: found[place] for place in sorted(kept)}
-
-
-def at_one_level(caps: Sequence[Cap], places: Sequence[int], meets: Meets) -> Limits:
-    """The limits of some caps, with whose least ones goals are met: at the highest level, then
-    each as high as it can be."""
-    def at_most(level: int) -> Limits:
-        return {place: min(max(level, caps[place].least), caps[place].most) for place in places}
-
-    top = max(caps[place].most for place in places)
-    lost = bisect.bisect_left(range(top), True, key=lambda lost: meets(at_most(top - lost)))
-    found = without_needless(at_most(top - lost), meets)
-    return without_needless(raised(caps, found, meets), meets)
-
-
-def raised(caps: Sequence[Cap], found: Limits, meets: Meets) -> Limits:
-    """The limits, each raised as far as goals are met beside the others."""
-    with progress.bar("limits", len(found)) as step:
-        for place in found:
-            most = caps[place].most
-            lost = bisect.bisect_left(range(most - found[place]), True, key=lambda lost: meets(
-                {**found, place: most - lost}))
-            found = {**found, place: most - lost}
-            step()
-    return found
-
-
-def needed(changes: Sequence[K], meets: Callable[[Sequence[K]], bool]) -> list[K]:
-    """The changes of which none can be left out: each is put back where goals are met so too."""
-    found, is_done = list(changes), False
-    while not is_done:
-        is_done = True
-        for each in list(found):
-            rest = [other for other in found if other != each]
-            if meets(rest):
-                found, is_done = rest, False
-    return found
+    limits = known.lowered(lambda some: not isinstance(own_weights(known.limited(some)), Unmet))
+    way = None if limits is None else by_weights(known.limited(limits))
+    if limits is None or not isinstance(way, Way):
+        return None
+    is_needed = way.told == LEAST or way.told.endswith(NEEDED)
+    return goals.way(way.plan, [*known.changes(limits), *way.changes],
+                     LIMITED + (NEEDED if is_needed else ""))

@@ -1,18 +1,23 @@
 """Settings that people own: requests, quotas and shares, of which a source makes its groups.
 
 A change of one is made in what the source has read, and the model is made again. So weights and
-limits follow by the source's own formulas.
+limits follow by the source's own formulas. Of the two settings of a group one weighs it and the
+other limits it. A request in thousandths of a CPU is written as what weighs: the request of a
+container of a pod, 1024 shares of docker for each CPU, 100 of CPUWeight of a unit for each CPU.
 """
 from __future__ import annotations
 
 from collections.abc import Callable, Mapping, Sequence
-from typing import TYPE_CHECKING, NamedTuple, Protocol
+from contextlib import suppress
+from dataclasses import dataclass, field, replace
+from fractions import Fraction
+from typing import NamedTuple
 
+from arbiter import Host
+from arbiter_host import demands, names
+from arbiter_host.demands import Measured, Place, Use
 from arbiter_host.faults import HostFault
-from arbiter_host.names import shown
-
-if TYPE_CHECKING:
-    from arbiter_host.model import Model
+from arbiter_host.model import Model
 
 # The keys of such settings, and the sources that have them.
 KEYS = {"request": "pods", "limit": "pods", "CPUWeight": "units", "CPUQuota": "units",
@@ -30,7 +35,8 @@ class Setting(NamedTuple):
 
     def fault(self, words: str) -> HostFault:
         """A fault that names the setting."""
-        return HostFault(f"{shown(self.path)}.{self.key}={shown(self.value[:60])}: {words}")
+        value = names.shown(self.value[:60])
+        return HostFault(f"{names.shown(self.path)}.{self.key}={value}: {words}")
 
 
 class Range(NamedTuple):
@@ -49,49 +55,137 @@ class Range(NamedTuple):
     most: str
 
 
-class Owned(Protocol):
+@dataclass(frozen=True)
+class Amounts:
+    """Requests and limits of CPU in whole thousandths; None where not given."""
+
+    request: int | None = None
+    limit: int | None = None
+
+
+@dataclass(frozen=True)
+class Owned:
     """What a source has read, with the settings of it that people own."""
 
-    @property
-    def keys(self) -> Sequence[str]:
-        """The keys of the settings."""
+    # Factors of demands, as --scale has them.
+    scales: tuple[str, ...] = field(default=(), kw_only=True)
 
-    def has(self, path: str) -> bool:
-        """Whether a group of the model has such settings."""
+    # The settings that weigh a group and that limit it, and what has them.
+    keys = ("request", "limit")
+    noun = "container"
 
-    def meant(self, path: str) -> list[str]:
-        """The groups whose settings a path means: itself, or of a pod its containers."""
-
-    def pods_where(self, namespaces: Sequence[str], labels: Mapping[str, str]) -> list[str]:
-        """The groups of the pods of some namespaces (none for any) that have all labels."""
-
-    def changed(self, settings: Sequence[Setting]) -> Owned:
-        """The same with other settings. Paths are those of the model as it is."""
-
-    def ranges(self, path: str) -> list[Range]:
-        """What can be asked for of one group."""
-
-    def joined(self, other: Owned) -> Owned | None:
-        """This with what another source of its kind has; None where they cannot be one."""
+    def plain(self) -> Model:
+        """The model as the source makes it. It is shared, and not to be changed."""
+        raise NotImplementedError
 
     def model(self) -> Model:
         """The model. Its groups stand in the same order whatever the settings are."""
-
-
-class Lone:
-    """A source each of whose groups has settings of its own alone."""
+        model = replace(self.plain().copy(), owned=self)
+        demands.scale(model, self.scales)
+        return model
 
     def has(self, path: str) -> bool:
         """Whether a group of the model has such settings."""
         raise NotImplementedError
 
     def meant(self, path: str) -> list[str]:
-        """The group itself, if it has settings."""
+        """The groups whose settings a path means: itself, or of a pod its containers."""
         return [path] if self.has(path) else []
 
     def pods_where(self, _: Sequence[str], __: Mapping[str, str]) -> list[str]:
-        """None: it has no pods."""
+        """The groups of the pods of some namespaces (none for any) that have all labels."""
         return []
 
-    def joined(self, _: Owned) -> None:
-        """None: it takes no groups of another."""
+    def changed(self, settings: Sequence[Setting]) -> Owned:
+        """The same with other settings. Paths are those of the model as it is."""
+        raise NotImplementedError
+
+    def on_host(self, host: Host) -> Owned:
+        """The same on another host."""
+        raise NotImplementedError
+
+    def ranges(self, path: str) -> list[Range]:
+        """What can be asked for of one group: of the setting that weighs it, then of the other."""
+        raise NotImplementedError
+
+    def joined(self, _: Owned) -> Owned | None:
+        """This with what another source of its kind has; None where they cannot be one."""
+        return None
+
+    def weighing(self, path: str) -> Range:
+        """What can be asked for of the setting that weighs a group."""
+        return self.ranges(path)[0]
+
+    def limiting(self, path: str) -> Range:
+        """What can be asked for of the setting that limits a group."""
+        return self.ranges(path)[1]
+
+    @property
+    def own(self) -> list[str]:
+        """The groups that have settings."""
+        return [path for path in self.plain().groups if self.has(path)]
+
+    def matching(self, word: str) -> set[str]:
+        """The groups that a pattern means; none where it has no match."""
+        with suppress(HostFault):
+            return {group.path for group in demands.matching(self.plain(), word)}
+        return set()
+
+    def named(self, word: str) -> list[str]:
+        """The groups that a column of measurements names."""
+        last = [path for path in self.own if names.last_name(path) == word]
+        paths = set() if last else self.matching(word)
+        return last or [path for path in self.own if path in paths]
+
+    def seen(self) -> dict[str, Use]:
+        """The use of each group that was read with the source."""
+        raise NotImplementedError
+
+    def title(self, path: str) -> str:
+        """The name of a group, for people."""
+        return path
+
+    def now(self, path: str) -> Amounts:
+        """The request and the limit of a group; None where it has none, or is not told of one."""
+        group = self.plain().groups[path]
+        return Amounts(None, None if group.quota is None else 1000 * group.quota // group.period)
+
+    def words(self, path: str) -> tuple[str, str]:
+        """The settings of a group as people write them."""
+        weighs, limits = self.ranges(path)
+        return weighs.now, limits.now
+
+    def is_guaranteed(self, _: str) -> bool:
+        """Whether the request of a group has to be its limit."""
+        return False
+
+    def written(self, request: int, limit: int | None) -> tuple[str, str | None]:
+        """A request and a limit as people write them."""
+        raise NotImplementedError
+
+    def settings(self, path: str, amounts: Amounts) -> list[Setting]:
+        """The changes that make a request and a limit of a group."""
+        values = self.written(amounts.request or 0, amounts.limit)
+        return [Setting(path, key, value) for key, value in zip(self.keys, values)
+                if value is not None]
+
+    def totals(self) -> tuple[int, int | None] | None:
+        """What all groups request, and what there is for them; None where no request is known."""
+        return None
+
+
+def used_by(model: Model, places: Mapping[str, Place], known: Mapping[Place, Measured],
+            seconds: Fraction) -> dict[str, Use]:
+    """The use of each group that was measured elsewhere."""
+    uses = {path: demands.use_of(model.groups[path], known.get(place, Measured()), model.host,
+                                 seconds) for path, place in places.items()}
+    return {path: use for path, use in uses.items() if use is not None}
+
+
+def remade(model: Model, source: Owned, settings: Sequence[Setting]) -> Model:
+    """The model with other settings of its source, and the demands that it has. Groups may move."""
+    after = source.changed(settings).model()
+    after = after if after.host == model.host else after.with_host(model.host)
+    for group, was in zip(after.groups.values(), model.groups.values(), strict=True):
+        group.demand, group.tasks = was.demand, was.tasks
+    return after

@@ -211,6 +211,11 @@ class Plan:
         """The reasons in words that were asked for, by row."""
         return {}
 
+    def guaranteed(self, row: int) -> int:
+        """What a group gets whatever the groups that are not under it ask for, in slices."""
+        with asking("guarantee"):
+            return self.engine.library.guarantee(planned(self.model.host), self.columns, row)
+
     def reason(self, group: Planned) -> Reason:
         """The reason of a group in words."""
         if group.row not in self.told:
@@ -258,17 +263,6 @@ def walk(tops: Sequence[Planned],
         waiting += reversed(below(group))
 
 
-def guarantees(before: Plan, chosen: Sequence[Planned]) -> list[int]:
-    """What each group gets whatever the groups that are not under it ask for, in slices."""
-    library, host, amounts = before.engine.library, planned(before.model.host), []
-    with progress.bar("groups", len(chosen)) as step:
-        for group in chosen:
-            with asking("guarantee"):
-                amounts.append(library.guarantee(host, before.columns, group.row))
-            step()
-    return amounts
-
-
 def all_reason(group: Planned) -> Reason:
     """The reason of a group that gets all that it wants."""
     if group.is_cut_by_tasks and group.group is not None:
@@ -312,3 +306,25 @@ def plan(engine: Engine, model: Model) -> Plan:
     groups = planned_of(rows, model, answer)
     limiting = [groups[row] for row in answer.limiting]
     return Plan(model, groups, limiting, answer.rest, answer.columns, engine)
+
+
+def guarantees(found: Plan, chosen: Sequence[Planned]) -> list[int]:
+    """What each of some groups gets whatever the groups that are not under it ask for, in slices.
+    """
+    owed = []
+    with progress.bar("groups", len(chosen)) as step:
+        for group in chosen:
+            owed.append(found.guaranteed(group.row))
+            step()
+    return owed
+
+
+def payers(before: Plan, after: Plan) -> list[tuple[str, int]]:
+    """The groups without children that get less than before, and how many slices less, the
+    greatest loss first.
+
+    Both plans have the same groups in the same rows. A pod whose class changes has another path.
+    """
+    losses = [(each.path, each.gets - then.gets) for each, then in zip(before.groups, after.groups)
+              if not each.children]
+    return sorted([each for each in losses if each[1] > 0], key=lambda each: -each[1])

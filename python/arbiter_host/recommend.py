@@ -14,13 +14,12 @@ from fractions import Fraction
 from typing import Any
 
 from arbiter_host import demands, names, samples, units
+from arbiter_host.demands import Use
 from arbiter_host.faults import HostFault, UsageFault
-from arbiter_host.kinds import Kind, Use, kind_of
 from arbiter_host.model import Model
-from arbiter_host.owned import Setting
+from arbiter_host.owned import Amounts, Owned, Setting
 from arbiter_host.plan import Engine, Plan, guarantees, plan
 from arbiter_host.sources import usage
-from arbiter_host.sources.pods import Amounts
 
 # The least request that is proposed, in thousandths of a CPU, as krr has it.
 LEAST = 10
@@ -76,6 +75,15 @@ class Recommendation:
     keys: tuple[str, str]
 
 
+def owned_of(model: Model) -> Owned:
+    """What people own of a model's source; a fault where nothing is proposed to it."""
+    if model.owned is None:
+        raise UsageFault("recommend is for pods, containers and units: give what `kubectl get pods"
+                         " -o json`, `docker inspect` or `systemctl show` prints, or a tree of"
+                         " cgroup v2")
+    return model.owned
+
+
 def rule_of(target: str, headroom: str) -> Rule:
     """The rule of two words such as `p95` and `15%`."""
     found = TARGET.fullmatch("p100" if target == "max" else target)
@@ -90,7 +98,7 @@ def rule_of(target: str, headroom: str) -> Rule:
 def of_history(model: Model, found: Sequence[samples.Sample],
                mapping: Mapping[str, str]) -> tuple[dict[str, Use], list[str]]:
     """The use of each group in samples, and what is told of columns of no one group."""
-    kind, values = kind_of(model), dict[str, list[Fraction]]()
+    kind, values = owned_of(model), dict[str, list[Fraction]]()
     missing = []
     for column in samples.columns(found):
         paths = kind.named(mapping.get(column, column))
@@ -103,7 +111,7 @@ def of_history(model: Model, found: Sequence[samples.Sample],
     return {path: Use(tuple(each)) for path, each in values.items() if each}, told
 
 
-def proposal(kind: Kind, path: str, use: Use, rule: Rule) -> Proposal:
+def proposal(kind: Owned, path: str, use: Use, rule: Rule) -> Proposal:
     """The request and the limit of one group. One without a limit gets none.
 
     In a guaranteed pod the request is the limit, so that its class stays.
@@ -129,19 +137,17 @@ def asking(model: Model, asked: Sequence[Fraction | None]) -> Model:
 def recommended(engine: Engine, model: Model, uses: Mapping[str, Use],
                 rule: Rule) -> Recommendation:
     """The proposals for all groups of which something was seen."""
-    kind = kind_of(model)
+    kind = owned_of(model)
     if not uses:
-        raise HostFault(f"nothing was seen of any {kind.noun} here: {kind.options} says what they"
-                        " used")
+        raise HostFault(f"nothing was seen of any {kind.noun} here: --used says what they used")
     found = [proposal(kind, path, uses[path], rule) for path in model.groups if path in uses]
-    assert model.owned is not None
-    changed = model.owned.changed([each for one in found for each in one.settings]).model()
+    changed = kind.changed([each for one in found for each in one.settings]).model()
     used = {each.path: each.used for each in found}
     asked = [used.get(path) for path in model.groups]
     before = plan(engine, asking(model.copy(), asked))
     after = plan(engine, asking(changed, asked))
     chosen = [now for was, now in zip(before.groups, after.groups) if was.path in used]
-    totals, then = kind.totals(), kind_of(changed).totals()
+    totals, then = kind.totals(), owned_of(changed).totals()
     return Recommendation(rule, tuple(found), before, after,
                           tuple(each.path for each in chosen),
                           tuple(guarantees(after, chosen)),

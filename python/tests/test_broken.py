@@ -2,6 +2,7 @@
 from fractions import Fraction
 from pathlib import Path
 
+import reading
 import trees
 from arbiter import Host
 from arbiter_host import names, samples
@@ -10,8 +11,7 @@ from arbiter_host.fleet import hosts
 from arbiter_host.model import Model
 from arbiter_host.owned import Setting
 from arbiter_host.plan import plan
-from arbiter_host.sources import (cgroup2, cgroups, containers, hostfile, kubernetes, script,
-                                  systemd)
+from arbiter_host.sources import cgroup2, cgroups, hostfile, script
 from hypothesis import HealthCheck, example, given, settings
 from hypothesis import strategies as st
 
@@ -23,7 +23,6 @@ DOCKER = (FIXTURES / "docker.json").read_bytes()
 UNITS = (FIXTURES / "units.show").read_bytes()
 TOML = (b'[host]\ncpus = 16\nperiod = "100ms"\n[groups."a/b"]\nweight = 200\nmax = "2cpu"\n'
         b'demand = "1.5cpu"\nburst = 5\ntasks = 3\ntitle = "x"\n')
-YAML = b"host:\n  cpus: 2\ngroups:\n  a: {weight: 5, max: 250m}\n  a/b: {demand: 1}\n"
 SCRIPT = b"# arbiter run --processors 4\nmkdir a\nwrite a cpu.max 5000 9000\ndemand a 4\nperiod\n"
 CSV = b"Time,web\n2026-01-05 10:00:00,0.5\n10:05,1.5\n"
 MANY = settings(max_examples=150, deadline=None, suppress_health_check=list(HealthCheck))
@@ -50,9 +49,8 @@ def holds(engine, take):
         model = take()
         if isinstance(model, Model):
             written = script.write(model, engine.library).encode("utf-8", "replace")
-            assert script.read(written, "F", engine).refused == []
+            assert reading.lines(written, "F", engine).refused == []
             hostfile.write_toml(model)
-            hostfile.write_yaml(model)
         return model
     except HostFault as fault:
         assert fault.message and "\n" not in fault.message.strip()
@@ -84,36 +82,22 @@ def changed(engine, model):
 @MANY
 @given(data=st.one_of(broken(SCRIPT), st.binary(max_size=200)))
 def test_script(engine, data):
-    planned(engine, holds(engine, lambda: script.read(data, "F", engine)))
+    planned(engine, holds(engine, lambda: reading.lines(data, "F", engine)))
 
 
 @MANY
 @given(data=st.one_of(broken(TOML), st.binary(max_size=200)))
 def test_toml(engine, data):
-    planned(engine, holds(engine, lambda: hostfile.read(data, "F", "toml")))
-
-
-@MANY
-@given(data=st.one_of(broken(YAML), st.binary(max_size=200)))
-@example(data=b"groups: !!python/object:os.system {}\n")
-@example(data=b"groups: {? [a] : {}}\n")
-@example(data=b"a: &a [*a]\ngroups: *a\n")
-@example(data=b"[" * 5000)
-@example(data=b"a: &a [x, x]\n" + b"".join(
-    b"%c: &%c [*%c, *%c, *%c, *%c]\n" % (n, n, n - 1, n - 1, n - 1, n - 1)
-    for n in range(ord("b"), ord("z"))) + b"groups: {g: {weight: *y}}\n")
-@example(data=b"x: &b [1]\n" + b"y: &c [*b, *b]\ngroups: {g: {weight: *c, demand: *c}}\n")
-def test_yaml(engine, data):
-    planned(engine, holds(engine, lambda: hostfile.read(data, "F", "yaml")))
+    planned(engine, holds(engine, lambda: reading.host_file(data, "F", "toml")))
 
 
 @MANY
 @given(data=st.one_of(broken(hostfile.write_json(
-    hostfile.read(TOML, "F", "toml")).encode()), st.binary(max_size=200)))
+    reading.host_file(TOML, "F", "toml")).encode()), st.binary(max_size=200)))
 @example(data=b"[" * 100000)
 @example(data=b'{"groups": {"\\ud800": {}}}')
 def test_json(engine, data):
-    planned(engine, holds(engine, lambda: hostfile.read(data, "F", "json")))
+    planned(engine, holds(engine, lambda: reading.host_file(data, "F", "json")))
 
 
 JSON_VALUES = st.recursive(
@@ -129,7 +113,7 @@ JSON_VALUES = st.recursive(
 @given(data=st.one_of(broken(KUBERNETES), st.binary(max_size=200)))
 @example(data=b"[" * 100000)
 def test_kubernetes(engine, data):
-    model = holds(engine, lambda: kubernetes.read([("F", data)], HOST, engine.library))
+    model = holds(engine, lambda: reading.pods([("F", data)], HOST, engine.library))
     planned(engine, model)
     changed(engine, model)
 
@@ -141,7 +125,7 @@ def test_cluster(engine, data):
     whole = holds(engine, lambda: hosts.document("F", data))
     fleet = None if whole is None else holds(engine, lambda: hosts.of_cluster("F", whole))
     for host in fleet.hosts if fleet else ():
-        planned(engine, holds(engine, lambda: kubernetes.read([("F", host.data)], HOST,
+        planned(engine, holds(engine, lambda: reading.pods([("F", host.data)], HOST,
                                                               engine.library)))
     for pod in fleet.pending if fleet else ():
         assert pod.shape in fleet.shapes() and pod.title.isprintable()
@@ -150,7 +134,7 @@ def test_cluster(engine, data):
 @MANY
 @given(data=st.one_of(broken(DOCKER), st.binary(max_size=200)))
 def test_containers(engine, data):
-    model = holds(engine, lambda: containers.read([("F", data)], HOST, engine.library))
+    model = holds(engine, lambda: reading.docker([("F", data)], HOST, engine.library))
     planned(engine, model)
     changed(engine, model)
 
@@ -160,16 +144,16 @@ def test_containers(engine, data):
 def test_json_of_any_form(engine, value):
     import json
     data = json.dumps(value).encode()
-    for take in (lambda: kubernetes.read([("F", data)], HOST, engine.library),
-                 lambda: containers.read([("F", data)], HOST, engine.library),
-                 lambda: hostfile.read(data, "F", "json")):
+    for take in (lambda: reading.pods([("F", data)], HOST, engine.library),
+                 lambda: reading.docker([("F", data)], HOST, engine.library),
+                 lambda: reading.host_file(data, "F", "json")):
         planned(engine, holds(engine, take))
 
 
 @MANY
 @given(data=st.one_of(broken(UNITS), st.binary(max_size=200)))
 def test_units(engine, data):
-    model = holds(engine, lambda: systemd.read([("F", data)], HOST))
+    model = holds(engine, lambda: reading.units([("F", data)], HOST))
     planned(engine, model)
     changed(engine, model)
 

@@ -10,6 +10,7 @@ from fractions import Fraction
 from types import SimpleNamespace
 
 import pytest
+import reading
 from arbiter import Certificate
 from arbiter_host import command
 from arbiter_host.faults import HostFault, UsageFault
@@ -17,7 +18,6 @@ from arbiter_host.fleet import demands, evidence, figures, forms, gather, hosts,
 from arbiter_host.fleet.pool import Here
 from arbiter_host.fleet.store import Row, Store
 from arbiter_host.plan import Certified, Engine, columns_of
-from arbiter_host.sources import script
 from places import PACKAGE
 
 import fleets
@@ -542,7 +542,7 @@ def test_two_runs_do_not_write_one_file(folder):
 
 def test_certificates_travel(calls, engine):
     """A certificate that was packed is accepted; one of other rows, or none, is refused."""
-    model = script.read(fleets.script(3, GROUPS).encode(), "x", engine)
+    model = reading.lines(fleets.script(3, GROUPS).encode(), "x", engine)
     rows = model.rows(engine.library)
     found = engine.certified(model.host, columns_of(rows))
     text = evidence.packed(found)

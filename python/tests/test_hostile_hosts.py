@@ -5,6 +5,7 @@ import resource
 from fractions import Fraction
 
 import pytest
+import reading
 import trees
 from arbiter import Host
 from arbiter_host import apply, names, safe_files
@@ -112,7 +113,7 @@ def test_the_way_through_a_script(tmp_path_factory, engine, raws):
         trees.group2(os.path.join(top, os.fsdecode(raw)), number)
     root = safe_files.Root(str(top))
     written = script.write(read(top), engine.library).encode()
-    found = script.read(written, "s", engine).groups
+    found = reading.lines(written, "s", engine).groups
     assert len(found) == len(raws)
     held = {os.fsencode(apply.folder_of(group, root)): group.weight for group in found.values()}
     assert held == {raw: number for number, raw in enumerate(raws, 1)}
@@ -195,8 +196,8 @@ def test_a_group_without_a_place(engine):
     model = Model()
     model.add(Group("a", place="elsewhere"))
     model.add(Group("a/pause", place=names.NOWHERE))
-    by_script = script.read(script.write(model, engine.library).encode(), "s", engine)
-    for found in (by_script, hostfile.read(hostfile.write_toml(model).encode(), "s", "toml")):
+    by_script = reading.lines(script.write(model, engine.library).encode(), "s", engine)
+    for found in (by_script, reading.host_file(hostfile.write_toml(model).encode(), "s", "toml")):
         assert [each.place for each in found.groups.values()] == ["elsewhere", "."]
     with pytest.raises(HostFault, match="a/pause: its place on the host is not known"):
         apply.folder_of(model.groups["a/pause"], safe_files.Root("/"))
@@ -208,10 +209,9 @@ def test_a_place_of_any_bytes(engine):
     model = Model()
     model.add(Group("a", place=place))
     written = script.write(model, engine.library).encode()
-    assert script.read(written, "s", engine).groups["a"].place == place
-    for write, kind in ((hostfile.write_toml, "toml"), (hostfile.write_yaml, "yaml"),
-                        (hostfile.write_json, "json")):
-        assert hostfile.read(write(model).encode(), "f", kind).groups["a"].place == place
+    assert reading.lines(written, "s", engine).groups["a"].place == place
+    for write, kind in ((hostfile.write_toml, "toml"), (hostfile.write_json, "json")):
+        assert reading.host_file(write(model).encode(), "f", kind).groups["a"].place == place
 
 
 # Identities
@@ -241,7 +241,8 @@ def test_a_group_made_again_before_the_writing(folder, tree, monkeypatch):
 
     monkeypatch.setattr(apply, "write_synced", write_synced)
     new = Settings(9, None, 100000, 0)
-    apply.make(safe_files.Root(str(tree)), [Change("box", OLD, new)], By.FILES, str(folder / "u"), [])
+    apply.make(safe_files.Root(str(tree)), [Change("box", OLD, new)], By.FILES,
+               str(folder / "u"), [])
     assert weights(folder, "t/box", "old") == [100, 9]
 
 
@@ -257,7 +258,8 @@ def test_a_link_put_in_place_of_a_group(folder, tree, monkeypatch):
 
     monkeypatch.setattr(apply, "write_synced", write_synced)
     new = Settings(9, None, 100000, 0)
-    apply.make(safe_files.Root(str(tree)), [Change("box", OLD, new)], By.FILES, str(folder / "u"), [])
+    apply.make(safe_files.Root(str(tree)), [Change("box", OLD, new)], By.FILES,
+               str(folder / "u"), [])
     assert weights(folder, "out", "old") == [100, 9]
 
 

@@ -13,7 +13,7 @@ import time
 
 import pytest
 import trees
-from arbiter_host import helps, load
+from arbiter_host import helps, options
 from arbiter_host.subcommands import PLACES, every
 from arbiter_pages import words
 from arbiter_pages.__main__ import SHARE, files
@@ -86,7 +86,7 @@ def test_main_page(ctl):
     said = ctl.run("--help")[0]
     for each in every():
         assert each.name in said and each.summary.replace("`", "'")[1:] in page
-    assert tuple(helps.KINDS) == load.KINDS
+    assert tuple(helps.KINDS) == options.KINDS
     for kind in helps.KINDS:
         assert f" {kind} " in page
 

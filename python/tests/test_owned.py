@@ -5,17 +5,18 @@ The fixtures are written to the documented formats.
 """
 import copy
 import json
-from fractions import Fraction
 from pathlib import Path
 
 import pytest
+import reading
 import trees
 from arbiter import Host
-from arbiter_host import backwards, change
+from arbiter_host import change
 from arbiter_host.faults import UsageFault
-from arbiter_host.owned import Setting
+from arbiter_host.goals import Goals, goals_of
+from arbiter_host.knobs import Knobs
+from arbiter_host.owned import Setting, remade
 from arbiter_host.plan import plan
-from arbiter_host.sources import containers, kubernetes, systemd
 from hypothesis import HealthCheck, given, settings
 from hypothesis import strategies as st
 
@@ -169,7 +170,7 @@ def test_pod_level_amounts_bound_their_containers(engine):
     found = json.loads(PODS.read_text())
     found["items"][0]["spec"]["resources"] = {"requests": {"cpu": "400m"}, "limits": {"cpu": "2"}}
     files = [("p", json.dumps(found).encode()), ("n", NODE.read_bytes())]
-    model = kubernetes.read(files, None, engine.library)
+    model = reading.pods(files, None, engine.library)
     after = change.changed(model, ["prod/web-7c9f/nginx.request=300m"])
     # The pod keeps 400m, which are 409 shares; 300m are 307.
     assert (after.groups[WEB].weight, after.groups[f"{WEB}/nginx"].weight) == (16, 12)
@@ -212,9 +213,13 @@ def two_pods(folder, limit=None, allocatable="2"):
 
 
 def needed(ctl, *words):
-    """The settings of people in the answer of `need`, by name."""
-    found = json.loads(ctl.run("need", *words, "--want", "busy", "--json")[0])
-    return {each["name"]: each for each in found["settings"]}, found
+    """The settings of people alone in the answer of `tune`, by name, and what the group gets."""
+    group, amount, *source = words
+    ended = ctl.ended("tune", *source, "--goal", f"{group}={amount}", "--want", "busy", "-o",
+                      "json")
+    found = json.loads(ended.stdout)
+    return ({each["name"]: each for each in found["alone"] if each["owned"]},
+            found["goals"][0]["now_millicpu"])
 
 
 def test_the_least_request(ctl, folder):
@@ -222,14 +227,14 @@ def test_the_least_request(ctl, folder):
 
     285m are 291 shares: 1 + 289 * 9999 / 262142 = 12.02. 284m are 290: 11.98.
     """
-    by, found = needed(ctl, "x/a/c", "1cpu", two_pods(folder))
-    assert found["gets_millicpu"] == 500
+    by, gets = needed(ctl, "x/a/c", "1cpu", two_pods(folder))
+    assert gets == 500
     assert (by["request"]["now"], by["request"]["least"], by["request"]["told"]) == (
         "100m", "285m", "")
     assert by["request"]["pays"] == [{"group": "kubepods/burstable/x:b/c", "millicpu": 500}]
+    out, _ = ctl.run("tune", folder / "n.json", "--goal", "x/a/c=1cpu", "--want", "busy")
     # The weight of the one container of a pod decides nothing.
-    assert [each["least"] for each in found["knobs"] if each["name"] == "weight"] == [None]
-    out, _ = ctl.run("need", "x/a/c", "1cpu", folder / "n.json", "--want", "busy")
+    assert "no weight reaches it" in out
     assert "\nrequest          100m   285m  kubepods/burstable/x:b/c -0.50\n" in out
 
 
@@ -237,8 +242,7 @@ def test_a_request_that_the_node_has_not(ctl, folder):
     """180 of 200 slices take a weight of 106, 2691m. The node has 1700m left."""
     by, _ = needed(ctl, "x/a/c", "1.8cpu", two_pods(folder))
     assert by["request"]["least"] is None and by["request"]["pays"] == []
-    out, _ = ctl.run("need", "x/a/c", "1.8cpu", folder / "n.json", "--want", "busy")
-    assert "no request reaches it (1700m is the node has no more left)" not in out
+    out, _ = ctl.run("tune", folder / "n.json", "--goal", "x/a/c=1.8cpu", "--want", "busy")
     assert "no request reaches it (1700m is all that the node has left)" in out
 
 
@@ -263,8 +267,8 @@ def test_a_request_that_makes_a_pod_burstable(ctl):
 
     233m are 238 shares: 1 + 236 * 9999 / 262142 = 10.002. 232m are 237: 9.96.
     """
-    by, found = needed(ctl, "batch/report-x/report", "500m", PODS, NODE)
-    assert found["gets_millicpu"] == 60
+    by, gets = needed(ctl, "batch/report-x/report", "500m", PODS, NODE)
+    assert gets == 60
     assert by["request"]["least"] == "233m" and "no more BestEffort" in by["request"]["told"]
 
 
@@ -294,11 +298,11 @@ def test_the_limit_of_a_container_is_that_of_its_pod_too(ctl):
 
     nginx with 3000m and metrics with 200m are 3200m for their pod.
     """
-    by, found = needed(ctl, "prod/proxy-1/app", "900m", PODS, NODE)
+    by, gets = needed(ctl, "prod/proxy-1/app", "900m", PODS, NODE)
     assert (by["limit"]["now"], by["limit"]["least"]) == ("500m", "900m")
     out, _ = ctl.run("diff", PODS, NODE, "--set", "prod/web-7c9f/nginx.limit=3", "-o", "json")
     pod = [each for each in json.loads(out)["after"]["groups"] if each["group"] == WEB]
-    assert pod[0]["quota_usec"] == 320000 and found["gets_millicpu"] == 500
+    assert pod[0]["quota_usec"] == 320000 and gets == 500
 
 
 AMOUNTS = st.none() | st.integers(0, 120)
@@ -331,15 +335,17 @@ def nodes(draw):
 def test_no_lesser_request_reaches(engine, data, slices):
     """Of the requests and limits that can be asked for the least that reaches is found, over all
     classes: those just below it, and each third of the lesser ones, do not reach."""
-    model = kubernetes.read([("p", data)], None, engine.library, kubernetes.Wish(want="busy"))
+    model = reading.pods([("p", data)], None, engine.library, want="busy")
     path = next(path for path in model.groups if model.owned.has(path))
     row = list(model.groups).index(path) + 1
 
     def gets(key, value):
         setting = Setting(path, key, f"{value}m")
-        return plan(engine, backwards.with_settings(model, model.owned, [setting])).groups[row].gets
+        return plan(engine, remade(model, model.owned, [setting])).groups[row].gets
 
-    found = backwards.need(engine, model, path, Fraction(10 * slices)).owned
+    before = plan(engine, model)
+    goals = Goals(before, goals_of(before, [f"{path}={10 * slices}m"]), False)
+    found = [knob for knob in Knobs(goals).each() if knob.is_owned]
     for of, knob in zip(model.owned.ranges(path), found, strict=True):
         values = range(of.parts[0][0], of.parts[-1][1] + 1) if of.parts else ()
         if knob.least is None:
@@ -368,7 +374,7 @@ def of(group):
 ])
 def test_units(words, wanted):
     """Properties of ssh.service, which has weight 200 and half a CPU."""
-    model = systemd.read([("u", (FIXTURES / "units.show").read_bytes())], EIGHT)
+    model = reading.units([("u", (FIXTURES / "units.show").read_bytes())], EIGHT)
     after = change.changed(model, [f"ssh.service.{word}" for word in words])
     assert of(after.groups["system.slice/ssh.service"]) == wanted
     assert of(model.groups["system.slice/ssh.service"]) == (200, 50000, 100000)
@@ -380,7 +386,7 @@ def test_units(words, wanted):
     "request=1", "CPUWeight=" + "9" * 5000,
 ], ids=lambda each: ascii(each)[:30])
 def test_bad_settings_of_units(word):
-    model = systemd.read([("u", (FIXTURES / "units.show").read_bytes())], EIGHT)
+    model = reading.units([("u", (FIXTURES / "units.show").read_bytes())], EIGHT)
     with pytest.raises(UsageFault, match="^--set "):
         change.changed(model, [f"ssh.service.{word}"])
 
@@ -401,14 +407,14 @@ def test_what_a_unit_needs(ctl):
 def test_docker(engine, words, wanted):
     """Options of web, which has 2048 shares and 1.5 CPUs."""
     data = (FIXTURES / "docker.json").read_bytes()
-    model = containers.read([("d", data)], EIGHT, engine.library)
+    model = reading.docker([("d", data)], EIGHT, engine.library)
     after = change.changed(model, [f"system.slice/web.{word}" for word in words])
     assert of(after.groups["system.slice/web"]) == wanted
 
 
 def test_cpus_stand_in_place_of_a_quota(engine):
     """db has 20 ms of 50 ms; `--cpus` is half of 100 ms."""
-    model = containers.read([("d", (FIXTURES / "docker.json").read_bytes())], EIGHT, engine.library)
+    model = reading.docker([("d", (FIXTURES / "docker.json").read_bytes())], EIGHT, engine.library)
     after = change.changed(model, ["system.slice/db.cpus=0.5"])
     assert of(after.groups["system.slice/db"]) == (100, 50000, 100000)
 
@@ -418,7 +424,7 @@ def test_cpus_stand_in_place_of_a_quota(engine):
     "cpu-shares=262145", "cpu-shares=2.5", "cpu-shares=-1", "CPUQuota=5%",
 ])
 def test_bad_settings_of_containers(engine, word):
-    model = containers.read([("d", (FIXTURES / "docker.json").read_bytes())], EIGHT, engine.library)
+    model = reading.docker([("d", (FIXTURES / "docker.json").read_bytes())], EIGHT, engine.library)
     with pytest.raises(UsageFault, match="^--set "):
         change.changed(model, [f"system.slice/web.{word}"])
 

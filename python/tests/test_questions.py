@@ -4,8 +4,10 @@ from fractions import Fraction
 import arbiter
 import pytest
 from arbiter import Host, Kind, Reason
-from arbiter_host import backwards, explain
+from arbiter_host import explain
 from arbiter_host.faults import HostFault
+from arbiter_host.goals import Goals, goals_of
+from arbiter_host.knobs import Knobs
 from arbiter_host.model import Group, Model
 from arbiter_host.plan import Engine, asking, guarantees, plan
 
@@ -80,13 +82,19 @@ def test_explain_follows_the_library(answering):
                      "b": ("limit above", "limit of a above: weight 100 of 200", "a")}
 
 
+def knobs_of(engine, model):
+    """The settings alone with which a gets 550m."""
+    before = plan(engine, model)
+    return Knobs(Goals(before, goals_of(before, ["a=550m"]), False)).each()
+
+
 def test_answers_follow_the_library(answering):
-    """`guarantee` and `need` give the library's numbers, and its words for none."""
+    """Guarantees and settings alone are the library's numbers, and its words for none."""
     engine = answering(guarantee=7, least_weight=5000, least_limit=None, least_processors=None)
     model = two_groups()
     found = plan(engine, model)
     assert guarantees(found, found.groups[1:]) == [7, 7]
-    knobs = backwards.need(engine, model, "a", Fraction(550)).knobs
+    knobs = knobs_of(engine, model)
     assert [(knob.least, knob.plan is None) for knob in knobs] == (
         [(5000, False), (None, True), (None, True)])
     assert knobs[0].plan.by_path()["a"].gets == 20
@@ -95,7 +103,7 @@ def test_answers_follow_the_library(answering):
 def test_a_value_that_does_not_reach_is_no_answer(answering):
     """A least value is shown only if its accepted plan gives the group the amount."""
     with pytest.raises(HostFault, match="weight 100: the accepted plan does not reach"):
-        backwards.need(answering(least_weight=100), two_groups(), "a", Fraction(550))
+        knobs_of(answering(least_weight=100), two_groups())
 
 
 def test_refusals_are_faults(engine):

@@ -4,10 +4,11 @@ import re
 from fractions import Fraction
 
 import pytest
+import reading
 import yaml
 from arbiter import Host
 from arbiter_host import change, load
-from arbiter_host.sources import containers, kubernetes, slurm, systemd, usage
+from arbiter_host.sources import slurm, usage
 from places import PACKAGE
 
 REAL = PACKAGE / "tests/fixtures/real"
@@ -37,7 +38,7 @@ def written(ctl, folder, form, *words):
 
 def test_jobs_of_a_queue():
     """Two CPUs of four for train, one for each of the others. Held and pending ones have none."""
-    model = slurm.read(files("squeue.json", "sinfo.json"), None)
+    model = reading.jobs(files("squeue.json", "sinfo.json"), None)
     assert model.host == HOST
     assert rows(model) == {TRAIN: (2000, 2), LOOSE: (1000, 1), SWEEP: (1000, 1)}
     assert model.groups[SWEEP].place == f"{slurm.TOP}/job_5"
@@ -49,14 +50,14 @@ def test_jobs_of_a_queue():
 
 def test_accounts_of_jobs_that_run():
     """No step that runs has a TotalCPU yet. 0.476 s of train are those of a step that has ended."""
-    model = slurm.read(files("sacct.txt", "sinfo.json"), None)
+    model = reading.jobs(files("sacct.txt", "sinfo.json"), None)
     assert rows(model) == {TRAIN: (2000, 2), LOOSE: (1000, 1), SWEEP: (1000, 1)}
     assert "jobs whose use is not accounted yet: 3" in model.notes[0]
 
 
 def test_use_of_steps_that_run():
     """10 s in 88 s are 113.636m. A task of an array is `3_1` and, in sstat, job 5."""
-    model = slurm.read(files("squeue.json", "sacct.txt", "sstat.txt", "sinfo.json"), None)
+    model = reading.jobs(files("squeue.json", "sacct.txt", "sstat.txt", "sinfo.json"), None)
     assert rows(model) == {
         TRAIN: (0, None), f"{TRAIN}/step_batch": (0, 2),
         f"{TRAIN}/step_1": (Fraction(10 * 10**6 // 88, 1000), 2),
@@ -95,7 +96,7 @@ def shares_of(line):
 
 def test_units():
     """Limits and weights are those that the kernel had: 1024 shares are a weight of 100."""
-    model = systemd.read(files("units.show"), HOST)
+    model = reading.units(files("units.show"), HOST)
     lines = (REAL / "units-cgroups.txt").read_text().splitlines()
     found = {folder: (shares, quota) for folder, shares, quota in map(shares_of, lines)}
     del found["cpu.shares"]  # (the host)
@@ -121,7 +122,7 @@ def test_systemd_took_the_dropin(ctl, folder):
 
 def test_containers(engine):
     """Folders, shares and quotas are those that the kernel had. One that never ran has none."""
-    model = containers.source_of(files("podman-inspect.json"), HOST, engine.library).model()
+    model = reading.docker(files("podman-inspect.json"), HOST, engine.library)
     text = (REAL / "podman-cgroups.txt").read_text()
     found = {path: int(number) for path, number in re.findall(r"(?m)^(\S+): (-?\d+) ?$", text)}
     for path, group in model.groups.items():
@@ -161,7 +162,7 @@ def test_kubectl_took_the_patch(ctl, engine, folder, words, patch, patched):
     text = written(ctl, folder, "kubectl-patch", REAL / "deployment.json",
                    *(word for each in sets for word in ("--set", each)))
     assert text == (REAL / patch).read_text()
-    before, found = (kubernetes.read(files(name), HOST, engine.library)
+    before, found = (reading.pods(files(name), HOST, engine.library)
                      for name in ("deployment.json", patched))
     wanted = change.changed(before, sets)
     assert found.groups == wanted.groups != before.groups

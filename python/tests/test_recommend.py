@@ -1,14 +1,14 @@
 """Requests and limits that are proposed from use. Each expected number is worked by hand."""
 import json
-from argparse import Namespace
 from fractions import Fraction
 from pathlib import Path
 
 import pytest
 import trees
-from arbiter_host import load, recommend, samples
+from arbiter_host import recommend, samples
 from arbiter_host.faults import UsageFault
 from arbiter_host.sources import kubernetes
+from arbiter_host.sources.wish import Wish
 
 FIXTURES = Path(__file__).parent / "fixtures"
 PODS, NODE = FIXTURES / "pods.json", FIXTURES / "node.json"
@@ -131,9 +131,7 @@ def test_a_query_of_prometheus(engine, monkeypatch):
               {"metric": {"pod": "web-7c9f"}, "values": [[0, "1"]]}]
     monkeypatch.setattr(samples, "fetched", lambda _: {"data": {"result": series}})
     files = [("p", PODS.read_bytes()), ("n", NODE.read_bytes())]
-    source = kubernetes.source_of(files, None, engine.library)
-    model = load.Loaded(Namespace(scale=[], cpus=None, period=None, slice=None, strict=False),
-                        source).model()
+    model = kubernetes.read(files, engine.library, Wish())
     found = samples.read_prometheus("http://x", {"query": "q"}, "pod", "cpu", model.host, True)
     uses, told = recommend.of_history(model, found, {})
     assert {path: use.values for path, use in uses.items()} == {

@@ -3,6 +3,7 @@ import json
 from fractions import Fraction
 
 import pytest
+import reading
 from arbiter import Host
 from arbiter_host import load
 from arbiter_host.faults import HostFault, NoHost
@@ -18,7 +19,7 @@ HEAD = "JobID|JobName|User|State|AllocCPUS|Elapsed|TotalCPU|NodeList\n"
 
 def read(*texts, host=None, node="", want=""):
     """The model of some texts."""
-    return slurm.read([(f"f{at}", text.encode() if isinstance(text, str) else text)
+    return reading.jobs([(f"f{at}", text.encode() if isinstance(text, str) else text)
                        for at, text in enumerate(texts)], host, node, want)
 
 

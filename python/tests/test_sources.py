@@ -8,14 +8,14 @@ from fractions import Fraction
 from pathlib import Path
 
 import pytest
+import reading
 import trees
 from arbiter import Host
 from arbiter_host import demands, load, units
 from arbiter_host.faults import HostFault
 from arbiter_host.model import Group, Model
 from arbiter_host.plan import plan
-from arbiter_host.sources import (cgroup2, cgroups, containers, hostfile, kubernetes, script,
-                                  systemd)
+from arbiter_host.sources import cgroup2, cgroups, hostfile, kubernetes, script
 from hypothesis import HealthCheck, given, settings
 from hypothesis import strategies as st
 
@@ -36,7 +36,7 @@ def of(group):
 def pods(engine, **wish):
     """The model of the pods and the node."""
     files = [fixture("pods.json"), fixture("node.json")]
-    return kubernetes.read(files, None, engine.library, kubernetes.Wish(**wish))
+    return reading.pods(files, None, engine.library, **wish)
 
 
 # scripts
@@ -83,7 +83,7 @@ def answered(program, text):
 @given(text=scripts())
 def test_script_is_read_as_the_program_reads_it(program, engine, text):
     """The same refused lines by the same numbers, and the same rows and amounts at the end."""
-    model = script.read(text.encode(), "F", engine, Host(2, 100000, 5000))
+    model = reading.lines(text.encode(), "F", engine, Host(2, 100000, 5000))
     refused = [(int(each.split(":")[1]), int(each.split("error ")[1].split(" ")[0]))
                for each in model.refused]
     amounts = engine.plan(model.host, model.rows(engine.library)).amounts
@@ -110,7 +110,7 @@ def test_script_head_line_behind_a_command():
 def test_script_saves_up(engine):
     """What a period leaves is in the limit of the next one: 6 + 10, at most 10 + 5."""
     text = b"mkdir a\nwrite a cpu.max 50000\nwrite a cpu.max.burst 25000\ndemand a 4\nperiod\n"
-    model = script.read(text + b"demand a 20\n", "F", engine, Host())
+    model = reading.lines(text + b"demand a 20\n", "F", engine, Host())
     assert plan(engine, model).groups[1].limit == 15
 
 
@@ -125,7 +125,7 @@ AGAIN = "demand a 0\nrmdir a\nmkdir a\n"
 def test_comments_of_later_lines(engine, text, tasks, demand, place):
     """A later demand keeps the tasks, and a group that is made again has none."""
     first = "# at x\nmkdir ./a\n# tasks 1, asks 3cpu\ndemand a 20\n"
-    group = script.read((first + text).encode(), "F", engine, Host()).groups["a"]
+    group = reading.lines((first + text).encode(), "F", engine, Host()).groups["a"]
     assert (group.tasks, group.demand, group.place) == (tasks, demand, place)
 
 
@@ -133,19 +133,19 @@ def test_script_for_many_cpus(engine):
     """Above 64 CPUs a script is read as for 64, but not where a period left a burst over."""
     text = b"mkdir a\nwrite a cpu.max 50000\ndemand a 4\nperiod\n"
     host = Host(96, 100000, 5000)
-    assert script.read(text, "F", engine, host).groups["a"].quota == 50000
+    assert reading.lines(text, "F", engine, host).groups["a"].quota == 50000
     burst = b"write a cpu.max.burst 25000\n"
     with pytest.raises(HostFault, match="96 CPUs: a script with bursts and `period` lines"):
-        script.read(text.replace(b"demand", burst + b"demand"), "F", engine, host)
+        reading.lines(text.replace(b"demand", burst + b"demand"), "F", engine, host)
 
 
 def test_script_warns(engine):
-    assert "no head line" in script.read(b"mkdir a\n", "F", engine).notes[0]
+    assert "no head line" in reading.lines(b"mkdir a\n", "F", engine).notes[0]
     head = b"# arbiter run --processors 4 --period 100000 --slice 1000\n"
-    assert script.read(head, "F", engine).notes == []
+    assert reading.lines(head, "F", engine).notes == []
     other = Host(2, 100000, 1000)
-    assert "differ from its head line" in script.read(head, "F", engine, other).notes[0]
-    assert script.read(b"mkdir a\n", "F", engine, other).notes == []
+    assert "differ from its head line" in reading.lines(head, "F", engine, other).notes[0]
+    assert reading.lines(b"mkdir a\n", "F", engine, other).notes == []
 
 
 @pytest.mark.parametrize("comment, tasks, asks", [
@@ -155,7 +155,7 @@ def test_script_warns(engine):
 def test_tasks_above_a_demand(comment, tasks, asks, engine):
     """They are taken where they are of this demand: half a CPU that one task or two can use."""
     text = f"mkdir a\n{comment}\ndemand a 10\n"
-    group = script.read(text.encode(), "F", engine, Host()).groups["a"]
+    group = reading.lines(text.encode(), "F", engine, Host()).groups["a"]
     assert (group.tasks, group.demand) == (tasks, asks)
 
 
@@ -165,13 +165,13 @@ def test_tasks_that_cut_are_kept(engine):
     model.add(Group("a", demand=Fraction(6000), tasks=1))
     text = script.write(model, engine.library)
     assert text.endswith("# tasks 1, asks 6cpu\ndemand a 20\n")
-    group = script.read(text.encode(), "F", engine).groups["a"]
+    group = reading.lines(text.encode(), "F", engine).groups["a"]
     assert (group.tasks, group.demand, group.usable) == (1, 6000, 1000)
 
 
 def test_script_with_carriage_returns(engine):
     """They are parts of words, as for the program, and that is told."""
-    model = script.read(b"mkdir a\r\ndemand a 5\r\n", "F", engine, Host())
+    model = reading.lines(b"mkdir a\r\ndemand a 5\r\n", "F", engine, Host())
     assert list(model.groups) == ["a\r"] and len(model.refused) == 1
     assert any("carriage returns" in note for note in model.notes)
 
@@ -207,17 +207,17 @@ def same_model(engine, one, two):
 @settings(max_examples=80, deadline=None)
 @given(model=models())
 def test_script_round_trip(model, engine):
-    read = script.read(script.write(model, engine.library).encode(), "F", engine)
+    read = reading.lines(script.write(model, engine.library).encode(), "F", engine)
     assert read.refused == [] and read.notes == []
     same_model(engine, model, read)
 
 
 @pytest.mark.parametrize("kind, writer", [
-    ("toml", hostfile.write_toml), ("json", hostfile.write_json), ("yaml", hostfile.write_yaml)])
+    ("toml", hostfile.write_toml), ("json", hostfile.write_json)])
 @settings(max_examples=60, deadline=None)
 @given(model=models())
 def test_host_file_round_trip(engine, kind, writer, model):
-    same_model(engine, model, hostfile.read(writer(model).encode(), "F", kind))
+    same_model(engine, model, reading.host_file(writer(model).encode(), "F", kind))
 
 
 # host files
@@ -236,7 +236,7 @@ tasks = 3
 
 
 def test_host_file():
-    model = hostfile.read(TOML, "h.toml", "toml")
+    model = reading.host_file(TOML, "h.toml", "toml")
     assert model.host == Host(16, 100000, 1000)
     assert list(model.groups) == ["system.slice", "system.slice/web.service"]
     group = model.groups["system.slice/web.service"]
@@ -260,53 +260,43 @@ def test_host_file():
 ])
 def test_host_file_names_the_line(text, words):
     with pytest.raises(HostFault) as fault:
-        hostfile.read(text.encode(), "h", "toml")
+        reading.host_file(text.encode(), "h", "toml")
     assert words in fault.value.message
 
 
 @pytest.mark.parametrize("text, kind, words", [
-    ("groups: {}\n---\ngroups: {}\n", "yaml",
-     "h:2: expected a single document in the stream, but found another document"),
-    ("apiVersion: v1\nkind: Pod\n", "yaml", "h:1: an object of Kubernetes, of which pods and nodes"
-     " are read as JSON: kubectl get pods -o json"),
+    ('apiVersion = "v1"\nkind = "Pod"\n', "toml", "h:1: an object of Kubernetes, of which pods and"
+     " nodes are read as JSON: kubectl get pods -o json"),
     ('{"kind": "PodMetricsList",\n "apiVersion": "metrics.k8s.io/v1beta1"}', "json",
      "h:1: an object of Kubernetes, of which pods"),
 ])
 def test_what_is_no_host_file_is_named(text, kind, words):
     with pytest.raises(HostFault, match="^" + re.escape(words)):
-        hostfile.read(text.encode(), "h", kind)
+        reading.host_file(text.encode(), "h", kind)
 
 
-def test_host_file_in_yaml_names_the_line():
-    with pytest.raises(HostFault, match="h:3: "):
-        hostfile.read(b"host:\n  cpus: 2\n bad\n", "h", "yaml")
+def test_yaml_is_refused_by_name():
+    with pytest.raises(HostFault, match="^h.yaml: YAML is not read: write TOML or JSON"):
+        load.kind_of("h.yaml", b"groups: {}")
 
 
 @pytest.mark.parametrize("text, words", [
-    ('groups:\n  a:\n    # weight: 5\n    title: "weight: 3"\n    weight: 0\n',
-     "h:5: a: weight 0:"),
-    ("groups:\n  b: {weight: 3}\n  a:\n    ? weight\n    : 0\n", "h:4: a: weight 0:"),
-    ("groups:\n- title: a\n  path: b\n- path: a\n\n  weight: 0\n", "h:6: a: weight 0:"),
-    # A group may have the name of a table, a key may come from another group.
-    ("groups:\n  host: {}\nhost:\n  cpus: 0\n", "h:3: host: CPUs 0:"),
-    ("groups:\n  host:\n    weight: 0\nhost: {}\n", "h:3: host: weight 0:"),
-    ("groups:\n  b: &b\n    burst: x\n  a:\n    <<: *b\n", "h:3: b: burst:"),
-    ("groups:\n  a: 1\n", "h:2: a: a group is a table"), ("\na: 1\n", "h:2: no table 'a'"),
-    ("groups:\n- 1\n", "h:1: each group of a list has a path"),
-    ("groups:\n  b: {}\n  7: {}\n", "h:3: 7: 7 is no path"),
-    ("", "h:1: a host file is a table"),
+    # A group may have the name of a table.
+    ('{"groups": {"host": {}},\n"host": {"cpus": 0}}', "h:2: host: CPUs 0:"),
+    ('{"groups": {\n"a": 1}}', "h:2: a: a group is a table"), ('{"a": 1}', "h:1: no table 'a'"),
+    ('{"groups": [1]}', "h:1: groups: groups is a table of paths"),
+    ("7", "h:1: a host file is a table"),
 ])
-def test_faults_of_yaml_name_the_line(text, words):
-    """The lines are those of the keys that YAML has, whatever its comments and texts hold."""
+def test_faults_of_json(text, words):
     with pytest.raises(HostFault) as fault:
-        hostfile.read(text.encode(), "h", "yaml")
+        reading.host_file(text.encode(), "h", "json")
     assert words in fault.value.message
 
 
 def test_faults_of_json_name_the_line():
     text = '{"groups": {\n"a": {"title": "\\"weight\\": 3", "tasks": 1,\n"weight": 0}}}'
     with pytest.raises(HostFault, match="h:3: a: weight 0:"):
-        hostfile.read(text.encode(), "h", "json")
+        reading.host_file(text.encode(), "h", "json")
 
 
 # cgroups
@@ -501,10 +491,10 @@ def test_groups_with_cpus_of_their_own_are_told(engine, folder):
     units_ = b"Id=a.service\nControlGroup=/a.service\nAllowedCPUs=0-1\n\nId=b.service\n" \
         b"ControlGroup=/b.service\nAllowedCPUs=\n"
     assert [each.startswith(told.format("a.service"))
-            for each in systemd.read([("u", units_)], EIGHT).notes] == [True]
+            for each in reading.units([("u", units_)], EIGHT).notes] == [True]
     raw = [{"Id": f"{at}", "Name": f"/c{at}", "HostConfig": {"CpusetCpus": "0" if at < 7 else ""}}
            for at in range(8)]
-    notes = containers.read([("d", json.dumps(raw).encode())], EIGHT, engine.library).notes
+    notes = reading.docker([("d", json.dumps(raw).encode())], EIGHT, engine.library).notes
     named = ", ".join(f"system.slice/c{at}" for at in range(5)) + " and 2 more"
     assert [each.startswith(told.format(named)) for each in notes] == [True]
 
@@ -643,7 +633,7 @@ def test_limits_of_a_pod_itself(engine):
     found = {"metadata": {"name": "p"}, "spec": {**resources("1", "2"), "containers": [
         {"name": "a"}, {"name": "b", **resources("250m")},
         {"name": "c", **resources("250m", "500m")}]}}
-    model = kubernetes.read([("p", json.dumps({"items": [found]}).encode())], EIGHT, engine.library)
+    model = reading.pods([("p", json.dumps({"items": [found]}).encode())], EIGHT, engine.library)
     path = "kubepods/burstable/default:p"
     assert {name: of(model.groups[f"{path}{name}"]) for name in ("", "/a", "/b", "/c")} == {
         "": (39, 200000, 100000), "/a": (79, 200000, 100000), "/b": (10, 200000, 100000),
@@ -677,7 +667,7 @@ def test_containers_that_have_ended(engine, policy, state, is_there):
     found = {"metadata": {"name": "p"}, "spec": {"restartPolicy": policy, "containers": [
         {"name": "work", **resources("400m")}, {"name": "proxy", **resources("100m")}]},
         "status": {"phase": "Running", "containerStatuses": [{"name": "work", "state": state}]}}
-    model = kubernetes.read([("p", json.dumps({"items": [found]}).encode())], EIGHT, engine.library)
+    model = reading.pods([("p", json.dumps({"items": [found]}).encode())], EIGHT, engine.library)
     path = "kubepods/burstable/default:p"
     assert (f"{path}/work" in model.groups) == is_there and f"{path}/proxy" in model.groups
     assert model.groups[path].weight == 20
@@ -691,7 +681,7 @@ def test_pods_that_wait_for_a_node(engine):
 
     def read(*items):
         data = json.dumps({"items": items}).encode()
-        return kubernetes.read([("p", data), fixture("node.json")], None, engine.library)
+        return reading.pods([("p", data), fixture("node.json")], None, engine.library)
 
     found = read(pod("here", "n1"), pod("waits"), pod("draft", phase=""))
     assert [each.title for each in found.groups.values() if each.title.count("/") == 1] == [
@@ -707,7 +697,7 @@ def test_static_pods_stand_by_the_identifier_of_kubelet(engine):
                           "annotations": {"kubernetes.io/config.hash": "7c9f",
                                           "kubernetes.io/config.mirror": "7c9f"}},
              "spec": {"containers": [{"name": "etcd", "resources": {"requests": {"cpu": "100m"}}}]}}
-    model = kubernetes.read([("p", json.dumps({"items": [found]}).encode())], EIGHT, engine.library)
+    model = reading.pods([("p", json.dumps({"items": [found]}).encode())], EIGHT, engine.library)
     assert model.groups["kubepods/burstable/kube-system:etcd-n1"].place == (
         "kubepods.slice/kubepods-burstable.slice/kubepods-burstable-pod7c9f.slice")
     del found["metadata"]["annotations"]["kubernetes.io/config.mirror"]
@@ -747,21 +737,21 @@ def test_pods_of_several_nodes(engine):
     found["items"][0]["spec"]["nodeName"] = "n2"
     data = json.dumps(found).encode()
     with pytest.raises(HostFault, match="2 nodes .n1, n2.: choose one by --node"):
-        kubernetes.read([("p", data)], EIGHT, engine.library)
+        reading.pods([("p", data)], EIGHT, engine.library)
     nodes = [{"kind": "Node", "metadata": {"name": f"n{number}"}} for number in range(7)]
     with pytest.raises(HostFault, match="^7 nodes .n0, n1, n2, n3, n4, ...: choose one by --node"):
-        kubernetes.read([("n", json.dumps(nodes).encode())], EIGHT, engine.library)
+        reading.pods([("n", json.dumps(nodes).encode())], EIGHT, engine.library)
     with pytest.raises(HostFault, match="^no node n9 among 2 .n0, n1.: choose one by --node"):
-        kubernetes.read([("n", json.dumps(nodes[:2]).encode())], EIGHT, engine.library,
-                        kubernetes.Wish(node="n9"))
-    model = kubernetes.read([("p", data)], EIGHT, engine.library, kubernetes.Wish(node="n2"))
+        reading.pods([("n", json.dumps(nodes[:2]).encode())], EIGHT, engine.library,
+                        node="n9")
+    model = reading.pods([("p", data)], EIGHT, engine.library, node="n2")
     assert sum("/pause" in each.title for each in model.groups.values()) == 1
 
 
 # systemd, docker, podman
 
 def test_units():
-    model = systemd.read([fixture("units.show")], EIGHT)
+    model = reading.units([fixture("units.show")], EIGHT)
     found = {path: of(each) for path, each in model.groups.items()}
     assert found == {
         "system.slice": (100, None, 100000), "system.slice/ssh.service": (200, 50000, 100000),
@@ -776,12 +766,12 @@ def test_units_twice():
     """What was used between two files, ten seconds apart."""
     name, data = fixture("units.show")
     later = data.replace(b"CPUUsageNSec=1000000000", b"CPUUsageNSec=6000000000")
-    model = systemd.read([(name, data), (name, later)], EIGHT, "usage", Fraction(10))
+    model = reading.units([(name, data), (name, later)], EIGHT, "usage", Fraction(10))
     assert model.groups["system.slice/ssh.service"].demand == 500
 
 
 def test_docker(engine):
-    model = containers.read([fixture("docker.json")], EIGHT, engine.library)
+    model = reading.docker([fixture("docker.json")], EIGHT, engine.library)
     found = {path: of(each) for path, each in model.groups.items()}
     assert found == {
         "system.slice": (100, None, 100000), "system.slice/web": (79, 150000, 100000),
@@ -794,7 +784,7 @@ def test_docker(engine):
 
 
 def test_podman(engine):
-    model = containers.read([fixture("podman.json")], EIGHT, engine.library)
+    model = reading.docker([fixture("podman.json")], EIGHT, engine.library)
     group = model.groups["machine.slice/pod-web"]
     assert of(group) == (100, 50000, 100000)
     assert group.place == f"machine.slice/libpod-{'05' * 32}.scope"

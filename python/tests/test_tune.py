@@ -10,7 +10,8 @@ from fractions import Fraction
 
 import pytest
 from arbiter import Host, Unmet
-from arbiter_host import change, demands, tune
+from arbiter_host import change, demands, goals as goals_, other_limits, tune, tune_settings
+from arbiter_host import tune_weights
 from arbiter_host.faults import HostFault
 from arbiter_host.model import Group, Model
 from arbiter_host.plan import Engine, plan
@@ -28,9 +29,13 @@ def host_file(folder, *groups, cpus=1, slice_="5ms"):
 
 
 def asked(ctl, source, *goals, words=()):
-    """What `tune --json` answers to goals."""
+    """What `tune -o json` answers to goals. Status 6 says that nothing was found."""
     named = [word for goal in goals for word in ("--goal", goal)]
-    return json.loads(ctl.run("tune", source, *named, *words, "--json")[0])
+    ended = ctl.ended("tune", source, *named, *words, "-o", "json")
+    found = json.loads(ended.stdout)
+    is_found = found["met"] or any(each["least"] is not None for each in found["alone"])
+    assert ended.returncode == (0 if is_found else 6), ended.stderr
+    return found
 
 
 def changes(way):
@@ -57,7 +62,7 @@ def test_one_goal(ctl, folder):
     way = found["weights"]
     assert changes(way) == {"a": ("100", "181")} and way["set"] == ["a.weight=181"]
     assert (way["then_millicpu"], way["pays"]) == ([500], [{"group": "b", "millicpu": 150}])
-    assert way["told"] == tune.LEAST and found["settings"] is found["conflict"] is None
+    assert way["told"] == tune_weights.LEAST and found["settings"] is found["conflict"] is None
 
 
 def test_two_goals(ctl, folder):
@@ -76,13 +81,13 @@ def test_two_goals(ctl, folder):
         ["0.50", "0.35", "0.50", "1.00", "a"], ["0.35", "0.35", "0.35", "1.00", "b"], [],
         ["setting", "now", "then", "group"], ["weight", "100", "272", "a"],
         ["weight", "100", "186", "b"], [], ["who", "else", "pays:", "c", "-0.15"],
-        tune.LEAST.split(), []]
+        tune_weights.LEAST.split(), []]
 
 
 def test_what_is_met_stays(ctl, folder):
     """7 of 20 slices are 350m."""
     found = asked(ctl, three(folder), "a=350m", "b=100m")
-    assert found["weights"]["changes"] == [] and found["weights"]["told"] == tune.NO_CHANGE
+    assert found["weights"]["changes"] == [] and found["weights"]["told"] == goals_.NO_CHANGE
     assert "nothing changes" in ctl.run("tune", three(folder), "--goal", "a=350m")[0]
 
 
@@ -90,12 +95,12 @@ def test_guarantee(ctl, folder):
     """c asks for nothing, so a and b have 10 each. If it asks, they have 7 each, as above."""
     source = three(folder, c_asks=0)
     assert asked(ctl, source, "a=500m", "b=350m")["weights"]["changes"] == []
-    found = asked(ctl, source, "a=500m", "b=350m", words=["--guarantee"])
+    found = asked(ctl, source, "a=500m", "b=350m", words=["--guaranteed"])
     assert changes(found["weights"]) == {"a": ("100", "272"), "b": ("100", "186")}
     assert [goal["now_millicpu"] for goal in found["goals"]] == [350, 350]
     assert found["guaranteed"] and found["weights"]["then_millicpu"] == [500, 350]
     assert "whatever the others ask for" in ctl.run("tune", source, "--goal", "a=500m",
-                                                    "--guarantee")[0]
+                                                    "--guaranteed")[0]
 
 
 def test_goals_that_cannot_be_met(ctl, folder):
@@ -106,7 +111,7 @@ def test_goals_that_cannot_be_met(ctl, folder):
     assert found["conflict"] == {"goal": "b", "together": ["a", "b"], "asked_millicpu": 1200,
                                  "served_millicpu": 1000}
     out, _ = ctl.run("tune", three(folder), "--goal", "a=600m", "--goal", "b=600m", "--goal",
-                     "c=100m")
+                     "c=100m", status=6)
     assert "weights of their groups cannot meet these goals together by today's demands" in out
     assert "asked for in all: 1.20; served in all: 1.00" in out and "0.10" not in out
 
@@ -114,7 +119,7 @@ def test_goals_that_cannot_be_met(ctl, folder):
 def test_more_than_is_asked(ctl, folder):
     """No weight gives a group more than it asks for, and a line says so."""
     out, _ = ctl.run("tune", host_file(folder, ("a", 100, 300), ("b", 100, 300)), "--goal",
-                     "a=400m")
+                     "a=400m", status=6)
     assert "the weight of its group cannot meet this goal" in out
     assert "a asks for less: no setting gives it more than it asks for" in out
 
@@ -127,19 +132,20 @@ def test_less_weight(ctl, folder):
     found = asked(ctl, two(folder, b=10000), "a=950m", "b=50m")
     assert changes(found["weights"]) == {"b": ("10000", "8")}
     assert (found["weights"]["then_millicpu"], found["weights"]["told"]) == (
-        [950, 50], tune.LOWER + tune.NEEDED)
+        [950, 50], tune_weights.LOWER + goals_.NEEDED)
 
 
 def test_kept_weights(ctl, folder):
     """a stays: its slice 18 costs 35/100, b's slice 3 5/w, so b has 14 at most. c is no goal's."""
-    found = asked(ctl, two(folder), "a=900m", "b=50m", words=["--keep", "a"])
+    found = asked(ctl, two(folder), "a=900m", "b=50m", words=["-g", "b"])
     assert changes(found["weights"]) == {"b": ("200", "14")}
     assert found["weights"]["then_millicpu"] == [900, 100]
-    found = asked(ctl, two(folder), "a=900m", words=["--keep", "a", "--keep", "b"])
+    found = asked(ctl, three(folder), "a=900m", words=["-g", "c"])
     assert (found["met"], found["conflict"]["together"]) == (False, ["a"])
-    out, _ = ctl.run("tune", two(folder), "--goal", "a=900m", "--keep", "*")
-    assert "the weight of a stays as it is (--keep)" in out
-    kept = asked(ctl, three(folder), "a=500m", "b=350m", words=["--keep", "c"])
+    out, err = ctl.run("tune", three(folder), "--goal", "a=900m", "-g", "c", status=6)
+    assert "the settings of a stay as they are (-g)" in out
+    assert err == "arbiterctl: no settings were found that meet the goals\n"
+    kept = asked(ctl, three(folder), "a=500m", "b=350m", words=["-g", "a", "-g", "b"])
     assert changes(kept["weights"]) == {"a": ("100", "272"), "b": ("100", "186")}
 
 
@@ -157,7 +163,7 @@ def test_groups_above(ctl, folder):
     found = asked(ctl, deep(folder), "web=600m", "db=150m")
     assert changes(found["weights"]) == {"sys": ("100", "293"), "sys/web": ("100", "384")}
     assert found["weights"]["pays"] == [{"group": "user", "millicpu": 250}]
-    assert found["weights"]["told"] == tune.CLIMBED + tune.NEEDED
+    assert found["weights"]["told"] == tune_weights.CLIMBED + goals_.NEEDED
 
 
 def test_a_group_above_that_is_given_more(ctl, folder):
@@ -168,10 +174,11 @@ def test_a_group_above_that_is_given_more(ctl, folder):
     """
     found = asked(ctl, deep(folder), "web=600m")
     assert changes(found["weights"]) == {"sys": ("100", "154"), "sys/web": ("100", "3967")}
-    out, _ = ctl.run("tune", deep(folder), "--goal", "web=600m", "--keep", "sys", "--keep", "user")
+    out, _ = ctl.run("tune", deep(folder), "--goal", "web=600m", "-g", "sys/*",
+                     status=6)
     assert "nor were weights of the groups above them found that do" in out
     assert "nor were limits of other groups found with which they are met" in out
-    assert "the weight of sys stays as it is (--keep)" in out
+    assert "the settings of sys stay as they are (-g)" in out
 
 
 def test_groups_below_stay(ctl, folder):
@@ -188,22 +195,22 @@ def test_groups_below_stay(ctl, folder):
 def limits(found):
     """The limits that are lowered, and the weights that change, by group."""
     assert found["met"] and found["weights"] is None and found["limits"]["told"] == (
-        tune.LIMITED + tune.NEEDED)
+        other_limits.LIMITED + goals_.NEEDED)
     return {(each["group"], each["setting"]): (each["now"], each["then"])
             for each in found["limits"]["changes"]}
 
 
 def test_a_limit_of_another_group(ctl, folder):
     """a has 18 of 20 slices where b has 2. Its own limit of 500m is lowered, too."""
-    found = asked(ctl, two(folder), "a=900m", words=["--keep", "a"])
+    found = asked(ctl, two(folder), "a=900m", words=["-g", "b"])
     assert limits(found) == {("b", "max"): ("-", "100m")}
     assert found["limits"]["set"] == ["b.max=100m"]
     assert found["limits"]["then_millicpu"] == [900]
     assert found["limits"]["pays"] == [{"group": "b", "millicpu": 550}]
-    words = ["--keep", "a", "--set", "b.max=500m"]
+    words = ["-g", "b", "--set", "b.max=500m"]
     assert limits(asked(ctl, two(folder), "a=900m", words=words)) == {("b", "max"): (
         "500m", "100m")}
-    out, _ = ctl.run("tune", two(folder), "--goal", "a=900m", "--keep", "a")
+    out, _ = ctl.run("tune", two(folder), "--goal", "a=900m", "-g", "b")
     assert ["max", "-", "100m", "b"] in [line.split() for line in out.split("\n")]
 
 
@@ -216,13 +223,13 @@ def test_limits_are_at_one_level(ctl, folder):
                        ("d", 10000, 50))
     assert limits(asked(ctl, source, "a=550m")) == {("b", "max"): ("-", "200m"),
                                                     ("c", "max"): ("-", "200m")}
-    assert not asked(ctl, source, "a=550m", words=["--keep", "b"])["met"]
+    assert not asked(ctl, source, "a=550m", words=["-g", "a", "-g", "c", "-g", "d"])["met"]
 
 
 def test_few_limits_that_cost_no_more(ctl, folder):
     """a has 4 of 20 slices, and 8 where b has 4, or b and c have 6 each: the others lose 4."""
     source = host_file(folder, ("a", 1, 1000), ("b", 10000, 400), ("c", 10000, 400))
-    assert limits(asked(ctl, source, "a=400m", words=["--keep", "a"])) == {
+    assert limits(asked(ctl, source, "a=400m", words=["-g", "b", "-g", "c"])) == {
         ("b", "max"): ("-", "200m")}
 
 
@@ -233,7 +240,8 @@ def test_few_limits_that_cost_more(ctl, folder):
     """
     source = host_file(folder, ("a", 1, 1000), ("b", 10000, 400), ("c", 10000, 1000),
                        ("d", 10000, 1000))
-    assert limits(asked(ctl, source, "a=250m", words=["--keep", "a"])) == {
+    assert limits(asked(ctl, source, "a=250m",
+                        words=["-g", "b", "-g", "c", "-g", "d"])) == {
         (path, "max"): ("-", "250m") for path in "bcd"}
 
 
@@ -246,14 +254,14 @@ def test_limits_and_weights(ctl, folder):
 
 def test_limits_beside_a_group_that_is_kept(ctl, folder):
     """web has 60 of the 80 slices of sys where user and db have 20 each."""
-    found = asked(ctl, deep(folder), "web=600m", words=["--keep", "sys"])
+    found = asked(ctl, deep(folder), "web=600m", words=["-g", "sys/*", "-g", "user"])
     assert limits(found) == {("user", "max"): ("-", "200m"), ("sys/db", "max"): ("-", "200m")}
 
 
 def test_limits_whatever_the_others_ask_for(ctl, folder):
     """c asks for nothing now. Its limit of 1 slice is what it could ask for."""
     source = three(folder, c_asks=0)
-    words = ["--guarantee", "--keep", "a", "--keep", "b"]
+    words = ["--guaranteed", "-g", "c"]
     assert limits(asked(ctl, source, "a=500m", "b=450m", words=words)) == {
         ("c", "max"): ("-", "50m")}
 
@@ -269,7 +277,7 @@ demand = "1cpu"
 [groups.b]
 demand = "1cpu"
 ''')
-    found = asked(ctl, folder / "third.toml", "a=600m", words=["--keep", "a", "--set",
+    found = asked(ctl, folder / "third.toml", "a=600m", words=["-g", "b", "--set",
                                                                "b.weight=200"])
     assert limits(found) == {("b", "max"): ("-", "1000 3000")}
 
@@ -304,10 +312,10 @@ def test_changes_that_are_made_first(ctl, folder):
 @pytest.mark.parametrize("goals, status, words", [
     (("a",), 2, "not GROUP=AMOUNT"), (("=1",), 2, "not GROUP=AMOUNT"), (("a=",), 2, "not GROUP="),
     (("a=lots",), 2, "no amount of CPU"), (("a=0",), 2, "needs nothing"),
-    ((".=1",), 2, "the host has no weight"), (("none=1",), 1, "no group none"),
+    ((".=1",), 2, "the host has no weight"), (("none=1",), 6, "no group none"),
     (("a=100m", "*=50m"), 2, "a has two goals"),
     (("sys=500m", "web=100m"), 2, "sys is above sys/web"),
-    (("\x1b=1",), 1, "no group \\x1b"),
+    (("\x1b=1",), 6, "no group \\x1b"),
 ])
 def test_refusals(ctl, folder, goals, status, words):
     """One line for each, and no raw control character."""
@@ -319,7 +327,7 @@ def test_refusals(ctl, folder, goals, status, words):
 
 def test_words_that_are_needed(ctl, folder):
     assert "--goal" in ctl.run("tune", two(folder), status=2)[1]
-    _, err = ctl.run("tune", two(folder), "--goal", "a=1", "--keep", "none", status=1)
+    _, err = ctl.run("tune", two(folder), "--goal", "a=1", "-g", "none", status=6)
     assert "no group none" in err
 
 
@@ -349,25 +357,23 @@ def test_requests(ctl, folder):
     path = "kubepods/burstable/x:a/c"
     assert found["met"] and found["weights"] is None and found["conflict"]["goal"] == path
     assert changes(way) == {path: ("100m", "182m")} and way["set"] == [f"{path}.request=182m"]
-    assert way["then_millicpu"] == [400, 600] and way["told"] == tune.RAISED + tune.NEEDED
+    assert way["then_millicpu"] == [400, 600]
+    assert way["told"] == tune_settings.RAISED + goals_.NEEDED
     out, _ = ctl.run("tune", node_of(folder), "--want", "busy", "--goal", "x/a=400m")
-    assert [line.split() for line in out.split("\n") if line.startswith("request")] == [
+    assert [line.split() for line in out.split("\n") if line.startswith("request") and path in line] == [
         ["request", "100m", "182m", path]]
 
 
 def test_requests_that_are_not_found(ctl, folder):
-    """a is kept, or a class whose weight would change: then b's limit of 600m gives a its 400m.
+    """a's request is kept: then b's limit of 600m gives a its 400m.
 
     b requests 300m, so no limit of it gives a 750m.
     """
     words, path = ["--want", "busy"], "kubepods/burstable/x:b/c"
-    found = asked(ctl, node_of(folder), "x/a/c=400m", words=[*words, "--keep", "x/a/c"])
+    found = asked(ctl, node_of(folder), "x/a/c=400m", words=[*words, "-g", "x/b/c"])
     assert limits(found) == {(path, "limit"): ("-", "600m")}
-    assert "its weight is kept" in found["no_settings"]
-    found = asked(ctl, node_of(folder), "x/a/c=400m", words=[*words, "--keep", "burstable"])
-    assert found["no_settings"] == "the weight of kubepods/burstable would change"
-    assert limits(found) == {(path, "limit"): ("-", "600m")}
-    found = asked(ctl, node_of(folder), "x/a/c=750m", words=[*words, "--keep", "x/a/c"])
+    assert "its setting is kept" in found["no_settings"]
+    found = asked(ctl, node_of(folder), "x/a/c=750m", words=[*words, "-g", "x/b/c"])
     assert not found["met"] and found["limits"] is None
     found = asked(ctl, node_of(folder), "x/a/c=400m", "x/b/c=700m", words=words)
     assert not found["met"] and "no request reaches its goal" in found["no_settings"]
@@ -385,7 +391,7 @@ def test_units(ctl, folder):
     assert changes(found["weights"]) == {"a.service": ("100", "197")}
     assert changes(found["settings"]) == {"a.service": ("-", "197")}
     assert found["settings"]["set"] == ["a.service.CPUWeight=197"]
-    assert found["settings"]["told"] == tune.LEAST
+    assert found["settings"]["told"] == tune_weights.LEAST
 
 
 def test_shares(ctl, folder):
@@ -401,7 +407,7 @@ def test_shares(ctl, folder):
 def test_quotas_of_units(ctl, folder):
     """A weight of 100 stays: a has 90 of 100 slices where b has 10, by its quota."""
     (folder / "u.show").write_text(unit("a.service", "[not set]") + unit("b.service", 200))
-    found = asked(ctl, folder / "u.show", "a.service=900m", words=["--cpus", "1", "--keep", "a.*"])
+    found = asked(ctl, folder / "u.show", "a.service=900m", words=["--cpus", "1", "-g", "b.*"])
     assert limits(found) == {("b.service", "CPUQuota"): ("-", "10%")}
 
 
@@ -449,39 +455,40 @@ def test_met_or_never(engine, model, goals, is_guaranteed, others):
     before = plan(engine, model)
     found = tune.tune(before, words, is_guaranteed)
     if found.best is not None:
-        assert meets(found.best.plan, found.goals, is_guaranteed, engine.library)
+        assert meets(found.best.plan, found.asked.goals, is_guaranteed, engine.library)
         return
     assert isinstance(found.weights, Unmet)
-    clash = [found.goals[place] for place in found.weights.together]
+    clash = [found.asked.goals[place] for place in found.weights.together]
     rows = {goal.group.row for goal in clash}
     for weights in others:
         mixed = [weights[row] if row in rows else group.weight
                  for row, group in enumerate(before.groups)]
-        after = plan(engine, tune.with_weights(model, mixed))
+        after = plan(engine, goals_.with_weights(model, mixed))
         assert not meets(after, clash, is_guaranteed, engine.library)
 
 
 @SOME
 @given(model=models(), goals=GOALS, is_guaranteed=st.booleans(),
-       kept=st.sets(st.sampled_from(PATHS), max_size=3))
-def test_no_change_can_be_left_out(engine, model, goals, is_guaranteed, kept):
+       chosen=st.sets(st.sampled_from(PATHS), max_size=3))
+def test_no_change_can_be_left_out(engine, model, goals, is_guaranteed, chosen):
     """As `--set` makes the changes, they meet all goals, and without one of them they do not.
 
-    Groups that are kept have none.
+    Where groups are chosen, these and those below them alone change.
     """
     before = plan(engine, model)
     words = [f"{path}={200 * slices}m" for path, slices in goals]
-    found = tune.tune(before, words, is_guaranteed, sorted(kept))
+    found = tune.tune(before, words, is_guaranteed, sorted(chosen))
     if found.best is None:
         return
     changes_ = found.best.changes
-    assert kept.isdisjoint(each.path for each in changes_)
+    assert all(not chosen or {each.path, each.path.rpartition("/")[0]} & chosen
+               for each in changes_)
     for left in (None, *range(len(changes_))):
         after = model.copy()
         for place, each in enumerate(changes_):
             if place != left:
                 change.apply(after, after.groups[each.path], each.key, each.then, False)
-        is_met = meets(plan(engine, after), found.goals, is_guaranteed, engine.library)
+        is_met = meets(plan(engine, after), found.asked.goals, is_guaranteed, engine.library)
         assert is_met == (left is None), (changes_, left)
 
 
@@ -492,6 +499,7 @@ def test_an_answer_that_does_not_meet_is_none(engine, monkeypatch):
         model.add(Group(path, demand=Fraction(1000)))
     before = plan(engine, model)
     monkeypatch.setattr(engine.library, "tune", lambda *_: [100, 100, 100], raising=False)
-    monkeypatch.setattr(tune, "weights_of", lambda asked: asked.answer(asked.weights))
+    monkeypatch.setattr(tune_weights, "own_weights",
+                        lambda asked: tune_weights.tuned_free(asked, asked.weights))
     with pytest.raises(HostFault, match="a: the accepted plan does not meet its goal"):
         tune.tune(before, ["a=900m"])

@@ -8,20 +8,13 @@ from typing import NamedTuple
 from arbiter import Library
 from arbiter_host import apply, load
 from arbiter_host.faults import HostFault
-from arbiter_host.hold import KUBELET
 from arbiter_host.model import Group, Model, check_settings
 from arbiter_host.names import shown
 from arbiter_host.safe_files import Root
+from arbiter_host.sources.pods import is_of_kubelet
 
-# What the first lines of each written file hold.
-MARK = "Written by arbiterctl apply --as "
-
-
-class Document(NamedTuple):
-    """A file that is written: its path below the folder, and its text."""
-
-    name: str
-    text: str
+# What the first line of each file that is written holds.
+MARK = "Written by arbiterctl apply -o "
 
 
 class Differing(NamedTuple):
@@ -60,19 +53,19 @@ class Differing(NamedTuple):
 
 
 @dataclass
-class Asked:
+class Draft:
     """A change that is to be written: both models, the files of BEFORE, and the way."""
 
     before: Model
     after: Model
-    files: Sequence[load.File]
+    files: Sequence[load.Opened]
     root: Root
     by: apply.By
     library: Library
     # The conversion of shares that the runtime makes.
     runtime: str
     # Reads files as the first source was read.
-    reread: Callable[[Sequence[load.File]], Model]
+    reread: Callable[[Sequence[load.Opened]], Model]
     # What the form cannot say, and what is to be told beside, in words.
     refused: list[str] = field(default_factory=list)
     told: list[str] = field(default_factory=list)
@@ -98,7 +91,7 @@ class Asked:
     def check(self, form: str) -> None:
         """A fault that names each part that was refused."""
         if self.refused:
-            raise HostFault("\n".join([f"--as {form} cannot say this, so nothing is written:",
+            raise HostFault("\n".join([f"-o {form} cannot say this, so nothing is written:",
                                        *self.refused]))
 
     def folder(self, group: Differing) -> str | None:
@@ -115,14 +108,9 @@ def head(form: str, comment: str = "#") -> str:
     return f"{comment} {MARK}{form}. Review it, then merge it.\n"
 
 
-def is_of_kubelet(folder: str) -> bool:
-    """Whether kubelet writes the settings of a folder's group."""
-    return any(KUBELET.fullmatch(part) for part in folder.split("/"))
-
-
-def of_kubelet(asked: Asked) -> list[str]:
+def of_kubelet(draft: Draft) -> list[str]:
     """The groups that change and that kubelet writes again, in words."""
-    found = [each.path for each in asked.groups()
+    found = [each.path for each in draft.groups()
              if is_of_kubelet(each.path) or is_of_kubelet(each.before.place)]
     return [f"{shown(path)}: kubelet owns this group, and writes its own settings again"
-            " (--as kubectl-patch changes what it writes)" for path in found]
+            " (-o kubectl changes what it writes)" for path in found]

@@ -8,8 +8,9 @@ from typing import Any
 import yaml
 
 from arbiter import Library
-from arbiter_host import units
-from arbiter_host.exports.base import Asked, Differing, Document, head
+from arbiter_host import search, units
+from arbiter_host.atomic_files import Document
+from arbiter_host.exports.base import Differing, Draft, head
 from arbiter_host.names import last_name, shown
 from arbiter_host.sources.data import loads, number, table, text
 
@@ -17,10 +18,10 @@ NAME = re.compile(r"[a-zA-Z0-9][a-zA-Z0-9_.-]{0,100}")
 LABELS = "com.docker.compose."
 
 
-def by_group(asked: Asked) -> dict[str, dict[str, Any]]:
+def by_group(draft: Draft) -> dict[str, dict[str, Any]]:
     """The containers of the files, by the names of their groups."""
     found = {}
-    for name, data in asked.files:
+    for name, data in draft.files:
         entries = loads(data or b"[]", shown(name))
         for each in entries if isinstance(entries, list) else [entries]:
             identifier = text(each, "Id")
@@ -31,23 +32,18 @@ def by_group(asked: Asked) -> dict[str, dict[str, Any]]:
 
 def shares_of(library: Library, weight: int, conversion: str) -> int | None:
     """The least shares that a conversion makes a weight of; None where there are none."""
-    low, high = units.MIN_SHARES, units.MAX_SHARES
-    while low < high:
-        middle = (low + high) // 2
-        if units.weight_of_shares(library, middle, conversion) < weight:
-            low = middle + 1
-        else:
-            high = middle
-    return low if units.weight_of_shares(library, low, conversion) == weight else None
+    least = search.least(units.MIN_SHARES, units.MAX_SHARES, lambda shares: units.weight_of_shares(
+        library, shares, conversion) >= weight)
+    return least if units.weight_of_shares(library, least, conversion) == weight else None
 
 
-def told_shares(asked: Asked, group: Differing) -> int | None:
+def told_shares(draft: Draft, group: Differing) -> int | None:
     """The shares that AFTER itself has, 0 for the default; None where it has none to tell."""
-    owned = asked.after.owned
-    if owned is None or not owned.has(group.path):
+    owned = draft.after.owned
+    if owned is None or "cpu-shares" not in owned.keys or not owned.has(group.path):
         return None
-    return next((int(each.now) if each.now.isdigit() else 0
-                 for each in owned.ranges(group.path) if each.key == "cpu-shares"), None)
+    now = owned.weighing(group.path).now
+    return int(now) if now.isdigit() else 0
 
 
 def limit_of(group: Differing, config: dict[str, Any]) -> dict[str, Any] | None:
@@ -64,24 +60,24 @@ def limit_of(group: Differing, config: dict[str, Any]) -> dict[str, Any] | None:
     return None if number(config, "NanoCpus") else {"cpu_quota": quota, "cpu_period": period}
 
 
-def keys_of(asked: Asked, group: Differing, config: dict[str, Any]) -> dict[str, Any]:
+def keys_of(draft: Draft, group: Differing, config: dict[str, Any]) -> dict[str, Any]:
     """The keys of a service. What compose has no key for is refused."""
     found: dict[str, Any] = {}
     if group.has_weight:
-        shares = told_shares(asked, group)
+        shares = told_shares(draft, group)
         if shares is None:
-            shares = shares_of(asked.library, group.after.weight, asked.runtime)
+            shares = shares_of(draft.library, group.after.weight, draft.runtime)
         if shares is None:
-            asked.refuse(group.path, f"no cpu_shares give weight {group.after.weight}")
+            draft.refuse(group.path, f"no cpu_shares give weight {group.after.weight}")
         else:
             found["cpu_shares"] = shares
     if group.has_limit:
         limit = limit_of(group, config)
         if limit is None:
-            asked.refuse(group.path, f"`cpus` has a period of 100000, not {group.after.period}")
+            draft.refuse(group.path, f"`cpus` has a period of 100000, not {group.after.period}")
         found |= limit or {}
     if group.has_burst:
-        asked.refuse(group.path, "a burst: compose has no key for it")
+        draft.refuse(group.path, "a burst: compose has no key for it")
     return found
 
 
@@ -91,39 +87,39 @@ def service_of(container: dict[str, Any]) -> tuple[str, str]:
     return text(labels, f"{LABELS}project"), text(labels, f"{LABELS}service")
 
 
-def services(asked: Asked) -> Iterator[tuple[str, str, Differing, dict[str, Any]]]:
+def services(draft: Draft) -> Iterator[tuple[str, str, Differing, dict[str, Any]]]:
     """The project and service of each container that changes, and its keys."""
-    containers = by_group(asked)
-    for group in asked.groups():
+    containers = by_group(draft)
+    for group in draft.groups():
         container = containers.get(last_name(group.before.place), {})
         project, service = service_of(container)
         if not (NAME.fullmatch(project) and NAME.fullmatch(service)):
-            asked.refuse(group.path, f"no service of compose ({LABELS}project and .service are"
+            draft.refuse(group.path, f"no service of compose ({LABELS}project and .service are"
                          " not among its labels)")
             continue
-        yield project, service, group, keys_of(asked, group, table(container, "HostConfig"))
+        yield project, service, group, keys_of(draft, group, table(container, "HostConfig"))
 
 
-def check_replicas(asked: Asked, found: dict[tuple[str, str], dict[str, Any]]) -> None:
+def check_replicas(draft: Draft, found: dict[tuple[str, str], dict[str, Any]]) -> None:
     """Refuses a service some of whose containers keep their settings."""
-    changed = {last_name(each.before.place) for each in asked.groups()}
-    for scope, container in by_group(asked).items():
+    changed = {last_name(each.before.place) for each in draft.groups()}
+    for scope, container in by_group(draft).items():
         service = service_of(container)
-        is_group = any(last_name(each.place) == scope for each in asked.before.groups.values())
+        is_group = any(last_name(each.place) == scope for each in draft.before.groups.values())
         if is_group and scope not in changed and service in found:
-            asked.refuse(text(container, "Name").strip("/"),
+            draft.refuse(text(container, "Name").strip("/"),
                          f"is of the service {service[1]} too, and does not change")
 
 
-def documents(asked: Asked) -> list[Document]:
+def documents(draft: Draft) -> list[Document]:
     """An override of each project."""
     found: dict[tuple[str, str], dict[str, Any]] = {}
     words: dict[str, list[str]] = {}
-    for project, service, group, keys in services(asked):
+    for project, service, group, keys in services(draft):
         if found.setdefault((project, service), keys) != keys:
-            asked.refuse(group.path, f"the service {service} is to have two settings")
+            draft.refuse(group.path, f"the service {service} is to have two settings")
         words.setdefault(project, []).append(f"# {group.words}\n")
-    check_replicas(asked, found)
+    check_replicas(draft, found)
     documents_ = []
     for project, lines in words.items():
         data = {"services": {name: keys for (each, name), keys in found.items()

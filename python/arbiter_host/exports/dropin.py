@@ -4,7 +4,8 @@ from __future__ import annotations
 from collections.abc import Iterator
 
 from arbiter_host import apply
-from arbiter_host.exports.base import Asked, Differing, Document, head, of_kubelet
+from arbiter_host.atomic_files import Document
+from arbiter_host.exports.base import Differing, Draft, head, of_kubelet
 from arbiter_host.names import shown
 from arbiter_host.sources.systemd import unit_of
 
@@ -22,36 +23,34 @@ def settings(group: Differing) -> Iterator[str]:
         yield f"CPUQuotaPeriodSec={after.period}us"
 
 
-def texts(asked: Asked, form: str) -> Iterator[tuple[str, str]]:
-    """The units that change, each with the text of its drop-in. All else is refused by name."""
+def documents(draft: Draft) -> list[Document]:
+    """A drop-in of each unit that changes. All else is refused by name."""
     seen: dict[str, str] = {}
-    for group in asked.groups():
-        folder = asked.folder(group)
+    found = []
+    for group in draft.groups():
+        folder = draft.folder(group)
         if folder is None:
             continue
         unit = unit_of(folder)
         if not unit:
-            asked.refuse(group.path, "its group is none of a unit by its path (--as shell writes"
+            draft.refuse(group.path, "its group is none of a unit by its path (-o shell writes"
                          " its files)")
         elif unit in seen:
-            asked.refuse(group.path, f"{seen[unit]} has the unit {unit} too")
+            draft.refuse(group.path, f"{seen[unit]} has the unit {unit} too")
         elif group.has_burst:
-            asked.refuse(group.path, "a burst: units have no setting for it (--as shell)")
+            draft.refuse(group.path, "a burst: units have no setting for it (-o shell)")
         elif group.has_limit and apply.percent(apply.settings_of(group.after)) is None:
             limit = apply.settings_of(group.after)
-            asked.refuse(group.path, "CPUQuota= has two decimals of a percent, and"
-                         f" {limit.quota} in {limit.period} microseconds has more (--as shell)")
+            draft.refuse(group.path, "CPUQuota= has two decimals of a percent, and"
+                         f" {limit.quota} in {limit.period} microseconds has more (-o shell)")
         else:
             seen[unit] = group.path
             section = SECTIONS[unit.rpartition(".")[2]]
             lines = "".join(f"{line}\n" for line in settings(group))
             if unit.endswith(".scope"):
-                asked.told.append(f"{shown(group.path)}: its unit is a scope, which is gone when"
+                draft.told.append(f"{shown(group.path)}: its unit is a scope, which is gone when"
                                   " its last process ends")
-            yield unit, f"{head(form)}# {group.words}\n[{section}]\n{lines}"
-    asked.told += of_kubelet(asked)
-
-
-def documents(asked: Asked) -> list[Document]:
-    """A drop-in of each unit."""
-    return [Document(f"{unit}.d/{FILE}", text) for unit, text in texts(asked, "dropin")]
+            found.append(Document(f"{unit}.d/{FILE}", f"{head('dropin')}# {group.words}\n"
+                                  f"[{section}]\n{lines}"))
+    draft.told += of_kubelet(draft)
+    return found

@@ -16,7 +16,8 @@ from typing import Any, NamedTuple
 import yaml
 
 from arbiter_host import apply, load
-from arbiter_host.exports.base import Asked, Differing, Document, head
+from arbiter_host.atomic_files import Document
+from arbiter_host.exports.base import Differing, Draft, head
 from arbiter_host.exports.compose import shares_of
 from arbiter_host.faults import HostFault
 from arbiter_host.names import shown
@@ -83,7 +84,7 @@ def target_of(pod: dict[str, Any], items: Sequence[dict[str, Any]]) -> Target:
 class Pods:
     """The pods of the files, which are changed here, and the containers by their titles."""
 
-    def __init__(self, files: Sequence[load.File]) -> None:
+    def __init__(self, files: Sequence[load.Opened]) -> None:
         self.files = [(name, loads(data or b"{}", shown(name))) for name, data in files]
         self.items = [item for name, found in self.files for item in items_of(found, shown(name))]
         self.pods = [each for each in self.items if is_pod(each)]
@@ -96,7 +97,7 @@ class Pods:
         """The pods of a target."""
         return [each for each in self.pods if target_of(each, self.items) == target]
 
-    def written(self) -> list[load.File]:
+    def written(self) -> list[load.Opened]:
         """The files as they are after the change."""
         return [(name, json.dumps(found).encode()) for name, found in self.files]
 
@@ -106,36 +107,36 @@ def amount(many: int | None) -> str | None:
     return None if many is None else f"{many}m"
 
 
-def request_of(asked: Asked, group: Differing) -> int | None:
+def request_of(draft: Draft, group: Differing) -> int | None:
     """The request of a container in thousandths: AFTER's, else the least of its weight."""
     if group.has_request:
         return int(group.after.request or 0)
-    shares = shares_of(asked.library, group.after.weight, asked.runtime)
+    shares = shares_of(draft.library, group.after.weight, draft.runtime)
     if shares is None:
-        asked.refuse(group.path, f"no request gives weight {group.after.weight}")
+        draft.refuse(group.path, f"no request gives weight {group.after.weight}")
     return None if shares is None else -(-shares * 1000 // 1024)
 
 
-def limit_of(asked: Asked, group: Differing) -> int | None:
+def limit_of(draft: Draft, group: Differing) -> int | None:
     """The limit of a container in thousandths."""
     if group.after.quota is None:
         return None
     exact = Fraction(1000 * group.after.quota, group.after.period)
     if exact.denominator != 1:
-        asked.refuse(group.path, "the limit is no whole number of thousandths of a CPU")
+        draft.refuse(group.path, "the limit is no whole number of thousandths of a CPU")
     return int(exact)
 
 
-def changes(asked: Asked, group: Differing,
+def changes(draft: Draft, group: Differing,
             raw: dict[str, Any]) -> dict[str, dict[str, str | None]]:
     """The resources of a container that change. A limit alone must not become the request."""
     found: dict[str, dict[str, str | None]] = {}
     if group.has_weight or group.has_request:
-        found["requests"] = {"cpu": amount(request_of(asked, group))}
+        found["requests"] = {"cpu": amount(request_of(draft, group))}
     elif group.has_limit and "cpu" not in table(raw, "resources", "requests"):
         found["requests"] = {"cpu": amount(int(group.before.request or 0))}
     if group.has_limit:
-        found["limits"] = {"cpu": amount(limit_of(asked, group))}
+        found["limits"] = {"cpu": amount(limit_of(draft, group))}
     return found
 
 
@@ -160,42 +161,42 @@ def patch_pods(pods: Pods, target: Target, rows: dict[str, Any]) -> None:
                     patch_raw(known[each["name"]], each["resources"])
 
 
-def paired(asked: Asked) -> Iterator[Differing]:
+def paired(draft: Draft) -> Iterator[Differing]:
     """The groups of both models: of one path, else of one title, where the class of a pod changes.
     """
-    yield from asked.common()
-    places = {each.title: path for path, each in asked.after.groups.items()
-              if each.title and path not in asked.before.groups}
-    for path, each in asked.before.groups.items():
-        if path not in asked.after.groups and each.title in places:
+    yield from draft.common()
+    places = {each.title: path for path, each in draft.after.groups.items()
+              if each.title and path not in draft.before.groups}
+    for path, each in draft.before.groups.items():
+        if path not in draft.after.groups and each.title in places:
             then = places[each.title]
-            asked.moved.update((path, then))
-            yield Differing(path, each, asked.after.groups[then])
+            draft.moved.update((path, then))
+            yield Differing(path, each, draft.after.groups[then])
 
 
-def check_again(asked: Asked, pods: Pods) -> None:
+def check_again(draft: Draft, pods: Pods) -> None:
     """Refuses each group that kubelet and the runtime would set otherwise than is asked."""
-    found = asked.reread(pods.written()).groups
-    for path, group in asked.after.groups.items():
-        if path not in asked.before.groups and path not in asked.moved:
+    found = draft.reread(pods.written()).groups
+    for path, group in draft.after.groups.items():
+        if path not in draft.before.groups and path not in draft.moved:
             continue
         wanted, would = apply.settings_of(group), None
         if path in found:
             would = apply.settings_of(found[path])
         if wanted != would:
             told = f"set {apply.told(would)}" if would else "put it into another class"
-            asked.refuse(path, f"{apply.told(wanted)} is asked for, and Kubernetes would {told}:"
+            draft.refuse(path, f"{apply.told(wanted)} is asked for, and Kubernetes would {told}:"
                          " requests and limits of containers decide it")
 
 
-def check_class(asked: Asked, group: Differing, target: Target) -> None:
+def check_class(draft: Draft, group: Differing, target: Target) -> None:
     """Refuses another class of a pod that nothing makes anew; tells it of others."""
-    if asked.after.groups.get(group.path) is group.after:
+    if draft.after.groups.get(group.path) is group.after:
         return
     if target.kind == "Pod":
-        asked.refuse(group.path, "the class of its pod would be another, and a pod keeps its own")
+        draft.refuse(group.path, "the class of its pod would be another, and a pod keeps its own")
     else:
-        asked.told.append(f"{target.words}: with another class its pods are made anew:"
+        draft.told.append(f"{target.words}: with another class its pods are made anew:"
                           f" {shown(group.after.path)}")
 
 
@@ -205,7 +206,7 @@ def key_of(pod: dict[str, Any], name: str) -> str:
     return "initContainers" if name in inits else "containers"
 
 
-def add(asked: Asked, found: dict[Target, dict[str, Any]], target: Target,
+def add(draft: Draft, found: dict[Target, dict[str, Any]], target: Target,
         entry: tuple[str, str, dict[str, dict[str, str | None]]]) -> None:
     """Adds a container to the patch of its target."""
     key, name, resources = entry
@@ -214,7 +215,7 @@ def add(asked: Asked, found: dict[Target, dict[str, Any]], target: Target,
     if known is None:
         rows.append({"name": name, "resources": resources})
     elif known["resources"] != resources:
-        asked.refuse(f"{target.words}, container {name}", "two of its pods are to have two"
+        draft.refuse(f"{target.words}, container {name}", "two of its pods are to have two"
                      " settings")
 
 
@@ -233,30 +234,30 @@ def document(target: Target, rows: dict[str, Any], words: Sequence[str]) -> Docu
     data["spec"] = rows if target.kind == "Pod" else {"template": {"spec": rows}}
     file = f"{target.namespace}.{target.kind.lower()}.{target.name}.yaml"
     lines = "".join(f"# {each}\n" for each in words)
-    return Document(file, head("kubectl-patch") + command_of(target, file) + lines
+    return Document(file, head("kubectl") + command_of(target, file) + lines
                     + yaml.safe_dump(data, sort_keys=False))
 
 
-def tell(asked: Asked, pods: Pods, targets: Sequence[Target]) -> None:
+def tell(draft: Draft, pods: Pods, targets: Sequence[Target]) -> None:
     """Tells how far a patch reaches: all pods of an owner, or one pod that has none."""
     for target in targets:
         if target.kind == "Pod":
-            asked.told.append(f"{target.words}: nothing owns it whose template may change: its"
+            draft.told.append(f"{target.words}: nothing owns it whose template may change: its"
                               " patch lasts as long as it")
         else:
-            asked.told.append(f"{target.words}: the patch changes all its pods, on all nodes; in"
+            draft.told.append(f"{target.words}: the patch changes all its pods, on all nodes; in"
                               f" these files it has {len(pods.of(target))}")
 
 
-def documents(asked: Asked) -> list[Document]:
+def documents(draft: Draft) -> list[Document]:
     """A patch of each owner, or of a pod without one."""
     try:
-        pods = Pods(copy.deepcopy(list(asked.files)))
+        pods = Pods(copy.deepcopy(list(draft.files)))
     except HostFault as fault:
-        raise HostFault(f"--as kubectl-patch is for pods: {fault.message}") from fault
+        raise HostFault(f"-o kubectl is for pods: {fault.message}") from fault
     found: dict[Target, dict[str, Any]] = {}
     words: dict[Target, list[str]] = {}
-    for group in paired(asked):
+    for group in paired(draft):
         if group.before.title not in pods.containers:
             continue
         if not (group.has_weight or group.has_limit or group.has_request):
@@ -264,18 +265,18 @@ def documents(asked: Asked) -> list[Document]:
         pod, container = pods.containers[group.before.title]
         target, name = target_of(pod, pods.items), text(container, "name")
         if not (NAME.fullmatch(target.namespace) and NAME.fullmatch(target.name)):
-            asked.refuse(group.path, f"{target.words} is no name that Kubernetes takes")
+            draft.refuse(group.path, f"{target.words} is no name that Kubernetes takes")
             continue
         if text(table(pod, "metadata", "annotations"), MIRROR):
-            asked.refuse(group.path, f"{target.words} is a static pod: its file on the node says"
+            draft.refuse(group.path, f"{target.words} is a static pod: its file on the node says"
                          " its requests and limits")
             continue
-        check_class(asked, group, target)
-        resources = changes(asked, group, container)
-        add(asked, found, target, (key_of(pod, name), name, resources))
+        check_class(draft, group, target)
+        resources = changes(draft, group, container)
+        add(draft, found, target, (key_of(pod, name), name, resources))
         words.setdefault(target, []).append(group.words)
     for target, rows in found.items():
         patch_pods(pods, target, rows)
-    check_again(asked, pods)
-    tell(asked, pods, list(found))
+    check_again(draft, pods)
+    tell(draft, pods, list(found))
     return [document(target, rows, words[target]) for target, rows in found.items()]

@@ -5,7 +5,8 @@ import os
 import shlex
 
 from arbiter_host import apply
-from arbiter_host.exports.base import Asked, Document, head, of_kubelet
+from arbiter_host.atomic_files import Document
+from arbiter_host.exports.base import Draft, head, of_kubelet
 from arbiter_host.names import shown
 
 BEGIN = """\
@@ -50,16 +51,16 @@ def lines_of(step: apply.Step) -> list[str]:
     return [" ".join(["put", *map(quoted, (*there, step.new))])]
 
 
-def documents(asked: Asked) -> list[Document]:
+def documents(draft: Draft) -> list[Document]:
     """One script."""
     lines, has_units = [], False
-    changes, _ = apply.changes(asked.before, asked.after, asked.root)
-    for group, change in zip(asked.groups(), changes):
+    changes, _ = apply.changes(draft.before, draft.after, draft.root)
+    for group, change in zip(draft.groups(), changes):
         lines += [f"# {group.words}"]
-        for step in apply.steps_of(change, change.before, asked.by):
+        for step in apply.steps_of(change, change.before, draft.by):
             lines += lines_of(step)
             has_units = has_units or bool(step.unit)
-    asked.told += of_kubelet(asked)
+    draft.told += of_kubelet(draft)
     text = "".join(f"{line}\n" for line in lines)
     use = "# bash arbiter.sh [ROOT]\n"
     begin = f"#!/bin/bash\n{head('shell')}{use}{BEGIN}{UNITS if has_units else ''}"

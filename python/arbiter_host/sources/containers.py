@@ -8,31 +8,22 @@ from fractions import Fraction
 from typing import Any
 
 from arbiter import Host, Library
-from arbiter_host import demands, names, units
-from arbiter_host.demands import Measured
+from arbiter_host import demands, names, owned, units
+from arbiter_host.demands import Measured, Place, Use
 from arbiter_host.faults import HostFault
 from arbiter_host.model import MAX_CAPACITY, Group, Model, check_count, checked, told_bound
 from arbiter_host.names import last_name
-from arbiter_host.owned import NONE, Lone, Range, Setting
+from arbiter_host.owned import NONE, Owned, Range, Setting
 from arbiter_host.sources import systemd
-from arbiter_host.sources.beside import Place
 from arbiter_host.sources.data import loads, number, table, text
 from arbiter_host.sources.usage import Used, some
+from arbiter_host.sources.wish import File, Wish
 
 NANO = 10**9
 # docker takes no fewer CPUs, in thousandths.
 LEAST_CPUS = 10
 # Letters of an identifier that docker prints.
 SHORT_ID = 12
-
-
-@dataclass(frozen=True)
-class Wish:
-    """How containers are read: the conversion of shares, the driver, the rule for demands."""
-
-    runtime: str = "linear"
-    driver: str = "systemd"
-    want: str = "limit"
 
 
 def is_podman(container: dict[str, Any]) -> bool:
@@ -165,7 +156,7 @@ def nano_of(setting: Setting, host: Host) -> int:
 
 
 @dataclass(frozen=True)
-class Source(Lone):
+class Source(Owned):
     """Containers as they were read. `--cpus` and `--cpu-shares` of them can be changed."""
 
     library: Library
@@ -177,7 +168,7 @@ class Source(Lone):
     known: Mapping[Place, Measured] = field(default_factory=dict)
     seconds: Fraction = Fraction(1)
 
-    keys = ("cpus", "cpu-shares")
+    keys = ("cpu-shares", "cpus")
 
     @functools.cached_property
     def built(self) -> tuple[Model, dict[str, int]]:
@@ -200,9 +191,20 @@ class Source(Lone):
         demands.set_demands(model, measured, self.wish.want, self.seconds)
         return model, places
 
-    def model(self) -> Model:
-        """The model."""
-        return replace(self.built[0].copy(), owned=self)
+    def plain(self) -> Model:
+        """The model, which is shared."""
+        return self.built[0]
+
+    def seen(self) -> dict[str, Use]:
+        """The use of each container that was measured."""
+        places = {path: (place, 0) for path, place in self.built[1].items()}
+        return owned.used_by(self.plain(), places, self.known, self.seconds)
+
+    def written(self, request: int, limit: int | None) -> tuple[str, str | None]:
+        """Shares, and CPUs up to those of the host."""
+        most = 1000 * self.host.processors
+        return (str(units.shares_of_thousandths(request)), None if limit is None
+                else units.decimal(Fraction(min(limit, most), 1000)))
 
     def folders(self) -> dict[Place, tuple[str, ...]]:
         """Where each container may be below the top of a tree, by the drivers of docker."""
@@ -237,6 +239,10 @@ class Source(Lone):
         """Whether a group is a container."""
         return path in self.built[1]
 
+    def on_host(self, host: Host) -> Source:
+        """The same on another host."""
+        return replace(self, host=host)
+
     def changed(self, settings: Sequence[Setting]) -> Source:
         """The same with other CPUs and shares."""
         running = list(self.running)
@@ -260,8 +266,7 @@ class Source(Lone):
                       f"{self.host.processors} are all")]
 
 
-def source_of(files: Sequence[tuple[str, bytes]], host: Host, library: Library,
-              wish: Wish = Wish()) -> Source:
+def source_of(files: Sequence[File], library: Library, wish: Wish) -> Source:
     """The containers of some files."""
     found: list[dict[str, Any]] = []
     for name, data in files:
@@ -276,10 +281,10 @@ def source_of(files: Sequence[tuple[str, bytes]], host: Host, library: Library,
     running = [each for each in found if is_running(each)]
     left = len(found) - len(running)
     notes = (f"containers that do not run, left out: {left}",) if left else ()
-    return Source(library, wish, host, tuple(running), notes)
+    return Source(library, wish, wish.machine(), tuple(running), notes)
 
 
-def read(files: Sequence[tuple[str, bytes]], host: Host, library: Library,
-         wish: Wish = Wish()) -> Model:
+def read(files: Sequence[File], library: Library, wish: Wish) -> Model:
     """The model of the containers of some files."""
-    return source_of(files, host, library, wish).model()
+    source = source_of(files, library, wish.for_containers("limit", "docker"))
+    return (wish.measured(source) if wish.measured else source).model()

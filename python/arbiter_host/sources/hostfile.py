@@ -1,4 +1,4 @@
-"""Host files in TOML, YAML or JSON: reads one with the line of each fault, and writes one.
+"""Host files in TOML or JSON: reads one with the line of each fault, and writes one.
 
     [host]
     cpus = 16
@@ -13,37 +13,79 @@ from __future__ import annotations
 import json
 import re
 import tomllib
-from collections.abc import Callable
+from collections.abc import Callable, Sequence
 from dataclasses import replace
 from fractions import Fraction
-from typing import Any, NoReturn
+from typing import Any
 
-from arbiter import Host
+from arbiter import Host, Library
 from arbiter_host import names, units
 from arbiter_host.faults import HostFault
 from arbiter_host.model import Group, Model, check_count, check_settings, checked
-from arbiter_host.sources.positions import NodePlaces, Places, WordPlaces
+from arbiter_host.sources.register import is_json
+from arbiter_host.sources.wish import File, Wish, only
 
 # The keys of `host`, and the fields that they set.
 HOST_KEYS = {"cpus": "processors", "period": "period_us", "slice": "slice_us"}
 GROUP_KEYS = ("weight", "max", "period", "burst", "demand", "tasks", "title", "place")
-# Bounds of a host file: bytes, and of YAML nesting, nodes, keys that `<<` brings all in all, and
-# letters of a number. All are checked before the work that they bound.
+# Most bytes of a host file.
 MAX_BYTES = 32 << 20
-MAX_NESTING, MAX_NODES, MAX_MERGED, MAX_DIGITS = 100, 500000, 100000, 40
 # Most of the sum over the lines of TOML of the squares of their dots: a name of n parts takes n^2.
 MAX_DOTS = 10**9
+# Comments and texts of TOML, and texts of JSON; and what stands behind a text that is a name.
+TOKENS = re.compile(r'"""(?:\\.|[^\\])*?"""' r"|'''.*?'''" r'|"(?:\\.|[^"\\\n])*"' r"|'[^'\n]*'"
+                    r"|#[^\n]*", re.DOTALL)
+BEHIND_NAME = re.compile(r"[ \t]*[=:.\]]")
 
 
-def parsed(text: str, name: str, kind: str) -> tuple[Places, Any]:
-    """The places and the data of a file."""
+class Places:
+    """A file whose keys are found by their words, for the lines of faults."""
+
+    def __init__(self, name: str, text: str) -> None:
+        self.name, self.text = name, text
+
+    def line(self, path: str, key: str = "") -> int:
+        """The first line behind the head of an entry that has the key; without a key that of the
+        entry."""
+        lines = names_alone(self.text).split("\n")
+        begin = next((place for place, line in enumerate(lines) if is_head(line, path)), 0)
+        if key:
+            for place in range(begin, len(lines)):
+                if re.search(rf"(^|[\s{{,\"']){re.escape(key)}[\"']?\s*[:=]", lines[place]):
+                    return place + 1
+        return begin + 1
+
+    def fault(self, message: str, path: str = "", key: str = "") -> HostFault:
+        """A fault with file and line."""
+        which = f"{names.shown(path)}: " if path else ""
+        return HostFault(f"{self.name}:{self.line(path, key)}: {which}{message}")
+
+
+def names_alone(text: str) -> str:
+    """A file with its comments and its texts blank, but for those that are names."""
+    def blank(found: re.Match[str]) -> str:
+        word = found.group()
+        if word[0] != "#" and BEHIND_NAME.match(text, found.end()):
+            return word
+        return re.sub(r"[^\n]", " ", word)
+
+    return TOKENS.sub(blank, text)
+
+
+def is_head(line: str, path: str) -> bool:
+    """Whether a line begins a group or a table of a name."""
+    bare = re.escape(path)
+    quoted = re.escape(json.dumps(path, ensure_ascii=False))
+    return bool(path) and bool(
+        re.match(rf"\s*\[?(groups\.)?(\"{bare}\"|'{bare}'|{bare}|{quoted})\s*[\]:=]", line))
+
+
+def parsed(text: str, name: str, is_toml: bool) -> Any:
+    """The data of a file."""
     try:
-        if kind == "toml":
+        if is_toml:
             check_dots(text, name)
-            return WordPlaces(name, text), tomllib.loads(text)
-        if kind == "json":
-            return WordPlaces(name, text), json.loads(text)
-        return parsed_yaml(text, name)
+        return tomllib.loads(text) if is_toml else json.loads(text)
     except tomllib.TOMLDecodeError as error:
         found = re.search(r"\(at line (\d+)", str(error))
         line = found.group(1) if found else str(text.count("\n") + 1)
@@ -51,47 +93,8 @@ def parsed(text: str, name: str, kind: str) -> tuple[Places, Any]:
     except json.JSONDecodeError as error:
         raise HostFault(f"{name}:{error.lineno}: {error.msg}") from error
     except (RecursionError, ValueError, TypeError, OverflowError) as error:
+        kind = "TOML" if is_toml else "JSON"
         raise HostFault(f"{name}:1: cannot be read as {kind}: {names.shown(str(error))}") from error
-
-
-def bounded_loader() -> Any:
-    """A loader of YAML that counts while it reads."""
-    import yaml
-
-    def refuse(node: Any, what: str) -> NoReturn:
-        raise yaml.constructor.ConstructorError(None, None, what, node.start_mark)
-
-    class Loader(yaml.SafeLoader):
-        """Refuses what is nested, many, merged or long beyond the bounds."""
-
-        nodes = depth = merged = 0
-
-        def compose_node(self, parent: Any, index: Any) -> Any:
-            self.nodes, self.depth = self.nodes + 1, self.depth + 1
-            if self.nodes > MAX_NODES or self.depth > MAX_NESTING:
-                refuse(parent, f"more than {MAX_NODES} values or {MAX_NESTING} levels")
-            found: Any = super().compose_node(parent, index)
-            self.depth -= 1
-            if found.tag.endswith((":int", ":float")) and len(str(found.value)) > MAX_DIGITS:
-                refuse(found, f"a number of more than {MAX_DIGITS} letters")
-            return found
-
-        def flatten_mapping(self, node: Any) -> None:
-            for key, value in node.value:
-                if key.tag == "tag:yaml.org,2002:merge":
-                    self.count_merged(value)
-            super().flatten_mapping(node)
-
-        def count_merged(self, value: Any) -> None:
-            """Counts the keys that a `<<` brings, before they are brought."""
-            for each in value.value if isinstance(value, yaml.SequenceNode) else [value]:
-                if isinstance(each, yaml.MappingNode):
-                    self.flatten_mapping(each)
-                    self.merged += len(each.value)
-                if self.merged > MAX_MERGED:
-                    refuse(value, f"`<<` brings more than {MAX_MERGED} keys")
-
-    return Loader
 
 
 def check_dots(text: str, name: str) -> None:
@@ -101,23 +104,6 @@ def check_dots(text: str, name: str) -> None:
         total += line.count(".") ** 2
         if total > MAX_DOTS:
             raise HostFault(f"{name}:{number}: too many names with dots")
-
-
-def parsed_yaml(text: str, name: str) -> tuple[Places, Any]:
-    """The places and the data of YAML."""
-    import yaml
-    try:
-        loader = bounded_loader()(text)
-        root = loader.get_single_node()
-        return NodePlaces(name, root), root and loader.construct_document(root)
-    except yaml.YAMLError as error:
-        mark = getattr(error, "problem_mark", None)
-        line = mark.line + 1 if mark else 1
-        words = [getattr(error, "problem", None) or "no YAML"]
-        if isinstance(error, yaml.composer.ComposerError):
-            words = [each for each in (error.context, *words) if each]
-        problem = ", ".join(words)
-        raise HostFault(f"{name}:{line}: {names.shown(str(problem))}") from error
 
 
 def whole(value: Any) -> int:
@@ -241,40 +227,23 @@ def add(places: Places, model: Model, group: Group) -> None:
         raise places.fault(fault.message, group.path) from fault
 
 
-def flattened(places: Places, groups: Any) -> dict[str, Any]:
-    """The groups by path: a table, or a list of tables with `path`."""
-    if groups is None:
-        return {}
-    if isinstance(groups, list):
-        found = {}
-        for entry in groups:
-            if not isinstance(entry, dict) or not isinstance(entry.get("path"), str):
-                raise places.fault("each group of a list has a path")
-            found[entry["path"]] = {key: each for key, each in entry.items() if key != "path"}
-        return found
-    if not isinstance(groups, dict):
-        raise places.fault("groups is a table of paths", "groups", table="")
-    return groups
-
-
 def read_host(places: Places, entry: Any) -> Host:
     """The table `host`."""
     if not isinstance(entry, dict):
-        raise places.fault("host is a table", "host", table="")
+        raise places.fault("host is a table", "host")
     host = Host()
     for key, value in entry.items():
         if key not in HOST_KEYS:
-            raise places.fault(f"no key {text_of(key)}: {', '.join(HOST_KEYS)}", "host", str(key),
-                               table="")
+            raise places.fault(f"no key {text_of(key)}: {', '.join(HOST_KEYS)}", "host", str(key))
         try:
             number = whole(value) if key == "cpus" else time(value)
         except HostFault as fault:
-            raise places.fault(f"{key}: {fault.message}", "host", key, table="") from fault
+            raise places.fault(f"{key}: {fault.message}", "host", key) from fault
         host = replace(host, **{HOST_KEYS[key]: number})
     try:
         return checked(host)
     except HostFault as fault:
-        raise places.fault(fault.message, "host", table="") from fault
+        raise places.fault(fault.message, "host") from fault
 
 
 def check_demands(places: Places, model: Model) -> None:
@@ -285,28 +254,41 @@ def check_demands(places: Places, model: Model) -> None:
                                path, "demand")
 
 
-def read(data: bytes, name: str, kind: str, host: Host | None = None) -> Model:
-    """The model of a host file. `host` stands in place of its own."""
+def text_in(data: bytes, name: str) -> str:
+    """The text of a file; a fault names the line that is none."""
     if len(data) > MAX_BYTES:
         raise HostFault(f"{name}: more than {MAX_BYTES >> 20} MiB")
     try:
-        text_ = data.decode("utf-8-sig")
+        return data.decode("utf-8-sig")
     except UnicodeDecodeError as error:
         line = data[:error.start].count(b"\n") + 1
         raise HostFault(f"{name}:{line}: not UTF-8") from error
-    places, entry = parsed(text_, name, kind)
+
+
+def tables_in(places: Places, entry: Any) -> tuple[Any, dict[str, Any]]:
+    """The tables `host` and `groups` of a file."""
     if not isinstance(entry, dict):
-        raise HostFault(f"{name}:1: a host file is a table with host and groups")
+        raise HostFault(f"{places.name}:1: a host file is a table with host and groups")
     for key in entry:
         if key not in ("host", "groups"):
-            line = places.line(str(key), table="")
+            line = places.line(str(key))
             if "apiVersion" in entry:
-                raise HostFault(f"{name}:{line}: an object of Kubernetes, of which pods and nodes"
-                                " are read as JSON: kubectl get pods -o json")
-            raise HostFault(f"{name}:{line}: no table {text_of(key)}: host, groups")
-    model = Model(host or read_host(places, entry.get("host", {})), names_host="host" in entry)
-    checked(model.host)
-    groups = flattened(places, entry.get("groups"))
+                raise HostFault(f"{places.name}:{line}: an object of Kubernetes, of which pods and"
+                                " nodes are read as JSON: kubectl get pods -o json")
+            raise HostFault(f"{places.name}:{line}: no table {text_of(key)}: host, groups")
+    groups = entry.get("groups") or {}
+    if not isinstance(groups, dict):
+        raise places.fault("groups is a table of paths", "groups")
+    return entry.get("host", {}), groups
+
+
+def model_of(data: bytes, name: str, is_toml: bool) -> Model:
+    """The model of a host file."""
+    text_ = text_in(data, name)
+    places = Places(name, text_)
+    entry = parsed(text_, name, is_toml)
+    host, groups = tables_in(places, entry)
+    model = Model(read_host(places, host), names_host="host" in entry)
     check_count(len(groups), f"{name}: {len(groups)} groups")
     for path, each in groups.items():
         group = read_group(places, check_path(places, path), each if each is not None else {})
@@ -315,6 +297,14 @@ def read(data: bytes, name: str, kind: str, host: Host | None = None) -> Model:
         add(places, model, group)
     check_demands(places, model)
     return model
+
+
+def read(files: Sequence[File], _: Library, wish: Wish) -> Model:
+    """The model of a host file, with what is asked for in place of its host."""
+    name, data = only(files, "host file")
+    model = model_of(data, name, not is_json(data))
+    model = model.with_host(wish.host(model.host)) if wish.names_host else model
+    return wish.with_demands(model, "host file")
 
 
 def group_data(group: Group) -> dict[str, Any]:
@@ -363,16 +353,6 @@ def write_toml(model: Model) -> str:
         lines += ["", f"[groups.{toml_value(path)}]"]
         lines += [f"{key} = {toml_value(value)}" for key, value in entry.items()]
     return "".join(f"{line}\n" for line in lines)
-
-
-def write_yaml(model: Model) -> str:
-    """A host file in YAML, with the notes as comments."""
-    import yaml
-    head = "".join(f"# ! {names.shown(note)}\n" for note in model.notes)
-    found = data(model)
-    is_plain = not any(map(names.is_raw, json.dumps(found, ensure_ascii=False)))
-    body: str = yaml.safe_dump(found, sort_keys=False, allow_unicode=is_plain, width=100)
-    return head + body
 
 
 def write_json(model: Model) -> str:

@@ -6,7 +6,6 @@ title of a container is `namespace/pod/container`, its place the folder below /s
 """
 from __future__ import annotations
 
-import bisect
 import functools
 import math
 from collections.abc import Iterable, Mapping, Sequence
@@ -15,38 +14,24 @@ from fractions import Fraction
 from typing import Any
 
 from arbiter import Host, Library
-from arbiter_host import demands, names, units
-from arbiter_host.demands import Measured
+from arbiter_host import demands, names, owned, search, units
+from arbiter_host.demands import Measured, Place, Use
 from arbiter_host.faults import HostFault, NoHost
 from arbiter_host.model import Group, Model, check_count, checked
 from arbiter_host.names import NOWHERE, shown
-from arbiter_host.owned import NONE, Owned, Range, Setting
-from arbiter_host.sources.beside import Place
+from arbiter_host.owned import NONE, Amounts, Owned, Range, Setting
 from arbiter_host.sources.data import loads, table, tables, text
-from arbiter_host.sources.pods import (CLASSES, TOP, Amounts, Container, Pod, folder_of, pod_of,
-                                       requested, scope_of, thousandths)
+from arbiter_host.sources.pods import (CLASSES, TOP, Container, Pod, folder_of, pod_of, requested,
+                                       scope_of, thousandths)
 from arbiter_host.sources.scheduling import NodeFacts, node_facts
 from arbiter_host.sources.usage import Used, of_metrics, some
+from arbiter_host.sources.wish import File, Wish
 
 ENDED = ("Succeeded", "Failed")
 # Kinds that make pods of a template.
 MAKERS = ("Deployment", "StatefulSet", "DaemonSet", "ReplicaSet")
 # A request of so many thousandths has the greatest shares; no greater one weighs more.
 MOST_REQUEST = units.MAX_SHARES * 1000 // 1024
-
-
-@dataclass(frozen=True)
-class Wish:
-    """How pods are read: the node, the conversions of shares, the driver, the rule for demands.
-
-    kubelet writes the weights of kubepods, classes and pods, the runtime those of containers.
-    """
-
-    node: str = ""
-    kubelet: str = "linear"
-    runtime: str = "linear"
-    driver: str = "systemd"
-    want: str = "request"
 
 
 def made_by(maker: dict[str, Any]) -> dict[str, Any]:
@@ -260,7 +245,7 @@ def check_amounts(pod: Pod, container: Container) -> None:
 
 
 @dataclass(frozen=True)
-class Source:
+class Source(Owned):
     """Pods and their node as they were read. Requests and limits of them can be changed."""
 
     library: Library
@@ -276,8 +261,6 @@ class Source:
     seconds: Fraction = Fraction(1)
     node: NodeFacts = NodeFacts()
 
-    keys = ("request", "limit")
-
     @functools.cached_property
     def built(self) -> tuple[Model, dict[str, Place]]:
         """The model, and the places of a pod and of its container by the path of the group."""
@@ -289,9 +272,9 @@ class Source:
         tell_limits(model, self.wish, builder, self.seconds)
         return model, builder.places
 
-    def model(self) -> Model:
-        """The model."""
-        return replace(self.built[0].copy(), owned=self)
+    def plain(self) -> Model:
+        """The model, which is shared."""
+        return self.built[0]
 
     def folders_of(self, driver: str) -> dict[Place, str]:
         """Where each container is below the top of a tree, by one driver of kubelet."""
@@ -336,7 +319,7 @@ class Source:
         return path in self.built[1]
 
     @functools.cached_property
-    def named(self) -> dict[str, list[str]]:
+    def by_name(self) -> dict[str, list[str]]:
         """The containers by what measurements call them: a pod, and maybe the container."""
         found: dict[str, list[str]] = {}
         for path, (place, number) in self.built[1].items():
@@ -344,6 +327,13 @@ class Source:
             for word in {pod.name, pod.title, f"{pod.name}/{name}", f"{pod.title}/{name}"}:
                 found.setdefault(word, []).append(path)
         return found
+
+    def named(self, word: str) -> list[str]:
+        """The containers that a column names: itself, or those of a pod."""
+        if word in self.by_name:
+            return self.by_name[word]
+        paths = self.matching(word)
+        return [path for path in self.own if path in paths or names.parent_path(path) in paths]
 
     def meant(self, path: str) -> list[str]:
         """The container, or those of a pod."""
@@ -357,6 +347,41 @@ class Source:
                 and labels.items() <= set(pod.labels) for pod in self.pods]
         return list(dict.fromkeys(names.parent_path(path)
                                   for path, (place, _) in self.built[1].items() if fits[place]))
+
+    def seen(self) -> dict[str, Use]:
+        """The use of each container that was measured."""
+        return owned.used_by(self.plain(), self.built[1], self.known, self.seconds)
+
+    def title(self, path: str) -> str:
+        """Namespace, pod and container."""
+        return self.plain().groups[path].title
+
+    def now(self, path: str) -> Amounts:
+        """The request and the limit of the JSON."""
+        place, number = self.built[1][path]
+        return self.pods[place].parts[number].amounts
+
+    def words(self, path: str) -> tuple[str, str]:
+        """The request and the limit as Kubernetes writes them."""
+        now = self.now(path)
+        request, limit = ("-" if each is None else f"{each}m" for each in (now.request, now.limit))
+        return request, limit
+
+    def is_guaranteed(self, path: str) -> bool:
+        """Whether its pod is guaranteed."""
+        return self.pods[self.built[1][path][0]].quality == "Guaranteed"
+
+    def written(self, request: int, limit: int | None) -> tuple[str, str | None]:
+        """As Kubernetes writes them."""
+        return f"{request}m", None if limit is None else f"{limit}m"
+
+    def totals(self) -> tuple[int, int | None]:
+        """What all pods request, and what the node has for them."""
+        return requested_by(self.pods), self.allocatable
+
+    def on_host(self, host: Host) -> Source:
+        """The same on another host."""
+        return replace(self, host=host)
 
     def changed(self, settings: Sequence[Setting]) -> Source:
         """The same with other requests and limits. All are made before they are checked."""
@@ -413,11 +438,10 @@ class Source:
             after = pod.with_amounts(number, replace(amounts, **{key: value}))
             return hindrance_of(after, after.parts[number], room)
 
-        values = range(least, most + 1)
-        at = bisect.bisect_left(values, True, key=lambda each: bool(hindrance(each)))
-        if at == len(values):
+        hindered = search.least(least, most + 1, lambda each: bool(hindrance(each)))
+        if hindered > most:
             return most, "the most that counts"
-        return max(values[at] - 1, getattr(amounts, key) or 0), hindrance(values[at])
+        return max(hindered - 1, getattr(amounts, key) or 0), hindrance(hindered)
 
     def joined(self, other: Owned) -> Source | None:
         """This node with the pods of another source. A fault where it has not the room."""
@@ -446,8 +470,7 @@ def requested_by(pods: Sequence[Pod]) -> int:
     return sum(pod.amounts.request or 0 for pod in pods)
 
 
-def source_of(files: Sequence[tuple[str, bytes]], host: Host | None, library: Library,
-              wish: Wish = Wish()) -> Source:
+def source_of(files: Sequence[File], library: Library, wish: Wish) -> Source:
     """A node from the files of its pods and of the node itself."""
     items = [item for name, data in files for item in items_of(loads(data, name), name)]
     node = node_of(items, wish)
@@ -455,10 +478,9 @@ def source_of(files: Sequence[tuple[str, bytes]], host: Host | None, library: Li
     notes: list[str] = []
     capacity, allocatable = (thousandths(table(node, "status", key).get("cpu"), "node", notes)
                              for key in ("capacity", "allocatable"))
-    if host is None:
-        if not capacity:
-            raise NoHost("number of CPUs unknown: pass the node's JSON or --cpus")
-        host = Host(max(capacity // 1000, 1), units.DEFAULT_PERIOD, 1000)
+    if not capacity and wish.cpus is None:
+        raise NoHost("number of CPUs unknown: pass the node's JSON or --cpus")
+    host = wish.host(Host(max((capacity or 0) // 1000, 1), units.DEFAULT_PERIOD, 1000))
     pods = pods_on(items, name, notes)
     if node is None:
         notes.append("no node's JSON: kubepods has weight 100")
@@ -468,7 +490,7 @@ def source_of(files: Sequence[tuple[str, bytes]], host: Host | None, library: Li
     return source.with_usage(used, "usage") if used else source
 
 
-def read(files: Sequence[tuple[str, bytes]], host: Host | None, library: Library,
-         wish: Wish = Wish()) -> Model:
+def read(files: Sequence[File], library: Library, wish: Wish) -> Model:
     """The model of a node from the files of its pods and of the node itself."""
-    return source_of(files, host, library, wish).model()
+    source = source_of(files, library, wish.for_containers("request", TOP))
+    return (wish.measured(source) if wish.measured else source).model()

@@ -12,10 +12,13 @@ from typing import Any
 from arbiter_host import units
 from arbiter_host.faults import HostFault
 from arbiter_host.names import NOWHERE, shown
+from arbiter_host.owned import Amounts
 from arbiter_host.sources.data import table, tables, text
 
 TOP = "kubepods"
 CLASSES = {"Guaranteed": TOP, "Burstable": f"{TOP}/burstable", "BestEffort": f"{TOP}/besteffort"}
+# Names of kubelet's groups, by either of its drivers.
+KUBELET = re.compile(r"kubepods([-.].*)?")
 # The annotation by which the API server's copy of a static pod has kubelet's own identifier of it.
 MIRROR = "kubernetes.io/config.mirror"
 # A quantity: a number, and either a suffix or an exponent. None below 0 is an amount of CPU.
@@ -25,14 +28,6 @@ SUFFIXES = {"": Fraction(1), "n": Fraction(1, 10**9), "u": Fraction(1, 10**6),
             "m": Fraction(1, 1000),
             **{letter: Fraction(1000) ** power for power, letter in enumerate("kMGTPE", 1)},
             **{f"{letter}i": Fraction(1024) ** power for power, letter in enumerate("KMGTPE", 1)}}
-
-
-@dataclass(frozen=True)
-class Amounts:
-    """Requests and limits of CPU in whole thousandths; None where not given."""
-
-    request: int | None = None
-    limit: int | None = None
 
 
 @dataclass(frozen=True)
@@ -303,3 +298,8 @@ def scope_of(folder: str, container: Container, driver: str) -> str:
     if driver == "cgroupfs":
         return f"{folder}/{container.identifier.rpartition('-')[2]}"
     return f"{folder}/{container.identifier}.scope"
+
+
+def is_of_kubelet(folder: str) -> bool:
+    """Whether kubelet writes the settings of a folder's group, by the names on its path."""
+    return any(KUBELET.fullmatch(part) for part in folder.split("/"))

@@ -6,6 +6,7 @@ comments to the program.
 from __future__ import annotations
 
 import re
+from collections.abc import Sequence
 from dataclasses import replace
 
 from arbiter import Host, Library, Script
@@ -13,7 +14,8 @@ from arbiter.c import NO_LIMIT
 from arbiter_host import names, units
 from arbiter_host.faults import HostFault
 from arbiter_host.model import MAX_PROCESSORS, Group, Model, checked
-from arbiter_host.plan import Engine, asking
+from arbiter_host.plan import asking
+from arbiter_host.sources.wish import File, Wish, only
 from arbiter_host.units import Slices
 
 HEAD = re.compile(r"^#\s*(?:\./)?arbiter run((?:\s+--[a-z]+[ =][0-9]{1,9})+)\s*(?:<.*)?$")
@@ -141,7 +143,15 @@ def script_lines(data: bytes) -> list[bytes]:
     return lines[:-1] if lines[-1] == b"" else lines
 
 
-def read(data: bytes, name: str, engine: Engine, host: Host | None = None) -> Model:
+def read(files: Sequence[File], library: Library, wish: Wish) -> Model:
+    """The model at the end of a script, with what is asked for in place of what it tells."""
+    name, data = only(files, "script")
+    told = head_host(script_lines(data))
+    host = wish.host(told or Host()) if wish.names_host else None
+    return wish.with_demands(model_of(data, name, library, host), "script")
+
+
+def model_of(data: bytes, name: str, library: Library, host: Host | None = None) -> Model:
     """The model at the end of a script. `host` stands in place of that of the head line."""
     lines = script_lines(data)
     told = head_host(lines)
@@ -155,18 +165,18 @@ def read(data: bytes, name: str, engine: Engine, host: Host | None = None) -> Mo
     if lines and all(line.endswith(b"\r") for line in lines):
         model.notes.append("its lines end with carriage returns, which are parts of words here:"
                            " write newlines alone")
-    found = asked_of(engine.library, model.host, data)
+    found = asked_of(library, model.host, data)
     if len(found.refused) > MAX_REFUSED:
         raise HostFault(f"{name}:{found.refused[MAX_REFUSED][0]}: more than {MAX_REFUSED} refused"
                         " lines: this is no script")
-    model.slices = Slices(engine.library, model.host)
+    model.slices = Slices(library, model.host)
     add_groups(model, found, model.slices)
     if b"# tasks" in data or b"# at " in data:
         take_comments(model, lines, {number for number, _ in found.refused}, model.slices)
     for number, fault in found.refused:
         text = names.shown(names.cut(lines[number - 1][:400].decode(errors="replace"), 120))
         within = f" ({RANGES[fault]})" if fault in RANGES else ""
-        words = f"error {fault} {engine.library.name(fault)}{within}"
+        words = f"error {fault} {library.name(fault)}{within}"
         model.refused.append(f"{name}:{number}: {words}: {text}")
     return model
 

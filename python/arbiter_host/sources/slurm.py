@@ -17,22 +17,22 @@ from dataclasses import dataclass, field
 from fractions import Fraction
 from typing import Any
 
-from arbiter import Host
+from arbiter import Host, Library
 from arbiter_host import demands, names, units
 from arbiter_host.demands import Measured, Reading
 from arbiter_host.faults import HostFault, NoHost
-from arbiter_host.model import Group, Model, check_count, checked
+from arbiter_host.model import Group, Model, check_count
 from arbiter_host.names import NOWHERE, listed, shown
 from arbiter_host.sources.data import MAX_BYTES, loads, number, table, tables, text
+from arbiter_host.sources.register import USED, part_of_jobs
+from arbiter_host.sources.wish import File, Wish
 
 # The folder of a job.
 JOB = re.compile(r"job_[0-9]+")
 # The folder of all jobs with cgroup v2.
 TOP = "system.slice/slurmstepd.scope"
 RUNNING = ("RUNNING", "COMPLETING", "SUSPENDED")
-HEAD = re.compile(rb"[A-Za-z_0-9|%]*\bJobID(Raw)?\b[A-Za-z_0-9|%]*\r?\n")
-# What sstat says a step has used, in a cell such as `cpu=00:00:07,energy=0`.
-USED = "TRESUsageInTot"
+# A cell of what sstat says a step has used, such as `cpu=00:00:07,energy=0`.
 CPU_USED = re.compile(r"(?:.*,)?cpu=([0-9:.-]{1,40})(?:,.*)?")
 IDENTIFIER = re.compile(r"([0-9]{1,10}(?:_[0-9]{1,10})?(?:\+[0-9]{1,10})?)"
                         r"(?:\.([A-Za-z0-9+_]{1,40}))?")
@@ -78,21 +78,6 @@ class Job:
     def title(self) -> str:
         """The parts, without letters that a terminal could take as a command."""
         return shown("/".join(each.replace("/", "%2F") for each in self.parts))
-
-
-def part_of(data: bytes) -> str:
-    """Which a file is: `jobs`, `nodes`, `sacct`, `sstat` or `accounts`; empty for none of these."""
-    begin = data.lstrip(b"\xef\xbb\xbf \t\r\n")
-    if begin[:1] == b"{":
-        if re.search(rb'"job_id"\s*:', data) and re.search(rb'"jobs"\s*:', data):
-            is_account = re.search(rb'"steps"\s*:', data) and b'"job_state"' not in data
-            return "accounts" if is_account else "jobs"
-        is_node = re.search(rb'"(alloc_cpus|effective_cpus)"\s*:', data)
-        return "nodes" if is_node and re.search(rb'"nodes"\s*:', data) else ""
-    head = begin.split(b"\n")[0].strip().split(b"|")
-    if len(head) < 2 or not HEAD.match(begin):
-        return ""
-    return "sstat" if USED.encode() in head else "sacct"
 
 
 def count(value: Any, key: str) -> int:
@@ -375,36 +360,48 @@ def check_parts(first: str, names_: Mapping[str, str]) -> None:
                         " --parsable2` print them")
 
 
-def read(files: Sequence[tuple[str, bytes]], host: Host | None, node: str = "",
-         want: str = "") -> Model:
-    """The model of one node's jobs."""
+def jobs_of(files: Mapping[str, list[File]], node: str) -> tuple[dict[str, Job], int]:
+    """The jobs of files by their parts, and how many do not run."""
     jobs: dict[str, Job] = {}
-    parts = [(part_of(data), name, data) for name, data in files]
-    check_parts(files[0][0], {part: name for part, name, _ in parts})
-    nodes = [each for part, name, data in parts if part == "nodes"
-             for each in tables(loads(data, name), "nodes")]
-    node = node or (text(nodes[0], "name") if len(nodes) == 1 else "")
-    left = sum(take_jobs(loads(data, name), node, jobs) for part, name, data in parts
-               if part == "jobs")
-    left += sum(take_rows(data, name, jobs) for part, name, data in parts if part == "sacct")
-    for name_, data in [each[1:] for each in parts if each[0] == "sstat"]:
-        take_used(data, name_, jobs)
-    name = node_of(nodes, list(jobs.values()), node)
-    model = Model(checked(host or host_of(nodes, name)), names_host=host is None)
-    here = [each for each in jobs.values() if not each.nodes or name in each.nodes or not name]
+    left = sum(take_jobs(loads(data, name), node, jobs) for name, data in files["jobs"])
+    left += sum(take_rows(data, name, jobs) for name, data in files["sacct"])
+    for name, data in files["sstat"]:
+        take_used(data, name, jobs)
+    return jobs, left
+
+
+def on_node(jobs: Sequence[Job], name: str) -> list[Job]:
+    """The jobs of a node, each with its steps there."""
+    here = [each for each in jobs if not each.nodes or name in each.nodes or not name]
     for job in here:
         job.steps = {key: step for key, step in job.steps.items()
                      if not step.nodes or name in step.nodes or not name}
     check_count(sum(1 + len(each.steps) for each in here), f"{len(here)} jobs")
-    has_usage = any(part == "sacct" for part, _, _ in parts)
-    chosen = want or ("usage" if has_usage else "request")
-    if has_usage and not want:
+    return here
+
+
+def read(files: Sequence[File], _: Library, wish: Wish) -> Model:
+    """The model of one node's jobs."""
+    parts: dict[str, list[File]] = {"jobs": [], "sacct": [], "sstat": [], "nodes": []}
+    for file in files:
+        parts.setdefault(part_of_jobs(file[1]), []).append(file)
+    check_parts(files[0][0], {part: each[-1][0] for part, each in parts.items() if each})
+    nodes = [each for name, data in parts["nodes"] for each in tables(loads(data, name), "nodes")]
+    node = wish.node or (text(nodes[0], "name") if len(nodes) == 1 else "")
+    jobs, left = jobs_of(parts, node)
+    name = node_of(nodes, list(jobs.values()), node)
+    told = Host() if wish.cpus is not None else host_of(nodes, name)
+    host = Host(told.processors, units.DEFAULT_PERIOD, 1000)
+    model = Model(wish.host(host), names_host=wish.cpus is None)
+    here = on_node(list(jobs.values()), name)
+    want = wish.want or ("usage" if parts["sacct"] else "request")
+    if parts["sacct"] and not wish.want:
         take_allotted(here, model)
     builder = Builder(model)
     for job in here:
         builder.job(job)
     tell(model, here, left)
-    if chosen not in ("usage", "request", "busy"):
-        raise HostFault(f"--want {chosen} needs readings: jobs have usage, request and busy", 2)
-    demands.set_demands(model, builder.measured, chosen, Fraction(1))
+    if want not in ("usage", "request", "busy"):
+        raise HostFault(f"--want {want} needs readings: jobs have usage, request and busy", 2)
+    demands.set_demands(model, builder.measured, want, Fraction(1))
     return model

@@ -5,18 +5,20 @@ Groups stand where `ControlGroup` says. Without a second reading usage is not kn
 from __future__ import annotations
 
 import functools
+import math
 import re
 from collections.abc import Iterator, Sequence
-from dataclasses import dataclass, replace
+from dataclasses import dataclass, field, replace
 from fractions import Fraction
 
-from arbiter import Host
+from arbiter import Host, Library
 from arbiter_host import demands, names, units
-from arbiter_host.demands import Measured, Reading
+from arbiter_host.demands import Measured, Reading, Use
 from arbiter_host.faults import HostFault
 from arbiter_host.model import MAX_DEPTH, Group, Model, checked, told_bound
 from arbiter_host.names import shown
-from arbiter_host.owned import NONE, Lone, Range, Setting
+from arbiter_host.owned import NONE, Owned, Range, Setting
+from arbiter_host.sources.wish import File, Wish
 
 NOT_SET = ("", "[not set]", "infinity", "18446744073709551615")
 SECOND = 10**6
@@ -188,18 +190,46 @@ def check(setting: Setting) -> None:
 
 
 @dataclass(frozen=True)
-class Source(Lone):
+class Units(Owned):
+    """Units of systemd, as it prints them or in a tree of cgroups."""
+
+    # What the demands were taken from.
+    want: str = field(default="usage", kw_only=True)
+
+    noun, keys = "unit", KEYS
+
+    def seen(self) -> dict[str, Use]:
+        """The demand of each unit without groups below it, where that is what it used."""
+        if self.want not in demands.OF_USE:
+            return {}
+        model = self.model()
+        below = model.children()
+        return {path: Use((group.demand,)) for path, group in model.groups.items()
+                if group.demand and not below[path] and self.has(path)}
+
+    def words(self, path: str) -> tuple[str, str]:
+        """The weight and the quota of its group."""
+        model = self.plain()
+        group = model.groups[path]
+        weight, quota = ranges_of(str(group.weight), group, model.host)
+        return weight.now, quota.now
+
+    def written(self, request: int, limit: int | None) -> tuple[str, str | None]:
+        """A weight of 100 for each CPU, and percents of one CPU."""
+        weight = min(max(math.ceil(Fraction(request, 10)), units.MIN_WEIGHT), units.MAX_WEIGHT)
+        return str(weight), None if limit is None else percent(Fraction(10 * limit))
+
+
+@dataclass(frozen=True)
+class Source(Units):
     """Units as they were read. `CPUWeight=` and `CPUQuota=` of them can be changed."""
 
     host: Host
-    want: str
     seconds: Fraction
     # The properties of each unit by its path, and those of each reading.
     found: dict[str, dict[str, str]]
     readings: tuple[dict[str, dict[str, str]], ...]
     has_left_out: bool = False
-
-    keys = KEYS
 
     @functools.cached_property
     def built(self) -> Model:
@@ -217,13 +247,17 @@ class Source(Lone):
         demands.set_demands(model, measured, self.want, self.seconds)
         return model
 
-    def model(self) -> Model:
-        """The model."""
-        return replace(self.built.copy(), owned=self)
+    def plain(self) -> Model:
+        """The model, which is shared."""
+        return self.built
 
     def has(self, path: str) -> bool:
         """Whether a group is a unit that was printed."""
         return path in self.found
+
+    def on_host(self, host: Host) -> Source:
+        """The same on another host."""
+        return replace(self, host=host)
 
     def changed(self, settings: Sequence[Setting]) -> Source:
         """The same with other weights and quotas."""
@@ -254,8 +288,7 @@ def percent(hundredths: Fraction) -> str:
     return f"{units.decimal(hundredths / 100, 2)}%"
 
 
-def source_of(files: Sequence[tuple[str, bytes]], host: Host, want: str = "busy",
-              seconds: Fraction = Fraction(1)) -> Source:
+def source_of(files: Sequence[File], host: Host, want: str, seconds: Fraction) -> Source:
     """The units of one file, or of several that were printed some seconds apart."""
     readings = [{path_of(unit): unit for unit in blocks(data)} for _, data in files]
     found = {path: unit for path, unit in readings[0].items()
@@ -263,11 +296,11 @@ def source_of(files: Sequence[tuple[str, bytes]], host: Host, want: str = "busy"
     if not any("Id" in unit for unit in readings[0].values()):
         raise HostFault(f"{files[0][0]}: no units as `systemctl show '*.slice' '*.service'"
                         " '*.scope'` prints them")
-    return Source(host, want, seconds, found, tuple(readings),
-                  any(path_of(unit) == "" for unit in readings[0].values()))
+    return Source(host, seconds, found, tuple(readings),
+                  any(path_of(unit) == "" for unit in readings[0].values()), want=want)
 
 
-def read(files: Sequence[tuple[str, bytes]], host: Host, want: str = "busy",
-         seconds: Fraction = Fraction(1)) -> Model:
+def read(files: Sequence[File], _: Library, wish: Wish) -> Model:
     """The model of one file, or of several that were printed some seconds apart."""
-    return source_of(files, host, want, seconds).model()
+    want = wish.want or ("usage" if len(files) > 1 else "busy")
+    return source_of(files, wish.machine(), want, wish.seconds).model()

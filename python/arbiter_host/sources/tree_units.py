@@ -4,13 +4,15 @@ Which groups are units is said by their paths, as systemd places units.
 """
 from __future__ import annotations
 
+import functools
 from collections.abc import Sequence
 from dataclasses import dataclass, replace
 
+from arbiter import Host
 from arbiter_host import units
 from arbiter_host.model import Group, Model, check_settings
 from arbiter_host.names import raw_path
-from arbiter_host.owned import Lone, Range, Setting
+from arbiter_host.owned import Range, Setting
 from arbiter_host.sources import systemd
 
 
@@ -26,38 +28,44 @@ def change(group: Group, setting: Setting, notes: list[str]) -> None:
 
 
 @dataclass(frozen=True)
-class Source(Lone):
+class Source(systemd.Units):
     """A tree as it was read, and the settings of its units that were changed since."""
 
     tree: Model
-    settings: tuple[Setting, ...] = ()
+    settings_since: tuple[Setting, ...] = ()
 
-    keys = systemd.KEYS
-
-    def model(self) -> Model:
+    @functools.cached_property
+    def built(self) -> Model:
         """The model."""
         after = self.tree.copy()
-        for setting in self.settings:
+        for setting in self.settings_since:
             group = after.groups[setting.path]
             change(group, setting, after.notes)
             if group.quota is not None and group.burst > group.quota:
                 raise setting.fault(f"below the burst {group.burst} that stands there")
             check_settings(group)
-        after.owned = self
         return after
+
+    def plain(self) -> Model:
+        """The model, which is shared."""
+        return self.built
 
     def has(self, path: str) -> bool:
         """Whether a group is a unit by its path."""
         folder = raw_path(path)
         return path in self.tree.groups and bool(folder and systemd.unit_of(folder))
 
+    def on_host(self, host: Host) -> Source:
+        """The same on another host."""
+        return replace(self, tree=self.tree.with_host(host))
+
     def changed(self, settings: Sequence[Setting]) -> Source:
         """The same with other weights and quotas."""
         for setting in settings:
             systemd.check(setting)
-        return replace(self, settings=(*self.settings, *settings))
+        return replace(self, settings_since=(*self.settings_since, *settings))
 
     def ranges(self, path: str) -> list[Range]:
         """The weights and the quotas that can be asked for of a unit."""
-        group = self.model().groups[path]
+        group = self.built.groups[path]
         return systemd.ranges_of(str(group.weight), group, self.tree.host)

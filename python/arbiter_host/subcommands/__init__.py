@@ -22,10 +22,8 @@ class Place(NamedTuple):
 PLACES = {
     "explain": Place("explain", "EXPLAIN", "why each group gets what it gets"),
     "diff": Place("diff", "DIFF", "what a change does, or what differs between two plans"),
-    "need": Place("backwards", "NEED", "the least setting with which a group gets an amount"),
     "tune": Place("tune", "TUNE", "settings with which groups get their goals at once"),
     "recommend": Place("recommend", "RECOMMEND", "propose requests and limits from what was used"),
-    "guarantee": Place("backwards", "GUARANTEE", "what groups get whatever the others ask for"),
     "series": Place("series", "SERIES", "plan many samples of demands"),
     "top": Place("top", "TOP", "live view over a host's cgroups and their plan"),
     "watch": Place("watch", "WATCH", "tell when a host gets bad: alerts and metrics"),

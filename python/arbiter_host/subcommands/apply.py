@@ -8,12 +8,14 @@ import time
 from collections.abc import Iterable, Iterator, Sequence
 from contextlib import contextmanager, suppress
 
-from arbiter_host import apply, change, exports, load, names, output, record, safe_files
+from arbiter_host import apply, change, exports, load, names, options as table, output, record
+from arbiter_host import safe_files
 from arbiter_host.exports import files
 from arbiter_host.faults import HostFault, UsageFault
+from arbiter_host.options import Output
 from arbiter_host.output import emit
 from arbiter_host.plan import engine_of
-from arbiter_host.subcommands.base import Subcommand, add_reading_options
+from arbiter_host.subcommands.base import Subcommand
 
 
 def print_steps(root: safe_files.Root, steps: Sequence[apply.Step]) -> None:
@@ -44,52 +46,46 @@ def warn(found: Iterable[str]) -> None:
         output.warn(words)
 
 
-def way_of(options: argparse.Namespace) -> apply.By:
-    """By what the options ask that changes are made."""
-    if options.by == "files":
-        if options.persistent:
-            raise UsageFault("--persistent belongs to --by systemd: no boot keeps files")
-        return apply.By.FILES
-    return apply.By.PERSISTENT if options.persistent else apply.By.RUNTIME
-
-
-def check_words(options: argparse.Namespace) -> None:
+def check_words(options: argparse.Namespace, outputs: Sequence[Output],
+                forms: Sequence[Output]) -> None:
     """A fault where words of the command line do not go together."""
-    if (options.form is None) != (options.to is None):
-        raise UsageFault("--as and --to belong together")
-    if options.form and (options.yes or options.undo):
-        raise UsageFault("--as writes files for review alone: without --yes and --undo")
+    if forms and (options.yes or options.undo):
+        raise UsageFault("-o FORM writes files for review alone: without --yes and --undo")
+    if any(each.form == "text" and each.path != "-" for each in outputs):
+        raise UsageFault("-o text: the steps are printed on standard output")
+    if any(map(change.is_host, options.set)):
+        raise UsageFault("--set: apply changes settings of groups, and no host")
 
 
-def write_form(options: argparse.Namespace, asked: exports.Asked) -> None:
+def write_form(to: Output, draft: exports.Draft) -> None:
     """Writes the change as files for review."""
-    found = exports.documents(options.form, asked)
-    warn(asked.told)
+    found = exports.documents(to.form, draft)
+    warn(draft.told)
     if not found:
         output.say("no change: nothing is written")
-        return
-    for path in files.write(options.to, found):
+    for path in files.write(to.path, found) if found else ():
         output.say(f"wrote {path}")
+    warn(apply.only_in_one(draft.before, draft.after, draft.moved))
 
 
 def run_apply(options: argparse.Namespace) -> None:
     """Prints the steps from one source to another; with --yes makes them."""
-    check_words(options)
+    outputs = table.outputs(options)
+    forms = [each for each in outputs if each.form != "text"]
+    check_words(options, outputs, forms)
     sources = load.sources(options, options.source)
     if len(sources) > 2 or (len(sources) == 1) != bool(options.set):
         raise UsageFault("apply takes BEFORE and AFTER, or BEFORE and --set")
     by = engine_of(options.library)
-    models = [load.of_files(options, found, by) for found in sources]
+    models = [load.model_of(options, found, by) for found in sources]
     after = change.told(models[-1], change.changed(models[-1], options.set))
-    root, way = safe_files.Root(options.root), way_of(options)
-    if options.form:
-        asked = exports.Asked(models[0], after, sources[0], root, way, by.library,
-                              options.runtime or options.conversion,
-                              lambda found: load.of_files(options, found, by))
-        write_form(options, asked)
-        warn(apply.only_in_one(models[0], after, asked.moved))
-        return
-    set_host(options, apply.changes(models[0], after, root), root, way)
+    root, way = safe_files.Root(options.root), apply.By(options.by)
+    for each in forms:
+        write_form(each, exports.Draft(models[0], after, sources[0], root, way, by.library,
+                                       load.wish_of(options).runtime,
+                                       lambda found: load.model_of(options, found, by)))
+    if len(forms) < len(outputs):
+        set_host(options, apply.changes(models[0], after, root), root, way)
 
 
 def check_no_loop(root: safe_files.Root, folders: Iterable[str]) -> None:
@@ -109,7 +105,7 @@ def set_host(options: argparse.Namespace, asked: tuple[list[apply.Change], list[
     found, left = asked
     check_no_loop(root, [each.folder for each in found] if options.yes else [])
     steps = apply.planned_steps(found, way)
-    warn([*left, *(apply.passing(steps) if options.persistent else [])])
+    warn([*left, *(apply.passing(steps) if way is apply.By.PERSISTENT else [])])
     if not options.yes or not found:
         print_steps(root, steps)
         return
@@ -140,45 +136,17 @@ def run_undo(options: argparse.Namespace) -> None:
         warn(back.left)
 
 
-def add_yes(parser: argparse.ArgumentParser) -> None:
-    """The two words on whether anything is changed."""
-    group = parser.add_mutually_exclusive_group()
-    group.add_argument("--yes", action="store_true", help="do it")
-    group.add_argument("--dry-run", action="store_true",
-                       help="print it alone, as without --yes")
-
-
 def add_apply_words(parser: argparse.ArgumentParser) -> None:
     """The words of `apply`."""
     parser.add_argument("source", nargs="+", metavar="BEFORE [AFTER]",
                         help="sources, as of explain")
-    parser.add_argument("--set", action="append", default=[], metavar="GROUP.KEY=VALUE",
-                        help="a change of BEFORE, in place of AFTER")
-    parser.add_argument("--root", default="/sys/fs/cgroup", metavar="DIR",
-                        help="the top of the tree (default /sys/fs/cgroup); nothing outside it is"
-                        " opened for writing")
-    parser.add_argument("--by", choices=("systemd", "files"), default="systemd",
-                        help="`systemd` sets properties of units by systemctl and files else;"
-                        " `files` writes files alone (default systemd)")
-    parser.add_argument("--persistent", action="store_true",
-                        help="properties of units are kept over a boot; `undo` keeps the old ones"
-                        " so too")
-    parser.add_argument("--as", dest="form", choices=tuple(exports.FORMS), help="write the change"
-                        " in a form to be reviewed and merged; nothing of the host is changed")
-    parser.add_argument("--to", metavar="FILE|DIR", help="where --as writes: a file, `-`, or a"
-                        " folder, with / at its end if it is new")
-    parser.add_argument("--undo", metavar="FILE", help="the undo file, which must be new"
-                        " (default arbiter-undo-DATE-TIME.json here)")
-    add_yes(parser)
-    add_reading_options(parser)
+    table.add(parser, "apply")
 
 
 def add_undo_words(parser: argparse.ArgumentParser) -> None:
     """The words of `undo`."""
     parser.add_argument("file", metavar="FILE", help="the undo file")
-    parser.add_argument("--force", action="store_true",
-                        help="also over what somebody set since `apply`")
-    add_yes(parser)
+    table.add(parser, "undo")
 
 
 DETAILS = (
@@ -192,10 +160,10 @@ DETAILS = (
     " its group is the folder that changes. A file that somebody sets between the reading and the"
     " writing ends it there. A group that `hold` holds is refused.",
     "The JSON of pods and that of their node, side by side, are one source.",
-    "With --as the change is written as files: `dropin` of units, `kubectl-patch` of what owns"
-    " pods, `compose` overrides, a play of `ansible`, `slurm` limits of users, or a `shell` script."
-    " What a form cannot say is refused by name, and nothing is written. Files are new, or such"
-    " that --as wrote; no link is followed, and a folder that others may change is refused.",
+    "With -o the change is written as files: `dropin` of units, `kubectl` patches of what owns"
+    " pods, `compose` overrides, `slurm` limits of users, or a `shell` script. What a form cannot"
+    " say is refused by name, and nothing is written. Files are new, or such that -o wrote; no link"
+    " is followed, and a folder that others may change is refused.",
 )
 UNDO_DETAILS = (
     "A value that is neither what `apply` found nor what it wrote was set by somebody since. It is"
@@ -207,7 +175,7 @@ APPLY_EXAMPLES = (
     ("doing it", "arbiterctl apply host.script --set web.service.weight=200 --yes"
      " --undo undo.json"),
     ("a drop-in for review", "arbiterctl apply host.script --set web.service.weight=200"
-     " --as dropin --to units/"),
+     " -o dropin=units/"),
 )
 UNDO_EXAMPLES = (("the old settings again", "arbiterctl undo undo.json --yes"),)
 APPLY = Subcommand("apply",

@@ -8,7 +8,7 @@ from collections.abc import Callable, Sequence
 from fractions import Fraction
 
 from arbiter import Host
-from arbiter_host import load, progress, watch
+from arbiter_host import load, progress, text, watch
 from arbiter_host.audit import answer, intervals, looks, ranges, written
 from arbiter_host.audit.answer import Told
 from arbiter_host.audit.causes import NOTHING
@@ -18,7 +18,6 @@ from arbiter_host.hold import HOST_TREE
 from arbiter_host.model import Model
 from arbiter_host.names import shown
 from arbiter_host.output import emit_json, emit_styled
-from arbiter_host.subcommands.backwards import aligned
 from arbiter_host.subcommands.base import (Subcommand, add_reading_options, found_engine,
                                            source_name)
 from arbiter_host.subcommands.series import add_prometheus_options
@@ -111,7 +110,8 @@ def lines_of(found: Told) -> list[tuple[str, str]]:
     table = [list(answer.HEADS), *(answer.cells_of(row) for row in rows)]
     styles = ["bold", *("red" if row.cause == NOTHING else "" for row in rows)]
     return [*((line, "") for line in answer.head(found)), ("", ""),
-            *zip(aligned(table, 0), styles), *((line, "") for line in answer.foot(found))]
+            *zip(text.table(table, (len(table[0]) - 1,)), styles),
+            *((line, "") for line in answer.foot(found))]
 
 
 def warn(notes: Sequence[str], source: str) -> None:

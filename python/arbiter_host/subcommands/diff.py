@@ -21,15 +21,15 @@ def on_host(options: argparse.Namespace, host: Host) -> argparse.Namespace:
                                  "period": f"{host.period_us}us", "slice": f"{host.slice_us}us"})
 
 
-def read(options: argparse.Namespace, files: Sequence[load.File], by: Engine) -> Model | None:
+def read(options: argparse.Namespace, files: Sequence[load.Opened], by: Engine) -> Model | None:
     """The model of a source; None where it does not say how many CPUs its host has."""
     try:
-        return load.of_files(options, files, by)
+        return load.model_of(options, files, by)
     except NoHost:
         return None
 
 
-def models_of(options: argparse.Namespace, sources: Sequence[Sequence[load.File]],
+def models_of(options: argparse.Namespace, sources: Sequence[Sequence[load.Opened]],
               by: Engine) -> list[Model]:
     """The models of sources on one host: that of the last which names one. Another that names its
     own keeps it."""
@@ -40,7 +40,7 @@ def models_of(options: argparse.Namespace, sources: Sequence[Sequence[load.File]
     if host is None:
         raise NoHost("number of CPUs unknown: pass the node's JSON or --cpus")
     return [each if each is not None and (each.names_host or each.host == host)
-            else load.of_files(on_host(options, host), files, by)
+            else load.model_of(on_host(options, host), files, by)
             for each, files in zip(models, sources)]
 
 

@@ -98,7 +98,8 @@ def fleet_of(options: argparse.Namespace) -> hosts.Fleet:
     word = options.hosts if options.action == "place" else options.source[0]
     used = [] if options.usage is None else load.usage_of(options)
     if used:
-        options.want = load.want_of(options, "usage")
+        load.check_measured(options)
+        options.want = options.want or "usage"
     fleet = hosts.fleet_of(word, used)
     if fleet.is_cluster:
         options.kind = options.kind or "kubernetes"

@@ -4,12 +4,11 @@ from __future__ import annotations
 import argparse
 
 from arbiter_host import change, load, recommend, samples, text
-from arbiter_host.kinds import Use, kind_of
+from arbiter_host.demands import Use
 from arbiter_host.model import Model
 from arbiter_host.names import cut, few, short, shown
 from arbiter_host.output import emit_json, emit_styled
 from arbiter_host.recommend import Proposal, Recommendation
-from arbiter_host.subcommands.backwards import aligned
 from arbiter_host.subcommands.base import (Subcommand, add_reading_options, found_engine,
                                            source_name)
 from arbiter_host.subcommands.series import (add_prometheus_options, file_samples, mapped,
@@ -30,7 +29,7 @@ def history_of(options: argparse.Namespace, model: Model) -> list[samples.Sample
 
 def uses_of(options: argparse.Namespace, model: Model) -> tuple[dict[str, Use], int]:
     """What was seen of each container, and the greatest number of samples."""
-    found = kind_of(model).seen()
+    found = recommend.owned_of(model).seen()
     history = history_of(options, model)
     if history:
         uses, told = recommend.of_history(model, history, mapped(options.map))
@@ -95,7 +94,7 @@ def lines_of(found: Recommendation, count: int) -> list[tuple[str, str]]:
              *totals_line(found),
              (f"short when each uses this at once: {len(short_)}"
               + (f" ({few(short_, 3)})" if short_ else ""), "red" if short_ else ""),
-             ("", ""), *zip(aligned(rows, 0), styles)]
+             ("", ""), *zip(text.table(rows, (len(rows[0]) - 1,)), styles)]
     if any(each.is_throttled for each in found.proposals):
         lines.append(("* throttled at its limit: it wanted more than it used", ""))
     return lines

@@ -5,33 +5,41 @@ import argparse
 from collections.abc import Sequence
 
 from arbiter import Unmet
-from arbiter_host import change, load, text, tune, units
+from arbiter_host import change, knobs, load, options as table, text, tune, units
+from arbiter_host.faults import NothingFound, UsageFault
+from arbiter_host.goals import Way
+from arbiter_host.knobs import Knob
+from arbiter_host.model import MAX_PROCESSORS
 from arbiter_host.names import short, shown
-from arbiter_host.output import emit_json, emit_styled
-from arbiter_host.plan import plan
-from arbiter_host.subcommands.backwards import add_view, aligned, paid
+from arbiter_host.output import json_text, write_forms
+from arbiter_host.plan import Plan, plan
 from arbiter_host.subcommands.base import Subcommand, found_engine, source_name
-from arbiter_host.tune import Tuned, Way
+from arbiter_host.tune import Tuned
 
 # What goals are measured by.
 MEASURES = {False: "by today's demands", True: "whatever the others ask for"}
+# The groups that pay which are named; the others are counted.
+NAMED = 3
+# The words of settings that people own, where those of their keys are taken.
+LABELS = {"limit": "container limit"}
 Lines = list[tuple[str, str]]
 
 
 def run(options: argparse.Namespace) -> None:
     """Prints settings under which all goals are met."""
-    by = found_engine(options)
+    if not options.goal:
+        raise UsageFault("tune: the following arguments are required: --goal")
+    outputs, by = table.outputs(options), found_engine(options)
     model = load.load(options, options.source, by)
     load.warn(model, source_name(options.source))
     before = plan(by, change.told(model, change.changed(model, options.set)))
-    found = tune.tune(before, options.goal, options.guarantee, options.keep)
+    found = tune.tune(before, options.goal, options.guaranteed, options.group)
     if found.best is not None:
         change.told(before.model, found.best.plan.model)
-    if options.json:
-        emit_json(tune.as_data(found))
-    else:
-        emit_styled([(text.host_words(before), ""), *rounded(found, options.unit),
-                     *lines_of(found, options.unit)])
+    write_forms(outputs, {"text": lambda: lines_of(found, options.unit),
+                          "json": lambda: json_text(tune.as_data(found))})
+    if found.is_nothing:
+        raise NothingFound("no settings were found that meet the goals")
 
 
 def name(path: str) -> str:
@@ -39,41 +47,53 @@ def name(path: str) -> str:
     return short(shown(path))
 
 
+def lines_of(found: Tuned, unit: str) -> Lines:
+    """The lines of the answer."""
+    where = f"{MEASURES[found.asked.is_guaranteed]}, in {text.UNIT_WORDS[unit]}"
+    lines: Lines = [(text.host_words(found.before), ""), *rounded(found, unit)]
+    if found.best is not None:
+        lines += way_lines(found, found.best, where, unit)
+    else:
+        assert isinstance(found.weights, Unmet)
+        lines += clash_lines(found, found.weights, where, unit)
+    if isinstance(found.owned, str):
+        lines.append((found.owned, "yellow" if found.best else ""))
+    return lines + alone_lines(found, unit)
+
+
 def rounded(found: Tuned, unit: str) -> Lines:
     """The goals whose amounts are no whole number of slices."""
     words = {f"{units.decimal(goal.asked)}m is no whole number of slices:"
              f" {text.amount(found.before, goal.amount, unit)} is asked for": ""
-             for goal in found.goals if found.before.thousandths(goal.amount) != goal.asked}
+             for goal in found.asked.goals if found.before.thousandths(goal.amount) != goal.asked}
     return list(words.items())
 
 
-def lines_of(found: Tuned, unit: str) -> Lines:
-    """The lines of the answer."""
-    where = f"{MEASURES[found.is_guaranteed]}, in {text.UNIT_WORDS[unit]}"
-    if found.best is not None:
-        return way_lines(found, found.best, where, unit)
-    assert isinstance(found.weights, Unmet)
-    lines = clash_lines(found, found.weights, where, unit)
-    return lines + ([(found.owned, "")] if isinstance(found.owned, str) else [])
+def paid(before: Plan, losses: Sequence[tuple[str, int]], unit: str) -> str:
+    """Groups and the slices that each loses, the first of them by name, in words."""
+    words = [f"{name(path)} -{text.amount(before, slices, unit)}"
+             for path, slices in losses[:NAMED]]
+    rest = len(losses) - NAMED
+    return ", ".join(words + ([f"{rest} more"] if rest > 0 else [])) or "nobody"
 
 
 def way_lines(found: Tuned, way: Way, where: str, unit: str) -> Lines:
     """The lines of settings that meet all goals."""
     lines = [(f"all goals are met at once {where}; the proved check accepted the plan", ""),
-             ("", ""), *goal_lines(found, range(len(found.goals)), way.amounts, unit), ("", "")]
+             ("", ""), *goal_lines(found, range(len(found.asked.goals)), way.amounts, unit),
+             ("", "")]
     if way.changes:
         rows = [("setting", "now", "then", "group"),
                 *((each.key, each.now, each.then, name(each.path)) for each in way.changes)]
-        losses = paid(found.before, tune.payers(found, way), unit)
-        lines += [*zip(aligned(rows, 1), ("bold", *("" for _ in way.changes))), ("", ""),
+        losses = paid(found.before, tune.losers(found, way), unit)
+        lines += [*zip(text.table(rows, (0, 3)), ("bold", *("" for _ in way.changes))), ("", ""),
                   (f"who else pays: {losses}", "")]
-    lines.append((way.told, ""))
-    return lines + ([(found.owned, "yellow")] if isinstance(found.owned, str) else [])
+    return lines + [(way.told, "")]
 
 
 def clash_lines(found: Tuned, clash: Unmet, where: str, unit: str) -> Lines:
     """The lines of goals that cannot be met together."""
-    goals = [found.goals[place] for place in clash.together]
+    goals = [found.asked.goals[place] for place in clash.together]
     asked = text.amount(found.before, sum(goal.amount for goal in goals), unit)
     served = text.amount(found.before, found.before.root.gets, unit)
     which = ("weights of their groups cannot meet these goals together" if len(goals) > 1 else
@@ -86,7 +106,7 @@ def clash_lines(found: Tuned, clash: Unmet, where: str, unit: str) -> Lines:
     lines.append(("nor were limits of other groups found with which they are met", ""))
     lines += [(f"{name(goal.group.path)} asks for less: no setting gives it more than it asks for",
                "yellow") for goal in goals if goal.group.want < goal.amount]
-    return lines + [(f"the weight of {name(path)} stays as it is (--keep)", "")
+    return lines + [(f"the settings of {name(path)} stay as they are (-g)", "")
                     for path in found.kept]
 
 
@@ -95,27 +115,50 @@ def goal_lines(found: Tuned, places: Sequence[int], then: Sequence[int] | None,
     """A line for each goal of some places: what its group gets now, and then where it is known."""
     rows, styles = [("goal", "now", *(["then"] if then else []), "wants", "group")], ["bold"]
     for place in places:
-        goal, now = found.goals[place], found.amounts[place]
+        goal, now = found.asked.goals[place], found.amounts[place]
         cells = (goal.amount, now, *([then[place]] if then else []), goal.group.want)
         rows.append((*(text.amount(found.before, each, unit) for each in cells),
                      name(goal.group.path)))
         styles.append("" if then or now >= goal.amount else "red")
-    return list(zip(aligned(rows, 0), styles))
+    return list(zip(text.table(rows, (len(rows[0]) - 1,)), styles))
+
+
+def alone_lines(found: Tuned, unit: str) -> Lines:
+    """The lines of each setting of the group of one goal alone."""
+    if not found.alone:
+        return []
+    rows = [("alone", "now", "least", "who pays"),
+            *(knob_row(found, knob, unit) for knob in found.alone)]
+    styles = ["bold", *("" if knob.plan else "yellow" for knob in found.alone)]
+    return [("", ""), *zip(text.table(rows, (0, 3)), styles)]
+
+
+def knob_row(found: Tuned, knob: Knob, unit: str) -> tuple[str, str, str, str]:
+    """The row of a setting: a limit in the unit, others as they are."""
+    def value(number: int | str | None) -> str:
+        is_amount = knob.name == "limit" and isinstance(number, int)
+        return text.amount(found.before, int(number or 0), unit) if is_amount else str(
+            "-" if number is None else number)
+
+    words = (paid(found.before, knobs.losses(found.asked, knob), unit) if knob.plan
+             else unreached(knob.name, found.before.model.host.processors))
+    told = f" ({shown(knob.told)})" if knob.told else ""
+    label = LABELS.get(knob.name, knob.name) if knob.is_owned else knob.name
+    return label, value(knob.now), value(knob.least), f"{words}{told}"
+
+
+def unreached(setting: str, processors: int) -> str:
+    """That no value of a setting reaches the goal. More than 64 CPUs are not asked of."""
+    if setting != "CPUs":
+        return f"no {setting} reaches it"
+    more = "" if processors <= MAX_PROCESSORS else "; more are not tried"
+    return f"{MAX_PROCESSORS} CPUs do not reach it{more}"
 
 
 def add_words(parser: argparse.ArgumentParser) -> None:
     """The words of `tune`."""
     parser.add_argument("source", nargs="+", metavar="SOURCE", help="a source, as of explain")
-    parser.add_argument("--goal", action="append", required=True, metavar="GROUP=AMOUNT",
-                        help="what each group that matches is to get at least: web=2cpu,"
-                        " 'runner@*=1500m'; may be said again")
-    parser.add_argument("--guarantee", action="store_true", help="goals are met whatever the other"
-                        " groups ask for (default: with the demands of the source)")
-    parser.add_argument("--keep", action="append", default=[], metavar="GROUP",
-                        help="weights and limits of the groups that match stay as they are")
-    parser.add_argument("--set", action="append", default=[], metavar="GROUP.KEY=VALUE",
-                        help="a change that is made first, as of compare")
-    add_view(parser)
+    table.add(parser, "tune")
 
 
 DETAILS = (
@@ -131,14 +174,22 @@ DETAILS = (
     "A goal is rounded up to whole slices, and a line says so. No group with a goal may be above"
     " another one. Goals that no weights of their groups meet together are named, with what they"
     " ask for in all and what is served. It is not proved that they are the fewest.",
-    "A group of --keep has the same weight and the same limit in every answer. Where a setting that"
-    " people own would change the weight, the setting is not answered. At most 64 limits are"
-    " lowered, and none of a group with a burst.",
+    "Of one goal it also prints each setting of the group alone, all else as it is: the least"
+    " weight from 1 to 10000, limit, and number of CPUs from 1 to 64, and the groups that get less"
+    " then. `-` is no value. The plan of each is accepted by the proved check, and no lesser value"
+    " reaches the goal. Of a container of a pod, a unit, or a container of docker these are the"
+    " settings that people own, too.",
+    "With -g only weights, limits and settings of these groups, and of those below them, change."
+    " What follows from a request, such as the weight of its pod, changes with it. At most 64"
+    " limits are lowered, and none of a group with a burst. Where nothing is found, it ends with"
+    " status 6.",
 )
 EXAMPLES = (
     ("two groups at once", "arbiterctl tune host.toml --goal web=1500m --goal batch=14cpu"),
-    ("the same whatever the others ask for, as JSON",
-     "arbiterctl tune host.toml --goal web=1500m --goal batch=14cpu --guarantee --json"),
+    ("what web needs for one and a half CPUs, as JSON",
+     "arbiterctl tune host.toml --goal web=1.5cpu -o json"),
+    ("the same whatever the others ask for, by changes of batch alone",
+     "arbiterctl tune host.toml --goal web=1500m --guaranteed -g batch"),
     ("requests of containers that are all busy",
      "arbiterctl tune pods.json node.json --want busy --goal '*/nginx=750m' --goal '*/envoy=1cpu'"),
 )

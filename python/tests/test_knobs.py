@@ -1,12 +1,12 @@
-"""Questions asked backwards: by values worked by hand, and against plans of other settings."""
+"""Each setting of one goal alone, and what groups are guaranteed: by values worked by hand, and
+against plans of other settings."""
 import json
 from dataclasses import replace
 from fractions import Fraction
 
 import pytest
 from arbiter import Host
-from arbiter_host import backwards, units
-from arbiter_host.faults import HostFault
+from arbiter_host import knobs, tune, units
 from arbiter_host.model import Group, Model
 from arbiter_host.plan import guarantees, plan
 from hypothesis import HealthCheck, given, settings
@@ -22,85 +22,69 @@ demand b 20
 """
 
 
-def knobs(ctl, folder, text, *words):
-    """The answers of `need` as JSON, by the name of the setting."""
-    source = folder / "host.script"
-    source.write_text(text)
-    found = json.loads(ctl.run("need", *words, source, "--json")[0])
-    return found, {knob["name"]: knob for knob in found["knobs"]}
+def script(folder, text):
+    """A script of a text."""
+    (folder / "host.script").write_text(text)
+    return folder / "host.script"
 
 
-def test_need_by_hand(ctl, folder):
+def alone(ctl, folder, text, goal):
+    """The answers of `tune` as JSON, and its settings alone by their names."""
+    found = json.loads(ctl.run("tune", script(folder, text), "--goal", goal, "-o", "json")[0])
+    return found["goals"][0], {knob["name"]: knob for knob in found["alone"]}
+
+
+def test_by_hand(ctl, folder):
     """The tenth slice of a costs 19/w, and the eleventh of b 21/200: w is 181 at least."""
-    found, by = knobs(ctl, folder, TWO, "a", "500m")
-    assert (found["gets_millicpu"], found["amount_millicpu"]) == (350, 500)
+    goal, by = alone(ctl, folder, TWO, "a=500m")
+    assert (goal["now_millicpu"], goal["goal_millicpu"]) == (350, 500)
     assert (by["weight"]["now"], by["weight"]["least"]) == (100, 181)
     assert by["weight"]["pays"] == [{"group": "b", "millicpu": 150}]
     assert (by["limit"]["now"], by["limit"]["least"]) == (None, None)
     assert (by["CPUs"]["least"], by["CPUs"]["pays"]) == (2, [])
 
 
-def test_need_of_a_limit(ctl, folder):
-    """A limit of 200m is in the way, and 500m is the least that is not."""
-    text = TWO + "write a cpu.max 20000\ndemand b 5\n"
-    found, by = knobs(ctl, folder, text, "a", "500m")
-    assert (found["gets_millicpu"], by["limit"]["now"], by["limit"]["least"]) == (200, 200, 500)
+def test_in_lines(ctl, folder):
+    """The settings alone stand behind the answer; of several goals there are none."""
+    out, _ = ctl.run("tune", script(folder, TWO), "--goal", "a=500m")
+    assert [line.split() for line in out.split("\n")[-5:]] == [
+        ["alone", "now", "least", "who", "pays"], ["weight", "100", "181", "b", "-0.15"],
+        ["limit", "-", "-", "no", "limit", "reaches", "it"], ["CPUs", "1", "2", "nobody"], []]
+    assert "alone" not in ctl.run("tune", script(folder, TWO), "--goal", "a=500m", "--goal",
+                                  "b=100m")[0]
+    assert "alone" not in ctl.run("tune", script(folder, TWO), "--goal", "a=500m", "-g", "a")[0]
+
+
+def test_a_limit(ctl, folder):
+    """A limit of 200m is in the way, and 500m is the least that is not. No weight helps."""
+    goal, by = alone(ctl, folder, TWO + "write a cpu.max 20000\ndemand b 5\n", "a=500m")
+    assert (goal["now_millicpu"], by["limit"]["now"], by["limit"]["least"]) == (200, 200, 500)
     assert (by["weight"]["least"], by["CPUs"]["least"]) == (None, None)
 
 
-def test_need_of_more_than_is_asked(ctl, folder):
+def test_more_than_is_asked(ctl, folder):
     """No setting gives a group more than it asks for, and a line says so."""
-    source = folder / "host.script"
-    source.write_text(TWO)
-    out, _ = ctl.run("need", "a", "2cpu", source)
-    assert "it asks for less" in out
-    assert [line.split()[-3:] for line in out.split("\n") if line.startswith("CPUs")]
+    out, _ = ctl.run("tune", script(folder, TWO), "--goal", "a=2cpu", status=6)
+    assert "a asks for less" in out
     assert "64 CPUs do not reach it" in out and "no weight reaches it" in out
 
 
 @pytest.mark.parametrize("processors, told", [
     (64, "64 CPUs do not reach it\n"), (65, "64 CPUs do not reach it; more are not tried\n")])
-def test_need_of_a_great_host(ctl, folder, processors, told):
+def test_a_great_host(ctl, folder, processors, told):
     """The planner is asked of at most 64 CPUs, and of a greater host a line says so."""
-    source = folder / "host.script"
-    source.write_text("mkdir a\nwrite a cpu.max 20000\ndemand a 20\n")
-    out, _ = ctl.run("need", "a", "500m", source, "--cpus", processors)
+    text = "mkdir a\nwrite a cpu.max 20000\ndemand a 20\n"
+    out, _ = ctl.run("tune", script(folder, text), "--goal", "a=500m", "--cpus", processors)
     assert f"CPUs{processors:9}      -  {told}" in out
 
 
-@pytest.mark.parametrize("words, status", [
-    (("none", "500m"), 1), (("a", "0"), 1), (("a", "lots"), 2), (("*", "500m"), 1),
-])
-def test_need_refuses(ctl, folder, words, status):
-    """No such group, several, nothing asked for, and no amount."""
-    source = folder / "host.script"
-    source.write_text(TWO)
-    _, err = ctl.run("need", *words, source, status=status)
-    assert err.count("\n") == 1
-
-
-def test_guarantee_by_hand(ctl, folder):
-    """7 of 20 slices are a's whatever b asks for, also where b asks for nothing now."""
-    source = folder / "host.script"
-    source.write_text(TWO + "demand b 0\n")
-    found = json.loads(ctl.run("explain", source, "--guaranteed", "-o", "json")[0])["groups"]
-    assert [(each["group"], each["guaranteed"], each["gets"]["millicpu"]) for each in found] == [
-        (".", None, 1000),
-        ("a", {"slices": 7, "millicpu": 350.0, "usec": 35000}, 1000),
-        ("b", {"slices": 0, "millicpu": 0.0, "usec": 0}, 0)]
-    out, _ = ctl.run("explain", source, "--guaranteed", "-g", "a", "--unit", "slices")
-    row = next(line for line in out.split("\n") if line.endswith(" a"))
-    assert row.split()[:4] == ["20", "20", "-", "7"]
-
-
-def test_guarantee_of_the_inside(engine):
+def test_guarantees_of_the_inside(engine):
     """What a group's own children ask for is as it is: they do not count as others."""
     model = Model(Host(1, 100000, 5000))
     for path, demand in (("pod", 0), ("pod/one", 200), ("pod/two", 200), ("other", 0)):
         model.add(Group(path, demand=Fraction(demand)))
     found = plan(engine, model)
-    owed = guarantees(found, found.groups[1:])
-    assert owed == [8, 4, 4, 0]
+    assert guarantees(found, found.groups[1:]) == [8, 4, 4, 0]
 
 
 PATHS = ["a", "b", "c", "a/x", "a/y"]
@@ -125,19 +109,20 @@ SOME = settings(max_examples=40, deadline=None,
 @given(model=models(), path=st.sampled_from(PATHS), slices=st.integers(1, 10))
 def test_least_values(engine, model, path, slices):
     """The least value reaches the amount, and the value before it does not."""
-    found = backwards.need(engine, model, path, Fraction(200 * slices))
+    found = tune.tune(plan(engine, model), [f"{path}={200 * slices}m"])
     changes = {
-        "weight": (lambda v: backwards.with_weight(model, path, v), units.MAX_WEIGHT),
-        "limit": (lambda v: backwards.with_limit(model, path, v), None),
+        "weight": (lambda v: knobs.with_weight(model, path, v), units.MAX_WEIGHT),
+        "limit": (lambda v: knobs.with_limit(model, path, v), 300),
         "CPUs": (lambda v: replace(model, host=replace(model.host, processors=v)), 64),
     }
-    for knob in found.knobs:
+    assert [knob.name for knob in found.alone] == list(changes)
+    for knob in found.alone:
         changed, greatest = changes[knob.name]
         gets = lambda v: plan(engine, changed(v)).by_path()[path].gets
         if knob.least is None:
             assert gets(greatest) < slices
         else:
-            assert gets(knob.least) >= slices == found.amount
+            assert gets(knob.least) >= slices == found.asked.goals[0].amount
             assert knob.plan.by_path()[path].gets == gets(knob.least)
             assert knob.least == 1 or gets(knob.least - 1) < slices
 
@@ -155,12 +140,3 @@ def test_no_demands_of_the_others_give_less(engine, model, demands):
                 after.groups[path].demand = Fraction(200 * slices)
         assert plan(engine, after).by_path()[group.path].gets >= least
         assert group.gets >= least
-
-
-def test_one_group_is_named():
-    """A word that names several groups is refused."""
-    model = Model()
-    for path in ("a", "b"):
-        model.add(Group(path))
-    with pytest.raises(HostFault, match="2 groups"):
-        backwards.one_group(model, "*")

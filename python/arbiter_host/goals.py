@@ -1,0 +1,183 @@
+"""Goals of groups of a plan: what each is to get at least, and settings that meet all of them."""
+from __future__ import annotations
+
+from collections import Counter
+from collections.abc import Iterator, Sequence
+from dataclasses import dataclass
+from fractions import Fraction
+from typing import NamedTuple
+
+from arbiter_host import demands, units
+from arbiter_host.faults import HostFault, UsageFault
+from arbiter_host.model import Model
+from arbiter_host.names import parent_path, shown
+from arbiter_host.plan import Plan, Planned, plan
+from arbiter_host.units import Slices
+
+NO_CHANGE = "all goals are met as it stands: nothing changes"
+# What is said of changes of which each is needed.
+NEEDED = "; none of the changes can be left out"
+
+
+class Goal(NamedTuple):
+    """What a group is to get at least, in slices of one period."""
+
+    group: Planned
+    amount: int
+    # Thousandths of a CPU, as it was asked for.
+    asked: Fraction
+
+
+class NewSetting(NamedTuple):
+    """A setting of a group before and after, as it is written."""
+
+    path: str
+    key: str
+    now: str
+    then: str
+
+
+@dataclass(frozen=True)
+class Way:
+    """Settings that meet all goals, with their accepted plan."""
+
+    changes: tuple[NewSetting, ...]
+    plan: Plan
+    # What each goal's group gets then: by the plan, or guaranteed.
+    amounts: tuple[int, ...]
+    # What is known of these settings, for people.
+    told: str
+
+    @property
+    def words(self) -> list[str]:
+        """The words of `--set` that make the changes."""
+        return [f"{each.path}.{each.key}={each.then}" for each in self.changes]
+
+
+def with_weights(model: Model, weights: Sequence[int]) -> Model:
+    """The model with other weights, one for each row."""
+    after = model.copy()
+    for group, weight in zip(after.groups.values(), weights[1:], strict=True):
+        group.weight = weight
+    return after
+
+
+def above(before: Plan, group: Planned) -> Iterator[Planned]:
+    """The groups above a group, without the root, the nearest first."""
+    while group.parent:
+        group = before.groups[group.parent]
+        yield group
+
+
+@dataclass(frozen=True)
+class Goals:
+    """Goals of groups of a plan, and the rows whose settings stay."""
+
+    before: Plan
+    goals: tuple[Goal, ...]
+    is_guaranteed: bool
+    kept: frozenset[int] = frozenset()
+
+    @property
+    def rows(self) -> frozenset[int]:
+        """The rows of the goals."""
+        return frozenset(goal.group.row for goal in self.goals)
+
+    @property
+    def free(self) -> list[int]:
+        """The places of the goals whose groups may have another weight."""
+        return [place for place, goal in enumerate(self.goals) if goal.group.row not in self.kept]
+
+    @property
+    def depth(self) -> int:
+        """The depth of the deepest group of a goal."""
+        return max(goal.group.depth for goal in self.goals)
+
+    @property
+    def sums(self) -> dict[int, int]:
+        """What the goals at a row and below it ask for in all, for each row of goals and above."""
+        sums: dict[int, int] = {}
+        for goal in self.goals:
+            for group in (goal.group, *above(self.before, goal.group)):
+                sums[group.row] = sums.get(group.row, 0) + goal.amount
+        return sums
+
+    @property
+    def weights(self) -> list[int]:
+        """The weight of each row."""
+        return [group.weight for group in self.before.groups]
+
+    def amount(self, after: Plan, row: int) -> int:
+        """What a goal of a group is measured by in a plan."""
+        return after.guaranteed(row) if self.is_guaranteed else after.groups[row].gets
+
+    def amounts(self, after: Plan) -> tuple[int, ...]:
+        """What each goal's group gets in a plan, or is guaranteed."""
+        return tuple(self.amount(after, goal.group.row) for goal in self.goals)
+
+    def short(self, after: Plan) -> int | None:
+        """The place of the first goal that a plan does not meet."""
+        return next((place for place, goal in enumerate(self.goals)
+                     if self.amount(after, goal.group.row) < goal.amount), None)
+
+    def plan(self, weights: Sequence[int]) -> Plan:
+        """The accepted plan with other weights."""
+        return self.plan_of(with_weights(self.before.model, weights))
+
+    def plan_of(self, model: Model) -> Plan:
+        """The accepted plan of a model."""
+        return plan(self.before.engine, model)
+
+    def are_met(self, after: Plan) -> bool:
+        """Whether a plan meets all goals."""
+        return self.short(after) is None
+
+    def way(self, after: Plan, changes: Sequence[NewSetting], told: str) -> Way:
+        """Settings whose accepted plan has to meet all goals."""
+        place = self.short(after)
+        if place is not None:
+            raise HostFault(f"{shown(self.goals[place].group.path)}: the accepted plan does not"
+                            " meet its goal")
+        return Way(tuple(changes), after, self.amounts(after), told if changes else NO_CHANGE)
+
+
+def check_apart(goals: Sequence[Goal]) -> None:
+    """A fault that names a goal's group which is another goal's, or above it."""
+    paths = {goal.group.path for goal in goals}
+    twice = next((path for path, many in Counter(goal.group.path for goal in goals).items()
+                  if many > 1), None)
+    if twice is not None:
+        raise UsageFault(f"--goal: {shown(twice)} has two goals: name it once")
+    for path in paths:
+        higher = parent_path(path)
+        while higher not in paths and higher != ".":
+            higher = parent_path(higher)
+        if higher != ".":
+            raise UsageFault(f"--goal: {shown(higher)} is above {shown(path)}: a goal of both"
+                             " cannot be asked for at once")
+
+
+def goal_of(word: str) -> tuple[str, Fraction]:
+    """The pattern of groups and the thousandths of a CPU of a word `GROUP=AMOUNT`."""
+    pattern, equals, amount = word.rpartition("=")
+    if not (equals and pattern and amount):
+        raise UsageFault(f"--goal {shown(word)}: not GROUP=AMOUNT, such as web=1.5cpu")
+    if pattern == ".":
+        raise UsageFault(f"--goal {shown(word)}: the host has no weight: name a group")
+    try:
+        thousandths = units.parse_cpu(amount)
+    except HostFault as fault:
+        raise UsageFault(f"--goal {shown(word)}: {fault.message}") from fault
+    if thousandths == 0:
+        raise UsageFault(f"--goal {shown(word)}: an amount of 0 needs nothing")
+    return pattern, thousandths
+
+
+def goals_of(before: Plan, words: Sequence[str]) -> tuple[Goal, ...]:
+    """The goals that words name, one for each group that matches, in the order of the words."""
+    slices, groups = Slices(before.engine.library, before.model.host), before.by_path()
+    goals = [Goal(groups[each.path], slices.demand(thousandths), thousandths)
+             for pattern, thousandths in map(goal_of, words)
+             for each in demands.matching(before.model, pattern)]
+    check_apart(goals)
+    return tuple(goals)
