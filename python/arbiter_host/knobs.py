@@ -140,6 +140,7 @@ def as_data(goals: Goals, knob: Knob) -> dict[str, Any]:
         is_amount = knob.name == "limit" and isinstance(number, int)
         return goals.before.millicpu(int(number or 0)) if is_amount else number
 
-    return {"name": knob.name, "owned": knob.is_owned, "now": value(knob.now), "least": value(knob.least),
-            "told": knob.told, "pays": [{"group": path, "millicpu": goals.before.millicpu(slices)}
-                                        for path, slices in losses(goals, knob)]}
+    pays = [{"group": path, "millicpu": goals.before.millicpu(slices)}
+            for path, slices in losses(goals, knob)]
+    return {"name": knob.name, "owned": knob.is_owned, "now": value(knob.now),
+            "least": value(knob.least), "told": knob.told, "pays": pays}

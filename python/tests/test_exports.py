@@ -1,4 +1,4 @@
-"""`apply --as`: what each form writes, read back by a real parser; what it refuses; where it
+"""`apply -o`: what each form writes, read back by a real parser; what it refuses; where it
 writes."""
 import configparser
 import copy
@@ -11,8 +11,9 @@ import subprocess
 import pytest
 import trees
 import yaml
-from arbiter_host.exports import FORMS, base, compose, files
-from arbiter_host.exports.base import Document
+from arbiter_host import options
+from arbiter_host.atomic_files import Document
+from arbiter_host.exports import base, compose, files
 from arbiter_host.faults import HostFault
 from places import PACKAGE
 
@@ -24,7 +25,7 @@ SSH_CHANGE = ["--set", f"{SSH}.weight=300", "--set", f"{SSH}.max=150%"]
 
 def applied(ctl, folder, form, *words, status=0, to="out/"):
     """What a form wrote below a folder, by name, and what was told."""
-    _, err = ctl.run("apply", *words, "--as", form, "--to", f"{folder}/{to}", status=status)
+    _, err = ctl.run("apply", *words, "-o", f"{form}={folder}/{to}", status=status)
     top = folder / "out"
     found = {str(path.relative_to(top)): path.read_text() for path in sorted(top.rglob("*"))
              if path.is_file()} if top.is_dir() else {}
@@ -90,7 +91,6 @@ def test_no_quota_takes_the_old_one_back(ctl, folder):
         "CPUQuota": "", "CPUQuotaPeriodSec": "100000us"}
 
 
-@pytest.mark.parametrize("form", ["dropin", "ansible"])
 @pytest.mark.parametrize("script, change, words", [
     ("mkdir box", "box.weight=7", "box: its group is none of a unit"),
     ("mkdir a.service", "a.service.burst=1ms", "a burst: units have no setting"),
@@ -103,43 +103,15 @@ def test_no_quota_takes_the_old_one_back(ctl, folder):
     ("mkdir one.slice\nmkdir one.slice/a.service\nmkdir a.service", "*a.service.weight=7",
      "has the unit a.service too"),
 ])
-def test_what_units_cannot_say(ctl, folder, form, script, change, words):
+def test_what_units_cannot_say(ctl, folder, script, change, words):
     """It is refused by name, and nothing is written."""
     (folder / "b.script").write_text(f"# arbiter run --processors 4\n{script}\n")
     if "burst" in change:
         with open(folder / "b.script", "a", encoding="utf-8") as file:
             file.write("write a.service cpu.max 50000 100000\n")
-    found, err = applied(ctl, folder, form, folder / "b.script", "--set", change, status=1)
-    assert f"--as {form} cannot say this, so nothing is written" in err and words in err
+    found, err = applied(ctl, folder, "dropin", folder / "b.script", "--set", change, status=1)
+    assert "-o dropin cannot say this, so nothing is written" in err and words in err
     assert found == {} and not (folder / "out").exists()
-
-
-def test_ansible(ctl, folder):
-    """A play that YAML reads; the text of the drop-in is no template."""
-    found, _ = applied(ctl, folder, "ansible", UNITS, "--cpus", "4", *SSH_CHANGE)
-
-    class Loader(yaml.SafeLoader):
-        """Takes Ansible's tag as text."""
-
-    Loader.add_constructor("!unsafe", lambda loader, node: loader.construct_scalar(node))
-    play, = yaml.load(found["arbiter.yaml"], Loader)
-    made, put = play["tasks"]
-    assert made["ansible.builtin.file"]["path"] == "/etc/systemd/system/ssh.service.d"
-    copied = put["ansible.builtin.copy"]
-    assert copied["dest"] == "/etc/systemd/system/ssh.service.d/50-arbiter.conf"
-    assert unit_file(copied["content"])["Service"]["CPUQuota"] == "150%"
-    assert put["notify"] == play["handlers"][0]["name"] and "!unsafe" in found["arbiter.yaml"]
-
-
-def test_ansible_reads_the_play(ctl, folder):
-    """ansible-playbook finds no fault. Without the name of its hosts the play runs on none."""
-    if shutil.which("ansible-playbook") is None:
-        pytest.skip("no ansible-playbook (package ansible-core)")
-    applied(ctl, folder, "ansible", UNITS, "--cpus", "4", *SSH_CHANGE)
-    words = ["ansible-playbook", "--syntax-check", "-i", "n1,", folder / "out/arbiter.yaml"]
-    for more, is_read in ((["-e", "arbiter_hosts=n1"], True), ([], False)):
-        ended = subprocess.run([*words, *more], capture_output=True, timeout=120, check=False)
-        assert (ended.returncode == 0) == is_read, ended.stderr
 
 
 def test_shell(ctl, folder):
@@ -149,7 +121,7 @@ def test_shell(ctl, folder):
     odd = "b'\"$(id) \x1b[31m\n\udcff"
     for name in ("a.box", odd):
         trees.group2(tree / name, 100, "100000 100000", 20000)
-    ctl.run("export", tree, "--want", "busy", "--cpus", "4", "-o", f"script={folder / 'b.script'}")
+    ctl.run("export", tree, "--want", "busy", "--cpus", "4", "-o", f"script={folder}/b.script")
     words = [folder / "b.script", "--root", tree, "--set", "*.weight=7", "--set", "*.max=50%",
              "--set", "*.burst=0"]
     found, _ = applied(ctl, folder, "shell", *words)
@@ -169,7 +141,8 @@ def test_shell(ctl, folder):
 
 
 def test_shell_sets_units_by_systemctl(ctl, folder):
-    found, _ = applied(ctl, folder, "shell", UNITS, "--cpus", "4", *SSH_CHANGE, "--persistent")
+    found, _ = applied(ctl, folder, "shell", UNITS, "--cpus", "4", *SSH_CHANGE, "--by",
+                       "persistent")
     assert found["arbiter.sh"].endswith(
         "\nunit ssh.service system.slice/ssh.service\n"
         "look system.slice/ssh.service/cpu.weight 200\n"
@@ -287,7 +260,7 @@ def resources(pods, pod, container):
 def patched(ctl, folder, pods, *words, status=0):
     """What is written for the way from pods.json to these pods."""
     (folder / "after.json").write_text(json.dumps(pods))
-    return applied(ctl, folder, "kubectl-patch", folder / "pods.json", NODE, folder / "after.json",
+    return applied(ctl, folder, "kubectl", folder / "pods.json", NODE, folder / "after.json",
                    NODE, *words, status=status)
 
 
@@ -356,7 +329,7 @@ def test_another_class(ctl, folder, owner):
             " kubepods/burstable/batch:report-x/report") in err
     assert "only before" not in err
     # `--set` says the same.
-    words = ("--set", "batch/report-x/report.request=250m", "--as", "kubectl-patch", "--to", "-")
+    words = ("--set", "batch/report-x/report.request=250m", "-o", "kubectl")
     assert (yaml.safe_load(ctl.run("apply", folder / "pods.json", NODE, *words)[0])
             == yaml.safe_load(text))
 
@@ -367,7 +340,7 @@ def test_static_pods_are_refused(ctl, folder):
     report = next(each for each in pods["items"] if each["metadata"]["name"] == "proxy-1")
     report["metadata"]["annotations"] = {"kubernetes.io/config.mirror": "7c9f"}
     (folder / "pods.json").write_text(json.dumps(pods))
-    found, err = applied(ctl, folder, "kubectl-patch", folder / "pods.json", NODE, "--set",
+    found, err = applied(ctl, folder, "kubectl", folder / "pods.json", NODE, "--set",
                          "prod/proxy-1/app.request=400m", status=1)
     assert found == {} and "Pod prod/proxy-1 is a static pod: its file on the node says" in err
 
@@ -375,7 +348,7 @@ def test_static_pods_are_refused(ctl, folder):
 def test_out_of_guaranteed(ctl, folder):
     """A request below the limit: the limit stays, and burstable has 500m more in its sum."""
     pods = cluster(folder)
-    found, err = applied(ctl, folder, "kubectl-patch", folder / "pods.json", NODE, "--set",
+    found, err = applied(ctl, folder, "kubectl", folder / "pods.json", NODE, "--set",
                          "prod/db-0/postgres.request=500m")
     assert yaml.safe_load(found["prod.statefulset.db.yaml"])["spec"]["template"]["spec"] == {
         "containers": [{"name": "postgres", "resources": {"requests": {"cpu": "500m"}}}]}
@@ -387,7 +360,7 @@ def test_settings_that_people_own(ctl, folder):
     """`--set` of a request, of docker's cpus and shares, and of a unit's quota, as it was asked."""
     cluster(folder)
     os.mkdir(folder / "out", 0o700)
-    found, _ = applied(ctl, folder, "kubectl-patch", folder / "pods.json", NODE, "--set",
+    found, _ = applied(ctl, folder, "kubectl", folder / "pods.json", NODE, "--set",
                        "prod/web-7c9f/nginx.request=1cpu", to="out/k/")
     data = yaml.safe_load(found["k/prod.deployment.web.yaml"])
     assert data["spec"]["template"]["spec"]["containers"] == [
@@ -467,13 +440,13 @@ def test_owner_by_its_replicaset(ctl, folder):
 def test_what_kubernetes_cannot_say(ctl, folder):
     """Weights of pods and classes follow from requests: each that would be another is named."""
     cluster(folder)
-    words = ["kubectl-patch", folder / "pods.json", NODE, "--set"]
+    words = ["kubectl", folder / "pods.json", NODE, "--set"]
     _, err = applied(ctl, folder, *words, "kubepods/burstable.weight=900", status=1)
     assert "kubepods/burstable: weight 900" in err and "Kubernetes would set weight" in err
     _, err = applied(ctl, folder, *words, "prod/web-7c9f/nginx.burst=1ms", status=1)
     assert "burst 1000 is asked for, and Kubernetes would set" in err
-    _, err = applied(ctl, folder, "kubectl-patch", UNITS, "--cpus", "4", *SSH_CHANGE, status=1)
-    assert "--as kubectl-patch is for pods" in err
+    _, err = applied(ctl, folder, "kubectl", UNITS, "--cpus", "4", *SSH_CHANGE, status=1)
+    assert "-o kubectl is for pods" in err
     assert not (folder / "out").exists()
 
 
@@ -517,10 +490,11 @@ def test_kubelet_is_told(ctl, folder):
 
 
 @pytest.mark.parametrize("words, told", [
-    (["--as", "dropin"], "--as and --to belong together"),
-    (["--to", "x"], "--as and --to belong together"),
-    (["--as", "dropin", "--to", "x", "--yes"], "--as writes files for review alone"),
-    (["--as", "frob", "--to", "x"], "invalid choice"),
+    (["-o", "dropin=x", "--yes"], "-o FORM writes files for review alone"),
+    (["-o", "dropin=x", "--undo", "u"], "-o FORM writes files for review alone"),
+    (["-o", "frob=x"], "with one of text, kubectl, dropin"),
+    (["-o", "text=x"], "the steps are printed on standard output"),
+    (["--set", ".cpus=8"], "apply changes settings of groups, and no host"),
 ])
 def test_words_that_do_not_go_together(ctl, words, told):
     assert told in ctl.run("apply", UNITS, "--cpus", "4", *SSH_CHANGE, *words, status=2)[1]
@@ -528,16 +502,16 @@ def test_words_that_do_not_go_together(ctl, words, told):
 
 def test_one_file_or_a_folder(ctl, folder):
     """One document may have a file's name, or be printed; several need a folder."""
-    words = ["apply", UNITS, "--cpus", "4", *SSH_CHANGE, "--as", "dropin", "--to"]
-    out, _ = ctl.run(*words, "-")
+    words = ["apply", UNITS, "--cpus", "4", *SSH_CHANGE]
+    out, _ = ctl.run(*words, "-o", "dropin")
     assert unit_file(out)["Service"]["CPUWeight"] == "300"
     os.mkdir(folder / "mine", 0o700)
-    ctl.run(*words, folder / "mine/ssh.conf")
+    ctl.run(*words, "-o", f"dropin={folder}/mine/ssh.conf")
     assert (folder / "mine/ssh.conf").read_text() == out
-    two = [*words[:-3], "--set", "system.slice.weight=5", "--as", "dropin", "--to"]
-    assert "2 files are to be written" in ctl.run(*two, folder / "mine/x.conf", status=2)[1]
-    _, err = ctl.run("apply", UNITS, "--cpus", "4", "--set", f"{SSH}.weight=200", "--as", "dropin",
-                     "--to", folder / "mine/none")
+    two = [*words, "--set", "system.slice.weight=5", "-o", f"dropin={folder}/mine/x.conf"]
+    assert "2 files are to be written" in ctl.run(*two, status=2)[1]
+    _, err = ctl.run("apply", UNITS, "--cpus", "4", "--set", f"{SSH}.weight=200", "-o",
+                     f"dropin={folder}/mine/none")
     assert "no change" in err and not (folder / "mine/none").exists()
 
 
@@ -593,5 +567,5 @@ def test_all_or_none(folder, monkeypatch):
 
 
 def test_each_form_is_tested():
-    """The forms of the page, of the command and of this file are the same."""
-    assert set(FORMS) == {"dropin", "kubectl-patch", "compose", "ansible", "slurm", "shell"}
+    """The forms of the command are those of this file."""
+    assert set(options.FORMS["apply"]) == {"text", "dropin", "kubectl", "compose", "slurm", "shell"}

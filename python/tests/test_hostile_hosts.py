@@ -125,7 +125,7 @@ def test_escaped_names(ctl, folder):
     trees.group2(folder / "t/a\nb")
     trees.group2(folder / "t/a%0Ab")
     ctl.run("export", folder / "t", "--want", "busy", "--cpus", "4", "-o",
-            f"script={folder / 's.script'}")
+            f"script={folder}/s.script")
     for number, (path, found) in enumerate((("a%0Ab", [55, 100]), ("a%250Ab", [55, 77]))):
         ctl.run("apply", folder / "s.script", "--set", f"{path}.weight={found[number]}", "--root",
                 folder / "t", "--by", "files", "--yes", "--undo", folder / f"u{number}")

@@ -5,6 +5,7 @@ The fixtures are written to the documented formats.
 """
 import copy
 import json
+import shutil
 from pathlib import Path
 
 import pytest
@@ -29,7 +30,7 @@ CONTAINERS = {"nginx": ("prod/web-7c9f/nginx", 0), "app": ("prod/proxy-1/app", 3
 
 
 def groups_of(ctl, *words):
-    """The groups that `import` writes."""
+    """The groups that `export` writes."""
     return json.loads(ctl.run("export", *words, "-o", "json")[0])["groups"]
 
 
@@ -74,7 +75,7 @@ def edited(folder, name, requests, limits):
     ("postgres", "3", "3"),
 ])
 @pytest.mark.parametrize("words", [(), ("--want", "busy"), ("--want", "limit", "--scale", ".=2"),
-                                   ("--runtime", "log", "--driver", "cgroupfs"),
+                                   ("--node-weights", "runtime-log"),
                                    ("--cpus", "6", "--slice", "5ms")])
 def test_a_change_is_an_edit_of_the_json(ctl, folder, name, requests, limits, words):
     """Each group is the one that the edited JSON gives."""
@@ -91,7 +92,7 @@ def test_a_change_is_an_edit_of_the_json(ctl, folder, name, requests, limits, wo
 def test_a_class_that_changes_is_told(ctl):
     """Best effort with a request is burstable: another path, told."""
     out, err = ctl.run("diff", PODS, NODE, "--set", "batch/report-x/report.request=200m",
-                       "--want", "busy", "--json")
+                       "--want", "busy", "-o", "json")
     assert ("warning: --set: batch/report-x: Burstable and no more BestEffort: its class is that of"
             " a pod that is made anew") in err
     paths = [each["group"] for each in json.loads(out)["changed"]]
@@ -452,7 +453,7 @@ def test_a_fleet_takes_requests(ctl, folder):
                                "0", "--json")[0])
     one, two = found["hosts"]
     whole = json.loads(ctl.run("diff", PODS, NODE, "--want", "busy", "--set",
-                               "prod/web-7c9f/nginx.request=1cpu", "--json")[0])
+                               "prod/web-7c9f/nginx.request=1cpu", "-o", "json")[0])
     rise = [each["change_millicpu"] for each in whole["changed"]
             if each["group"] == f"{WEB}/nginx"]
     assert [each * 10 for path, each in one["gains"] if path == f"{WEB}/nginx"] == rise
@@ -525,19 +526,11 @@ def test_what_units_of_a_tree_have_not(ctl, folder, change_, words):
     assert words in err and err.count("\n") == 1
 
 
-def test_units_of_version_1_have_none(ctl, folder):
-    """Their weights are shares, which no property of systemd is."""
-    trees.group1(folder / "t")
-    trees.group1(folder / "t/a.service")
-    _, err = ctl.run("import", "cgroup", folder / "t", "--interval", "1ms", "--set",
-                     "a.service.CPUWeight=5", status=2)
-    assert "which this source has none of" in err
-
-
 def test_the_least_weight_of_a_unit_of_a_tree(ctl, folder):
     """100 slices: b's slice 41 costs 81/200, and a's slice 60 119/w: 294, without its limit."""
-    words = (unit_tree(folder), "--cpus", "1", "--depth-read", "1", "--scale", "plain=0")
+    words = (unit_tree(folder), "--cpus", "1", "--scale", "plain=0")
     (folder / "t/a.service/cpu.max").write_text("max 50000\n")
+    shutil.rmtree(folder / "t/b.service/init.scope")
     by, _ = needed(ctl, "a.service", "600m", *words)
     assert (by["CPUWeight"]["now"], by["CPUWeight"]["least"]) == ("100", "294")
     assert by["CPUQuota"]["now"] == "-"

@@ -28,7 +28,7 @@ def rows(model):
 
 def written(ctl, folder, form, *words):
     """The one file that a form of `apply` writes."""
-    ctl.run("apply", *words, "--cpus", "4", "--as", form, "--to", f"{folder}/out/")
+    ctl.run("apply", *words, "--cpus", "4", "-o", f"{form}={folder}/out/")
     path, = (each for each in (folder / "out").rglob("*") if each.is_file())
     return path.read_text()
 
@@ -71,7 +71,7 @@ def test_sacctmgr_took_the_line(ctl, folder):
     source = (REAL / "squeue.json", REAL / "sinfo.json", "--set", "alice/train/2.max=2cpu")
     assert written(ctl, folder, "slurm", *source).endswith(
         "\nsacctmgr -i modify user where name=alice set MaxTRESPerJob=cpu=2\n")
-    told = ctl.run("apply", *source, "--as", "slurm", "--to", "-")[1]
+    told = ctl.run("apply", *source, "-o", "slurm")[1]
     assert "where AccountingStorageEnforce has limits" in told
 
 

@@ -131,8 +131,8 @@ def test_plan_of_jobs(ctl):
     assert found == {".": 200, TRAIN: 175, f"{TRAIN}/step_batch": 0, f"{TRAIN}/step_0": 175,
                      SIM: 25}
     assert "allotted cores of their own: alice/train/123" in err
-    named, _ = ctl.run("need", "alice/train/123/0", "2cpu", JOBS, NODES, SACCT, "--cpus", "2")
-    assert f"{TRAIN}/step_0 gets 1.75 of 3.01" in named
+    named, _ = ctl.run("tune", JOBS, NODES, SACCT, "--cpus", "2", "--goal", "alice/train/123/0=1.9")
+    assert f"1.90  1.75  1.90   3.01  {TRAIN}/step_0" in named
 
 
 def test_files_are_known_by_their_bytes(ctl, folder):
@@ -147,7 +147,8 @@ def test_files_are_known_by_their_bytes(ctl, folder):
     again, _ = ctl.run("export", folder / "f.script")
     assert [line for line in again.split("\n") if line[:1] != "#"] == [
         line for line in out.split("\n") if line[:1] != "#"]
-    assert SIM in ctl.run("diff", JOBS, NODES, "--set", "bob/sim/124.demand=3cpu")[0]
+    words = ["diff", JOBS, NODES, "--set", "bob/sim/124.demand=3cpu"]
+    assert SIM in ctl.run(*words)[0]
     piped = ctl.run("explain", "-", "--cpus", "4", "--node", "n1", given=SACCT.read_bytes())[0]
     assert SIM in piped
 

@@ -584,13 +584,11 @@ CONVERTED = ("kubepods", "kubepods/burstable", "kubepods/prod:db-0", "kubepods/p
 
 @pytest.mark.parametrize("words, wanted", [
     ((), [137, 47, 79, 39, 10]),
-    (("--runtime", "log"), [137, 47, 79, 100, 35]),
-    (("--kubelet", "log"), [272, 116, 174, 39, 10]),
-    (("--node-weights", "log"), [272, 116, 174, 100, 35]),
     (("--node-weights", "runtime-log"), [137, 47, 79, 100, 35]),
+    (("--node-weights", "log"), [272, 116, 174, 100, 35]),
 ])
 def test_conversions_of_kubelet_and_runtime(ctl, words, wanted):
-    """kubelet's weights and those of the runtime are two choices."""
+    """The runtime alone may be a newer one, or kubelet too."""
     out, _ = ctl.run("export", FIXTURES / "pods.json", FIXTURES / "node.json", "-o", "json", *words)
     groups = json.loads(out)["groups"]
     assert [groups[path].get("weight", 100) for path in CONVERTED] == wanted
