@@ -73,7 +73,10 @@ def changes(before: Plan, plan: Plan, view: View, words: Sequence[str]) -> dict[
     for pair in diff.differing(before, plan, view):
         cells, (why, *_), name = diff.row(before, plan, pair, wide)
         keys = ("got", "gets", "change", "wanted", "wants")
-        rows.append({**dict(zip(keys, cells)), "why": why, "name": name,
+        is_below = "/" in pair.path
+        rows.append({**dict(zip(keys, cells)), "why": why,
+                     "name": short(shown(last_name(pair.path))) if is_below else name,
+                     "within": short(shown(parent_path(pair.path))) if is_below else "",
                      "kind": KINDS.get(diff.style_of(before, plan, pair), "")})
     heads = [next(explain.head(each, view)) for each in (before, plan)]
     return {"before": heads[0], "after": heads[1], "rows": rows, "words": list(words)}
@@ -87,4 +90,5 @@ def page(plan: Plan, view: View = View(), title: str = "Plan", before: Plan | No
     return rendered("plan.html", title, explain.head(plan, view),
                     rows=rows, has_requests=any(each["request"] for each in rows), notes=notes,
                     is_guaranteed=view.guaranteed is not None, open_changes=OPEN_CHANGES,
+                    idle=sum(each["is_idle"] for each in rows),
                     changes=None if before is None else changes(before, plan, view, words))

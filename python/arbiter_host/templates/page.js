@@ -4,7 +4,7 @@ const groups = document.getElementById("groups");
 const inTree = groups ? [...groups.tBodies[0].rows] : [];
 const above = inTree.map(row => "above" in row.dataset ? Number(row.dataset.above) : -1);
 const find = document.getElementById("find");
-const hurt = document.getElementById("hurt");
+const hurt = document.getElementById("hurt"), idle = document.getElementById("idle");
 const isOpen = row => row.querySelector(".fold")?.getAttribute("aria-expanded") !== "false";
 
 // The rows that fit the search, with all above them where the tree is shown.
@@ -13,6 +13,7 @@ function fitting(word, isFlat) {
   inTree.forEach((row, place) => {
     if (!row.dataset.path.toLowerCase().includes(word)) return;
     if (hurt.checked && !("hurt" in row.dataset)) return;
+    if (!idle.checked && "idle" in row.dataset) return;
     for (let at = place; at >= 0 && !found.has(at); at = isFlat ? -1 : above[at]) found.add(at);
   });
   return found;
@@ -25,8 +26,9 @@ function show() {
   const found = isSearch ? fitting(word, isFlat) : null;
   let count = 0;
   inTree.forEach((row, place) => {
-    const up = inTree[above[place]];
-    row.hidden = found ? !found.has(place) : !isFlat && Boolean(up) && (up.hidden || !isOpen(up));
+    const up = inTree[above[place]], isLeft = !idle.checked && "idle" in row.dataset;
+    row.hidden = found ? !found.has(place)
+      : isLeft || !isFlat && Boolean(up) && (up.hidden || !isOpen(up));
     if (!row.hidden) count++;
   });
   const told = isSearch ? `${count} of ${inTree.length} groups` : "";
@@ -101,7 +103,7 @@ for (const button of document.querySelectorAll("thead button"))
   button.addEventListener("click", () => sortBy(button.closest("th")));
 find.addEventListener("input", groups ? show : showRows);
 if (groups) {
-  hurt.addEventListener("change", show);
+  for (const each of [hurt, idle]) each.addEventListener("change", show);
   document.getElementById("open").addEventListener("click", () => foldAll(false));
   document.getElementById("shut").addEventListener("click", () => foldAll(true));
   groups.addEventListener("click", event => {
