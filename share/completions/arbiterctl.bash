@@ -15,7 +15,7 @@ _arbiterctl() {
         given=$before
     fi
     if ((COMP_CWORD == 1)); then
-        mapfile -t COMPREPLY < <(compgen -W "explain diff need tune recommend guarantee series top watch export audit fleet apply undo hold -h --help -V --version" -- "$word")
+        mapfile -t COMPREPLY < <(compgen -W "explain diff tune recommend series top watch export audit fleet apply undo hold -h --help -V --version" -- "$word")
         return
     fi
     case ${COMP_WORDS[1]} in
@@ -81,13 +81,6 @@ _arbiterctl() {
                     ;;
             esac
             ;;
-        need)
-            case $given in
-                *)
-                    [[ $word == -* ]] && mapfile -t COMPREPLY < <(compgen -W "-h --help" -- "$word")
-                    ;;
-            esac
-            ;;
         tune)
             case $given in
                 --cpus) ;;
@@ -140,13 +133,6 @@ _arbiterctl() {
                 --headroom) ;;
                 *)
                     [[ $word == -* ]] && mapfile -t COMPREPLY < <(compgen -W "--cpus --period --slice --library --from --want --scale --read --used --range --step --query --map --node --node-weights --strict -g --group -n --namespace -l --selector -o --output --unit -v --verbose --target --headroom -h --help" -- "$word")
-                    ;;
-            esac
-            ;;
-        guarantee)
-            case $given in
-                *)
-                    [[ $word == -* ]] && mapfile -t COMPREPLY < <(compgen -W "-h --help" -- "$word")
                     ;;
             esac
             ;;

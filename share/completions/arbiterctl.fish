@@ -2,10 +2,8 @@
 
 complete -c arbiterctl -n __fish_use_subcommand -f -a explain -d 'why each group gets what it gets'
 complete -c arbiterctl -n __fish_use_subcommand -f -a diff -d 'what a change does, or what differs between two plans'
-complete -c arbiterctl -n __fish_use_subcommand -f -a need -d 'the least setting with which a group gets an amount'
 complete -c arbiterctl -n __fish_use_subcommand -f -a tune -d 'settings with which groups get their goals at once'
 complete -c arbiterctl -n __fish_use_subcommand -f -a recommend -d 'propose requests and limits from what was used'
-complete -c arbiterctl -n __fish_use_subcommand -f -a guarantee -d 'what groups get whatever the others ask for'
 complete -c arbiterctl -n __fish_use_subcommand -f -a series -d 'plan many samples of demands'
 complete -c arbiterctl -n __fish_use_subcommand -f -a top -d 'live view over a host\'s cgroups and their plan'
 complete -c arbiterctl -n __fish_use_subcommand -f -a watch -d 'tell when a host gets bad: alerts and metrics'
@@ -77,8 +75,6 @@ complete -c arbiterctl -n '__fish_seen_subcommand_from diff' -l workers -x -d 'p
 complete -c arbiterctl -n '__fish_seen_subcommand_from diff' -l scheduler -x -d 'a running scheduler of Dask, such as tls://host:8786'
 complete -c arbiterctl -n '__fish_seen_subcommand_from diff' -s h -l help -d 'print help'
 
-complete -c arbiterctl -n '__fish_seen_subcommand_from need' -s h -l help -d 'print help'
-
 complete -c arbiterctl -n '__fish_seen_subcommand_from tune' -l cpus -x -d 'CPUs of the host (default: what the source says, else this machine\'s for cgroups, systemd and containers, else 1)'
 complete -c arbiterctl -n '__fish_seen_subcommand_from tune' -l period -x -d 'period, such as 100ms (default 100ms)'
 complete -c arbiterctl -n '__fish_seen_subcommand_from tune' -l slice -x -d 'slice, such as 1ms (default: what the source says, else 1ms, or 5ms for scripts)'
@@ -128,8 +124,6 @@ complete -c arbiterctl -n '__fish_seen_subcommand_from recommend' -s v -l verbos
 complete -c arbiterctl -n '__fish_seen_subcommand_from recommend' -l target -x -d 'the percentile of the use that is requested, p1 to p100 or max (default p95)'
 complete -c arbiterctl -n '__fish_seen_subcommand_from recommend' -l headroom -x -d 'what is put on top of it, in percent of it (default 15)'
 complete -c arbiterctl -n '__fish_seen_subcommand_from recommend' -s h -l help -d 'print help'
-
-complete -c arbiterctl -n '__fish_seen_subcommand_from guarantee' -s h -l help -d 'print help'
 
 complete -c arbiterctl -n '__fish_seen_subcommand_from series' -s h -l help -d 'print help'
 
