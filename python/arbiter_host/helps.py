@@ -2,6 +2,8 @@
 from __future__ import annotations
 
 import argparse
+from collections.abc import Iterable
+from typing import Any
 
 from arbiter_host import options
 from arbiter_host.sources.register import READERS
@@ -27,7 +29,17 @@ KINDS = {kind: READERS[kind].about for kind in options.KINDS}
 
 
 class Formatter(argparse.HelpFormatter):
-    """Lays out paragraphs one by one. Lines that begin with two blanks stay as they are."""
+    """Lays out paragraphs one by one. Lines that begin with two blanks stay as they are. Options
+    are not repeated in the usage."""
+
+    def add_usage(self, usage: str | None, actions: Iterable[argparse.Action],
+                  groups: Iterable[Any], prefix: str | None = None) -> None:
+        """The usage, with the arguments alone."""
+        words = [str(each.metavar) if " " in str(each.metavar) else self._format_args(
+            each, each.dest) for each in actions if not each.option_strings]
+        # (with a prefix it is the beginning of a subcommand's usage)
+        more = ["[options]"] if prefix is None else []
+        super().add_usage(" ".join(["%(prog)s", *more, *words]), actions, (), prefix)
 
     def _fill_text(self, text: str, width: int, indent: str) -> str:
         import textwrap  # (no other call lays out text)

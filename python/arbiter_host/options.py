@@ -114,16 +114,92 @@ class Option(NamedTuple):
 
 
 TABLE = (
-    Option(("--cpus",), "cpus", "host", (*READ, "hold"), "CPUs of the host (default: what the"
-           " source says, else this machine's for cgroups, systemd and containers, else 1)", "N",
-           is_number=True),
-    Option(("--period",), "period", "host", (*READ, "hold"), "period, such as 100ms (default"
-           " 100ms)", "TIME",
-           helps={"hold": "period of the limits, 100ms or 1s (default 1s)"}),
-    Option(("--slice",), "slice", "host", (*READ, "hold"), "slice, such as 1ms (default: what the"
-           " source says, else 1ms, or 5ms for scripts)", "TIME"),
-    Option(("--library",), "library", "host", (*READ, "hold"), "the C library (default: the first"
-           " that is found)", "PATH"),
+    Option(("-g", "--group"), "group", "choosing", (*SHOWN, "tune"), "these groups and what is"
+           " below them: a path, the end of one, a title, or a pattern with `*`; may be said again",
+           "PATTERN", is_many=True, kinds=KINDS,
+           helps={"tune": "only settings of these groups may change (default: all); may be said"
+                          " again"}),
+    Option(("-n", "--namespace"), "namespace", "choosing", SHOWN, "the pods of a namespace alone;"
+           " may be said again", "NAME", is_many=True, kinds=PODS),
+    Option(("-l", "--selector"), "selector", "choosing", SHOWN, "the pods that have a label alone;"
+           " may be said again", "LABEL=VALUE", is_many=True, kinds=PODS),
+    Option(("-o", "--output"), "output", "view", tuple(FORMS), "the form, and the file that is"
+           " written: FORMS (default: the first of them on standard output); may be said again",
+           "FORM[=FILE]", is_many=True,
+           helps={"apply": "write the change in a form to be reviewed and merged, to a file or a"
+                           " folder: FORMS; nothing of the host is changed",
+                  "hold": "`openmetrics=FILE` keeps the last round in a file for a textfile"
+                          " collector; a line of JSON for each round is printed",
+                  "top": "FORMS (default: text at a terminal, else lines of json);"
+                         " `openmetrics=FILE` keeps the last round in a file for a textfile"
+                         " collector; may be said again"}),
+    Option(("--state",), "state", "view", ("explain", "top"), "the groups alone that are one of: "
+           + ", ".join(STATES), "WORD,..", STATES, is_list=True, kinds=KINDS,
+           forms=LISTS),
+    Option(("--sort",), "sort", "view", ("explain", "diff", "top"), "order of the groups",
+           choices=SORTS, kinds=KINDS, forms=(*LISTS, "html"), choices_of={"diff": ("change",)},
+           helps={"diff": "`change`: the groups that change most first"}),
+    Option(("--depth",), "depth", "view", ("explain", "top", "hold"), "leave out groups more than N"
+           " below the root, 0 to 64", "N", is_number=True, default=MAX_DEPTH, kinds=KINDS,
+           forms=(*LISTS, "svg", "openmetrics"),
+           helps={"hold": "hold groups N below DIR as one, 1 to 64 (default 64): who owns the"
+                          " groups below can set their limits"}),
+    Option(("--unit",), "unit", "view", ("explain", "diff", "tune", "recommend", "replay", "top"),
+           "unit of the amounts (default cpu)", choices=UNITS, default="cpu", kinds=KINDS,
+           kinds_of={"replay": ALL},
+           helps={"replay": "unit of the demands and of the answer (default cpu)",
+                  "recommend": "unit of a history (default cpu)"}),
+    Option(("--all",), "everything", "view", ("explain", "diff", "replay", "top", "place"), "show"
+           " all: groups that ask for nothing, and each host of many", is_flag=True,
+           forms=("text",), kinds_of={"diff": (HOSTS,), "replay": (HOSTS,)}),
+    Option(("--guaranteed",), "guaranteed", "view", ("explain", "tune"), "show what each group"
+           " gets whatever the others ask for", is_flag=True, kinds=KINDS,
+           helps={"tune": "goals are met whatever the other groups ask for (default: with the"
+                          " demands of the source)"}),
+    Option(("-v", "--verbose"), "verbose", "view", (*READ, "undo", "hold"), "say on standard error"
+           " how long it took", is_flag=True),
+    Option(("--set",), "set", "change", ("diff", "tune", "apply", "export"), "a change, such as"
+           " web.weight=200, web.max=2cpu, '*/batch.demand=1'; `.cpus=8` is the host's; may be said"
+           " again", "GROUP.KEY=VALUE", is_many=True),
+    Option(("--goal",), "goal", "change", ("tune",), "what each group that matches is to get at"
+           " least: web=2cpu, 'runner@*=1500m'; may be said again", "GROUP=AMOUNT", is_many=True),
+    Option(("--target",), "target", "change", ("recommend",), "the percentile of the use that is"
+           " requested, p1 to p100 or max (default p95)", "pN", default="p95"),
+    Option(("--headroom",), "headroom", "change", ("recommend",), "what is put on top of it, in"
+           " percent of it (default 15)", "PERCENT", default="15"),
+    Option(("--alert",), "alert", "alerts", ("top",), "[GROUP:]starved, throttled>5% (of its"
+           " periods), lack>250m (wanted above the plan), off>250m (used above or below the plan);"
+           " `for 4` behind one: it has to hold for four rounds", "CONDITION,..", default=""),
+    Option(("--command",), "command_of_alert", "alerts", ("top",), "run this at an alert, without a"
+           " shell, with the alerts as JSON on its standard input", "CMD"),
+    Option(("--listen",), "listen", "alerts", ("top",), "answer with OpenMetrics at a loopback"
+           " address, such as 127.0.0.1:9101; port 0 takes a free one", "ADDRESS:PORT"),
+    Option(("--yes",), "yes", "doing", ("apply", "undo", "hold"), "do it (default: print what would"
+           " be done)", is_flag=True),
+    Option(("--root",), "root", "doing", ("apply", "hold"), "the top of the tree (default"
+           " /sys/fs/cgroup); nothing outside it is opened for writing", "DIR",
+           default="/sys/fs/cgroup"),
+    Option(("--by",), "by", "doing", ("apply",), "`systemd` sets properties of units by systemctl"
+           " and files else, `persistent` the same so that they are kept over a boot, `files`"
+           " writes files alone (default systemd)", choices=WAYS, default="systemd"),
+    Option(("--undo",), "undo", "doing", ("apply", "hold"), "the undo file, which must be new"
+           " (default arbiter-undo-DATE-TIME.json here)", "FILE",
+           helps={"hold": "the undo file, which must be new, in a folder that only this user may"
+                          " change (default /run/arbiter/hold-undo.json)"}),
+    Option(("--force",), "force", "doing", ("undo", "hold"), "also groups of kubelet (kubepods)",
+           is_flag=True,
+           helps={"undo": "also over what somebody set since `apply`"}),
+    Option(("--weights",), "weights", "doing", ("hold",), "also write weights from the limits,"
+           " which tell Linux how near each task is to a whole CPU", is_flag=True),
+    Option(("--pod",), "pod", "many hosts", ("place",), "a pod that is put into each host; may be"
+           " said again", "FILE", is_many=True),
+    Option(("--rank",), "rank", "many hosts", ("place", "explain"), "the rule by which hosts are"
+           " ordered for a pod (default least-loss)", choices=RANKS, default="least-loss",
+           kinds=(HOSTS,)),
+    Option(("--workers",), "workers", "many hosts", MANY, "processes of this machine (default: one"
+           " for each processor; 0 for this process alone)", "N", is_number=True, kinds=(HOSTS,)),
+    Option(("--scheduler",), "scheduler", "many hosts", MANY, "a running scheduler of Dask, such as"
+           " tls://host:8786", "ADDRESS", kinds=(HOSTS,)),
     Option(("--from",), "kind", "source", READ, "what the source is (default: found from its name"
            " and its first bytes)", choices=KINDS),
     Option(("--want",), "want", "source", DEMAND, "what the demands are taken from (default: usage"
@@ -176,92 +252,16 @@ TABLE = (
            default="linear", kinds=MEASURED),
     Option(("--strict",), "strict", "source", READ, "refused lines of a script end the command with"
            " status 4", is_flag=True, kinds=("script", HOSTS)),
-    Option(("-g", "--group"), "group", "choosing", (*SHOWN, "tune"), "these groups and what is"
-           " below them: a path, the end of one, a title, or a pattern with `*`; may be said again",
-           "PATTERN", is_many=True, kinds=KINDS,
-           helps={"tune": "only settings of these groups may change (default: all); may be said"
-                          " again"}),
-    Option(("-n", "--namespace"), "namespace", "choosing", SHOWN, "the pods of a namespace alone;"
-           " may be said again", "NAME", is_many=True, kinds=PODS),
-    Option(("-l", "--selector"), "selector", "choosing", SHOWN, "the pods that have a label alone;"
-           " may be said again", "LABEL=VALUE", is_many=True, kinds=PODS),
-    Option(("-o", "--output"), "output", "view", tuple(FORMS), "the form, and the file that is"
-           " written: FORMS (default: the first of them on standard output); may be said again",
-           "FORM[=FILE]", is_many=True,
-           helps={"apply": "write the change in a form to be reviewed and merged, to a file or a"
-                           " folder: FORMS; nothing of the host is changed",
-                  "hold": "`openmetrics=FILE` keeps the last round in a file for a textfile"
-                          " collector; a line of JSON for each round is printed",
-                  "top": "FORMS (default: text at a terminal, else lines of json);"
-                         " `openmetrics=FILE` keeps the last round in a file for a textfile"
-                         " collector; may be said again"}),
-    Option(("--state",), "state", "view", ("explain", "top"), "the groups alone that are one of: "
-           + ", ".join(STATES), "WORD,..", STATES, is_list=True, kinds=KINDS,
-           forms=LISTS),
-    Option(("--sort",), "sort", "view", ("explain", "diff", "top"), "order of the groups",
-           choices=SORTS, kinds=KINDS, forms=(*LISTS, "html"), choices_of={"diff": ("change",)},
-           helps={"diff": "`change`: the groups that change most first"}),
-    Option(("--depth",), "depth", "view", ("explain", "top", "hold"), "leave out groups more than N"
-           " below the root, 0 to 64", "N", is_number=True, default=MAX_DEPTH, kinds=KINDS,
-           forms=(*LISTS, "svg", "openmetrics"),
-           helps={"hold": "hold groups N below DIR as one, 1 to 64 (default 64): who owns the"
-                          " groups below can set their limits"}),
-    Option(("--unit",), "unit", "view", ("explain", "diff", "tune", "recommend", "replay", "top"),
-           "unit of the amounts (default cpu)", choices=UNITS, default="cpu", kinds=KINDS,
-           kinds_of={"replay": ALL},
-           helps={"replay": "unit of the demands and of the answer (default cpu)",
-                  "recommend": "unit of a history (default cpu)"}),
-    Option(("--all",), "everything", "view", ("explain", "diff", "replay", "top", "place"), "show"
-           " all: groups that ask for nothing, and each host of many", is_flag=True,
-           forms=("text",), kinds_of={"diff": (HOSTS,), "replay": (HOSTS,)}),
-    Option(("-v", "--verbose"), "verbose", "view", (*READ, "undo", "hold"), "say on standard error"
-           " how long it took", is_flag=True),
-    Option(("--set",), "set", "change", ("diff", "tune", "apply", "export"), "a change, such as"
-           " web.weight=200, web.max=2cpu, '*/batch.demand=1'; `.cpus=8` is the host's; may be said"
-           " again", "GROUP.KEY=VALUE", is_many=True),
-    Option(("--goal",), "goal", "change", ("tune",), "what each group that matches is to get at"
-           " least: web=2cpu, 'runner@*=1500m'; may be said again", "GROUP=AMOUNT", is_many=True),
-    Option(("--guaranteed",), "guaranteed", "change", ("explain", "tune"), "show what each group"
-           " gets whatever the others ask for", is_flag=True, kinds=KINDS,
-           helps={"tune": "goals are met whatever the other groups ask for (default: with the"
-                          " demands of the source)"}),
-    Option(("--target",), "target", "change", ("recommend",), "the percentile of the use that is"
-           " requested, p1 to p100 or max (default p95)", "pN", default="p95"),
-    Option(("--headroom",), "headroom", "change", ("recommend",), "what is put on top of it, in"
-           " percent of it (default 15)", "PERCENT", default="15"),
-    Option(("--alert",), "alert", "alerts", ("top",), "[GROUP:]starved, throttled>5% (of its"
-           " periods), lack>250m (wanted above the plan), off>250m (used above or below the plan);"
-           " `for 4` behind one: it has to hold for four rounds", "CONDITION,..", default=""),
-    Option(("--command",), "command_of_alert", "alerts", ("top",), "run this at an alert, without a"
-           " shell, with the alerts as JSON on its standard input", "CMD"),
-    Option(("--listen",), "listen", "alerts", ("top",), "answer with OpenMetrics at a loopback"
-           " address, such as 127.0.0.1:9101; port 0 takes a free one", "ADDRESS:PORT"),
-    Option(("--pod",), "pod", "many hosts", ("place",), "a pod that is put into each host; may be"
-           " said again", "FILE", is_many=True),
-    Option(("--rank",), "rank", "many hosts", ("place", "explain"), "the rule by which hosts are"
-           " ordered for a pod (default least-loss)", choices=RANKS, default="least-loss",
-           kinds=(HOSTS,)),
-    Option(("--workers",), "workers", "many hosts", MANY, "processes of this machine (default: one"
-           " for each processor; 0 for this process alone)", "N", is_number=True, kinds=(HOSTS,)),
-    Option(("--scheduler",), "scheduler", "many hosts", MANY, "a running scheduler of Dask, such as"
-           " tls://host:8786", "ADDRESS", kinds=(HOSTS,)),
-    Option(("--yes",), "yes", "doing", ("apply", "undo", "hold"), "do it (default: print what would"
-           " be done)", is_flag=True),
-    Option(("--root",), "root", "doing", ("apply", "hold"), "the top of the tree (default"
-           " /sys/fs/cgroup); nothing outside it is opened for writing", "DIR",
-           default="/sys/fs/cgroup"),
-    Option(("--by",), "by", "doing", ("apply",), "`systemd` sets properties of units by systemctl"
-           " and files else, `persistent` the same so that they are kept over a boot, `files`"
-           " writes files alone (default systemd)", choices=WAYS, default="systemd"),
-    Option(("--undo",), "undo", "doing", ("apply", "hold"), "the undo file, which must be new"
-           " (default arbiter-undo-DATE-TIME.json here)", "FILE",
-           helps={"hold": "the undo file, which must be new, in a folder that only this user may"
-                          " change (default /run/arbiter/hold-undo.json)"}),
-    Option(("--force",), "force", "doing", ("undo", "hold"), "also groups of kubelet (kubepods)",
-           is_flag=True,
-           helps={"undo": "also over what somebody set since `apply`"}),
-    Option(("--weights",), "weights", "doing", ("hold",), "also write weights from the limits,"
-           " which tell Linux how near each task is to a whole CPU", is_flag=True),
+    Option(("--cpus",), "cpus", "host", (*READ, "hold"), "CPUs of the host (default: what the"
+           " source says, else this machine's for cgroups, systemd and containers, else 1)", "N",
+           is_number=True),
+    Option(("--period",), "period", "host", (*READ, "hold"), "period, such as 100ms (default"
+           " 100ms)", "TIME",
+           helps={"hold": "period of the limits, 100ms or 1s (default 1s)"}),
+    Option(("--slice",), "slice", "host", (*READ, "hold"), "slice, such as 1ms (default: what the"
+           " source says, else 1ms, or 5ms for scripts)", "TIME"),
+    Option(("--library",), "library", "host", (*READ, "hold"), "the C library (default: the first"
+           " that is found)", "PATH"),
 )
 MOST = 45
 

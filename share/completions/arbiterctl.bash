@@ -21,20 +21,6 @@ _arbiterctl() {
     case ${COMP_WORDS[1]} in
         explain)
             case $given in
-                --cpus) ;;
-                --period) ;;
-                --slice) ;;
-                --library) ;;
-                --from) mapfile -t COMPREPLY < <(compgen -W "script toml json cgroup kubernetes systemd docker slurm" -- "$word") ;;
-                --want) mapfile -t COMPREPLY < <(compgen -W "usage peak p95 psi limit request busy" -- "$word") ;;
-                --scale) ;;
-                --read) ;;
-                --used) ;;
-                --range) ;;
-                --step) ;;
-                --query) ;;
-                --node) ;;
-                --node-weights) mapfile -t COMPREPLY < <(compgen -W "linear log runtime-log" -- "$word") ;;
                 -g|--group) ;;
                 -n|--namespace) ;;
                 -l|--selector) ;;
@@ -46,17 +32,6 @@ _arbiterctl() {
                 --rank) mapfile -t COMPREPLY < <(compgen -W "least-loss most-left" -- "$word") ;;
                 --workers) ;;
                 --scheduler) ;;
-                *)
-                    [[ $word == -* ]] && mapfile -t COMPREPLY < <(compgen -W "--cpus --period --slice --library --from --want --scale --read --used --range --step --query --node --node-weights --strict -g --group -n --namespace -l --selector -o --output --state --sort --depth --unit --all -v --verbose --guaranteed --rank --workers --scheduler -h --help" -- "$word")
-                    ;;
-            esac
-            ;;
-        diff)
-            case $given in
-                --cpus) ;;
-                --period) ;;
-                --slice) ;;
-                --library) ;;
                 --from) mapfile -t COMPREPLY < <(compgen -W "script toml json cgroup kubernetes systemd docker slurm" -- "$word") ;;
                 --want) mapfile -t COMPREPLY < <(compgen -W "usage peak p95 psi limit request busy" -- "$word") ;;
                 --scale) ;;
@@ -67,6 +42,17 @@ _arbiterctl() {
                 --query) ;;
                 --node) ;;
                 --node-weights) mapfile -t COMPREPLY < <(compgen -W "linear log runtime-log" -- "$word") ;;
+                --cpus) ;;
+                --period) ;;
+                --slice) ;;
+                --library) ;;
+                *)
+                    [[ $word == -* ]] && mapfile -t COMPREPLY < <(compgen -W "-g --group -n --namespace -l --selector -o --output --state --sort --depth --unit --all --guaranteed -v --verbose --rank --workers --scheduler --from --want --scale --read --used --range --step --query --node --node-weights --strict --cpus --period --slice --library -h --help" -- "$word")
+                    ;;
+            esac
+            ;;
+        diff)
+            case $given in
                 -g|--group) ;;
                 -n|--namespace) ;;
                 -l|--selector) ;;
@@ -76,17 +62,6 @@ _arbiterctl() {
                 --set) ;;
                 --workers) ;;
                 --scheduler) ;;
-                *)
-                    [[ $word == -* ]] && mapfile -t COMPREPLY < <(compgen -W "--cpus --period --slice --library --from --want --scale --read --used --range --step --query --node --node-weights --strict -g --group -n --namespace -l --selector -o --output --sort --unit --all -v --verbose --set --workers --scheduler -h --help" -- "$word")
-                    ;;
-            esac
-            ;;
-        tune)
-            case $given in
-                --cpus) ;;
-                --period) ;;
-                --slice) ;;
-                --library) ;;
                 --from) mapfile -t COMPREPLY < <(compgen -W "script toml json cgroup kubernetes systemd docker slurm" -- "$word") ;;
                 --want) mapfile -t COMPREPLY < <(compgen -W "usage peak p95 psi limit request busy" -- "$word") ;;
                 --scale) ;;
@@ -97,22 +72,50 @@ _arbiterctl() {
                 --query) ;;
                 --node) ;;
                 --node-weights) mapfile -t COMPREPLY < <(compgen -W "linear log runtime-log" -- "$word") ;;
+                --cpus) ;;
+                --period) ;;
+                --slice) ;;
+                --library) ;;
+                *)
+                    [[ $word == -* ]] && mapfile -t COMPREPLY < <(compgen -W "-g --group -n --namespace -l --selector -o --output --sort --unit --all -v --verbose --set --workers --scheduler --from --want --scale --read --used --range --step --query --node --node-weights --strict --cpus --period --slice --library -h --help" -- "$word")
+                    ;;
+            esac
+            ;;
+        tune)
+            case $given in
                 -g|--group) ;;
                 -o|--output) mapfile -t COMPREPLY < <(compgen -W "text json" -- "$word") ;;
                 --unit) mapfile -t COMPREPLY < <(compgen -W "cpu m % slices us" -- "$word") ;;
                 --set) ;;
                 --goal) ;;
+                --from) mapfile -t COMPREPLY < <(compgen -W "script toml json cgroup kubernetes systemd docker slurm" -- "$word") ;;
+                --want) mapfile -t COMPREPLY < <(compgen -W "usage peak p95 psi limit request busy" -- "$word") ;;
+                --scale) ;;
+                --read) ;;
+                --used) ;;
+                --range) ;;
+                --step) ;;
+                --query) ;;
+                --node) ;;
+                --node-weights) mapfile -t COMPREPLY < <(compgen -W "linear log runtime-log" -- "$word") ;;
+                --cpus) ;;
+                --period) ;;
+                --slice) ;;
+                --library) ;;
                 *)
-                    [[ $word == -* ]] && mapfile -t COMPREPLY < <(compgen -W "--cpus --period --slice --library --from --want --scale --read --used --range --step --query --node --node-weights --strict -g --group -o --output --unit -v --verbose --set --goal --guaranteed -h --help" -- "$word")
+                    [[ $word == -* ]] && mapfile -t COMPREPLY < <(compgen -W "-g --group -o --output --unit --guaranteed -v --verbose --set --goal --from --want --scale --read --used --range --step --query --node --node-weights --strict --cpus --period --slice --library -h --help" -- "$word")
                     ;;
             esac
             ;;
         recommend)
             case $given in
-                --cpus) ;;
-                --period) ;;
-                --slice) ;;
-                --library) ;;
+                -g|--group) ;;
+                -n|--namespace) ;;
+                -l|--selector) ;;
+                -o|--output) mapfile -t COMPREPLY < <(compgen -W "text json" -- "$word") ;;
+                --unit) mapfile -t COMPREPLY < <(compgen -W "cpu m % slices us" -- "$word") ;;
+                --target) ;;
+                --headroom) ;;
                 --from) mapfile -t COMPREPLY < <(compgen -W "script toml json cgroup kubernetes systemd docker slurm" -- "$word") ;;
                 --want) mapfile -t COMPREPLY < <(compgen -W "usage peak p95 psi limit request busy" -- "$word") ;;
                 --scale) ;;
@@ -124,15 +127,12 @@ _arbiterctl() {
                 --map) ;;
                 --node) ;;
                 --node-weights) mapfile -t COMPREPLY < <(compgen -W "linear log runtime-log" -- "$word") ;;
-                -g|--group) ;;
-                -n|--namespace) ;;
-                -l|--selector) ;;
-                -o|--output) mapfile -t COMPREPLY < <(compgen -W "text json" -- "$word") ;;
-                --unit) mapfile -t COMPREPLY < <(compgen -W "cpu m % slices us" -- "$word") ;;
-                --target) ;;
-                --headroom) ;;
+                --cpus) ;;
+                --period) ;;
+                --slice) ;;
+                --library) ;;
                 *)
-                    [[ $word == -* ]] && mapfile -t COMPREPLY < <(compgen -W "--cpus --period --slice --library --from --want --scale --read --used --range --step --query --map --node --node-weights --strict -g --group -n --namespace -l --selector -o --output --unit -v --verbose --target --headroom -h --help" -- "$word")
+                    [[ $word == -* ]] && mapfile -t COMPREPLY < <(compgen -W "-g --group -n --namespace -l --selector -o --output --unit -v --verbose --target --headroom --from --want --scale --read --used --range --step --query --map --node --node-weights --strict --cpus --period --slice --library -h --help" -- "$word")
                     ;;
             esac
             ;;
@@ -145,20 +145,6 @@ _arbiterctl() {
             ;;
         top)
             case $given in
-                --cpus) ;;
-                --period) ;;
-                --slice) ;;
-                --library) ;;
-                --from) mapfile -t COMPREPLY < <(compgen -W "script toml json cgroup kubernetes systemd docker slurm" -- "$word") ;;
-                --want) mapfile -t COMPREPLY < <(compgen -W "usage peak p95 psi limit request busy" -- "$word") ;;
-                --scale) ;;
-                --read) ;;
-                --used) ;;
-                --range) ;;
-                --step) ;;
-                --query) ;;
-                --node) ;;
-                --node-weights) mapfile -t COMPREPLY < <(compgen -W "linear log runtime-log" -- "$word") ;;
                 -g|--group) ;;
                 -n|--namespace) ;;
                 -l|--selector) ;;
@@ -170,8 +156,22 @@ _arbiterctl() {
                 --alert) ;;
                 --command) ;;
                 --listen) ;;
+                --from) mapfile -t COMPREPLY < <(compgen -W "script toml json cgroup kubernetes systemd docker slurm" -- "$word") ;;
+                --want) mapfile -t COMPREPLY < <(compgen -W "usage peak p95 psi limit request busy" -- "$word") ;;
+                --scale) ;;
+                --read) ;;
+                --used) ;;
+                --range) ;;
+                --step) ;;
+                --query) ;;
+                --node) ;;
+                --node-weights) mapfile -t COMPREPLY < <(compgen -W "linear log runtime-log" -- "$word") ;;
+                --cpus) ;;
+                --period) ;;
+                --slice) ;;
+                --library) ;;
                 *)
-                    [[ $word == -* ]] && mapfile -t COMPREPLY < <(compgen -W "--cpus --period --slice --library --from --want --scale --read --used --range --step --query --node --node-weights --strict -g --group -n --namespace -l --selector -o --output --state --sort --depth --unit --all -v --verbose --alert --command --listen -h --help" -- "$word")
+                    [[ $word == -* ]] && mapfile -t COMPREPLY < <(compgen -W "-g --group -n --namespace -l --selector -o --output --state --sort --depth --unit --all -v --verbose --alert --command --listen --from --want --scale --read --used --range --step --query --node --node-weights --strict --cpus --period --slice --library -h --help" -- "$word")
                     ;;
             esac
             ;;
@@ -184,10 +184,8 @@ _arbiterctl() {
             ;;
         export)
             case $given in
-                --cpus) ;;
-                --period) ;;
-                --slice) ;;
-                --library) ;;
+                -o|--output) mapfile -t COMPREPLY < <(compgen -W "script toml json" -- "$word") ;;
+                --set) ;;
                 --from) mapfile -t COMPREPLY < <(compgen -W "script toml json cgroup kubernetes systemd docker slurm" -- "$word") ;;
                 --want) mapfile -t COMPREPLY < <(compgen -W "usage peak p95 psi limit request busy" -- "$word") ;;
                 --scale) ;;
@@ -198,19 +196,18 @@ _arbiterctl() {
                 --query) ;;
                 --node) ;;
                 --node-weights) mapfile -t COMPREPLY < <(compgen -W "linear log runtime-log" -- "$word") ;;
-                -o|--output) mapfile -t COMPREPLY < <(compgen -W "script toml json" -- "$word") ;;
-                --set) ;;
+                --cpus) ;;
+                --period) ;;
+                --slice) ;;
+                --library) ;;
                 *)
-                    [[ $word == -* ]] && mapfile -t COMPREPLY < <(compgen -W "--cpus --period --slice --library --from --want --scale --read --used --range --step --query --node --node-weights --strict -o --output -v --verbose --set -h --help" -- "$word")
+                    [[ $word == -* ]] && mapfile -t COMPREPLY < <(compgen -W "-o --output -v --verbose --set --from --want --scale --read --used --range --step --query --node --node-weights --strict --cpus --period --slice --library -h --help" -- "$word")
                     ;;
             esac
             ;;
         audit)
             case $given in
-                --cpus) ;;
-                --period) ;;
-                --slice) ;;
-                --library) ;;
+                -o|--output) mapfile -t COMPREPLY < <(compgen -W "text json html" -- "$word") ;;
                 --from) mapfile -t COMPREPLY < <(compgen -W "script toml json cgroup kubernetes systemd docker slurm" -- "$word") ;;
                 --want) mapfile -t COMPREPLY < <(compgen -W "usage peak p95 psi limit request busy" -- "$word") ;;
                 --read) ;;
@@ -220,9 +217,12 @@ _arbiterctl() {
                 --query) ;;
                 --node) ;;
                 --node-weights) mapfile -t COMPREPLY < <(compgen -W "linear log runtime-log" -- "$word") ;;
-                -o|--output) mapfile -t COMPREPLY < <(compgen -W "text json html" -- "$word") ;;
+                --cpus) ;;
+                --period) ;;
+                --slice) ;;
+                --library) ;;
                 *)
-                    [[ $word == -* ]] && mapfile -t COMPREPLY < <(compgen -W "--cpus --period --slice --library --from --want --read --used --range --step --query --node --node-weights --strict -o --output -v --verbose -h --help" -- "$word")
+                    [[ $word == -* ]] && mapfile -t COMPREPLY < <(compgen -W "-o --output -v --verbose --from --want --read --used --range --step --query --node --node-weights --strict --cpus --period --slice --library -h --help" -- "$word")
                     ;;
             esac
             ;;
@@ -235,20 +235,20 @@ _arbiterctl() {
             ;;
         apply)
             case $given in
-                --cpus) ;;
-                --period) ;;
-                --slice) ;;
-                --library) ;;
-                --from) mapfile -t COMPREPLY < <(compgen -W "script toml json cgroup kubernetes systemd docker slurm" -- "$word") ;;
-                --node) ;;
-                --node-weights) mapfile -t COMPREPLY < <(compgen -W "linear log runtime-log" -- "$word") ;;
                 -o|--output) mapfile -t COMPREPLY < <(compgen -W "text kubectl dropin compose shell slurm" -- "$word") ;;
                 --set) ;;
                 --root) ;;
                 --by) mapfile -t COMPREPLY < <(compgen -W "systemd persistent files" -- "$word") ;;
                 --undo) ;;
+                --from) mapfile -t COMPREPLY < <(compgen -W "script toml json cgroup kubernetes systemd docker slurm" -- "$word") ;;
+                --node) ;;
+                --node-weights) mapfile -t COMPREPLY < <(compgen -W "linear log runtime-log" -- "$word") ;;
+                --cpus) ;;
+                --period) ;;
+                --slice) ;;
+                --library) ;;
                 *)
-                    [[ $word == -* ]] && mapfile -t COMPREPLY < <(compgen -W "--cpus --period --slice --library --from --node --node-weights --strict -o --output -v --verbose --set --yes --root --by --undo -h --help" -- "$word")
+                    [[ $word == -* ]] && mapfile -t COMPREPLY < <(compgen -W "-o --output -v --verbose --set --yes --root --by --undo --from --node --node-weights --strict --cpus --period --slice --library -h --help" -- "$word")
                     ;;
             esac
             ;;
@@ -261,17 +261,17 @@ _arbiterctl() {
             ;;
         hold)
             case $given in
-                --cpus) ;;
-                --period) ;;
-                --slice) ;;
-                --library) ;;
-                --read) ;;
                 -o|--output) mapfile -t COMPREPLY < <(compgen -W "json openmetrics" -- "$word") ;;
                 --depth) ;;
                 --root) ;;
                 --undo) ;;
+                --read) ;;
+                --cpus) ;;
+                --period) ;;
+                --slice) ;;
+                --library) ;;
                 *)
-                    [[ $word == -* ]] && mapfile -t COMPREPLY < <(compgen -W "--cpus --period --slice --library --read -o --output --depth -v --verbose --yes --root --undo --force --weights -h --help" -- "$word")
+                    [[ $word == -* ]] && mapfile -t COMPREPLY < <(compgen -W "-o --output --depth -v --verbose --yes --root --undo --force --weights --read --cpus --period --slice --library -h --help" -- "$word")
                     ;;
             esac
             ;;

@@ -65,7 +65,7 @@ def view_of(options: argparse.Namespace, chosen: frozenset[str] | None = None) -
 def add_view_options(parser: argparse.ArgumentParser) -> None:
     """The options that say what is shown."""
     group = parser.add_argument_group("view")
-    group.add_argument("--only", dest="state", metavar="WORD,..", help="the groups that are one of: "
+    group.add_argument("--only", dest="state", metavar="WORD,..", help="groups that are one of: "
                        + ", ".join(explain.ONLY))
     group.add_argument("--sort", choices=tuple(explain.SORTS), help="order of the groups")
     group.add_argument("--depth", type=int, default=MAX_DEPTH, metavar="N",
