@@ -20,10 +20,10 @@ def chosen(model: Model, options: argparse.Namespace) -> frozenset[str] | None:
         parts.append(with_below(model, pods(model, options)))
     if not parts:
         return None
-    found = frozenset.intersection(*parts)
-    if not found:
+    paths = frozenset.intersection(*parts)
+    if not paths:
         raise NothingFound("no group is chosen by all of -g, -n and -l")
-    return found
+    return paths
 
 
 def named(model: Model, patterns: Sequence[str]) -> list[str]:
@@ -49,18 +49,18 @@ def pods(model: Model, options: argparse.Namespace) -> list[str]:
     """The groups of the pods of some namespaces that have all labels asked for."""
     labels = labels_of(options.selector)
     source = model.owned
-    found = source.pods_where(options.namespace, labels) if source else []
-    if not found:
+    paths = source.pods_where(options.namespace, labels) if source else []
+    if not paths:
         words = [*(f"-n {each}" for each in options.namespace),
                  *(f"-l {key}={value}" for key, value in labels.items())]
         raise NothingFound(f"no pod of {shown(' '.join(words))}")
-    return found
+    return paths
 
 
 def with_below(model: Model, tops: Iterable[str]) -> frozenset[str]:
     """Some groups and all below them."""
-    found = set(tops)
+    paths = set(tops)
     for path in model.groups:
-        if parent_path(path) in found:
-            found.add(path)
-    return frozenset(found)
+        if parent_path(path) in paths:
+            paths.add(path)
+    return frozenset(paths)

@@ -33,8 +33,8 @@ def pairs(one: Plan, two: Plan, view: View = View()) -> list[Pair]:
 
 def differing(one: Plan, two: Plan, view: View = View()) -> list[Pair]:
     """The chosen groups that are not the same in both plans, in the order asked for."""
-    found = [pair for pair in pairs(one, two, view) if differs(one, two, pair)]
-    return sorted(found, key=lambda pair: -abs(gain(one, two, pair))) if view.sort else found
+    differ = [pair for pair in pairs(one, two, view) if differs(one, two, pair)]
+    return sorted(differ, key=lambda pair: -abs(gain(one, two, pair))) if view.sort else differ
 
 
 def facts(plan: Plan, group: Planned) -> tuple[Any, ...]:
@@ -125,17 +125,17 @@ def heads(one: Plan, two: Plan, view: View) -> Iterator[tuple[str, str]]:
 
 def table(one: Plan, two: Plan, view: View) -> list[tuple[str, str]]:
     """All lines with their styles. Groups that are the same are counted."""
-    found = list(heads(one, two, view))
+    answer = list(heads(one, two, view))
     count, differ = len(pairs(one, two, view)), differing(one, two, view)
     if differ:
         # In a narrow table names are cut and not reasons.
         lines = text.reasoned_table(HEADS, [row(one, two, pair, view) for pair in differ],
                                     view.width, tail, keeps_names=view.width >= WIDE)
-        found += zip(lines, ["bold", *(style_of(one, two, pair) for pair in differ)])
-    found.append((f"{count - len(differ)} of {count} groups are the same in both", ""))
-    if any("THROTTLED*" in line for line, _ in found):
-        found.append((explain.THROTTLED_NOTE, ""))
-    return found
+        answer += zip(lines, ["bold", *(style_of(one, two, pair) for pair in differ)])
+    answer.append((f"{count - len(differ)} of {count} groups are the same in both", ""))
+    if any("THROTTLED*" in line for line, _ in answer):
+        answer.append((explain.THROTTLED_NOTE, ""))
+    return answer
 
 
 def as_data(one: Plan, two: Plan, view: View = View()) -> dict[str, Any]:

@@ -10,7 +10,7 @@ from typing import Any, NamedTuple
 from arbiter_host import text
 from arbiter_host.model import MAX_DEPTH
 from arbiter_host.names import cut, last_name, listed, short, shown, tail, width
-from arbiter_host.placement import Outlook, Range
+from arbiter_host.placement import Bounds, Outlook
 from arbiter_host.plan import Plan, Planned, marks, walk
 from arbiter_host.text import BAR_HEAD, LEAST_NAME, WIDE, Reasoned
 
@@ -66,8 +66,8 @@ def why(plan: Plan, group: Planned, is_wide: bool) -> str:
     """The reason of a group, after its warning labels."""
     reason = plan.reason(group)
     words = reason.words if is_wide else narrow(plan, group)
-    found = [each for each in marks(group) if each != "THROTTLED" or reason.name != "own limit"]
-    whole = "; ".join([*found, words])
+    labels = [each for each in marks(group) if each != "THROTTLED" or reason.name != "own limit"]
+    whole = "; ".join([*labels, words])
     return whole if is_wide else starred(whole)
 
 
@@ -139,8 +139,8 @@ def tops(plan: Plan, view: View) -> list[Planned]:
     """The groups at the top of the tree that is shown."""
     if view.chosen is None:
         return [plan.root]
-    found = [each for each in plan.groups[1:] if view.has(each) and each.depth <= view.depth]
-    return ordered([each for each in found if not view.has(plan.groups[each.parent or 0])], view)
+    chosen = [each for each in plan.groups[1:] if view.has(each) and each.depth <= view.depth]
+    return ordered([each for each in chosen if not view.has(plan.groups[each.parent or 0])], view)
 
 
 def family(plan: Plan, view: View) -> list[Planned]:
@@ -194,31 +194,31 @@ def head(plan: Plan, view: View) -> Iterator[str]:
 
 def limiting(plan: Plan, unit: str) -> str:
     """The groups whose limits hold the total down."""
-    found = [f"{'the host' if group.parent is None else short(shown(group.path))}"
+    groups = [f"{'the host' if group.parent is None else short(shown(group.path))}"
              f" ({text.amount(plan, group.limit, unit)})" for group in plan.limiting]
-    return listed(found, 8) or "the demands alone"
+    return listed(groups, 8) or "the demands alone"
 
 
-def in_slices(plan: Plan, found: Range) -> tuple[int, int]:
+def in_slices(plan: Plan, bounds: Bounds) -> tuple[int, int]:
     """A range in slices of one period."""
     host = plan.model.host
-    low, high = (each * host.period_us / host.slice_us for each in (found.low, found.high))
+    low, high = (each * host.period_us / host.slice_us for each in (bounds.low, bounds.high))
     return math.floor(low), math.ceil(high)
 
 
-def is_firm(plan: Plan, group: Planned, found: Range) -> bool:
+def is_firm(plan: Plan, group: Planned, bounds: Bounds) -> bool:
     """Whether a group has its plan wherever tasks run."""
-    low, high = in_slices(plan, found)
-    return found.is_firm and low <= group.gets <= high
+    low, high = in_slices(plan, bounds)
+    return bounds.is_firm and low <= group.gets <= high
 
 
-def span(plan: Plan, group: Planned, found: Range) -> tuple[int, int]:
+def span(plan: Plan, group: Planned, bounds: Bounds) -> tuple[int, int]:
     """A range in slices of one period, with the plan in it."""
-    low, high = in_slices(plan, found)
+    low, high = in_slices(plan, bounds)
     return min(low, group.gets), max(high, group.gets)
 
 
-def placed(plan: Plan, view: View, found: Outlook) -> Iterator[str]:
+def placed(plan: Plan, view: View, outlook: Outlook) -> Iterator[str]:
     """The lines on how far groups may be from the plan by where their tasks run.
 
     There are none on one CPU, nor where no weights decide.
@@ -227,23 +227,24 @@ def placed(plan: Plan, view: View, found: Outlook) -> Iterator[str]:
                                                   for group in plan.groups[1:]):
         return
     yield ""
-    if found.why_not:
+    if outlook.why_not:
         yield "Linux may differ by where tasks run; how far is not known:"
-        yield f"  {found.why_not}"
+        yield f"  {outlook.why_not}"
         return
-    known = [group for group in plan.groups[1:] if group.path in found.ranges and view.has(group)]
-    ranged = [group for group in known if not is_firm(plan, group, found.ranges[group.path])]
+    known = [group for group in plan.groups[1:] if group.path in outlook.ranges and view.has(group)]
+    ranged = [group for group in known if not is_firm(plan, group, outlook.ranges[group.path])]
     firm = len(known) - len(ranged)
     if firm:
         yield f"firm to 0.03 CPUs, wherever tasks run: {firm} of {len(known)} groups"
     if ranged:
         yield "what Linux may give a group by where tasks run (a model):"
-        yield from range_lines(plan, view, found, ranged)
+        yield from range_lines(plan, view, outlook, ranged)
 
 
-def range_lines(plan: Plan, view: View, found: Outlook, ranged: Sequence[Planned]) -> Iterator[str]:
+def range_lines(plan: Plan, view: View, outlook: Outlook,
+                ranged: Sequence[Planned]) -> Iterator[str]:
     """A line for each group that is not firm, at most MOST_RANGES, the widest ranges."""
-    spans = {group.row: span(plan, group, found.ranges[group.path]) for group in ranged}
+    spans = {group.row: span(plan, group, outlook.ranges[group.path]) for group in ranged}
     widest = sorted(ranged, key=lambda group: spans[group.row][0] - spans[group.row][1])
     shown_ = {group.row for group in widest[:MOST_RANGES]}
     rows = [["from", "to", "gets"]]
@@ -275,15 +276,15 @@ def heads(view: View) -> list[str]:
 def table(plan: Plan, view: View) -> list[tuple[str, str]]:
     """All lines with their styles."""
     groups = list(shown_groups(plan, view))
-    found = [(cut(each, max(view.width, 80)), "") for each in head(plan, view)] + [("", "")]
+    answer = [(cut(each, max(view.width, 80)), "") for each in head(plan, view)] + [("", "")]
     if groups:
         lines = text.reasoned_table(
             heads(view), [line_of(plan, group, view, depth) for group, depth in groups],
             view.width, cut if view.chosen is None and not view.is_flat else tail, 5)
-        found += zip(lines, ["bold", *(style_of(plan, group) for group, _ in groups)])
+        answer += zip(lines, ["bold", *(style_of(plan, group) for group, _ in groups)])
     else:
-        found.append((f"no group is {' or '.join(view.only)}", ""))
-    return found + [(each, "") for each in foot(plan, view, [each for each, _ in found])]
+        answer.append((f"no group is {' or '.join(view.only)}", ""))
+    return answer + [(each, "") for each in foot(plan, view, [each for each, _ in answer])]
 
 
 def amounts(plan: Plan, slices: int | None) -> dict[str, Any] | None:
@@ -294,24 +295,24 @@ def amounts(plan: Plan, slices: int | None) -> dict[str, Any] | None:
             "usec": slices * plan.model.host.slice_us}
 
 
-def range_data(plan: Plan, group: Planned, found: Outlook) -> dict[str, Any] | None:
+def range_data(plan: Plan, group: Planned, outlook: Outlook) -> dict[str, Any] | None:
     """Whether a group is firm, or its range; None where that is not known."""
-    range_ = found.ranges.get(group.path)
-    if range_ is None:
+    bounds = outlook.ranges.get(group.path)
+    if bounds is None:
         return None
-    if is_firm(plan, group, range_):
+    if is_firm(plan, group, bounds):
         return {"firm": True}
-    low, high = span(plan, group, range_)
+    low, high = span(plan, group, bounds)
     return {"firm": False, "from": amounts(plan, low), "to": amounts(plan, high)}
 
 
-def with_placement(plan: Plan, data: dict[str, Any], found: Outlook) -> dict[str, Any]:
+def with_placement(plan: Plan, data: dict[str, Any], outlook: Outlook) -> dict[str, Any]:
     """A plan as data, with how far each group may be from it by where its tasks run."""
     groups = plan.by_path()
     for each in data["groups"]:
-        each["placement"] = range_data(plan, groups[each["group"]], found)
-    why = found.why_not or None
-    return {**data, "placement": {"not_known": why, "grain": round(found.grain, 4)}}
+        each["placement"] = range_data(plan, groups[each["group"]], outlook)
+    why = outlook.why_not or None
+    return {**data, "placement": {"not_known": why, "grain": round(outlook.grain, 4)}}
 
 
 def group_data(plan: Plan, group: Planned) -> dict[str, Any]:

@@ -56,7 +56,7 @@ def statuses() -> str:
     return "exit status:\n" + "\n".join(f"  {each}  {what}" for each, what in STATUSES.items())
 
 
-def examples(found: tuple[tuple[str, str], ...]) -> str:
+def examples(pairs: tuple[tuple[str, str], ...]) -> str:
     """Examples for the end of a help text: what each does, and its command."""
-    lines = "\n".join(f"  {command}\n      {what}" for what, command in found)
-    return f"examples:\n{lines}\n\n" if found else ""
+    lines = "\n".join(f"  {command}\n      {what}" for what, command in pairs)
+    return f"examples:\n{lines}\n\n" if pairs else ""

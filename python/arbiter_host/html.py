@@ -13,5 +13,5 @@ def rendered(template: str, title: str, head: Iterable[str], **values: Any) -> s
     """A page of a template of templates/, with its title and the lines below it."""
     environment = Environment(loader=PackageLoader("arbiter_host"), autoescape=True,
                               trim_blocks=True, lstrip_blocks=True)
-    found = environment.get_template(template)
-    return found.render(title=shown(title), head=list(head), **values) + "\n"
+    page = environment.get_template(template)
+    return page.render(title=shown(title), head=list(head), **values) + "\n"

@@ -56,8 +56,8 @@ def label(text: str) -> str:
 def short(text: str) -> str:
     """A text whose container and pod identifiers are cut to their first letters."""
     text = POD_UNIT.sub("pod\\1\u2026", SCOPE_UNIT.sub("\\1\u2026", text))
-    text = HEX_ID.sub(lambda found: found.group()[:KEPT] + "\u2026", text)
-    return POD_ID.sub(lambda found: found.group()[:8] + "\u2026", text)
+    text = HEX_ID.sub(lambda match: match.group()[:KEPT] + "\u2026", text)
+    return POD_ID.sub(lambda match: match.group()[:8] + "\u2026", text)
 
 
 def letter_width(letter: str) -> int:
@@ -130,9 +130,9 @@ def place_text(place: str) -> str:
 
 def place_of(text: str) -> str:
     """The folder that `place_text` writes so; `NOWHERE` where it writes none so."""
-    found = [each if each in ("", NOWHERE) else raw_name(each) for each in text.split("/")]
-    known = [each for each in found if each is not None]
-    return "/".join(known) if len(known) == len(found) else NOWHERE
+    parts = [each if each in ("", NOWHERE) else raw_name(each) for each in text.split("/")]
+    known = [each for each in parts if each is not None]
+    return "/".join(known) if len(known) == len(parts) else NOWHERE
 
 
 def shortened(name: str, mark: str) -> str:
@@ -162,7 +162,7 @@ def path_name(raw: str, taken: Container[str]) -> str:
 def raw_name(name: str) -> str | None:
     """The name on the host that `path_name` writes so; None where it writes none so."""
     try:
-        raw = os.fsdecode(ESCAPE.sub(lambda found: bytes.fromhex(found.group(1).decode()),
+        raw = os.fsdecode(ESCAPE.sub(lambda match: bytes.fromhex(match.group(1).decode()),
                                      name.encode()))
     except UnicodeEncodeError:
         return None
@@ -171,9 +171,9 @@ def raw_name(name: str) -> str | None:
 
 def raw_path(path: str) -> str | None:
     """The folder whose names are those of a path; None where a name cannot be told."""
-    found = [raw_name(each) for each in path.split("/")]
-    known = [each for each in found if each is not None]
-    return "/".join(known) if len(known) == len(found) else None
+    parts = [raw_name(each) for each in path.split("/")]
+    known = [each for each in parts if each is not None]
+    return "/".join(known) if len(known) == len(parts) else None
 
 
 def listed(words: Sequence[str], most: int = 5) -> str:

@@ -369,23 +369,23 @@ def outputs(options: argparse.Namespace) -> list[Output]:
     """The forms and files that are asked for, at most one on standard output. A fault where an
     option was given that shows in none of them."""
     forms = FORMS[options.asked]
-    found = []
+    named = []
     for word in options.output or [forms[0]]:
         form, mark, path = word.partition("=")
         if form not in forms or mark and not path:
             raise UsageFault(f"-o {shown(word)}: FORM or FORM=FILE, with one of"
                              f" {', '.join(forms)}")
-        found.append(Output(form, path or "-"))
-    if sum(1 for each in found if each.path == "-") > 1:
+        named.append(Output(form, path or "-"))
+    if sum(1 for each in named if each.path == "-") > 1:
         raise UsageFault("-o: one form alone has room on standard output: write -o FORM=FILE")
-    check_forms(options, found)
-    return found
+    check_forms(options, named)
+    return named
 
 
 def readings(text: str) -> Readings:
     """The number of readings and their time, from `10x1s` or `x1s`."""
-    found = re.fullmatch(r"([0-9]{1,5})?x(.+)", text)
-    if not found or found.group(1) and not 1 <= int(found.group(1)) <= MAX_READINGS:
+    match = re.fullmatch(r"([0-9]{1,5})?x(.+)", text)
+    if not match or match.group(1) and not 1 <= int(match.group(1)) <= MAX_READINGS:
         raise UsageFault(f"--read {shown(text)}: NxTIME, such as 10x1s, with N from 1 to"
                          f" {MAX_READINGS}")
-    return Readings(int(found.group(1)) if found.group(1) else None, found.group(2))
+    return Readings(int(match.group(1)) if match.group(1) else None, match.group(2))

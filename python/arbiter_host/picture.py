@@ -45,16 +45,16 @@ def chosen(plan: Plan, own: Set[int], rows: int) -> set[int]:
     limiting = {group.row for group in plan.limiting}
     order = sorted((group for group in plan.groups[1:] if group.row in own),
                    key=lambda group: (group.row not in limiting, -group.want))
-    found = {0}
+    shows = {0}
     for group in order:
         above = [group.row]
         while plan.groups[above[-1]].parent is not None:
             above.append(plan.groups[above[-1]].parent or 0)
-        new = [row for row in above if row not in found]
-        if group.want == 0 or len(found) + len(new) > rows:
+        new = [row for row in above if row not in shows]
+        if group.want == 0 or len(shows) + len(new) > rows:
             continue
-        found.update(new)
-    return found
+        shows.update(new)
+    return shows
 
 
 def entry_of(plan: Plan, group: Planned, view: View) -> Entry:
@@ -100,9 +100,9 @@ def fitting(plan: Plan, view: View, rows: int) -> list[Entry]:
     """The rows of as many groups as leave room for the rows of the folds."""
     shown_ = rows
     while True:
-        found = entries(plan, view, shown_)
-        if len(found) <= rows + 1 or shown_ <= 1:
-            return found
+        rows_ = entries(plan, view, shown_)
+        if len(rows_) <= rows + 1 or shown_ <= 1:
+            return rows_
         shown_ = shown_ * 7 // 8
 
 
@@ -110,17 +110,17 @@ def entries(plan: Plan, view: View, rows: int) -> list[Entry]:
     """All rows as a tree is read, each with the places of the rows right below it."""
     own = {group.row for group in explain.family(plan, view)}
     shows = chosen(plan, own, rows)
-    found: list[Entry] = []
+    rows_: list[Entry] = []
     waiting: list[tuple[Planned | Entry, int | None]] = [(plan.root, None)]
     while waiting:
         each, above = waiting.pop()
         entry = each if isinstance(each, Entry) else entry_of(plan, each, view)
         if above is not None:
-            found[above].below.append(len(found))
-        found.append(entry)
+            rows_[above].below.append(len(rows_))
+        rows_.append(entry)
         if isinstance(each, Entry) or each.depth >= view.depth:
             continue
-        place, children = len(found) - 1, [child for child in each.children if child.row in own]
+        place, children = len(rows_) - 1, [child for child in each.children if child.row in own]
         rest = [child for child in children if child.row not in shows and child.want]
         if len(rest) == 1 and not rest[0].children:
             shows.add(rest.pop().row)
@@ -129,21 +129,21 @@ def entries(plan: Plan, view: View, rows: int) -> list[Entry]:
         elif rest:
             waiting.append((folded(plan, rest, each.depth + 1, view.unit), place))
         waiting += [(child, place) for child in reversed(children) if child.row in shows]
-    return found
+    return rows_
 
 
 class Drawing:
     """The places of rows and amounts."""
 
-    def __init__(self, plan: Plan, found: list[Entry], unit: str) -> None:
-        self.plan, self.found, self.unit = plan, found, unit
-        names_ = [svg.wide(cut(each.name, NAME_CELLS)) + INDENT * each.depth for each in found]
+    def __init__(self, plan: Plan, entries_: list[Entry], unit: str) -> None:
+        self.plan, self.entries, self.unit = plan, entries_, unit
+        names_ = [svg.wide(cut(each.name, NAME_CELLS)) + INDENT * each.depth for each in entries_]
         self.left = EDGE + max(names_) + 20
         self.most = max(plan.capacity, 1)
-        notes = max(svg.wide(cut(each.note, NOTE_CELLS), 11) for each in found)
+        notes = max(svg.wide(cut(each.note, NOTE_CELLS), 11) for each in entries_)
         self.width = self.left + BARS + 24 + notes + EDGE
-        scales = (len(found) - 1) // SCALE_ROWS
-        self.height = HEAD + ROW * (len(found) + scales) + EDGE
+        scales = (len(entries_) - 1) // SCALE_ROWS
+        self.height = HEAD + ROW * (len(entries_) + scales) + EDGE
 
     def y(self, place: int) -> float:
         """The top of a row."""
@@ -162,15 +162,15 @@ class Drawing:
             slices = round(cpus * (host.period_us // host.slice_us))
             written = text.amount(self.plan, slices, self.unit)
             written = written.rstrip("0").rstrip(".") if "." in written else written
-            for place in range(0, len(self.found), SCALE_ROWS):
+            for place in range(0, len(self.entries), SCALE_ROWS):
                 yield svg.words((x, self.y(place) - 8), written, svg.FAINT, 10, "middle")
-        for place in range(0, len(self.found), SCALE_ROWS):
+        for place in range(0, len(self.entries), SCALE_ROWS):
             yield svg.words((self.left + BARS + 24, self.y(place) - 8),
                             text.UNIT_WORDS[self.unit], svg.FAINT, 10)
 
     def branches(self) -> Iterator[str]:
         """The lines that join groups to those above."""
-        for place, entry in enumerate(self.found):
+        for place, entry in enumerate(self.entries):
             if not entry.below:
                 continue
             x = EDGE + INDENT * entry.depth + 4
@@ -233,7 +233,7 @@ def picture(plan: Plan, view: View = View(), rows: int = MOST_ROWS) -> str:
     title = title_of(plan, view.unit)
     parts = [svg.words((EDGE, 20), title, svg.INK, 13, "start", True), *legend(40),
              *drawing.scale(), *drawing.branches()]
-    for place, entry in enumerate(drawing.found):
+    for place, entry in enumerate(drawing.entries):
         parts += drawing.row(place, entry)
     wide = max(drawing.width, svg.wide(title, 13) + 2 * EDGE)
     return svg.document(wide, drawing.height, f"{title}: {text.host_words(plan)}", parts)

@@ -24,7 +24,7 @@ SLACK = 0.01
 UNREACHED = 0.05
 
 
-class Range(NamedTuple):
+class Bounds(NamedTuple):
     """The least and the most that a group may have, in CPUs, and whether all runs are alike."""
 
     low: float
@@ -38,7 +38,7 @@ class Outlook(NamedTuple):
     `grain` is the greatest planned share of one task over the mean load of a CPU.
     """
 
-    ranges: dict[str, Range]
+    ranges: dict[str, Bounds]
     why_not: str = ""
     grain: float = 0.0
 
@@ -113,7 +113,7 @@ def most_of(shape: Shape) -> dict[str, float]:
     return found
 
 
-def ranges(shape: Shape) -> dict[str, Range] | None:
+def ranges(shape: Shape) -> dict[str, Bounds] | None:
     """The range of each group; None if that is too much work."""
     first = Run(shape, 0, MOST_WORK / LEAST_RUNS)
     try:
@@ -129,7 +129,7 @@ def ranges(shape: Shape) -> dict[str, Range] | None:
 
 
 def range_of(node: Node, spans: dict[str, tuple[float, float]], most: float,
-             are_alike: bool) -> Range:
+             are_alike: bool) -> Bounds:
     """A group's range, from the least and the greatest that each group had in the runs.
 
     Some runs rarely show the ends. A limit that binds is not always reached.
@@ -138,7 +138,7 @@ def range_of(node: Node, spans: dict[str, tuple[float, float]], most: float,
     more = (high - low) / 4 + SLACK
     binds = any(spans[each.path][1] > limit_of(each) * (1 - UNREACHED) for each in chain(node))
     low = low * (1 - UNREACHED) if binds else low
-    return Range(max(low - more, 0.0), min(high + more, most), are_alike and not binds)
+    return Bounds(max(low - more, 0.0), min(high + more, most), are_alike and not binds)
 
 
 def outlook(model: Model) -> Outlook:
@@ -147,7 +147,7 @@ def outlook(model: Model) -> Outlook:
     if unknown:
         return Outlook({}, unknown)
     shape = shape_of(model)
-    found = ranges(shape)
-    if found is None:
+    spans = ranges(shape)
+    if spans is None:
         return Outlook({}, "too many groups, tasks and CPUs", grain(shape))
-    return Outlook(found, grain=grain(shape))
+    return Outlook(spans, grain=grain(shape))

@@ -73,13 +73,13 @@ class Engine:
         with asking("no plan"):
             return Certified(*self.library.certify(planned(host), columns))
 
-    def accepted(self, host: Host, columns: Columns, found: Certified) -> Answer:
+    def accepted(self, host: Host, columns: Columns, certified: Certified) -> Answer:
         """The answer of a certificate that the proved check accepts for these rows."""
         host = planned(host)
         # The check reads the memory that is answered, after whatever wrote it has ended.
-        amounts = list(found.amounts)
+        amounts = list(certified.amounts)
         with asking("the check refused the plan"):
-            self.library.check(host, columns, amounts, found.certificate)
+            self.library.check(host, columns, amounts, certified.certificate)
         with asking("what limits the total"):
             limiting, rest = self.library.limiting(host, columns)
         with asking("wants"):
@@ -145,7 +145,7 @@ class Planned:
         return group is not None and group.tasks is not None and group.usable < group.demand
 
 
-class Reason(NamedTuple):
+class Explanation(NamedTuple):
     """Why a group gets what it gets: a short name, words, and the group whose limit is the cause.
 
     `weight` of `active_weight` is its part among the siblings that can use a slice; both are 0
@@ -207,7 +207,7 @@ class Plan:
             return self.engine.library.reasons(planned(self.model.host), self.columns)
 
     @functools.cached_property
-    def told(self) -> dict[int, Reason]:
+    def told(self) -> dict[int, Explanation]:
         """The reasons in words that were asked for, by row."""
         return {}
 
@@ -216,36 +216,36 @@ class Plan:
         with asking("guarantee"):
             return self.engine.library.guarantee(planned(self.model.host), self.columns, row)
 
-    def reason(self, group: Planned) -> Reason:
+    def reason(self, group: Planned) -> Explanation:
         """The reason of a group in words."""
         if group.row not in self.told:
             self.told[group.row] = self.found_reason(group)
         return self.told[group.row]
 
-    def found_reason(self, group: Planned) -> Reason:
+    def found_reason(self, group: Planned) -> Explanation:
         """The reason of a group, which each answer asks for several times."""
         kind, above = self.reasons[group.row]
         if kind is Kind.NOTHING_ASKED:
-            return Reason("nothing asked", "nothing asked")
+            return Explanation("nothing asked", "nothing asked")
         if kind is Kind.ALL_WANTED:
             return all_reason(group)
         if kind is Kind.OWN_LIMIT:
             words = "its own limit" if group.limit else "its own limit, less than a slice"
-            return Reason("own limit", words, group.path)
+            return Explanation("own limit", words, group.path)
         if group.parent is None:
-            return Reason("the host is full", "the host is full", group.path)
+            return Explanation("the host is full", "the host is full", group.path)
         return self.weight_reason(group, self.groups[above or 0])
 
-    def weight_reason(self, group: Planned, cut: Planned) -> Reason:
+    def weight_reason(self, group: Planned, cut: Planned) -> Explanation:
         """The reason of a group that gets the part of its weight below a limit."""
         above = self.groups[group.parent or 0]
         name = "the host is full" if cut.parent is None else "limit above"
         words = ("the host is full" if cut.parent is None
                  else f"limit of {short(shown(last_name(cut.path)))} above")
         if above.active == 1:
-            return Reason(name, f"{words}: the only one that asks here", cut.path)
+            return Explanation(name, f"{words}: the only one that asks here", cut.path)
         words = f"{words}: weight {group.weight} of {above.active_weight}"
-        return Reason(name, words, cut.path, group.weight, above.active_weight)
+        return Explanation(name, words, cut.path, group.weight, above.active_weight)
 
 
 def children_of(group: Planned) -> Sequence[Planned]:
@@ -263,23 +263,23 @@ def walk(tops: Sequence[Planned],
         waiting += reversed(below(group))
 
 
-def all_reason(group: Planned) -> Reason:
+def all_reason(group: Planned) -> Explanation:
     """The reason of a group that gets all that it wants."""
     if group.is_cut_by_tasks and group.group is not None:
         tasks = group.group.tasks
         which = "1 task" if tasks == 1 else f"{tasks} tasks"
-        return Reason("tasks", f"all that its {which} can use at once", group.path)
-    return Reason("all", "all that it wants")
+        return Explanation("tasks", f"all that its {which} can use at once", group.path)
+    return Explanation("all", "all that it wants")
 
 
 def marks(group: Planned) -> list[str]:
     """The warning labels of a group (STARVED, THROTTLED ..)."""
-    found = ["STARVED"] if group.is_starved else []
+    labels = ["STARVED"] if group.is_starved else []
     if group.is_throttled_elsewhere:
-        found.append("THROTTLED, NOT BY ITS LIMIT")
+        labels.append("THROTTLED, NOT BY ITS LIMIT")
     elif group.is_throttled:
-        found.append("THROTTLED")
-    return found
+        labels.append("THROTTLED")
+    return labels
 
 
 def planned_of(rows: list[Row], model: Model, answer: Answer) -> list[Planned]:
@@ -308,13 +308,13 @@ def plan(engine: Engine, model: Model) -> Plan:
     return Plan(model, groups, limiting, answer.rest, answer.columns, engine)
 
 
-def guarantees(found: Plan, chosen: Sequence[Planned]) -> list[int]:
+def guarantees(before: Plan, chosen: Sequence[Planned]) -> list[int]:
     """What each of some groups gets whatever the groups that are not under it ask for, in slices.
     """
     owed = []
     with progress.bar("groups", len(chosen)) as step:
         for group in chosen:
-            owed.append(found.guaranteed(group.row))
+            owed.append(before.guaranteed(group.row))
             step()
     return owed
 

@@ -103,11 +103,11 @@ class Reasoned(NamedTuple):
     name: str
 
 
-def fitting(found: Sequence[tuple[str, ...]], room: int) -> list[str]:
+def fitting(reasons: Sequence[tuple[str, ...]], room: int) -> list[str]:
     """The reasons whole where none is cut, else each in the longest other form that fits."""
-    if all(width(each[0]) <= room for each in found):
-        return [each[0] for each in found]
-    return [next((form for form in each[1:] if width(form) <= room), each[-1]) for each in found]
+    if all(width(each[0]) <= room for each in reasons):
+        return [each[0] for each in reasons]
+    return [next((form for form in each[1:] if width(form) <= room), each[-1]) for each in reasons]
 
 
 def reasoned_table(heads: Sequence[str], rows: Sequence[Reasoned], wide: int,

@@ -11,8 +11,8 @@ SHARE = Path(__file__).resolve().parent.parent.parent / "share"
 
 def files() -> dict[Path, str]:
     """All files with their texts."""
-    found = {SHARE / "man" / name: text for name, text in manual.pages().items()}
-    return {**found, **{SHARE / "completions" / name: text
+    pages = {SHARE / "man" / name: text for name, text in manual.pages().items()}
+    return {**pages, **{SHARE / "completions" / name: text
                         for name, text in completions.completions().items()}}
 
 

@@ -39,9 +39,9 @@ complete -o bashdefault -o default -o nosort -F _arbiterctl arbiterctl
 """
 
 
-def names_of(found: list[Word]) -> str:
+def names_of(words_: list[Word]) -> str:
     """All names of options, with blanks between them."""
-    return " ".join(name for word in found for name in word.names)
+    return " ".join(name for word in words_ for name in word.names)
 
 
 def bash_reply(offered: str) -> str:
@@ -51,16 +51,16 @@ def bash_reply(offered: str) -> str:
 
 def bash_case(each: Subcommand) -> Iterator[str]:
     """What bash offers for one subcommand."""
-    found = words.options(each)
+    options = words.options(each)
     yield f"        {each.name})"
     yield "            case $given in"
-    for word in found:
+    for word in options:
         if word.values:
             yield f"                {'|'.join(word.names)}) {bash_reply(' '.join(word.values))} ;;"
         elif word.takes_value:
             yield f"                {'|'.join(word.names)}) ;;"
     yield "                *)"
-    yield f"                    [[ $word == -* ]] && {bash_reply(names_of(found))}"
+    yield f"                    [[ $word == -* ]] && {bash_reply(names_of(options))}"
     yield from ("                    ;;", "            esac", "            ;;")
 
 
@@ -94,13 +94,13 @@ def zsh_option(word: Word) -> str:
         return f"'(- *)'{{{','.join(word.names)}}}'[{zsh_text(word.help)}]'"
     many = "*" if word.is_many else ""
     mark = "=" if word.takes_value else ""
-    found = [f"{name}{mark if name.startswith('--') else '+' if mark else ''}"
+    flags = [f"{name}{mark if name.startswith('--') else '+' if mark else ''}"
              for name in word.names]
     tail = f"[{zsh_text(word.help)}]{zsh_value(word)}'"
-    if len(found) == 1:
-        return f"'{many}{found[0]}{tail}"
+    if len(flags) == 1:
+        return f"'{many}{flags[0]}{tail}"
     others = "" if many else f"'({' '.join(word.names)})'"
-    return f"{others}{many and repr(many)}{{{','.join(found)}}}'{tail}"
+    return f"{others}{many and repr(many)}{{{','.join(flags)}}}'{tail}"
 
 
 def zsh_argument(word: Word) -> str:

@@ -17,10 +17,10 @@ HEAD = '.\\" Made from the help of arbiterctl by python/arbiter_pages; a test co
 def quoted(text: str) -> str:
     """A text with marks of quotation in place of backticks, which open and close in turn."""
     parts = text.split("`")
-    found = parts[0]
+    text_ = parts[0]
     for place, part in enumerate(parts[1:]):
-        found += (r"\(cq" if place % 2 else r"\(oq") + part
-    return found
+        text_ += (r"\(cq" if place % 2 else r"\(oq") + part
+    return text_
 
 
 def guarded(line: str) -> str:
@@ -81,10 +81,10 @@ def listed(part: Section) -> Iterator[str]:
     yield ".El"
 
 
-def terms(macro: str, found: Iterable[tuple[str, str]]) -> Iterator[str]:
+def terms(macro: str, pairs: Iterable[tuple[str, str]]) -> Iterator[str]:
     """A list of names with texts."""
     yield ".Bl -tag -width Ds"
-    for name, text in found:
+    for name, text in pairs:
         yield f".It {macro} {escaped(name)}".replace("It  ", "It ")
         yield from prose(text)
     yield ".El"
@@ -113,10 +113,10 @@ def examples(each: Subcommand) -> Iterator[str]:
 def see_also(own: str) -> Iterator[str]:
     """The other pages, in order."""
     pages = ["arbiter", "arbiterctl", *(f"arbiterctl-{each.name}" for each in words.subcommands())]
-    found = sorted(page for page in pages if page != own)
+    others = sorted(page for page in pages if page != own)
     yield ".Sh SEE ALSO"
-    for page in found:
-        yield f".Xr {page} 1" + (" ," if page != found[-1] else "")
+    for page in others:
+        yield f".Xr {page} 1" + (" ," if page != others[-1] else "")
 
 
 def page_of(each: Subcommand) -> str:
@@ -136,24 +136,24 @@ def page_of(each: Subcommand) -> str:
 
 def main_page() -> str:
     """The man page of the command."""
-    found = words.subcommands()
+    subcommands = words.subcommands()
     lines = [*head("arbiterctl", "plans for the groups of a real host"), ".Sh SYNOPSIS", ".Nm",
              ".Ar command", ".Op Ar options", ".Nm", ".Fl \\-help | \\-version", ".Sh DESCRIPTION",
              *prose(helps.ABOUT), "Each command has a page of its own, such as",
              ".Xr arbiterctl-explain 1 .", ".Ss Commands"]
-    lines += terms("Cm", ((each.name, each.summary) for each in found))
+    lines += terms("Cm", ((each.name, each.summary) for each in subcommands))
     lines += [".Ss Sources", "A source is a file or a folder.",
               "What it is is found from its name and its first bytes, or said by",
               ".Fl \\-from ."]
     lines += terms("Cm", helps.KINDS.items())
     lines += [".Sh ENVIRONMENT", *terms("Ev", helps.ENVIRONMENT.items())]
     lines += [*statuses(), ".Sh EXAMPLES"]
-    lines += [line for each in found for line in list(examples(each))[1:3]]
+    lines += [line for each in subcommands for line in list(examples(each))[1:3]]
     lines += see_also("arbiterctl")
     return "\n".join(lines) + "\n"
 
 
 def pages() -> dict[str, str]:
     """All man pages by the names of their files."""
-    found = {f"arbiterctl-{each.name}.1": page_of(each) for each in words.subcommands()}
-    return {"arbiterctl.1": main_page(), **found}
+    made = {f"arbiterctl-{each.name}.1": page_of(each) for each in words.subcommands()}
+    return {"arbiterctl.1": main_page(), **made}

@@ -59,13 +59,13 @@ def argument_of(action: argparse.Action) -> Word:
 
 def sections(each: Subcommand) -> list[Section]:
     """The words of a subcommand by the titles of its help, without that for help itself."""
-    found: dict[str, list[Word]] = {}
+    titles: dict[str, list[Word]] = {}
     for action in command.parser_of(each)._actions:  # no public name has them
         if not action.option_strings:
-            found.setdefault(ARGUMENTS, []).append(argument_of(action))
+            titles.setdefault(ARGUMENTS, []).append(argument_of(action))
     for option in table.of(each.name):
-        found.setdefault(option.title, []).append(option_of(option, each.name))
-    return [Section(title, tuple(part)) for title, part in found.items()]
+        titles.setdefault(option.title, []).append(option_of(option, each.name))
+    return [Section(title, tuple(part)) for title, part in titles.items()]
 
 
 def arguments(each: Subcommand) -> list[Word]:
@@ -75,8 +75,8 @@ def arguments(each: Subcommand) -> list[Word]:
 
 def options(each: Subcommand) -> list[Word]:
     """The options of a subcommand, help among them."""
-    found = [word for part in sections(each) for word in part.words if word.names]
-    return [*found, Word(("-h", "--help"), "", (), "print help")]
+    words = [word for part in sections(each) for word in part.words if word.names]
+    return [*words, Word(("-h", "--help"), "", (), "print help")]
 
 
 def subcommands() -> Sequence[Subcommand]:

@@ -339,7 +339,7 @@ def test_cause_by_periods(seconds, off, expected):
 def test_cause_by_placement(monkeypatch, low, high, firm, used, expected):
     """What it used is in its range, in which the plan of 500m is too."""
     monkeypatch.setattr(placement, "outlook", lambda _: placement.Outlook(
-        {"a": placement.Range(low, high, firm)}))
+        {"a": placement.Bounds(low, high, firm)}))
     assert cause([interval(TWO, a=cell(used, 500))]) == expected
 
 
@@ -361,7 +361,7 @@ def test_placement_is_asked_of_the_model_with_periods_of_a_tenth(monkeypatch):
 def test_placement_is_tried_for_some_intervals_alone(monkeypatch):
     monkeypatch.setattr(causes, "MOST_TRIED", 2)
     monkeypatch.setattr(placement, "outlook", lambda _: placement.Outlook(
-        {"a": placement.Range(0.4, 0.6, False)}))
+        {"a": placement.Bounds(0.4, 0.6, False)}))
     found = [interval(TWO, a=cell(510, 500)) for _ in range(3)]
     outlooks = causes.Outlooks(found)
     assert [causes.cause_of(found, place, "a", outlooks) for place in range(3)] == [

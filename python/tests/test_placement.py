@@ -248,7 +248,7 @@ def test_a_plan_out_of_the_runs_is_not_firm(engine):
     """Where all runs are alike and the plan is beside them, the range reaches from one to the
     other."""
     model = host(2, ("a", 100, 2000, 2), ("b", 300, 2000, 2))
-    found, beside = plan(engine, model), placement.Range(0.55, 0.555, True)
+    found, beside = plan(engine, model), placement.Bounds(0.55, 0.555, True)
     told = explain.range_data(found, found.groups[1], placement.Outlook({"a": beside}))
     assert told["firm"] is False
     assert (told["from"]["slices"], told["to"]["slices"]) == (50, 56)

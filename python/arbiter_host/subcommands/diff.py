@@ -57,7 +57,7 @@ def compared(options: argparse.Namespace, by: Engine) -> tuple[Model, Model]:
 
 def chosen(options: argparse.Namespace, models: Sequence[Model]) -> frozenset[str] | None:
     """The groups that are chosen in one of the models."""
-    found: frozenset[str] | None = None
+    groups: frozenset[str] | None = None
     faults = []
     for model in models:
         try:
@@ -65,10 +65,10 @@ def chosen(options: argparse.Namespace, models: Sequence[Model]) -> frozenset[st
         except NothingFound as fault:
             faults.append(fault)
             continue
-        found = paths if found is None else found | (paths or frozenset())
+        groups = paths if groups is None else groups | (paths or frozenset())
     if len(faults) == len(models):
         raise faults[0]
-    return found
+    return groups
 
 
 def page(options: argparse.Namespace, one: Plan, two: Plan, view: View) -> str:
