@@ -286,12 +286,61 @@ def test_options_between_sources(ctl):
 def test_a_group_that_is_not_there(ctl):
     """Groups whose names have its letters are named."""
     pods = [ROOT / "examples/pods.json", ROOT / "examples/node.json"]
-    _, err = ctl.run("need", "Web", "1cpu", *pods, status=1)
+    _, err = ctl.run("explain", "-g", "Web", *pods, status=6)
     assert err == ("arbiterctl: no group Web (there is kubepods/burstable/shop:web,"
                    " kubepods/burstable/shop:web/pause, kubepods/burstable/shop:web/nginx, ..)\n")
-    assert ctl.run("need", "zz", "1cpu", *pods, status=1)[1] == "arbiterctl: no group zz\n"
-    _, err = ctl.run("need", "kube", "1cpu", *pods, status=1)
+    assert ctl.run("explain", "-g", "zz", *pods, status=6)[1] == "arbiterctl: no group zz\n"
+    _, err = ctl.run("explain", "-g", "kube", *pods, status=6)
     assert err.endswith("(there is kubepods, kubepods/burstable, kubepods/besteffort, ..)\n")
+
+
+def chosen(ctl, *words, status=0):
+    """The groups that JSON has with some words of choice."""
+    out, err = ctl.run("explain", PODS, NODE, "-o", "json", *words, status=status)
+    return [each["group"] for each in json.loads(out)["groups"]] if out else err
+
+
+def test_groups_that_are_chosen(ctl, folder):
+    """By a path, an end or a title, with what is below; pods by namespace and labels."""
+    web = "kubepods/burstable/prod:web-7c9f"
+    whole = [web, f"{web}/pause", f"{web}/nginx", f"{web}/metrics"]
+    for pattern in ("prod/web-7c9f", "prod:web-7c9f", web, "*web*"):
+        assert chosen(ctl, "-g", pattern) == whole
+    assert chosen(ctl, "-g", "prod/web-7c9f", "-g", "prod/db-0/postgres") == [
+        *whole, "kubepods/prod:db-0/postgres"]
+    assert len(chosen(ctl, "-n", "prod")) == 11
+    assert chosen(ctl, "-n", "prod", "-g", "*web*") == whole
+    assert "no pod of -n zz" in chosen(ctl, "-n", "zz", status=6)
+    assert "no group is chosen by all" in chosen(ctl, "-n", "batch", "-g", "*web*", status=6)
+    assert "not LABEL=VALUE" in chosen(ctl, "-l", "app", status=2)
+    pods = json.loads(PODS.read_bytes())
+    for each in pods["items"]:
+        name = each["metadata"]["name"].partition("-")[0]
+        each["metadata"]["labels"] = {"app": name, "tier": "a"}
+    (folder / "pods.json").write_text(json.dumps(pods))
+    for labels in (["-l", "app=web,tier=a"], ["-l", "app=web", "-l", "tier=a"]):
+        out, _ = ctl.run("explain", folder / "pods.json", NODE, *labels, "-o", "csv")
+        assert [row.split(",")[0] for row in out.split("\n")[1:-1]] == whole
+
+
+def test_one_pod_in_text(ctl):
+    """The pod stands by its path, and what asks for nothing is counted."""
+    out, _ = ctl.run("explain", PODS, NODE, "-g", "prod/web-7c9f")
+    rows = [line.split("  ") for line in out.split("\n")[6:]]
+    assert [row[-1].strip() for row in rows[:3]] == [
+        "kubepods/burstable/prod:web-7c9f", "nginx", "metrics"]
+    assert "left out (--all shows them): 1" in out
+
+
+def test_several_forms_at_once(ctl, folder):
+    """Each form has its file; one of them may be printed."""
+    words = [f"-o{form}={folder / form}" for form in ("json", "html", "svg", "csv")]
+    out, _ = ctl.run("explain", PODS, NODE, "--guaranteed", "-o", "text", *words)
+    assert out == ctl.run("explain", PODS, NODE, "--guaranteed")[0]
+    for form in ("json", "html", "svg", "csv"):
+        assert "guaranteed" in (folder / form).read_text()
+    _, err = ctl.run("explain", PODS, NODE, "-o", "text", "-o", "json", status=2)
+    assert "one form alone" in err
 
 
 def test_no_raw_control_character(ctl, folder):
