@@ -139,10 +139,9 @@ IMPORT = re.compile(r"^(?:ghost )?use Rattle\.(\w+)\.specs\.([\w.]+)\.\{([^}]*)\
 # Crates whose functions are there beside their predicates and records.
 WHOLE = ("bw_model", "bw_machine")
 # Programs and the C library with its columns, whose definitions put those of the crates below into
-# other forms, and crates of laws, which docs/LAWS.md has in words.
+# other forms, and the laws, which docs/LAWS.md has in words.
 LEFT_OUT_CRATES = ("arbiter", "bw_columns", "bw_answers", "bw_group_columns", "bw_exports",
-                   "wake_states", "plan_bench", "bw_split_laws", "bw_plan_laws", "bw_shape_laws",
-                   "bw_placement_laws")
+                   "wake_states", "plan_bench", "bw_change_laws")
 # Functions of a refusal that say no more than their names.
 PLAIN = re.compile(r"_fault_(?:number|name)$")
 DEFINITIONS_HEAD = """# Definitions
@@ -152,7 +151,7 @@ Below are the predicates and records that a clause of a public function names \
 ([CLAUSES.md](CLAUSES.md)). `Plan.IsPlan` is in `specs/Plan.antt` of its crate.
 Of bw_model and bw_machine functions are there too, and what other crates name. Those of other \
 crates are in the same files, each with a comment. Programs and the C library are left out: they \
-put the same into other forms. So are crates of laws: [LAWS.md](LAWS.md).
+put the same into other forms. So are the laws of a change: [LAWS.md](LAWS.md).
 Numbers in definitions are whole numbers without bound. Words: [GLOSSARY.md](GLOSSARY.md).
 """
 

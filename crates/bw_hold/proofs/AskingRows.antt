@@ -13,8 +13,8 @@ use Rattle.bw_model.specs.Groups.{Groups, IsInstance, AreTreeRows, no_row, paren
 use Rattle.bw_model.specs.Groups.{weight_of, demand_of, limit_of, is_leaf, depth_of}
 use Rattle.bw_model.specs.Plan.{IsPlan}
 use Rattle.bw_model.proofs.CallerLemmas.{get_or_within}
-use Rattle.bw_plan_laws.proofs.CallerLemmas.{planned, AreAlike, limits_same}
-use Rattle.bw_plan_laws.proofs.CallerLemmas.{other_demands-IsInstance}
+use Rattle.bw_change_laws.proofs.CallerLemmas.{planned, AreAlike, limits_same}
+use Rattle.bw_change_laws.proofs.CallerLemmas.{other_demands-IsInstance}
 use Rattle.bw_hold.specs.Rule.{asking, row_asking, demand_where, own_limit, is_hungry, round_of}
 use Rattle.bw_hold.specs.Rule.{everyone, leaf_limit, round_limit}
 

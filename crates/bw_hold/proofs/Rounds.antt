@@ -12,15 +12,15 @@ use Rattle.bw_model.specs.Allocation.{total}
 use Rattle.bw_model.specs.Groups.{Groups, IsInstance, no_row, row_of, demand_of, limit_of, is_leaf}
 use Rattle.bw_model.specs.Plan.{IsPlan}
 use Rattle.bw_plan.specs.Laws.{HasOnePlan, ThereIsOnePlan}
-use Rattle.bw_plan_laws.specs.Asked.{IsBusier, IsBusierAt}
-use Rattle.bw_plan_laws.proofs.CallerLemmas.{leaf_same, only_cuts, serve_no_more, unused_changes}
+use Rattle.bw_change_laws.specs.Asked.{IsBusier, IsBusierAt}
+use Rattle.bw_change_laws.proofs.CallerLemmas.{leaf_same, only_cuts, serve_no_more, unused_changes}
 use Rattle.bw_questions.specs.Guarantee.{IsAskedOtherwise}
 use Rattle.bw_hold.specs.Rule.{IsRound, asking, demand_where, everyone, headroom, is_hungry}
 use Rattle.bw_hold.specs.Rule.{leaf_limit, own_limit, round_limit, round_of}
 use Rattle.bw_hold.specs.Reading.{IsSameButDemands, IsTrueReading, limit_at, admitted_at, admitted}
 use Rattle.bw_hold.specs.Laws.{NoneBelowItsGuarantee, GuaranteeIsAdmitted, NoneAboveItsLimit}
 use Rattle.bw_hold.specs.Laws.{IsWithinPlan, LimitsAdmitThePlan}
-use Rattle.bw_plan_laws.proofs.CallerLemmas.{same_tree, weights_same}
+use Rattle.bw_change_laws.proofs.CallerLemmas.{same_tree, weights_same}
 use Rattle.bw_hold.proofs.AskingRows.{as_many, demand_at, asking_alike, asking_limits}
 use Rattle.bw_hold.proofs.AskingRows.{where-IsInstance, round-IsInstance, everyone-IsInstance}
 use Rattle.bw_hold.proofs.Leaves.{alone, leaf_total, totals_less, within_limit, within_demand}

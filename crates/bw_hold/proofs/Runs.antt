@@ -8,8 +8,8 @@ use Rattle.bw_model.specs.declared.limits.TheConstants.{MAX_DEMAND}
 use Rattle.bw_model.specs.Groups.{Groups, IsInstance, demand_of, is_leaf}
 use Rattle.bw_model.specs.Plan.{IsPlan}
 use Rattle.bw_plan.specs.Laws.{ThereIsOnePlan}
-use Rattle.bw_plan_laws.specs.Asked.{IsBusier}
-use Rattle.bw_plan_laws.proofs.CallerLemmas.{leaf_same, serve_no_more, unused_changes}
+use Rattle.bw_change_laws.specs.Asked.{IsBusier}
+use Rattle.bw_change_laws.proofs.CallerLemmas.{leaf_same, serve_no_more, unused_changes}
 use Rattle.bw_hold.specs.Rule.{asking, demand_where, is_hungry, round_of}
 use Rattle.bw_hold.specs.Reading.{IsSameButDemands, IsTrueReading, IsServed, admitted_at}
 use Rattle.bw_hold.specs.Rounds.{AreLimits, IsRun, UsesThePlan, is_whole, whole_count, PlanStays}

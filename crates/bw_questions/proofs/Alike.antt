@@ -2,8 +2,8 @@
 use Rattle.std.proofs.Common.{◌≡◌, ℕ, zero, suc, ◌<◌, ◌≤◌, true, length, refl, sym, ◌∙◌, arith}
 use Rattle.bw_model.specs.Groups.{Groups, IsInstance, weight_of, demand_of, limit_of, is_under}
 use Rattle.bw_plan.specs.Laws.{HasOnePlan, ThereIsOnePlan}
-use Rattle.bw_plan_laws.specs.Tree.{IsSameTree}
-use Rattle.bw_plan_laws.specs.Weight.{IsHeavierAround, OthersWeightsGiveNothing}
+use Rattle.bw_change_laws.specs.Tree.{IsSameTree}
+use Rattle.bw_change_laws.specs.Weight.{IsHeavierAround, OthersWeightsGiveNothing}
 use Rattle.std.proofs.Common.{get_or}
 use Rattle.bw_questions.specs.Change.{with_weight}
 use Rattle.bw_questions.specs.Least.{Reaches}

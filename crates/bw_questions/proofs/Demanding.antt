@@ -15,8 +15,8 @@ use Rattle.bw_model.proofs.CallerLemmas.{strong, is_under-self}
 use Rattle.bw_model.proofs.CallerLemmas.{sum_below, sum_below-ap, sum_below-le, sum_below-zero}
 use Rattle.bw_model.proofs.CallerLemmas.{sum_below-add, sum_by-filter_range}
 use Rattle.bw_plan.specs.Laws.{HasOnePlan, ThereIsOnePlan}
-use Rattle.bw_plan_laws.specs.Host.{RaisedLimitsServeNoLess}
-use Rattle.bw_plan_laws.proofs.CallerLemmas.{under_same}
+use Rattle.bw_change_laws.specs.Host.{RaisedLimitsServeNoLess}
+use Rattle.bw_change_laws.proofs.CallerLemmas.{under_same}
 use Rattle.bw_questions.specs.declared.tuned.goal.Goal.{Goal}
 use Rattle.bw_questions.specs.declared.tuned.measure.Measure.{Measure}
 use Rattle.bw_questions.specs.declared.tuned.measure.Measure.TheVariants.{Planned, Guaranteed}

@@ -9,11 +9,11 @@ use Rattle.bw_model.specs.declared.limits.TheConstants.{MIN_WEIGHT, MAX_WEIGHT}
 use Rattle.bw_model.specs.Groups.{Groups, IsInstance, no_row, weight_of}
 use Rattle.bw_model.specs.Groups.{is_under}
 use Rattle.bw_plan.specs.Laws.{HasOnePlan, ThereIsOnePlan}
-use Rattle.bw_plan_laws.specs.Host.{RaisedLimitsServeNoLess}
-use Rattle.bw_plan_laws.specs.Weight.{IsHeavierAround, OthersWeightsGiveNothing}
-use Rattle.bw_plan_laws.specs.Weight.{RaisedWeightAloneGains}
-use Rattle.bw_plan_laws.proofs.CallerLemmas.{leaf_same, under_same, same_tree, weights_same}
-use Rattle.bw_plan_laws.proofs.CallerLemmas.{limits_same}
+use Rattle.bw_change_laws.specs.Host.{RaisedLimitsServeNoLess}
+use Rattle.bw_change_laws.specs.Weight.{IsHeavierAround, OthersWeightsGiveNothing}
+use Rattle.bw_change_laws.specs.Weight.{RaisedWeightAloneGains}
+use Rattle.bw_change_laws.proofs.CallerLemmas.{leaf_same, under_same, same_tree, weights_same}
+use Rattle.bw_change_laws.proofs.CallerLemmas.{limits_same}
 use Rattle.bw_questions.specs.declared.tuned.goal.Goal.{Goal}
 use Rattle.bw_questions.specs.declared.tuned.measure.Measure.{Measure}
 use Rattle.bw_questions.specs.declared.tuned.measure.Measure.TheVariants.{Planned, Guaranteed}

@@ -9,8 +9,8 @@ use Rattle.bw_model.specs.declared.row.Row.{Row}
 use Rattle.bw_model.specs.declared.limits.TheConstants.{MIN_WEIGHT, MAX_WEIGHT}
 use Rattle.bw_model.specs.Groups.{Groups, IsInstance, weight_of, is_under}
 use Rattle.bw_plan.specs.Laws.{ThereIsOnePlan}
-use Rattle.bw_plan_laws.specs.Weight.{IsHeavierAround, OthersWeightsGiveNothing}
-use Rattle.bw_plan_laws.proofs.CallerLemmas.{under_same}
+use Rattle.bw_change_laws.specs.Weight.{IsHeavierAround, OthersWeightsGiveNothing}
+use Rattle.bw_change_laws.proofs.CallerLemmas.{under_same}
 use Rattle.bw_questions.specs.declared.tuned.goal.Goal.{Goal}
 use Rattle.bw_questions.specs.declared.tuned.measure.Measure.{Measure}
 use Rattle.bw_questions.specs.declared.tuned.tuning.Conflict.{Conflict}

@@ -4,7 +4,7 @@ use Rattle.std.proofs.Common.{inl, inr, ap}
 use Rattle.std.proofs.lemmas.Bool.{cases_eq}
 use Rattle.bw_model.specs.declared.limits.TheConstants.{MIN_WEIGHT}
 use Rattle.bw_model.specs.Groups.{Groups, IsInstance, weight_of}
-use Rattle.bw_plan_laws.proofs.CallerLemmas.{under_same}
+use Rattle.bw_change_laws.proofs.CallerLemmas.{under_same}
 use Rattle.bw_questions.specs.declared.tuned.goal.Goal.{Goal}
 use Rattle.bw_questions.specs.declared.tuned.measure.Measure.{Measure}
 use Rattle.bw_questions.specs.declared.tuned.tuning.Conflict.{Conflict}

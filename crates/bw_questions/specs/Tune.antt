@@ -4,7 +4,7 @@ use Rattle.std.specs.Prelude.{length, slice_index, slice_index_or}
 use Rattle.bw_model.specs.declared.row.Row.{Row}
 use Rattle.bw_model.specs.Groups.{Groups, IsInstance, weight_of, demand_of, limit_of, is_under}
 use Rattle.bw_model.specs.Plan.{IsPlan}
-use Rattle.bw_plan_laws.specs.Tree.{IsSameTree}
+use Rattle.bw_change_laws.specs.Tree.{IsSameTree}
 use Rattle.bw_questions.specs.declared.tuned.goal.Goal.{Goal}
 use Rattle.bw_questions.specs.declared.tuned.measure.Measure.{Measure}
 use Rattle.bw_questions.specs.declared.tuned.measure.Measure.TheVariants.{Planned, Guaranteed}

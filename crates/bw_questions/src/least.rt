@@ -7,12 +7,12 @@ ghost use Rattle.bw_questions.specs.Least.{Reaches, IsLeast, IsLeastLimit, Rises
 mod changed;
 mod setting;
 
+use bw_change_laws::{
+    capacity_takes_nothing, limit_only_cuts, raised_limits_serve_no_less, raised_weight_alone_gains,
+};
 use bw_model::Instance;
 use bw_model::limits::{MAX_PROCESSORS, MAX_WEIGHT, MIN_WEIGHT};
 use bw_plan::{plan, there_is_one_plan};
-use bw_plan_laws::{
-    capacity_takes_nothing, limit_only_cuts, raised_limits_serve_no_less, raised_weight_alone_gains,
-};
 use changed::{changed, relimited};
 pub(crate) use changed::{reweighted, still};
 use setting::{Setting, greatest};

@@ -5,9 +5,9 @@ ghost use Rattle.bw_questions.specs.Tune.{AreGoals, IsConflict, NamesTheExcess};
 
 use super::goal::Goal;
 use super::tuning::{Conflict, Tuning};
+use bw_change_laws::raised_limits_serve_no_less;
 use bw_model::Instance;
 use bw_plan::{plan, there_is_one_plan};
-use bw_plan_laws::raised_limits_serve_no_less;
 use std::alloc::{AllocError, Global};
 
 /// The first goals that ask for more than the plan serves in all, or None. No weights meet them

@@ -9,12 +9,12 @@ use super::goal::Goal;
 use super::measure::Measure;
 use crate::guaranteed::busy_instance;
 use crate::least::{least_weight, reaches, still};
+use bw_change_laws::{
+    others_weights_give_nothing, raised_limits_serve_no_less, raised_weight_alone_gains,
+};
 use bw_model::Instance;
 use bw_model::limits::{MAX_WEIGHT, MIN_WEIGHT};
 use bw_plan::there_is_one_plan;
-use bw_plan_laws::{
-    others_weights_give_nothing, raised_limits_serve_no_less, raised_weight_alone_gains,
-};
 use std::alloc::{AllocError, Global};
 
 // The instance whose plan tells what a goal of a group is measured by.

@@ -8,9 +8,9 @@ use super::judged::{is_met, least_for};
 use super::measure::Measure;
 use super::tuning::{Conflict, Tuning};
 use crate::least::{reweighted, still};
+use bw_change_laws::others_weights_give_nothing;
 use bw_model::Instance;
 use bw_plan::there_is_one_plan;
-use bw_plan_laws::others_weights_give_nothing;
 use std::alloc::{AllocError, Global};
 
 // The first goal that is not met, by its place.

@@ -1,2 +1,0 @@
--- What other crates may cite of this one's proofs, each passed on from the module that proves it.
-pub use Rattle.bw_answers.proofs.RefusedRow.{refused_empty}

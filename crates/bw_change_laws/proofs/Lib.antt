@@ -1,0 +1,34 @@
+-- The files of lemmas.
+mod Above
+mod Apart
+mod AskedLaw
+mod BesideLaw
+mod Bounds
+mod BusyLaw
+pub mod CallerLemmas
+mod Carried
+mod CutLaw
+mod Examples
+mod Factor
+mod HostLaws
+mod IdleLaw
+mod InsideLaw
+mod Lacking
+mod Lists
+mod Longer
+mod OrderLaw
+mod OtherDemands
+mod OuterLaw
+mod Pairs
+mod Places
+mod Raised
+mod RaisedLimit
+mod Removed
+mod Rising
+mod RoomLaw
+mod Scaled
+mod Shares
+mod Siblings
+mod Sums
+mod Trees
+mod WeightLaw

@@ -1,2 +1,0 @@
--- What other crates may cite of this one's proofs, each passed on from the module that proves it.
-pub use Rattle.bw_group_columns.proofs.Columns.{front_by}

@@ -1,3 +1,0 @@
--- The files of lemmas.
-pub mod CallerLemmas
-mod Columns

@@ -1,4 +1,0 @@
--- The files of definitions.
-pub mod Fractions
-pub mod Placement
-pub mod Queues

@@ -1,8 +1,0 @@
--- The files of lemmas.
-mod Carried
-mod IdleLaw
-mod Longer
-mod OrderLaw
-mod OuterLaw
-mod Places
-mod Rising

@@ -1,3 +1,0 @@
--- The files of definitions.
-pub mod Change
-pub mod Fairness

@@ -1,3 +1,0 @@
--- The files of lemmas.
-mod Closeness
-mod Squares
