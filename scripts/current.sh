@@ -9,6 +9,9 @@ program=crates/arbiter/out/arbiter
 library=crates/bw_exports/out/libarbiter
 # The names that the shared library exports.
 library_names=share/arbiter.map
+# Debian's packages that independent/build needs.
+# shellcheck disable=SC2034
+coq_packages='coq ocaml-findlib libzarith-ocaml-dev'
 # The kits that pass these sources, as README.md has them.
 kits='rattle-kit-13f or rattle-kit-13b (logic dac8208d650f15bf)'
 

@@ -6,6 +6,19 @@ python=python packages=(arbiter arbiter_host) python_place=lib/arbiter
 # The man pages of arbiterctl, whose names stay, and their place below DIR.
 pages=(share/man/*.1) pages_place=share/man/man1
 
+# The checker that is proved in Coq. It is installed where Coq was there to make it.
+checker=out/independent/arbiter-check
+
+# Makes the checker, if Coq and the source are there. Otherwise it names what is missing.
+make_checker() {
+  [ -x independent/build ] || return 0
+  if ! command -v coqc >/dev/null || ! ocamlfind query zarith >/dev/null 2>&1; then
+    echo "build: no arbiter-check without Coq: apt-get install $coq_packages" >&2
+    return 0
+  fi
+  independent/build "${checker%/*}" >&2
+}
+
 # What is installed: a file of the clone or the target of a link, its place below DIR, and its mode
 # or the word link.
 find_installed() {
@@ -28,6 +41,10 @@ find_installed() {
     share/completions/arbiterctl.fish share/fish/vendor_completions.d/arbiterctl.fish 644
     share/systemd/arbiter-hold.service lib/systemd/system/arbiter-hold.service 644
     share/grafana.json share/arbiter/grafana.json 644
+  )
+  [ ! -x "$checker" ] || installed+=(
+    "$checker" bin/arbiter-check 755
+    share/arbiter-check.1 share/man/man1/arbiter-check.1 644
   )
 }
 

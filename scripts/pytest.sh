@@ -33,6 +33,8 @@ need_packages() {
   # What clang-14 links a program with sanitizers and a fuzzer to.
   compgen -G '/usr/lib/llvm-14/lib/clang/*/lib/linux/libclang_rt.fuzzer-*.a' >/dev/null ||
     missing+=(libclang-rt-14-dev)
+  # shellcheck disable=SC2206,SC2154
+  command -v coqc >/dev/null && ocamlfind query zarith >/dev/null 2>&1 || missing+=($coq_packages)
   [ "${#missing[@]}" = 0 ] && return
   local words=(apt-get install -y --no-install-recommends "${missing[@]}")
   if [ "$(id -u)" = 0 ] && command -v apt-get >/dev/null; then

@@ -21,7 +21,7 @@ from support import ROOT, same
 
 SECONDS = 1800
 SUITE, ARCHIVE = "bookworm", "http://deb.debian.org/debian"
-NAMES = ("arbiter", "arbiter-host", "libarbiter-dev", "libarbiter1")
+NAMES = ("arbiter", "arbiter-check", "arbiter-host", "libarbiter-dev", "libarbiter1")
 # What the packages depend on, and what a program over the library is made with.
 NEEDED = ("python3", "python3-jinja2", "python3-rich", "python3-yaml", "gcc", "libc6-dev",
           "pkgconf", "systemd")
