@@ -19,12 +19,13 @@ FOLDER = ROOT / "independent"
 SCRIPTS, OF_EACH, SEED = 500, 40, 83
 # Files that one call of the extracted checker reads.
 BATCH = 500
-# What is proved again over changed definitions, the definitions themselves first.
-MODULES = ("Spec", "Rules", "Refusals", "Reading", "Total", "Splits", "Main", "Check", "Fast",
-           "Text", "Exists", "Complete", "Limiting", "Most", "Same", "Holds")
+# The definitions of the crates that a plan stands on, and Coq's.
+CRATES, COQ = "crates/bw_model/specs", "independent"
+# What is compiled again over changed definitions: they themselves, and the proofs that they stop.
+MODULES = {CRATES: (("Rules", "Refusals", "Reading"), ("Same", "Holds")),
+           COQ: (("Spec",), ("Total", "Splits"))}
 TOOLS = ("coqc", "coqchk", "ocamlfind")
 # One change of a definition of the crates, and of Coq's, each of which has to stop the proofs.
-CRATES, COQ = "crates/bw_model/specs", "independent"
 CHANGES = {
     "last mark": (f"{CRATES}/Marks.antt", "2 * slices - 1", "2 * slices"),
     "limits": (f"{CRATES}/Allocation.antt", "total groups.rows allocation g ≤ limit",
@@ -112,9 +113,9 @@ def changed_tree(folder, file, old, new):
     (folder / file).write_text(text.replace(old, new), encoding="utf-8")
 
 
-def stops(folder) -> str:
+def stops(folder, modules) -> str:
     """The module at which the proofs over changed definitions stop, or nothing."""
-    for module in MODULES:
+    for module in modules:
         ended = subprocess.run(["coqc", "-q", "-R", ".", "Independent", f"{module}.v"], cwd=folder,
                                capture_output=True, text=True, timeout=300, check=False)
         if ended.returncode:
@@ -132,13 +133,16 @@ def test_a_changed_definition_is_seen(built, tmp_path, name):
     shutil.copytree(built, made, ignore=shutil.ignore_patterns("*.glob", "*.vos", "*.vok"))
     shutil.copytree(tmp_path / "independent", made, dirs_exist_ok=True)
     subprocess.run(["/usr/bin/python3", FOLDER / "translate.py", tmp_path, made], check=True)
-    assert stops(made) in MODULES[4:], name
+    definitions, proofs = MODULES[COQ if file.startswith(COQ) else CRATES]
+    assert stops(made, definitions + proofs) in proofs, name
 
 
 def test_unchanged_definitions_stop_nothing(built, tmp_path):
     """The modules by which a change is seen pass where nothing was changed."""
-    shutil.copytree(built, tmp_path / "made")
-    same(stops(tmp_path / "made"), "")
+    for name, (definitions, proofs) in MODULES.items():
+        made = tmp_path / name.replace("/", "-")
+        shutil.copytree(built, made, ignore=shutil.ignore_patterns("*.glob"))
+        same(stops(made, definitions + proofs), "", name)
 
 
 def test_what_is_not_known_ends_the_translation(tmp_path):
