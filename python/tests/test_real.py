@@ -11,14 +11,19 @@ from arbiter_host import change, load
 from arbiter_host.sources import slurm, usage
 from places import PACKAGE
 
-REAL = PACKAGE / "tests/fixtures/real"
+REAL, EXAMPLES = PACKAGE / "tests/fixtures/real", PACKAGE.parent / "examples/hosts"
 HOST = Host(4, 100000, 1000)
 TRAIN, LOOSE, SWEEP = "alice:train:2", "bob:loose:4", "bob:sweep:5"
 
 
+def place(name):
+    """Where a file is: those that are examples too stand there."""
+    return next(folder / name for folder in (REAL, EXAMPLES) if (folder / name).exists())
+
+
 def files(*names):
     """Files as a source has them."""
-    return [(name, (REAL / name).read_bytes()) for name in names]
+    return [(name, place(name).read_bytes()) for name in names]
 
 
 def rows(model):
@@ -68,7 +73,7 @@ def test_use_of_steps_that_run():
 
 def test_sacctmgr_took_the_line(ctl, folder):
     """The limit of a job is one of its user, and where Slurm heeds it is told."""
-    source = (REAL / "squeue.json", REAL / "sinfo.json", "--set", "alice/train/2.max=2cpu")
+    source = (place("squeue.json"), place("sinfo.json"), "--set", "alice/train/2.max=2cpu")
     assert written(ctl, folder, "slurm", *source).endswith(
         "\nsacctmgr -i modify user where name=alice set MaxTRESPerJob=cpu=2\n")
     told = ctl.run("apply", *source, "-o", "slurm")[1]
@@ -82,7 +87,7 @@ def test_sacctmgr_took_the_line(ctl, folder):
 ])
 def test_kinds(name, kind):
     """Each is known by its bytes."""
-    assert load.kind_of("-", (REAL / name).read_bytes()) == kind
+    assert load.kind_of("-", place(name).read_bytes()) == kind
 
 
 # systemd 252
@@ -110,7 +115,7 @@ def test_units():
 
 def test_systemd_took_the_dropin(ctl, folder):
     """What is written is what systemd had, and it has the weight and the quota."""
-    text = written(ctl, folder, "dropin", REAL / "units.show", "--set",
+    text = written(ctl, folder, "dropin", place("units.show"), "--set",
                    "web.service.CPUWeight=300", "--set", "web.service.CPUQuota=250%")
     assert text == (REAL / "50-arbiter.conf").read_text()
     assert (REAL / "units-after.txt").read_text().splitlines()[:3] == [
@@ -174,7 +179,7 @@ def test_kubectl_took_the_patch(ctl, engine, folder, words, patch, patched):
 def test_compose_took_the_override(ctl, folder):
     """What is written is what docker-compose had, and its services have what is asked for."""
     words = ("shop-web-1.cpus=2", "shop-web-1.cpu-shares=1024", "shop-job-1.cpus=0.5")
-    text = written(ctl, folder, "compose", REAL / "compose-inspect.json",
+    text = written(ctl, folder, "compose", place("compose-inspect.json"),
                    *(word for each in words for word in ("--set", each)))
     assert text == (REAL / "shop.override.yaml").read_text()
     found = yaml.safe_load((REAL / "compose-config.yaml").read_text())["services"]
