@@ -29,7 +29,6 @@ need_packages() {
   for tool in "${tools[@]}"; do
     command -v "$tool" >/dev/null || missing+=("$tool")
   done
-  command -v ansible-playbook >/dev/null || missing+=(ansible-core)
   # What clang-14 links a program with sanitizers and a fuzzer to.
   compgen -G '/usr/lib/llvm-14/lib/clang/*/lib/linux/libclang_rt.fuzzer-*.a' >/dev/null ||
     missing+=(libclang-rt-14-dev)

@@ -685,7 +685,6 @@ def test_test_names_what_is_skipped(copy):
     same((status, out.split("\n")[-2]), (0, "16 passed, 0 failed"), err)
     holds("test: some tests are skipped: sudo apt-get install -y --no-install-recommends mandoc ",
           err, "the tools")
-    holds(" ansible-core", err, "the package of ansible-playbook")
 
 
 def test_test_sees_changed_sources(copy):
