@@ -70,12 +70,12 @@ def test_more_than_is_asked(ctl, folder):
 
 
 @pytest.mark.parametrize("processors, told", [
-    (64, "64 CPUs do not reach it\n"), (65, "64 CPUs do not reach it; more are not tried\n")])
+    (64, "64 CPUs do not reach it"), (65, "64 CPUs do not reach it; more are not tried")])
 def test_a_great_host(ctl, folder, processors, told):
     """The planner is asked of at most 64 CPUs, and of a greater host a line says so."""
     text = "mkdir a\nwrite a cpu.max 20000\ndemand a 20\n"
     out, _ = ctl.run("tune", script(folder, text), "--goal", "a=500m", "--cpus", processors)
-    assert f"CPUs{processors:9}      -  {told}" in out
+    assert ["CPUs", str(processors), "-", *told.split()] in map(str.split, out.split("\n"))
 
 
 def test_guarantees_of_the_inside(engine):

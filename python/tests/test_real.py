@@ -164,7 +164,7 @@ def test_use_of_containers(name):
 def test_kubectl_took_the_patch(ctl, engine, folder, words, patch, patched):
     """What is written is what kubectl had, and its result has the weights and limits asked for."""
     sets = [f"prod/web/{each}" for each in words]
-    text = written(ctl, folder, "kubectl-patch", REAL / "deployment.json",
+    text = written(ctl, folder, "kubectl", REAL / "deployment.json",
                    *(word for each in sets for word in ("--set", each)))
     assert text == (REAL / patch).read_text()
     before, found = (reading.pods(files(name), HOST, engine.library)
