@@ -39,8 +39,8 @@ class Measured:
     request: Fraction | None = None
     # Number of its tasks where it was read.
     tasks: int | None = None
-    # Thousandths of a CPU that it used, as others have measured it.
-    told: Fraction | None = None
+    # Thousandths of a CPU that it used at one time or more, as others have measured it.
+    told: tuple[Fraction, ...] = ()
 
 
 # The place of a group among what a source has read.
@@ -72,8 +72,8 @@ def rises(readings: Sequence[Reading], key: str) -> list[int]:
 
 def used(measured: Measured, seconds: Fraction) -> list[Fraction]:
     """Thousandths of a CPU that a group used from each reading to the next."""
-    if measured.told is not None:
-        return [measured.told]
+    if measured.told:
+        return list(measured.told)
     return [units.thousandths_of_usage(usec, seconds)
             for usec in rises(measured.readings, "usage")]
 

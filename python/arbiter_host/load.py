@@ -11,7 +11,7 @@ import importlib
 import os
 import stat
 import sys
-from collections.abc import Callable, Sequence
+from collections.abc import Sequence
 from contextlib import suppress
 from dataclasses import replace
 from fractions import Fraction
@@ -23,12 +23,10 @@ from arbiter_host.faults import HostFault, RefusedLines, UsageFault, strerror
 from arbiter_host.model import MAX_DEPTH, Model
 from arbiter_host.plan import Engine
 from arbiter_host.sources.register import READERS
-from arbiter_host.sources.wish import File, Measurable, Wish
+from arbiter_host.sources.wish import File, Wish
 
 if TYPE_CHECKING:
-    from arbiter_host.owned import Owned
     from arbiter_host.sources import cgroups
-    from arbiter_host.sources.usage import Used
 
 MAX_FILE = 512 << 20
 TOO_LONG = f"more than {MAX_FILE >> 20} MiB"
@@ -225,47 +223,10 @@ def chosen_host(options: argparse.Namespace, told: Host) -> Host:
     return wish_of(options).host(told)
 
 
-def check_measured(options: argparse.Namespace) -> None:
-    """A fault where the options say twice what was used, or take demands from something else."""
-    which, want = "--usage" if options.cgroup is None else "--cgroup", options.want
-    if options.usage is not None and options.cgroup is not None:
-        raise UsageFault("--usage and --cgroup say the same: one of both")
-    if want and (want not in demands.OF_USE or options.cgroup is None and want != "usage"):
-        of = "usage" if options.cgroup is None else ", ".join(demands.OF_USE)
-        raise UsageFault(f"{which} belongs to --want {of}, and not to {want}")
-
-
 @functools.lru_cache(maxsize=1)
 def standard_input() -> bytes:
     """Standard input, which is read once."""
     return file_bytes("-")
-
-
-def usage_of(options: argparse.Namespace) -> list[Used]:
-    """The entries of the file of `--usage`."""
-    from arbiter_host.sources import usage
-    paths = [options.source] if isinstance(options.source, str) else options.source
-    if options.usage == "-" and "-" in paths:
-        raise UsageFault("--usage -: standard input is the source already")
-    data = standard_input() if options.usage == "-" else file_bytes(options.usage)
-    return usage.read(data, names.shown(options.usage))
-
-
-def measured_by(options: argparse.Namespace) -> Callable[[Measurable], Owned] | None:
-    """What gives a source the use of its groups; None where no option says it."""
-    if options.usage is None and options.cgroup is None:
-        return None
-    check_measured(options)
-
-    def measured(source: Measurable) -> Owned:
-        if options.usage is not None:
-            return source.with_usage(usage_of(options), names.shown(options.usage))
-        from arbiter_host.sources import beside
-        known, seconds = beside.measured(options.cgroup, source.folders(),
-                                         readings_of(options, options.want or "usage"))
-        return source.with_readings(known, seconds)
-
-    return measured
 
 
 def wish_of(options: argparse.Namespace) -> Wish:
@@ -273,17 +234,20 @@ def wish_of(options: argparse.Namespace) -> Wish:
     period, slice_ = (None if getattr(options, name) is None
                       else time_option(getattr(options, name), f"--{name}")
                       for name in ("period", "slice"))
-    tree = options.cgroup or (options.root if getattr(options, "asked", "") == "apply"
-                              else "")
+    from arbiter_host.sources import used
+    tree = (used.tree_of(options) or options.root if getattr(options, "asked", "") == "apply"
+            else used.tree_of(options))
     return Wish(options.cpus, period, slice_, options.node, options.kubelet or options.conversion,
                 options.runtime or options.conversion, options.driver, tree, options.want or "",
-                interval_of(options.interval), measured_by(options))
+                interval_of(options.interval), used.measured_by(options))
 
 
 def opened(options: argparse.Namespace, paths: Sequence[str]) -> list[Opened]:
     """The files of some paths, after the options were checked."""
     check_options(options)
-    return [(path, None if os.path.isdir(path) else file_bytes(path)) for path in paths]
+    kept: dict[str, bytes | None] = getattr(options, "kept", {})
+    return [(path, kept[path]) if path in kept else
+            (path, None if os.path.isdir(path) else file_bytes(path)) for path in paths]
 
 
 def sources(options: argparse.Namespace, paths: Sequence[str]) -> list[list[Opened]]:
@@ -339,9 +303,8 @@ def read_files(options: argparse.Namespace, kind: str, files: Sequence[File],
                library: Library) -> Model:
     """The model of files of one kind, by the reader of the register."""
     reader = importlib.import_module(f"arbiter_host.sources.{READERS[kind].module}")
-    if not READERS[kind].is_measured and (options.usage or options.cgroup) is not None:
-        which = "--cgroup" if options.usage is None else "--usage"
-        raise UsageFault(f"{which} belongs to pods and containers, and not to {kind}")
+    if not READERS[kind].is_measured and options.used:
+        raise UsageFault(f"--used belongs to pods and containers, and not to {kind}")
     model: Model = reader.read(files, library, wish_of(options))
     return finished(options, model)
 

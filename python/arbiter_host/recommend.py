@@ -13,13 +13,14 @@ from dataclasses import dataclass
 from fractions import Fraction
 from typing import Any
 
-from arbiter_host import demands, names, samples, units
+from arbiter_host import demands, names, units
 from arbiter_host.demands import Use
 from arbiter_host.faults import HostFault, UsageFault
 from arbiter_host.model import Model
 from arbiter_host.owned import Amounts, Owned, Setting
 from arbiter_host.plan import Engine, Plan, guarantees, plan
 from arbiter_host.sources import usage
+from arbiter_host.sources.samples import History
 
 # The least request that is proposed, in thousandths of a CPU, as krr has it.
 LEAST = 10
@@ -95,18 +96,23 @@ def rule_of(target: str, headroom: str) -> Rule:
     return Rule(int(found.group(1)), parsed[0] / 100)
 
 
-def of_history(model: Model, found: Sequence[samples.Sample],
+def of_history(model: Model, history: History, unit: str,
                mapping: Mapping[str, str]) -> tuple[dict[str, Use], list[str]]:
-    """The use of each group in samples, and what is told of columns of no one group."""
+    """The use of each group in samples, and what is told of columns of no one group.
+
+    An empty cell is no sample.
+    """
     kind, values = owned_of(model), dict[str, list[Fraction]]()
-    missing = []
-    for column in samples.columns(found):
+    missing, found = [], [each.demands(unit, model.host) for each in history.samples]
+    for column in history.columns:
         paths = kind.named(mapping.get(column, column))
         if len(paths) != 1:
             missing.append(names.shown(column) + (f" ({len(paths)} {kind.noun}s)" if paths else ""))
             continue
-        values.setdefault(paths[0], []).extend(
-            each.demands[column] for each in found if column in each.demands)
+        if paths[0] in values:
+            raise HostFault(f"column {names.shown(column)}: another one is of the same"
+                            f" {kind.noun}")
+        values[paths[0]] = [each[column] for each in found if column in each]
     told = [f"columns of no {kind.noun} here, {usage.some(missing)}"] if missing else []
     return {path: Use(tuple(each)) for path, each in values.items() if each}, told
 

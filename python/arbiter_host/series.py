@@ -8,21 +8,27 @@ from __future__ import annotations
 import csv
 import io
 import json
-from collections.abc import Callable, Iterator, Sequence
-from dataclasses import dataclass
+from collections.abc import Callable, Iterator, Mapping, Sequence
+from dataclasses import dataclass, field
 from fractions import Fraction
 
 from arbiter_host import demands, svg, text, units
-from arbiter_host.faults import HostFault
+from arbiter_host.faults import HostFault, UsageFault
 from arbiter_host.model import Model
-from arbiter_host.names import cut, label, padded, short, shown, width
+from arbiter_host.names import cut, padded, short, shown, width
 from arbiter_host.plan import Engine, Plan, plan
-from arbiter_host.samples import Sample, columns
+from arbiter_host.sources.samples import History
 from arbiter_host.units import Slices
 
 FLAGS = (("T", "throttled", "#b4231f"), ("t", "throttled, not by its limit", "#d97706"),
          ("B", "burst", "#7c3aed"), ("S", "starved", "#111827"))
 MOST_PANELS = 40
+# The sums of a cell, and their names as data.
+COUNTS = {"gets": "got", "wants": "wanted", "periods": "periods", "throttled": "throttled",
+          "elsewhere": "throttled_not_by_limit", "bursts": "bursts", "starved": "starved",
+          "withheld": "withheld_usec"}
+# Most periods of one sample: a day of periods of 1 ms.
+MOST_PERIODS = 86400000
 # Most distinct periods that one sample is planned for.
 MOST_DISTINCT = 100000
 EDGE, LEFT, WIDE, TALL, STRIP, GAP, TOP = 16, 64, 760, 84, 5, 44, 64
@@ -30,11 +36,11 @@ EDGE, LEFT, WIDE, TALL, STRIP, GAP, TOP = 16, 64, 760, 84, 5, 44, 64
 
 @dataclass
 class Cell:
-    """One group in one sample: means in slices of a period, and counts of periods."""
+    """One group in one sample: sums over its periods, in slices, and counts of periods."""
 
-    gets: Fraction = Fraction(0)
-    wants: Fraction = Fraction(0)
-    limit: Fraction | None = None
+    gets: int = 0
+    wants: int = 0
+    limit: int | None = None
     periods: int = 0
     throttled: int = 0
     elsewhere: int = 0
@@ -43,11 +49,50 @@ class Cell:
     # Microseconds wanted above the limit.
     withheld: int = 0
 
+    def count(self, gets: int, wants: int, limit: int | None, is_throttled: bool, withheld: int,
+              quota: int | None, times: int) -> None:
+        """Adds so many periods. The quota is the limit without what was saved up."""
+        if limit is not None and (self.limit is not None or self.periods == 0):
+            self.limit = (self.limit or 0) + limit * times
+        self.periods += times
+        self.gets += gets * times
+        self.wants += wants * times
+        self.throttled += times * is_throttled
+        self.elsewhere += times * (is_throttled and limit is not None and gets < limit)
+        self.starved += times * (wants > 0 and gets == 0)
+        self.withheld += times * withheld * is_throttled
+        self.bursts += times * (quota is not None and gets > quota)
+
+    def mean(self, slices: int) -> Fraction:
+        """A sum as a mean over the periods."""
+        return Fraction(slices, max(self.periods, 1))
+
     @property
     def flags(self) -> str:
         """The letters of what happened in any of its periods."""
         counts = (self.throttled - self.elsewhere, self.elsewhere, self.bursts, self.starved)
         return "".join(letter for (letter, _, _), count in zip(FLAGS, counts) if count)
+
+
+@dataclass
+class Sums:
+    """One group over all samples: sums as of a cell, and runs of samples in which it starved."""
+
+    all: Cell = field(default_factory=Cell)
+    run: int = 0
+    longest: int = 0
+
+    def add(self, cell: Cell) -> None:
+        """Adds one sample."""
+        for key in COUNTS:
+            setattr(self.all, key, getattr(self.all, key) + getattr(cell, key))
+        self.run = self.run + 1 if cell.starved else 0
+        self.longest = max(self.longest, self.run)
+
+    def data(self) -> dict[str, int]:
+        """The sums as data."""
+        counts = {name: getattr(self.all, key) for key, name in COUNTS.items()}
+        return {**counts, "samples_starved_in_a_row": self.longest}
 
 
 @dataclass
@@ -59,52 +104,75 @@ class Series:
     cells: list[list[Cell]]
     plan: Plan
 
+    def sums(self, place: int) -> Sums:
+        """The sums of a group."""
+        found = Sums()
+        for row in self.cells:
+            found.add(row[place])
+        return found
 
-def targets(model: Model, names: Sequence[str], mapping: dict[str, str]) -> dict[str, str]:
-    """The path that each column stands for; a fault names a column of no one group."""
-    children, found = model.children(), {}
-    for name in names:
+
+def target(model: Model, children: Mapping[str, list[str]], pattern: str) -> str:
+    """The one group that a column names; a fault where there is none."""
+    groups = demands.matching(model, pattern)
+    paths = [group.path for group in groups if not children[group.path]]
+    if not paths and len(groups) == 1 and model.owned is not None:
+        # (a pod stands for its containers)
+        paths = [each for each in model.owned.meant(groups[0].path) if not children[each]]
+    if len(paths) != 1:
+        raise HostFault("a group with children" if not paths else f"{len(paths)} groups")
+    return paths[0]
+
+
+def targets(model: Model, columns: Sequence[str], mapping: Mapping[str, str],
+            missing: list[str] | None = None) -> dict[str, str]:
+    """The path that each column stands for; a fault names a column of no one group.
+
+    With `missing` such a column is put there, since a server may know other hosts too.
+    """
+    children, found = model.children(), dict[str, str]()
+    for name in columns:
         try:
-            groups = demands.matching(model, mapping.get(name, name))
+            path = target(model, children, mapping.get(name, name))
         except HostFault as fault:
-            raise HostFault(f"column {shown(name)}: {fault.message}: --map"
-                            f" {shown(name)}=GROUP") from fault
-        paths = [group.path for group in groups if not children[group.path]]
-        if not paths and len(groups) == 1 and model.owned is not None:
-            # (a pod stands for its containers)
-            paths = [each for each in model.owned.meant(groups[0].path) if not children[each]]
-        if len(paths) != 1:
-            why = "a group with children" if not paths else f"{len(paths)} groups"
-            raise HostFault(f"column {shown(name)} is {why}: --map {shown(name)}=GROUP")
-        found[name] = paths[0]
+            if missing is None:
+                raise HostFault(f"column {shown(name)}: {fault.message}: --map"
+                                f" {shown(name)}=GROUP") from fault
+            missing.append(shown(name))
+            continue
+        if path in found.values():
+            other = next(each for each, was in found.items() if was == path)
+            raise HostFault(f"columns {shown(other)} and {shown(name)} are both of the group"
+                            f" {shown(path)}")
+        found[name] = path
     return found
 
 
-def quota_slices(plan_: Plan, path: str) -> int | None:
+def sample_periods(usec: int, period: int) -> int:
+    """The periods of one sample of so many microseconds; 1 for 0."""
+    count, rest = divmod(usec, period) if usec else (1, 0)
+    if rest or not 1 <= count <= MOST_PERIODS:
+        raise UsageFault(f"--step: a whole number of periods of {period} microseconds, 1 to"
+                         f" {MOST_PERIODS}")
+    return count
+
+
+def quota_slices(model: Model, engine: Engine, path: str) -> int | None:
     """The quota of a group without what was saved up."""
-    group, host = plan_.model.groups[path], plan_.model.host
-    if group.quota is None:
+    group = model.groups.get(path)
+    if group is None or group.quota is None:
         return None
-    return Slices(plan_.engine.library, host).limit(group.quota, group.period)
+    return Slices(engine.library, model.host).limit(group.quota, group.period)
 
 
-def count_period(plan_: Plan, shown_: Sequence[str], cells: list[Cell], times: int) -> None:
+def count_period(plan_: Plan, groups: Sequence[str], quotas: Sequence[int | None],
+                 cells: Sequence[Cell], times: int) -> None:
     """Adds one plan to the cells, for so many periods."""
     by_path = plan_.by_path()
-    for path, cell in zip(shown_, cells):
+    for path, quota, cell in zip(groups, quotas, cells):
         group = by_path[path]
-        cell.periods += times
-        cell.gets += group.gets * times
-        cell.wants += group.want * times
-        if group.limit is not None and (cell.limit is not None or cell.periods == times):
-            cell.limit = (cell.limit or Fraction(0)) + group.limit * times
-        cell.throttled += times * group.is_throttled
-        cell.elsewhere += times * group.is_throttled_elsewhere
-        cell.starved += times * group.is_starved
-        if group.is_throttled:
-            cell.withheld += times * group.withheld * plan_.model.host.slice_us
-        quota = quota_slices(plan_, path) if group.group else None
-        cell.bursts += times * (quota is not None and group.gets > quota)
+        cell.count(group.gets, group.want, group.limit, group.is_throttled,
+                   group.withheld * plan_.model.host.slice_us, quota, times)
 
 
 def save_up(plan_: Plan) -> None:
@@ -153,33 +221,29 @@ def repeated(cycle: list[Plan], count: int) -> Iterator[tuple[Plan, int]]:
             yield each, times
 
 
-def run(engine: Engine, model: Model, samples: Sequence[Sample], chosen: Sequence[str],
-        mapping: dict[str, str], periods: int, tick: Callable[[], None]) -> Series:
-    """The samples one after another."""
-    if not samples:
-        raise HostFault("no sample")
-    path_of = targets(model, columns(samples), mapping)
-    shown_ = [each if each == "." else demands.matching(model, each)[0].path for each in chosen]
-    shown_ = shown_ or list(dict.fromkeys(path_of.values())) or ["."]
+def run(engine: Engine, model: Model, history: History, unit: str, chosen: Sequence[str],
+        path_of: Mapping[str, str], periods: int, tick: Callable[[], None]) -> Series:
+    """The samples one after another. Columns of no path are left out."""
+    groups = list(chosen) or list(dict.fromkeys(path_of.values())) or ["."]
     model, table, last = model.copy(), [], None
-    for sample in samples:
-        for name, demand in sample.demands.items():
-            model.groups[path_of[name]].demand = demand
-        cells = [Cell() for _ in shown_]
+    quotas = [quota_slices(model, engine, path) for path in groups]
+    for _, asked in history.demands(unit, model.host):
+        set_demands(model, path_of, asked)
+        cells = [Cell() for _ in groups]
         for last, times in periods_of(engine, model, periods):
-            count_period(last, shown_, cells, times)
-        table.append([averaged(cell) for cell in cells])
+            count_period(last, groups, quotas, cells, times)
+        table.append(cells)
         tick()
-    assert last is not None
-    return Series([sample.name for sample in samples], list(shown_), table, last)
+    if last is None:
+        raise HostFault("no sample")
+    return Series([each.name for each in history.samples], groups, table, last)
 
 
-def averaged(cell: Cell) -> Cell:
-    """A cell whose sums are means."""
-    count = max(cell.periods, 1)
-    cell.gets, cell.wants = cell.gets / count, cell.wants / count
-    cell.limit = None if cell.limit is None else cell.limit / count
-    return cell
+def set_demands(model: Model, path_of: Mapping[str, str], asked: Mapping[str, Fraction]) -> None:
+    """Sets the demands that a sample names."""
+    for name, demand in asked.items():
+        if name in path_of:
+            model.groups[path_of[name]].demand = demand
 
 
 def written(series: Series, slices: Fraction, unit: str) -> str:
@@ -192,39 +256,18 @@ def written(series: Series, slices: Fraction, unit: str) -> str:
     return units.decimal(value, 3 if unit == "cpu" else 1)
 
 
-def table_lines(series: Series, unit: str) -> Iterator[str]:
-    """One line for each sample: what it gets of what it wants, with flags."""
-    heads = ["sample", *(short(shown(path)) for path in series.groups)]
-    rows = [[shown(name), *(f"{written(series, cell.gets, unit)}/"
-                            f"{written(series, cell.wants, unit)}{cell.flags}" for cell in cells)]
-            for name, cells in zip(series.names, series.cells)]
-    widths = [max(map(width, column)) for column in zip(heads, *rows)]
-    for row in [heads, *rows]:
-        yield "  ".join(" " * (widths[at] - width(each)) + each for at, each in enumerate(row))
-
-
-def longest(cells: Sequence[Cell]) -> int:
-    """The longest run of samples in which a group starved."""
-    best = count = 0
-    for cell in cells:
-        count = count + 1 if cell.starved else 0
-        best = max(best, count)
-    return best
-
-
 def summary_rows(series: Series, unit: str) -> list[list[str]]:
     """The sums of each group."""
     rows = [["group", "wanted", "got", "of it", "throttled", "not by limit", "withheld_usec",
              "bursts", "starved", "samples in a row"]]
     for place, path in enumerate(series.groups):
-        cells = [row[place] for row in series.cells]
-        wanted, got = (sum((getattr(each, key) for each in cells), Fraction(0)) / len(cells)
-                       for key in ("wants", "gets"))
-        part = f"{float(100 * got / wanted):.0f}%" if wanted else "-"
-        counts = [sum(getattr(each, key) for each in cells)
-                  for key in ("throttled", "elsewhere", "withheld", "bursts", "starved")]
-        rows.append([short(shown(path)), written(series, wanted, unit), written(series, got, unit),
-                     part, *map(str, counts), str(longest(cells))])
+        sums = series.sums(place)
+        all_ = sums.all
+        part = f"{100 * all_.gets / all_.wants:.0f}%" if all_.wants else "-"
+        counts = (all_.throttled, all_.elsewhere, all_.withheld, all_.bursts, all_.starved)
+        rows.append([short(shown(path)), *(written(series, all_.mean(each), unit)
+                                           for each in (all_.wants, all_.gets)),
+                     part, *map(str, counts), str(sums.longest)])
     return rows
 
 
@@ -237,13 +280,18 @@ def summary_lines(series: Series, unit: str) -> Iterator[str]:
                          *(each.rjust(widths[at]) for at, each in enumerate(row) if at)])
 
 
+def as_text(series: Series, unit: str) -> str:
+    """The sums as text."""
+    return "".join(f"{line}\n" for line in summary_lines(series, unit))
+
+
 def records(series: Series, unit: str) -> Iterator[dict[str, object]]:
     """One record for each group and sample."""
     for name, cells in zip(series.names, series.cells):
         for path, cell in zip(series.groups, cells):
-            limit = None if cell.limit is None else written(series, cell.limit, unit)
-            yield {"sample": name, "group": path, "gets": written(series, cell.gets, unit),
-                   "wants": written(series, cell.wants, unit), "limit": limit,
+            gets, wants, limit = (None if each is None else written(series, cell.mean(each), unit)
+                                  for each in (cell.gets, cell.wants, cell.limit))
+            yield {"sample": name, "group": path, "gets": gets, "wants": wants, "limit": limit,
                    "periods": cell.periods, "throttled": cell.throttled,
                    "throttled_not_by_limit": cell.elsewhere, "bursts": cell.bursts,
                    "starved": cell.starved, "withheld_usec": cell.withheld}
@@ -264,20 +312,6 @@ def as_csv(series: Series, unit: str) -> str:
 def as_json(series: Series, unit: str) -> str:
     """The records as JSON, with ASCII letters alone."""
     return json.dumps({"unit": unit, "records": list(records(series, unit))}, indent=1) + "\n"
-
-
-def as_metrics(series: Series) -> str:
-    """The last sample as OpenMetrics, for a textfile collector."""
-    host, lines = series.plan.model.host, []
-    one = Fraction(host.slice_us, host.period_us)
-    for key, words in (("gets", "CPUs that the plan gives a group."),
-                       ("wants", "CPUs that a group wants.")):
-        lines += [f"# TYPE arbiter_plan_{key}_cpus gauge",
-                  f"# HELP arbiter_plan_{key}_cpus {words}"]
-        for path, cell in zip(series.groups, series.cells[-1]):
-            value = units.decimal(getattr(cell, key) * one, 6)
-            lines.append(f'arbiter_plan_{key}_cpus{{group="{label(path)}"}} {value}')
-    return "\n".join([*lines, "# EOF", ""])
 
 
 def stairs(values: Sequence[float], x: Callable[[float], float],
@@ -312,11 +346,11 @@ def panel(series: Series, place: int, top: float) -> Iterator[str]:
     host = series.plan.model.host
     one = host.slice_us / host.period_us
     cells = [row[place] for row in series.cells]
-    wants, gets = [float(each.wants) * one for each in cells], [float(each.gets) * one
-                                                               for each in cells]
+    wants = [float(each.mean(each.wants)) * one for each in cells]
+    gets = [float(each.mean(each.gets)) * one for each in cells]
     most = max(*wants, *gets, one)
-    limits = [None if each.limit is None or float(each.limit) * one > 2 * most
-              else float(each.limit) * one for each in cells]
+    limits = [None if each.limit is None else float(each.mean(each.limit)) * one for each in cells]
+    limits = [None if each is None or each > 2 * most else each for each in limits]
     most = max([most, *(each for each in limits if each is not None)])
 
     def x(at: float) -> float:
@@ -375,7 +409,7 @@ def picture(series: Series) -> str:
     """The groups over time as SVG."""
     if len(series.groups) > MOST_PANELS:
         raise HostFault(f"{len(series.groups)} groups are too many for one picture:"
-                        " --groups chooses some")
+                        " -g chooses some")
     height = TOP + 16 + len(series.groups) * (TALL + GAP) + 12
     title = f"{len(series.names)} samples, CPUs in each: {text.host_words(series.plan)}"
     parts = [svg.words((EDGE, 24), title, svg.INK, 13, "start", True), *legend(46)]

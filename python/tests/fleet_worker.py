@@ -4,7 +4,6 @@
     fleet_worker.py ADDRESS MODE     a worker: honest, or wrong in one way
 """
 import asyncio
-import json
 import os
 import sys
 import time
@@ -16,41 +15,24 @@ sys.path[:0] = [str(PACKAGE)]
 from arbiter_host.fleet import work  # noqa: E402
 
 
-def forged(job_text, items):
-    """What is wanted is one slice more than the planner's."""
-    reply = json.loads(honest(job_text, items))
-    for result in reply["results"]:
-        found = json.loads(result[2])
-        if "answer" in found:
-            found["answer"]["wanted"] += 1
-        result[2] = json.dumps(found)
-    return json.dumps(reply).encode()
+def forged(job_text, item):
+    """A host of more CPUs than its plan is of."""
+    return honest(job_text, item).replace(b'"host": [', b'"host": [1')
 
 
-def garbage(job_text, items):
-    """No reply at all."""
-    return b"\xff{"
-
-
-def hung(job_text, items):
+def hung(job_text, item):
     """Never ends. What waits for it reads that it has begun."""
     print("begun", flush=True)
     time.sleep(3600)
 
 
-def dying(job_text, items):
-    """Takes the worker with it."""
-    os._exit(1)
-
-
-def pickled(job_text, items):
+def pickled(job_text, item):
     """An object in place of bytes."""
-    return {"results": items}
+    return {"results": item}
 
 
 honest = work.answered
-MODES = {"honest": honest, "forged": forged, "garbage": garbage, "hung": hung, "dying": dying,
-         "pickled": pickled}
+MODES = {"honest": honest, "forged": forged, "hung": hung, "pickled": pickled}
 
 
 async def scheduler():

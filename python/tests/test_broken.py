@@ -5,13 +5,13 @@ from pathlib import Path
 import reading
 import trees
 from arbiter import Host
-from arbiter_host import names, samples
+from arbiter_host import names
 from arbiter_host.faults import HostFault
 from arbiter_host.fleet import hosts
 from arbiter_host.model import Model
 from arbiter_host.owned import Setting
 from arbiter_host.plan import plan
-from arbiter_host.sources import cgroup2, cgroups, hostfile, script
+from arbiter_host.sources import cgroup2, cgroups, hostfile, samples, script
 from hypothesis import HealthCheck, example, given, settings
 from hypothesis import strategies as st
 
@@ -122,8 +122,8 @@ def test_kubernetes(engine, data):
 @given(data=st.one_of(broken(CLUSTER), st.binary(max_size=200)))
 def test_cluster(engine, data):
     """Each node of a cluster is one host, whatever its pods say; pods that wait have a shape."""
-    whole = holds(engine, lambda: hosts.document("F", data))
-    fleet = None if whole is None else holds(engine, lambda: hosts.of_cluster("F", whole))
+    items = holds(engine, lambda: hosts.items_of("F", data))
+    fleet = holds(engine, lambda: hosts.of_cluster("F", items)) if items else None
     for host in fleet.hosts if fleet else ():
         planned(engine, holds(engine, lambda: reading.pods([("F", host.data)], HOST,
                                                               engine.library)))
@@ -162,7 +162,8 @@ def test_units(engine, data):
 @given(data=st.one_of(broken(CSV), st.binary(max_size=200)))
 def test_samples(engine, data):
     for read in (samples.read_csv, samples.read_pairs):
-        holds(engine, lambda: read(data, "F", "cpu", HOST))
+        holds(engine, lambda: list(read(data, "F").demands("cpu", HOST)))
+    holds(engine, lambda: samples.read_table(data, "F"))
 
 
 FILES = ["cpu.weight", "cpu.max", "cpu.max.burst", "cpu.stat", "cpu.pressure", "cgroup.threads",

@@ -5,9 +5,9 @@
 import json
 from pathlib import Path
 
+import fleets
 import pytest
 import yaml
-from arbiter_host.fleet import hosts
 
 FIXTURES = Path(__file__).parent / "fixtures"
 CLUSTER = FIXTURES / "cluster.json"
@@ -15,8 +15,8 @@ NEEDS = ("--workers", "0")
 
 
 def planned(ctl, *words, **options):
-    """What `fleet plan` says as JSON, and what it warns of."""
-    out, err = ctl.run("fleet", "plan", *words, *NEEDS, "--json", **options)
+    """What `explain` says of a cluster as JSON, and what it warns of."""
+    out, err = ctl.run("explain", *words, *NEEDS, "-o", "json", **options)
     return json.loads(out), err
 
 
@@ -26,8 +26,8 @@ def test_each_node_is_a_row(ctl):
     one = found["hosts"][0]
     assert [(each["host"], each["cpus"], each["groups"], each["served"])
             for each in found["hosts"]] == [("n1", 4, 17, 195), ("n2", 2, 6, 50)]
-    whole = json.loads(ctl.run("explain", FIXTURES / "pods.json", FIXTURES / "node.json",
-                               "--json")[0])
+    whole = json.loads(ctl.run("explain", FIXTURES / "pods.json", FIXTURES / "node.json", "-o",
+                               "json")[0])
     assert (one["served"], one["wanted"], one["groups"]) == (
         whole["served"]["slices"], whole["wanted"]["slices"], len(whole["groups"]) - 1)
     assert "pods of nodes that are not in it, left out: 1: team/far" in err
@@ -48,7 +48,7 @@ def test_pending_pods_are_placed(ctl):
                                 " there, and so 1 more")
     job = found["pending"][0]
     assert (job["gets_cpus"], job["wants_cpus"], job["lost_cpus"]) == (1, 1, 0)
-    out, _ = ctl.run("fleet", "plan", CLUSTER, *NEEDS)
+    out, _ = ctl.run("explain", CLUSTER, *NEEDS)
     assert "pods that no node has yet: 5, unplaced: 2; by least-loss: the least that" in out
     assert "team/job-1     1000m  n2" in out and "team/huge      5000m  unplaced" in out
 
@@ -61,12 +61,12 @@ def test_a_pod_weighs_on_its_class(ctl, folder):
     pod = [each for each in json.loads(CLUSTER.read_text())["items"]
            if each["metadata"]["name"] == "job-1"]
     (folder / "job.json").write_text(json.dumps(pod[0]))
-    found = json.loads(ctl.run("fleet", "place", folder / "job.json", "--hosts", CLUSTER, "--want",
-                               "busy", *NEEDS, "--json")[0])
+    found = json.loads(ctl.run("place", CLUSTER, "--pod", folder / "job.json", "--want", "busy",
+                               *NEEDS, "-o", "json")[0])
     by = {host["host"]: host["pods"][0] for host in found["hosts"]}
     assert "it requests 1000m, and 3500m less the 3200m" in by["n1"]["why"]
     assert (by["n2"]["gets"], by["n2"]["lost"]) == (132, 132)
-    out, _ = ctl.run("fleet", "place", folder / "job.json", "--hosts", CLUSTER, *NEEDS)
+    out, _ = ctl.run("place", CLUSTER, "--pod", folder / "job.json", *NEEDS)
     assert ("job.json: hosts that give it all without a loss to others: 1 of 2; that cannot take"
             " it: 1, as n1: it requests 1000m, and 3500m less the 3200m of others are there\n"
             ) in out
@@ -80,8 +80,8 @@ def test_one_more_pod_of_a_deployment(ctl, folder):
              "metadata": {"name": "jobs", "namespace": "team"},
              "spec": {"template": {"spec": spec}}}
     (folder / "made.json").write_text(json.dumps(maker))
-    found = json.loads(ctl.run("fleet", "place", folder / "made.json", "--hosts", CLUSTER, *NEEDS,
-                               "--json")[0])
+    found = json.loads(ctl.run("place", CLUSTER, "--pod", folder / "made.json", *NEEDS, "-o",
+                               "json")[0])
     by = {host["host"]: host["pods"][0] for host in found["hosts"]}
     assert "3500m less the 3200m" in by["n1"]["why"] and by["n2"]["gets"] == 100
     name, = (each["name"] for each in spec["containers"])
@@ -95,11 +95,13 @@ def test_one_more_pod_of_a_deployment(ctl, folder):
 
 
 def test_other_questions_of_a_cluster(ctl):
-    """what-if takes a cluster too."""
-    out, _ = ctl.run("fleet", "what-if", CLUSTER, "--set", "prod/web-*/nginx.request=1cpu",
-                     "--want", "busy", *NEEDS, "--json")
+    """diff takes a cluster too; --node makes one host of it."""
+    words = ("--set", "prod/web-*/nginx.request=1cpu", "--want", "busy")
+    out, _ = ctl.run("diff", CLUSTER, *words, *NEEDS, "-o", "json")
     found = json.loads(out)
     assert [host["matched"] for host in found["hosts"]] == [1, 0]
+    out, _ = ctl.run("diff", CLUSTER, *words, "--node", "n1", "-o", "json")
+    assert "before" in json.loads(out) and "hosts" not in json.loads(out)
 
 
 def cluster(*items):
@@ -125,31 +127,28 @@ def pending(name, request="1", **metadata):
 ], ids=lambda each: ascii(each)[:20])
 def test_names_of_nodes_and_pods(ctl, name):
     """A name says nothing of what a node is, and reaches no terminal raw."""
-    data = cluster(node(name), pending(name), pending("y.toml", "3"))
-    out, err = ctl.run("fleet", "plan", "-", *NEEDS, given=data)
-    assert "hosts: 1, answered: 1" in out and "\x1b" not in out + err
+    data = cluster(node(name), node("other", "1"), pending(name), pending("y.toml", "3"))
+    out, err = ctl.run("explain", "-", *NEEDS, given=data)
+    assert "hosts: 2, answered: 2" in out and "\x1b" not in out + err
     assert "pods that no node has yet: 2, unplaced: 1" in out
 
 
-@pytest.mark.parametrize("data, words, status", [
-    (cluster(node("a"), node("a")), "two nodes of one name", 2),
-    (cluster(pending("p")), "no list of hosts: name a folder of their files", 1),
-    (b'{"kind": "List", "items": [', "no list of hosts: no line of it names a file", 1),
-    (b"{\n{\n", "no list of hosts: no line of it names a file that is there, such as '{'", 1),
-    (b"[groups.a]\nweight = 7\n\n[groups.a]\n", "such as '[groups.a]'", 1),
-    (b"\x1b[31m\n", "such as '\\x1b[31m'", 1), (b"", "no host", 1), (b"\xff", "not UTF-8", 1),
-    (b"\0\n", "no line of it names a file", 1), (b"[" * 100000, "no line of it names a file", 1),
-], ids=lambda each: repr(each)[:30])
-def test_what_is_no_fleet_is_named(ctl, data, words, status):
-    """One line, and never names of hosts that are none."""
-    out, err = ctl.run("fleet", "plan", "-", *NEEDS, given=data, status=status)
-    assert out == "" and words in err and "two hosts" not in err and "\x1b" not in err
+def test_two_nodes_of_one_name(ctl):
+    out, err = ctl.run("explain", "-", *NEEDS, given=cluster(node("a"), node("a")), status=2)
+    assert out == "" and "two nodes of one name" in err
+
+
+def test_one_node_is_one_host(ctl):
+    """What waits for a node is left out, and told."""
+    _, err = ctl.run("explain", "-", given=cluster(node("a"), {
+        **pending("here"), "spec": {**pending("x")["spec"], "nodeName": "a"}}, pending("p")))
+    assert "pods that no node has yet, left out: 1" in err
 
 
 def test_a_broken_node_is_named(ctl):
     """A node without CPUs is one host that is not answered."""
     data = cluster(node("good"), node("bad", "x"), pending("p"))
-    out, err = ctl.run("fleet", "plan", "-", *NEEDS, given=data, status=1)
+    out, err = ctl.run("explain", "-", *NEEDS, given=data, status=1)
     assert "answered: 1, not answered: 1" in out and "bad: number of CPUs unknown" in out
     assert "x/p" in out and "good" in out
 
@@ -188,36 +187,54 @@ def test_usage_of_a_cluster(ctl, folder):
     """Each node has the use of its pods: n1 308 slices, and n2 70. A pod that waits asks anew."""
     top = (FIXTURES / "top.txt").read_text() + "prod api-0 main 700m 9Mi\nteam far main 1m 9Mi\n"
     (folder / "top").write_text(top)
-    found, err = planned(ctl, CLUSTER, "--usage", folder / "top")
+    found, err = planned(ctl, CLUSTER, "--used", folder / "top")
     assert [(each["host"], each["wanted"]) for each in found["hosts"]] == [("n1", 308), ("n2", 70)]
     assert ("used by pods that no node here has: 2: kube-system/coredns-5d78-4x2, team/far" in err)
     job = found["pending"][0]
     assert (job["host"], job["wants_cpus"], job["gets_cpus"]) == ("n2", 1, 1)
     (folder / "top").write_text("NAMESPACE POD NAME CPU(cores)\nprod api-0 main 1m\n")
-    out, _ = ctl.run("fleet", "plan", CLUSTER, *NEEDS, "--usage", folder / "top", status=1)
+    out, _ = ctl.run("explain", CLUSTER, *NEEDS, "--used", folder / "top", status=1)
     assert "n1: --want usage: what these pods used is not told" in out
     (folder / "top").write_text("NAMESPACE NAME CPU(cores)\nprod api-0 1m\n")
-    _, err = ctl.run("fleet", "plan", CLUSTER, *NEEDS, "--usage", folder / "top", status=1)
+    _, err = ctl.run("explain", CLUSTER, *NEEDS, "--used", folder / "top", status=1)
     assert "prod/api-0: of a cluster usage is told by namespace, pod and container" in err
+
+
+def test_a_history_of_a_cluster(ctl, folder):
+    """Two samples of 300m and 500m: their mean by itself, the greatest by --want peak."""
+    (folder / "h.csv").write_text("time,prod/api-0/main\n1,300m\n2,500m\n")
+    for words, slices in (((), 40), (("--want", "peak"), 50)):
+        found, _ = planned(ctl, CLUSTER, "--used", folder / "h.csv", *words, status=1)
+        assert [(each["host"], each["wanted"]) for each in found["hosts"]] == [("n2", slices)]
+
+
+def test_replay_of_a_cluster(ctl, folder):
+    """Each node has the columns of its pods, and no other."""
+    (folder / "h.csv").write_text("time,prod/api-0,prod/db-0/postgres\n1,300m,2\n2,500m,1\n")
+    out, _ = ctl.run("replay", CLUSTER, "--used", folder / "h.csv", *NEEDS, "-o", "json")
+    found = json.loads(out)["hosts"]
+    assert [[(each["group"], each["wanted"]) for each in host["groups_of_columns"]]
+            for host in found] == [[("kubepods/prod:db-0/postgres", 300)],
+                                   [("kubepods/burstable/prod:api-0/main", 80)]]
 
 
 def test_pods_of_one_shape_are_asked_once(folder):
     """Replicas differ in names alone."""
-    (folder / "c.json").write_bytes(cluster(node("n"), *(
+    (folder / "c.json").write_bytes(cluster(node("n"), node("m"), *(
         pending(f"p{number}", uid=str(number)) for number in range(500)), pending("q", "2")))
-    fleet = hosts.fleet_of(str(folder / "c.json"))
+    fleet = fleets.of(folder / "c.json")
     assert (len(fleet.pending), len(fleet.shapes())) == (501, 2)
     assert [each.title for each in fleet.shapes().values()] == ["x/q", "x/p0"]
 
 
 def test_a_cluster_by_processes(ctl):
-    """The same by workers, with each certificate checked twice."""
+    """The same by two processes."""
     alone, _ = planned(ctl, CLUSTER)
-    out, _ = ctl.run("fleet", "plan", CLUSTER, "--workers", "2", "--recheck", "all", "--json")
+    out, _ = ctl.run("explain", CLUSTER, "--workers", "2", "-o", "json")
     assert json.loads(out) == alone
 
 
 def test_the_page_has_the_pods(ctl, folder):
-    ctl.run("fleet", "plan", CLUSTER, *NEEDS, "--html", folder / "c.html")
+    ctl.run("explain", CLUSTER, *NEEDS, "-o", f"html={folder / 'c.html'}")
     text = (folder / "c.html").read_text()
     assert "Pods that no node has yet" in text and "team/huge" in text

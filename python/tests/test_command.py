@@ -272,9 +272,6 @@ def test_words_that_are_refused_show_the_range(ctl, words, range_):
 
 def test_options_between_sources(ctl):
     """Sources and options may stand in any order. A word that is none is named."""
-    day = [ROOT / "examples/day.script", "--unit", "slices", ROOT / "examples/day.csv", "--summary"]
-    out, _ = ctl.run("series", *day)
-    assert out == ctl.run("series", day[0], day[3], *day[1:3], day[4])[0] and "monitor" in out
     pods = [ROOT / "examples/pods.json", "--want", "busy", ROOT / "examples/node.json"]
     assert ctl.run("explain", *pods)[0] == ctl.run("explain", pods[0], pods[3], *pods[1:3])[0]
     for words in (["explain", *pods, "--frob"], ["--frob", "explain", pods[0]]):

@@ -1,14 +1,10 @@
-"""Pictures, the page, series over time and the live view."""
-import csv
+"""Pictures, the page and the live view."""
 import html
-import http.server
-import io
 import json
 import re
 import shutil
 import signal
 import subprocess
-import threading
 import time
 import xml.etree.ElementTree
 from fractions import Fraction
@@ -16,14 +12,11 @@ from fractions import Fraction
 import pytest
 import trees
 from arbiter import Host
-from arbiter_host import explain, picture, report, samples, series, top
+from arbiter_host import explain, picture, report, top
 from arbiter_host.explain import View
-from arbiter_host.faults import HostFault
 from arbiter_host.model import Group, Model
 from arbiter_host.plan import plan
 from places import PACKAGE
-from hypothesis import HealthCheck, given, settings
-from hypothesis import strategies as st
 
 ROOT = PACKAGE.parent
 SVG = "{http://www.w3.org/2000/svg}"
@@ -248,207 +241,6 @@ def test_keys_of_the_page(ctl, folder):
     assert seen == ["system.slice", "kubelet.service", "system.slice", "kubelet.service",
                     "system.slice", "system.slice", "the host", "scanner", "find"]
     assert (reached, rows) == (1, page.count("data-path=") - 4)
-
-
-# series
-
-DAY = ["--slice", "1ms", "--unit", "slices"]
-
-
-def day(ctl, *words):
-    """The day of examples/ as a series."""
-    files = (ROOT / "examples/day.script", ROOT / "examples/day.csv")
-    return ctl.run("series", *files, *DAY, *words)[0]
-
-
-def test_series_of_a_day(ctl):
-    """One period a sample: web saves up and is throttled, monitor starves."""
-    rows = [line.split() for line in day(ctl).split("\n")]
-    assert ["06:00", "42/42B", "20/20", "0/0", "2/2"] in rows
-    assert ["07:00", "50/55TB", "24/24", "0/0", "2/2"] in rows
-    assert ["15:30", "40/47T", "22/22", "38/80", "0/2S"] in rows
-    assert ["monitor", "2", "1.1", "54%", "0", "0", "0", "0", "16", "15"] in rows
-
-
-def test_series_with_the_length_of_a_sample(ctl):
-    """18000 periods a sample: what was saved up is gone in the first period of 06:30's rise."""
-    rows = json.loads(day(ctl, "--sample", "30m", "--to", "json"))["records"]
-    at = {row["sample"]: row for row in rows if row["group"] == "web"}
-    assert at["06:30"]["periods"] == 18000
-    assert (at["06:30"]["gets"], at["06:30"]["throttled"]) == ("40", 18000)
-    assert at["06:00"]["bursts"] > 0 and at["07:00"]["bursts"] == 0
-
-
-def counted(engine, model, periods):
-    """What each group gets in so many periods, one after another."""
-    total = [0] * (len(model.groups) + 1)
-    for _ in range(periods):
-        found = plan(engine, model.copy())
-        total = [one + group.gets for one, group in zip(total, found.groups)]
-        series.settle(found, model)
-    return total
-
-
-@settings(max_examples=30, deadline=None, suppress_health_check=list(HealthCheck))
-@given(quota=st.integers(1, 30), burst=st.integers(0, 30), before=st.integers(0, 40),
-       after=st.integers(0, 40), periods=st.integers(1, 60))
-def test_repeated_periods_are_periods(engine, quota, burst, before, after, periods):
-    """Periods that are counted at once give the sums of periods that are planned one by one."""
-    def made():
-        model = Model(Host(1, 100000, 5000))
-        model.add(Group("a", 300, quota * 5000, 100000, min(burst, quota) * 5000))
-        model.add(Group("b", 100, quota * 2500, 100000, min(burst, quota) * 2500))
-        model.groups["a"].demand, model.groups["b"].demand = Fraction(before * 50), Fraction(400)
-        return model
-
-    one, two = made(), made()
-    for model, run in ((one, counted), (two, None)):
-        sums = []
-        for demand in (before, after, before):
-            model.groups["a"].demand = Fraction(demand * 50)
-            if run:
-                sums.append(run(engine, model, periods))
-            else:
-                total = [0, 0, 0]
-                for found, times in series.periods_of(engine, model, periods):
-                    total = [each + group.gets * times for each, group in zip(total, found.groups)]
-                sums.append(total)
-        model.notes = sums
-    assert one.notes == two.notes
-
-
-@pytest.mark.parametrize("data", [
-    b"\xef\xbb\xbfTime,web\n2026-01-05 10:00:00,0.5\n", b"Time;web\n1767607200;0,5\n",
-    b"sep=;\n\"Time\";\"web\"\n1767607200000;500m\n",
-    b"timestamp\tweb\n2026-01-05T10:00:00Z\t50%\n",
-    "Time,web\n10:00,0.5\n".encode("utf-16"), b"time,web\r\n10:00,500 m\r\n\r\n",
-])
-def test_csv_as_grafana_writes_it(data):
-    found = samples.read_csv(data, "f", "cpu", Host())
-    assert [sample.demands for sample in found] == [{"web": 500}]
-    if b"1767607200" in data:
-        assert found[0].name == "2026-01-05 10:00:00"
-
-
-@pytest.mark.parametrize("data, words", [
-    (b"Time,web\n1,x\n", "f:2: 'x' is no number"), (b"Time,web\n1\n", "f:2: 1 cells and not 2"),
-    (b"Time,web\n1,\xff\n", "f:2: not UTF-8"), (b"web\n-1\n", "f:2: "),
-])
-def test_csv_that_is_refused(data, words):
-    with pytest.raises(HostFault) as fault:
-        samples.read_csv(data, "f", "cpu", Host())
-    assert words in fault.value.message
-
-
-@pytest.mark.parametrize("holes, wants", [
-    ([], ["0.3 0.2", "0 0", "0.1 0"]), (["--holes", "keep"], ["0.3 0.2", "0.3 0.2", "0.1 0.2"]),
-], ids=["nothing asked", "kept"])
-def test_holes_of_a_series(ctl, folder, holes, wants):
-    """A pod that has ended has empty cells: it asks for nothing, unless holes are kept."""
-    (folder / "d.csv").write_text("time,web,db\n0,0.3,0.2\n1,,\n2,0.1,null\n")
-    script = b"# arbiter run --processors 1 --period 100000 --slice 10000\nmkdir web\nmkdir db\n"
-    out, _ = ctl.run("series", "-", folder / "d.csv", "--to", "csv", *holes, given=script)
-    rows = list(csv.DictReader(io.StringIO(out)))
-    found = [" ".join(str(float(row["wants"])).removesuffix(".0") for row in rows
-                      if row["sample"] == str(at)) for at in range(3)]
-    assert found == wants
-
-
-@pytest.mark.parametrize("holes, wants", [
-    ([], ["0.3 0.2", "0.1 0", "0 0.4", "0.5 0.4"]),
-    (["--holes", "keep"], ["0.3 0.2", "0.1 0.2", "0.1 0.4", "0.5 0.4"]),
-], ids=["nothing asked", "kept"])
-def test_several_files_of_a_series(ctl, folder, holes, wants):
-    """Days one after the other. A day of CSV without a pod has holes there; lines of pairs have
-    none. Samples without a time are numbered on."""
-    for name, text in (("1.csv", "web,db\n0.3,0.2\n"), ("2.csv", "web\n0.1\n"),
-                       ("3.csv", "db\n0.4\n"), ("4.txt", "web 0.5\n")):
-        (folder / name).write_text(text)
-    script = b"# arbiter run --processors 1 --period 100000 --slice 10000\nmkdir web\nmkdir db\n"
-    files = [folder / f"{day}" for day in ("1.csv", "2.csv", "3.csv", "4.txt")]
-    out, _ = ctl.run("series", "-", *files, "--to", "csv", *holes, given=script)
-    rows = list(csv.DictReader(io.StringIO(out)))
-    found = [" ".join(str(float(row["wants"])).removesuffix(".0") for row in rows
-                      if row["sample"] == str(at)) for at in range(1, 5)]
-    assert found == wants
-    words = ["series", ROOT / "examples/pod.script", "-", "-"]
-    assert "standard input is one file of demands" in ctl.run(*words, given=b"", status=2)[1]
-
-
-def test_a_pod_stands_for_its_one_container(ctl, folder):
-    """As with `--set`. Two containers are too many for one column."""
-    (folder / "d.csv").write_text("time,prod/api-0\n1,0.7\n")
-    cluster = PACKAGE / "tests/fixtures/cluster.json"
-    out, _ = ctl.run("series", cluster, folder / "d.csv", "--node", "n2", "--to", "csv")
-    row, = csv.DictReader(io.StringIO(out))
-    assert row["group"].endswith("prod:api-0/main") and row["wants"] == "0.7"
-    (folder / "d.csv").write_text("time,prod/web-7c9f\n1,0.7\n")
-    words = ["series", cluster, folder / "d.csv", "--node", "n1"]
-    assert ("column prod/web-7c9f is 2 groups: --map prod/web-7c9f=GROUP"
-            in ctl.run(*words, status=1)[1])
-
-
-def test_unknown_column(ctl, folder):
-    (folder / "d.csv").write_text("Time,nothing\n1,0.5\n")
-    words = ["series", ROOT / "examples/pod.script", folder / "d.csv"]
-    assert ctl.run(*words, status=1)[1].endswith(
-        "arbiterctl: column nothing: no group nothing: --map nothing=GROUP\n")
-    out, _ = ctl.run(*words, "--map", "nothing=job", "--to", "csv")
-    assert next(csv.DictReader(io.StringIO(out)))["group"] == "job"
-
-
-def test_outputs(ctl):
-    """CSV and JSON hold the same records; SVG is well formed; OpenMetrics ends as it should."""
-    rows = list(csv.DictReader(io.StringIO(day(ctl, "--to", "csv"))))
-    records = json.loads(day(ctl, "--to", "json"))["records"]
-    assert [row["gets"] for row in rows] == [record["gets"] for record in records]
-    assert len(rows) == 4 * 48
-    xml.etree.ElementTree.fromstring(day(ctl, "--to", "svg"))
-    lines = day(ctl, "--to", "openmetrics").split("\n")
-    assert lines[-2:] == ["# EOF", ""]
-    web = [record for record in records if record["group"] == "web"][-1]
-    assert f'arbiter_plan_gets_cpus{{group="web"}} 0.{int(web["gets"]):02}' in lines
-
-
-class Prometheus(http.server.BaseHTTPRequestHandler):
-    """Answers range queries in the format of Prometheus's HTTP API."""
-
-    asked: list[str] = []
-
-    def do_GET(self):
-        self.asked.append(self.path)
-        values = [[1767607200, "0.5"], [1767607500, "NaN"], [1767607800, "1.5"]]
-        result = [{"metric": {"pod": "web", "node": "n1"}, "values": values}]
-        body = json.dumps({"status": "success", "data": {"resultType": "matrix", "result": result}})
-        self.send_response(200 if "query_range" in self.path else 404)
-        self.end_headers()
-        self.wfile.write(body.encode())
-
-    def log_message(self, *_):
-        pass
-
-
-def test_prometheus(ctl):
-    """A range query, by a server that answers as the HTTP API is documented."""
-    server = http.server.ThreadingHTTPServer(("127.0.0.1", 0), Prometheus)
-    threading.Thread(target=server.serve_forever, daemon=True).start()
-    url = f"http://127.0.0.1:{server.server_port}"
-    words = ["series", "-", "--prometheus", url, "--query", "sum by (pod) (x)", "--start", "1",
-             "--end", "2", "--step", "5m", "--to", "csv"]
-    try:
-        out, _ = ctl.run(*words, given=b"mkdir web\nwrite web cpu.max 100000\n")
-        kept, _ = ctl.run(*words, "--holes", "keep", given=b"mkdir web\n")
-    finally:
-        server.shutdown()
-        server.server_close()
-    rows = list(csv.DictReader(io.StringIO(out)))
-    assert [(row["sample"], row["gets"], row["wants"]) for row in rows] == [
-        ("2026-01-05 10:00:00", "0.5", "0.5"), ("2026-01-05 10:05:00", "0", "0"),
-        ("2026-01-05 10:10:00", "1", "1.5")]
-    assert [row["wants"] for row in csv.DictReader(io.StringIO(kept))] == ["0.5", "0.5", "1.5"]
-    assert "query=sum+by+%28pod%29+%28x%29" in Prometheus.asked[0]
-    _, err = ctl.run(*words, given=b"mkdir web\n", status=1)
-    assert "refused" in err
 
 
 @pytest.mark.parametrize("rows, first, folds", [

@@ -174,8 +174,6 @@ def example_command(command, folder):
     if command.startswith("arbiterctl audit") and "--for" in command:
         tree = f" {folder}/cgroup" if "cgroup" not in command else ""
         command = busy(command.replace("60s", "1s --interval 500ms") + tree, folder)
-    if "fleet" in command:
-        command += " --workers 0"
     if "apply" in command or "hold" in command:
         command += f" --root {folder}/cgroup"
     return command

@@ -448,12 +448,9 @@ def test_a_fleet_takes_requests(ctl, folder):
     other = copy.deepcopy(both)
     other["items"] = [each for each in other["items"] if each["metadata"]["name"] != "web-7c9f"]
     (folder / "h/n2.json").write_text(json.dumps(other))
-    found = json.loads(ctl.run("fleet", "what-if", folder / "h", "--set",
-                               "prod/web-7c9f/nginx.request=1cpu", "--want", "busy", "--workers",
-                               "0", "--json")[0])
-    one, two = found["hosts"]
-    whole = json.loads(ctl.run("diff", PODS, NODE, "--want", "busy", "--set",
-                               "prod/web-7c9f/nginx.request=1cpu", "-o", "json")[0])
+    words = ("--set", "prod/web-7c9f/nginx.request=1cpu", "--want", "busy", "-o", "json")
+    one, two = json.loads(ctl.run("diff", folder / "h", "--workers", "0", *words)[0])["hosts"]
+    whole = json.loads(ctl.run("diff", PODS, NODE, *words)[0])
     rise = [each["change_millicpu"] for each in whole["changed"]
             if each["group"] == f"{WEB}/nginx"]
     assert [each * 10 for path, each in one["gains"] if path == f"{WEB}/nginx"] == rise
@@ -466,9 +463,8 @@ def test_a_class_that_changes_in_a_fleet(ctl, folder):
                                       json.loads(NODE.read_text())]}
     (folder / "h").mkdir()
     (folder / "h/n1.json").write_text(json.dumps(both))
-    found = json.loads(ctl.run("fleet", "what-if", folder / "h", "--set",
-                               "batch/report-x/report.request=233m", "--want", "busy", "--workers",
-                               "0", "--json")[0])
+    found = json.loads(ctl.run("diff", folder / "h", "--set", "batch/report-x/report.request=233m",
+                               "--want", "busy", "--workers", "0", "-o", "json")[0])
     # 52 slices and not 6.
     assert ["kubepods/besteffort/batch:report-x/report", 46] in found["hosts"][0]["gains"]
 

@@ -1,7 +1,9 @@
-"""A series from a real Prometheus over a recorded block, where Debian's package is here; servers
-that answer wrongly."""
+"""Use from a real Prometheus over a recorded block, where Debian's package is here; which series
+are one use; servers that answer wrongly."""
 import csv
 import io
+import json
+import re
 import shutil
 import socket
 import subprocess
@@ -14,9 +16,9 @@ from fractions import Fraction
 
 import pytest
 from arbiter import Host
-from arbiter_host import samples
-from arbiter_host.faults import HostFault
+from arbiter_host.faults import HostFault, UsageFault
 from arbiter_host.names import shown
+from arbiter_host.sources import prometheus
 
 BEGIN, STEP, COUNT = 1767607200, 300, 6
 # Seconds of CPU that each pod uses in a step, beginning with the first: half a CPU, then two.
@@ -80,15 +82,15 @@ def server(folder):
 
 def words_of(url, *words):
     """A command over the whole record."""
-    return ["series", "-", "--prometheus", url, "--query", QUERY, "--start", str(BEGIN + STEP),
-            "--end", str(BEGIN + STEP * (COUNT - 1)), "--step", "5m", *words]
+    return ["replay", "-", "--used", url, "--query", QUERY, "--range",
+            f"{BEGIN + STEP}/{BEGIN + STEP * (COUNT - 1)}", "--step", "5m", *words]
 
 
-def test_series_of_a_recorded_block(ctl, server):
+def test_replay_of_a_recorded_block(ctl, server):
     """web has at most one CPU of two; db has all that it wants."""
     script = ("# arbiter run --processors 2 --period 100000 --slice 1000\nmkdir web\nmkdir db\n"
               "write web cpu.max 100000\n")
-    words = words_of(server, "--to", "csv", "--sample", "5m")
+    words = words_of(server, "-o", "csv")
     out, _ = ctl.run(*words, given=script.encode())
     rows = list(csv.DictReader(io.StringIO(out)))
     found = {pod: [row["gets"] for row in rows if row["group"] == pod] for pod in USED}
@@ -103,17 +105,158 @@ def test_what_a_server_refuses(ctl, server):
     assert "400" in ctl.run(*words, given=b"mkdir web\n", status=1)[1]
 
 
-def test_metrics_are_metrics(ctl, folder):
-    """promtool takes the OpenMetrics that a textfile collector would read."""
-    tool = shutil.which("promtool")
-    if tool is None:
-        pytest.skip("no promtool here: apt-get install prometheus")
-    (folder / "d.csv").write_text('time,a\n1,0.5\n')
-    out, _ = ctl.run("series", "-", folder / "d.csv", "--to", "openmetrics",
-                     given=b"mkdir a\nmkdir b\ndemand b 5\n")
-    ended = subprocess.run([tool, "check", "metrics"], input=out.encode(), capture_output=True,
-                           check=False, timeout=60)
-    assert ended.returncode == 0, ended.stdout + ended.stderr
+# As kubelet's cAdvisor tells them: a pod, its pause container, and containers. Of `web` there are
+# two pods of one name. The first container of `db` was made anew after two steps.
+CADVISOR = [
+    ({"namespace": "prod", "pod": "web", "container": "app", "id": "/p/web/a"}, [30] * 5),
+    ({"namespace": "prod", "pod": "web", "container": "log", "id": "/p/web/l"}, [15] * 5),
+    ({"namespace": "prod", "pod": "web", "id": "/p/web"}, [45] * 5),
+    ({"namespace": "prod", "pod": "web", "container": "POD", "id": "/p/web/p"}, [3] * 5),
+    ({"namespace": "test", "pod": "web", "container": "app", "id": "/t/web/a"}, [150] * 5),
+    ({"namespace": "prod", "pod": "db", "container": "sql", "id": "/p/db/1"}, [60, 60]),
+    ({"namespace": "prod", "pod": "db", "container": "sql", "id": "/p/db/2"}, [0, 0, 60, 60, 60]),
+    ({"id": "/"}, [600] * 5),
+]
+
+
+def counters_of(series):
+    """Counters of such use in each step, in OpenMetrics."""
+    lines = ["# TYPE container_cpu_usage_seconds counter"]
+    for labels, used in series:
+        words = ",".join(f'{key}="{value}"' for key, value in labels.items())
+        for place in range(len(used) + 1):
+            lines.append(f"container_cpu_usage_seconds_total{{{words}}} {sum(used[:place])}"
+                         f" {BEGIN + STEP * place}")
+    return "\n".join([*lines, "# EOF", ""])
+
+
+def pods_of(*containers):
+    """The JSON of pods and their node, by namespace, pod and container."""
+    items = [{"kind": "Node", "metadata": {"name": "n"}, "status": {"capacity": {"cpu": "4"}}}]
+    for pod in dict.fromkeys(each[:2] for each in containers):
+        items.append({"kind": "Pod", "metadata": dict(zip(("namespace", "name"), pod)), "spec": {
+            "containers": [{"name": each[2]} for each in containers if each[:2] == pod]}})
+    return json.dumps({"kind": "List", "items": items}).encode()
+
+
+PODS = pods_of(("prod", "web", "app"), ("prod", "web", "log"), ("test", "web", "app"),
+               ("prod", "db", "sql"))
+WANTED = {"prod/web/app": "0.1", "prod/web/log": "0.05", "test/web/app": "0.5",
+          "prod/db/sql": "0.2"}
+
+
+@pytest.fixture(scope="module")
+def cadvisor(tmp_path_factory):
+    """A server over what cAdvisor tells."""
+    with running(tmp_path_factory.mktemp("cadvisor"), counters_of(CADVISOR)) as url:
+        yield url
+
+
+def test_the_query_of_cadvisor(ctl, cadvisor):
+    """Without --query each container has its own use, and a total or a pause container none."""
+    range_ = f"{BEGIN + STEP}/{BEGIN + STEP * 2}"
+    words = ("--used", cadvisor, "--range", range_, "--step", "5m")
+    out, err = ctl.run("replay", "-", *words, "-o", "csv", given=PODS)
+    rows = [row for row in csv.DictReader(io.StringIO(out)) if row["sample"].endswith("10:10:00")]
+    found = {row["group"].split("/", 2)[2].replace(":", "/"): row["wants"] for row in rows}
+    assert found == WANTED and "warning" not in err.replace("no node's JSON", "")
+    out, _ = ctl.run("export", "-", *words, "-o", "json", given=PODS)
+    groups = json.loads(out)["groups"].values()
+    assert {each["title"]: each["demand"] for each in groups if "demand" in each} == {
+        "prod/web/app": "100m", "prod/web/log": "50m", "test/web/app": "500m",
+        "prod/db/sql": "200m"}
+    out, _ = ctl.run("recommend", "-", *words, "--headroom", "0", "-o", "json", given=PODS)
+    assert {each["container"]: each["used_millicpu"] for each in json.loads(out)["containers"]} == {
+        "prod/web/app": 100, "prod/web/log": 50, "test/web/app": 500, "prod/db/sql": 200}
+
+
+def test_a_container_that_was_made_anew(ctl, cadvisor):
+    """Its two series are parts of one use: 0.2 CPUs before and after."""
+    words = ("--used", cadvisor, "--range", f"{BEGIN + STEP}/{BEGIN + STEP * 5}", "--step", "5m")
+    out, _ = ctl.run("replay", "-", *words, "-o", "csv", given=pods_of(("prod", "db", "sql")))
+    wants = [row["wants"] for row in csv.DictReader(io.StringIO(out))]
+    assert [each for each in wants if each != "0"] == ["0.2"] * len(wants)
+
+
+def test_a_query_that_loses_names(ctl, cadvisor):
+    """By pod alone two pods of one name are one: they are told, and not one of them taken."""
+    words = ("--used", cadvisor, "--range", f"{BEGIN + STEP}/{BEGIN + STEP * 2}", "--step", "5m",
+             "--query", 'sum by (pod) (rate(container_cpu_usage_seconds_total{container!=""}[5m]))')
+    _, err = ctl.run("recommend", "-", *words, given=PODS)
+    assert "used by containers that are not here, 1: web (3 containers)" in err
+
+
+def series(*labels):
+    """Series with these labels, each of 0.5, 0.25, .. at one time."""
+    return [prometheus.Series(each, {60.0: str(0.5 ** (1 + at))})
+            for at, each in enumerate(labels)]
+
+
+POD = {"namespace": "n", "pod": "p", "container": "c"}
+
+
+@pytest.mark.parametrize("labels, cells", [
+    (({**POD, "cpu": "cpu00"}, {**POD, "cpu": "cpu01"}), {"n/p/c": "0.75"}),
+    (({**POD, "id": "/a", "instance": "x"}, {**POD, "id": "/b", "instance": "y"}),
+     {"n/p/c": "0.75"}),
+    (({**POD, "name": "a"}, {**POD, "name": "b"}), {"n/p/c": "0.75"}),
+    ((POD, {"namespace": "n", "pod": "p"}), {"n/p/c": "0.5"}),
+    (({"namespace": "n", "pod": "p"},), {"n/p": "0.5"}),
+    (({"name": "web", "id": "/docker/x"}, {"id": "/a.service"}), {"web": "0.5",
+                                                                  "a.service": "0.25"}),
+    (({"group": "a", "node": "n"},), {"a": "0.5"}), (({"job_id": "7"},), {"7": "0.5"}),
+])
+def test_series_and_their_columns(labels, cells):
+    """Parts of one use are summed; the total of a pod whose containers are told is left out."""
+    (sample,) = prometheus.history_of(series(*labels), "U").samples
+    assert sample.cells == cells
+
+
+@pytest.mark.parametrize("labels, told", [
+    (({**POD, "job": "a"}, {**POD, "job": "b"}), "2 series of n/p/c differ in job"),
+    (({**POD, "id": "/a", "job": "a"}, {**POD, "id": "/a", "job": "b"}), "differ in job"),
+    (({**POD, "id": "/a", "cluster": "a"}, {**POD, "id": "/b", "cluster": "b"}),
+     "differ in cluster"),
+    (({**POD, "instance": "a"}, {**POD, "instance": "b"}), "differ in instance"),
+    ((POD, POD), "differ in nothing"), (({},), "a series with no label"),
+    (({"job": "x", "thing": "y"},), "a series with job, thing: which of them names a group"),
+])
+def test_series_that_may_be_one_use_twice(labels, told):
+    """They are refused by the labels in which they differ, and none is taken."""
+    with pytest.raises(HostFault, match=re.escape(told)):
+        prometheus.history_of(series(*labels), "U")
+
+
+def test_series_of_many_hosts():
+    """By the label of the host; one without it is refused."""
+    found = prometheus.by_host(series({"node": "a", "pod": "p"}, {"node": "b", "pod": "p"}), "U")
+    assert {host: each.samples[0].cells for host, each in found.items()} == {
+        "a": {"p": "0.5"}, "b": {"p": "0.25"}}
+    with pytest.raises(HostFault, match="a series without a label of its host"):
+        prometheus.by_host(series({"pod": "p"}), "U")
+
+
+@pytest.mark.parametrize("word, step, wanted", [
+    (None, None, (86400, 60)), ("7d", "5m", (604800, 300)), ("90min", "15s", (5400, 15)),
+])
+def test_ranges_up_to_now(monkeypatch, word, step, wanted):
+    monkeypatch.setattr(prometheus.time, "time", lambda: 10**9 + 0.7)
+    found = prometheus.range_of(word, step)
+    assert (float(found.end) - float(found.start), found.step) == wanted
+    assert found.end == str(10**9)
+
+
+@pytest.mark.parametrize("word, step", [
+    ("x", None), ("1/x", None), ("2026-13-01T00:00:00Z/5", None), ("7d", "x"), ("7d", "0"),
+    ("0", "1m"), ("/", None)])
+def test_ranges_that_are_none(word, step):
+    with pytest.raises(UsageFault):
+        prometheus.range_of(word, step)
+
+
+def test_ranges_in_the_past():
+    found = prometheus.range_of("2026-01-05T10:00:00Z/1767608400.5", "1h")
+    assert found == ("2026-01-05T10:00:00Z", "1767608400.5", 3600)
 
 
 @contextmanager
@@ -138,9 +281,9 @@ def answering(raw):
 
 
 def asked(url):
-    """The samples of a range query."""
-    words = {"query": "q", "start": "1", "end": "2", "step": "1"}
-    return samples.read_prometheus(url, words, "pod", "cpu", Host(1))
+    """The demands of a range query."""
+    found = prometheus.read(url, "q", prometheus.Range("1", "2", 1))
+    return list(prometheus.history_of(found, url).demands("cpu", Host(1)))
 
 
 def whole(text, length=None):
@@ -169,7 +312,7 @@ def moved(to):
     (whole(values("NaN")), "no answer to a range query"),
     (whole(values("1e400")), "no answer to a range query"),
     (whole(values("1" + "0" * 400)), "no answer to a range query"),
-    (whole(values("1", "\\u001b[31m")), r"a: '\\x1b[31m' is no number"),
+    (whole(values("1", "\\u001b[31m")), r"'\\x1b[31m' is no number"),
     (moved("file:///etc/passwd"), "file:///etc/passwd"),
     (moved("ftp://127.0.0.1/x"), "ftp://127.0.0.1/x instead, which is not http"),
 ], ids=["no http", "nothing", "chunks", "header", "cut", "list", "no data", "nan", "infinite",
@@ -184,7 +327,7 @@ def test_a_server_that_lies(raw, told):
 def test_a_server_that_moved():
     """Another address of HTTP is followed."""
     with answering(whole(values("7"))) as there, answering(moved(f"{there}/x")) as url:
-        assert [(each.name, each.demands) for each in asked(url)] == [("7", {"a": Fraction(1000)})]
+        assert asked(url) == [("7", {"a": Fraction(1000)})]
 
 
 @pytest.mark.parametrize("url", ["http://a:b", "http://a b/", "http://a\n/", "http://[::1"])
@@ -196,9 +339,9 @@ def test_addresses_that_are_none(url):
 
 def test_an_answer_without_an_end(monkeypatch):
     """Its bytes and its time have bounds."""
-    monkeypatch.setattr(samples, "MAX_ANSWER", 1 << 20)
+    monkeypatch.setattr(prometheus, "MAX_ANSWER", 1 << 20)
     with answering(whole(" " * (2 << 20))) as url, pytest.raises(HostFault, match="more than 1 M"):
         asked(url)
-    monkeypatch.setattr(samples, "MOST_SECONDS", 0)
+    monkeypatch.setattr(prometheus, "MOST_SECONDS", 0)
     with answering(whole(values("7"))) as url, pytest.raises(HostFault, match="more than 0 sec"):
         asked(url)

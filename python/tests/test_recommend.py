@@ -5,10 +5,8 @@ from pathlib import Path
 
 import pytest
 import trees
-from arbiter_host import recommend, samples
+from arbiter_host import recommend
 from arbiter_host.faults import UsageFault
-from arbiter_host.sources import kubernetes
-from arbiter_host.sources.wish import Wish
 
 FIXTURES = Path(__file__).parent / "fixtures"
 PODS, NODE = FIXTURES / "pods.json", FIXTURES / "node.json"
@@ -32,7 +30,7 @@ def node_of(folder, cpus, limits=None):
 
 def recommended(ctl, *words, **options):
     """The proposals by container, all that JSON says, and what is warned of."""
-    out, err = ctl.run("recommend", *words, "--json", **options)
+    out, err = ctl.run("recommend", *words, "-o", "json", **options)
     found = json.loads(out)
     return {each["container"]: each for each in found["containers"]}, found, err
 
@@ -55,7 +53,7 @@ def test_who_is_short_and_what_is_guaranteed(ctl, folder):
     Of 100 slices these are 60 and 40. With weights 4 and 12 b has its 60 and a the rest. Where all
     others ask, best effort takes 1, the pods have 60 and 39, and their pause containers 1 each.
     """
-    words = (node_of(folder, "1"), "--usage", top_of(folder, a="900m", b="600m"))
+    words = (node_of(folder, "1"), "--used", top_of(folder, a="900m", b="600m"))
     by, found, err = recommended(ctl, *words)
     assert [amounts(by[name]) for name in ("x/a/c", "x/b/c")] == [(1035, None), (690, None)]
     assert [(each["gets_now_millicpu"], each["gets_millicpu"], each["guaranteed_millicpu"])
@@ -73,8 +71,8 @@ def test_who_is_short_and_what_is_guaranteed(ctl, folder):
 
 
 def test_what_is_proposed_can_be_compared(ctl, folder):
-    """The words of `set` are those of `compare`, and the plan is that of `recommend`."""
-    words = (node_of(folder, "1"), "--usage", top_of(folder, a="900m", b="600m"))
+    """The words of `set` are those of `diff`, and the plan is that of `recommend`."""
+    words = (node_of(folder, "1"), "--used", top_of(folder, a="900m", b="600m"))
     by, _, _ = recommended(ctl, *words)
     sets = [word for each in by.values() for one in each["set"] for word in ("--set", one)]
     out, _ = ctl.run("diff", *words, *sets, "-o", "json")
@@ -96,7 +94,7 @@ HISTORY = "time,x/a/c,x/b\n" + "".join(
 def test_percentiles_of_a_history(ctl, folder, target, headroom, a, b):
     """Nearest ranks of the samples that are there; a pod of one container stands for it."""
     (folder / "h.csv").write_text(HISTORY)
-    by, _, err = recommended(ctl, node_of(folder, "2", "1"), "--history", folder / "h.csv",
+    by, _, err = recommended(ctl, node_of(folder, "2", "1"), "--used", folder / "h.csv",
                              "--target", target, "--headroom", headroom)
     assert (amounts(by["x/a/c"]), amounts(by["x/b/c"])) == (a, b) and "warning" not in err
 
@@ -108,40 +106,25 @@ def test_histories_are_one(ctl, folder):
     (folder / "2.csv").write_text("\n".join([lines[0], *lines[11:]]))
     (folder / "3.csv").write_text("time,other,x/*\n1,5m,7m\n")
     by, _, err = recommended(ctl, node_of(folder, "2", "1"), *(
-        word for name in "123" for word in ("--history", folder / f"{name}.csv")))
+        word for name in "123" for word in ("--used", folder / f"{name}.csv")))
     assert amounts(by["x/a/c"]) == (219, 230)
-    assert "columns of no container here, 2: other, x/* (2 containers)" in err
+    assert "used by containers that are not here, 2: other, x/*" in err
 
 
 @pytest.mark.parametrize("name, wanted", [
     ("db-0", "prod/db-0/postgres"), ("db-0/postgres", "prod/db-0/postgres"),
     ("prod/web-7c9f/nginx", "prod/web-7c9f/nginx"), ("web-7c9f/metrics", "prod/web-7c9f/metrics"),
-    ("kubepods/burstable/prod:web-7c9f/nginx", "prod/web-7c9f/nginx"),
 ])
 def test_names_of_measurements(ctl, folder, name, wanted):
     """A pod's name is enough where it has one container, as the label `pod` of Prometheus says."""
     (folder / "h.csv").write_text(f"time,{name}\n1,50m\n")
-    by, _, err = recommended(ctl, PODS, NODE, "--history", folder / "h.csv")
-    assert list(by) == [wanted] and "columns of no container" not in err
-
-
-def test_a_query_of_prometheus(engine, monkeypatch):
-    """Series by the label `pod`; one without a value at a time has no sample there."""
-    series = [{"metric": {"pod": "db-0"}, "values": [[0, "0.5"], [60, "NaN"], [120, "0.7"]]},
-              {"metric": {"pod": "web-7c9f"}, "values": [[0, "1"]]}]
-    monkeypatch.setattr(samples, "fetched", lambda _: {"data": {"result": series}})
-    files = [("p", PODS.read_bytes()), ("n", NODE.read_bytes())]
-    model = kubernetes.read(files, engine.library, Wish())
-    found = samples.read_prometheus("http://x", {"query": "q"}, "pod", "cpu", model.host, True)
-    uses, told = recommend.of_history(model, found, {})
-    assert {path: use.values for path, use in uses.items()} == {
-        "kubepods/prod:db-0/postgres": (500, 700)}
-    assert told == ["columns of no container here, 1: web-7c9f (2 containers)"]
+    by, _, err = recommended(ctl, PODS, NODE, "--used", folder / "h.csv")
+    assert list(by) == [wanted] and "not here" not in err
 
 
 def test_use_below_the_least(ctl, folder):
     """10m are the least that is requested."""
-    by, _, _ = recommended(ctl, node_of(folder, "2"), "--usage", top_of(folder, a="1m"))
+    by, _, _ = recommended(ctl, node_of(folder, "2"), "--used", top_of(folder, a="1m"))
     assert list(by) == ["x/a/c"] and amounts(by["x/a/c"]) == (10, None)
 
 
@@ -150,7 +133,7 @@ def test_classes(ctl):
 
     1000m, 40m, 640m, 812m, 480m and 95m with 15% on top. The init container of db-0 keeps 2000m.
     """
-    by, found, err = recommended(ctl, PODS, NODE, "--usage", FIXTURES / "top.txt")
+    by, found, err = recommended(ctl, PODS, NODE, "--used", FIXTURES / "top.txt")
     assert {name.split("/")[-1]: amounts(each) for name, each in by.items()} == {
         "nginx": (1150, 1150), "metrics": (46, 46), "postgres": (736, 736), "report": (934, None),
         "app": (552, 552), "envoy": (110, None)}
@@ -167,7 +150,7 @@ def test_a_throttled_container(ctl, folder):
         trees.root2(folder / copy)
         trees.group2(folder / copy / nginx, usage=3 * 10**6 * factor, periods=100 * factor,
                      throttled=50 * factor, waited=9 * 10**6 * factor)
-    words = (PODS, NODE, "--cgroup", folder / "a", "--later", folder / "b", "--interval", "10s")
+    words = (PODS, NODE, "--used", folder / "a", "--used", folder / "b", "--read", "x10s")
     by, _, _ = recommended(ctl, *words)
     assert amounts(by["prod/web-7c9f/nginx"]) == (345, 2300)
     assert by["prod/web-7c9f/nginx"]["throttled"] is True
@@ -198,12 +181,12 @@ def test_what_recommend_refuses(ctl, folder):
     assert "recommend is for pods" in ctl.run("recommend", folder / "s", status=2)[1]
     assert "nothing was seen of any container" in ctl.run("recommend", PODS, NODE, status=1)[1]
     (folder / "h.csv").write_text("time,prod/db-0\n1,x\n")
-    _, err = ctl.run("recommend", PODS, NODE, "--history", folder / "h.csv", status=1)
+    _, err = ctl.run("recommend", PODS, NODE, "--used", folder / "h.csv", status=1)
     assert "h.csv:2: 'x' is no number" in err
-    _, err = ctl.run("recommend", PODS, NODE, "--history", folder / "none", status=1)
+    _, err = ctl.run("recommend", PODS, NODE, "--used", folder / "none", status=1)
     assert "No such file" in err
-    _, err = ctl.run("recommend", PODS, NODE, "--prometheus", "http://127.0.0.1:1", status=2)
-    assert "--prometheus takes" in err
+    _, err = ctl.run("recommend", PODS, NODE, "--used", "http://127.0.0.1:1", status=1)
+    assert "Connection refused" in err
 
 
 # Containers of docker, and units
@@ -218,7 +201,7 @@ def test_containers_of_docker(ctl, folder):
         {"Id": name * 64, "Name": f"/{name}", "Config": {"Image": "b"}, "HostConfig": config}
         for name, config in (("a", {}), ("b", {"CpuShares": 2048, "NanoCpus": 10**9}))]))
     (folder / "h.csv").write_text("time,a,b\n1,500m,300m\n2,500m,300m\n")
-    words = (folder / "d.json", "--cpus", "1", "--history", folder / "h.csv")
+    words = (folder / "d.json", "--cpus", "1", "--used", folder / "h.csv")
     by, found, err = recommended(ctl, *words)
     assert {name: each["settings"] for name, each in by.items()} == {
         "system.slice/a": {"cpu-shares": {"now": "-", "then": "588"},
@@ -241,7 +224,7 @@ def test_containers_of_docker(ctl, folder):
 
 def test_stats_of_docker(ctl, folder):
     """125.37% and 15% are 1442m, 1476 shares, and the limit is 1442m. job is not in the stats."""
-    by, _, _ = recommended(ctl, FIXTURES / "docker.json", "--cpus", "4", "--usage",
+    by, _, _ = recommended(ctl, FIXTURES / "docker.json", "--cpus", "4", "--used",
                            FIXTURES / "stats.json")
     assert by["system.slice/web"]["set"] == ["system.slice/web.cpu-shares=1476",
                                              "system.slice/web.cpus=1.442"]
@@ -268,16 +251,16 @@ def unit_settings(by):
 
 def test_units(ctl, folder):
     """3 and 12 of 10 seconds are 300m and 1200m, with 15% 345m and 1380m: weights 35 and 138."""
-    words = (units_of(folder, "1.show", 0), "--later", units_of(folder, "2.show", 1), "--interval",
-             "10s", "--cpus", "4")
-    found = json.loads(ctl.run("recommend", *words, "--json")[0])["units"]
+    words = (units_of(folder, "1.show", 0), units_of(folder, "2.show", 1), "--read", "x10s",
+             "--cpus", "4")
+    found = json.loads(ctl.run("recommend", *words, "-o", "json")[0])["units"]
     assert unit_settings(found) == {"a.service": (("100", "35"), ("50%", "34.5%")),
                                     "b.service": (("100", "138"), ("-", None))}
     out, _ = ctl.run("recommend", *words)
     assert out.split("\n")[4].split() == ["used", "most", "CPUWeight", "then", "CPUQuota", "then",
                                           "gets", "guaranteed", "unit"]
     _, err = ctl.run("recommend", words[0], "--cpus", "4", status=1)
-    assert "nothing was seen of any unit here: --history, --later or --prometheus" in err
+    assert "nothing was seen of any unit here: --used, or a later copy" in err
 
 
 def test_units_of_a_tree(ctl, folder):
@@ -287,7 +270,7 @@ def test_units_of_a_tree(ctl, folder):
         trees.group2(folder / copy / "a.service", maximum="50000 100000", usage=3 * factor)
         trees.group2(folder / copy / "b.service", usage=12 * factor, threads=2)
         trees.group2(folder / copy / "plain", usage=factor)
-    found = json.loads(ctl.run("recommend", folder / "a", "--later", folder / "b", "--interval",
-                               "10s", "--cpus", "4", "--json")[0])["units"]
+    found = json.loads(ctl.run("recommend", folder / "a", folder / "b", "--read", "x10s", "--cpus",
+                               "4", "-o", "json")[0])["units"]
     assert unit_settings(found) == {"a.service": (("100", "35"), ("50%", "34.5%")),
                                     "b.service": (("100", "138"), ("-", None))}

@@ -32,9 +32,9 @@ def demands_of(ctl, *words, **options):
 @pytest.mark.parametrize("name", ["top.txt", "metrics.json"])
 def test_usage_of_pods(ctl, name):
     """Each container has what the file says; what is not of this node is told by name."""
-    found, _ = demands_of(ctl, PODS, NODE, "--usage", FIXTURES / name)
+    found, _ = demands_of(ctl, PODS, NODE, "--used", FIXTURES / name)
     assert found == TOLD
-    _, err = ctl.run("explain", PODS, NODE, "--usage", FIXTURES / name)
+    _, err = ctl.run("explain", PODS, NODE, "--used", FIXTURES / name)
     assert (f"{name}: used by containers that are not here, 1: kube-system/coredns-5d78-4x2/coredns"
             in err)
 
@@ -42,12 +42,12 @@ def test_usage_of_pods(ctl, name):
 def test_usage_from_standard_input(ctl):
     """`kubectl top pods -A --containers | arbiterctl explain pods.json node.json --usage -`."""
     data = (FIXTURES / "top.txt").read_bytes()
-    assert demands_of(ctl, PODS, NODE, "--usage", "-", given=data)[0] == TOLD
+    assert demands_of(ctl, PODS, NODE, "--used", "-", given=data)[0] == TOLD
     # `--sum` prints the sums behind a line.
     sums = b"%62s________   ________     \n%62s3070m      1261Mi    \n" % (b"", b"")
-    assert demands_of(ctl, PODS, NODE, "--usage", "-", given=data + sums)[0] == TOLD
+    assert demands_of(ctl, PODS, NODE, "--used", "-", given=data + sums)[0] == TOLD
     # A source that is loaded twice has it twice.
-    out, _ = ctl.run("diff", PODS, NODE, "--usage", "-", "--cpus", "3", "-o", "json", given=data)
+    out, _ = ctl.run("diff", PODS, NODE, "--used", "-", "--set", ".cpus=3", "-o", "json", given=data)
     assert json.loads(out)["after"]["wanted"]["millicpu"] == 3080
 
 
@@ -55,24 +55,24 @@ def test_usage_without_namespaces_or_containers(ctl, folder):
     """Names that say enough are taken; those of several containers are told."""
     text = "POD NAME CPU(cores) MEMORY(bytes)\nweb-7c9f nginx 70m 1Mi\n"
     (folder / "top").write_text(text)
-    assert demands_of(ctl, PODS, NODE, "--usage", folder / "top")[0] == {
+    assert demands_of(ctl, PODS, NODE, "--used", folder / "top")[0] == {
         "prod/web-7c9f/nginx": "70m"}
     text = "NAMESPACE NAME CPU(cores) MEMORY(bytes)\nprod db-0 70m 1Mi\nprod web-7c9f 90m 1Mi\n"
     (folder / "top").write_text(text)
-    assert demands_of(ctl, PODS, NODE, "--usage", folder / "top")[0] == {
+    assert demands_of(ctl, PODS, NODE, "--used", folder / "top")[0] == {
         "prod/db-0/postgres": "70m"}
-    _, err = ctl.run("explain", PODS, NODE, "--usage", folder / "top")
+    _, err = ctl.run("explain", PODS, NODE, "--used", folder / "top")
     assert "not here, 1: prod/web-7c9f (2 containers)" in err
     assert "prod:web-7c9f/nginx: nothing read for --want usage: no demand" in err
 
 
 def test_usage_of_docker(ctl):
     """Percent of one CPU, by identifier; one that has stopped has none."""
-    found, _ = demands_of(ctl, FIXTURES / "docker.json", "--cpus", "8", "--usage",
+    found, _ = demands_of(ctl, FIXTURES / "docker.json", "--cpus", "8", "--used",
                           FIXTURES / "stats.json")
     # 125.37% is above the limit of 1.5 CPUs by nothing, 0.05% is half of a thousandth.
     assert found == {"web:latest": "1253700000n", "db:latest": "500000n"}
-    _, err = ctl.run("explain", FIXTURES / "docker.json", "--cpus", "8", "--usage",
+    _, err = ctl.run("explain", FIXTURES / "docker.json", "--cpus", "8", "--used",
                      FIXTURES / "stats.json")
     assert "used by containers that are not here, 1: new" in err
     assert "batch-night.slice/job: nothing read for --want usage" in err
@@ -85,7 +85,7 @@ def test_usage_in_the_table_of_docker(ctl, folder):
         "010101010101   web       125.37%   192MiB / 15.6GiB      1.20%     9\r\n"
         "020202020202   renamed   0.05%     64MiB / 15.6GiB       0.40%     3\r\n"
         "030303030303   --        --        -- / --               --        --\r\n\r\n")
-    words = (FIXTURES / "docker.json", "--cpus", "8", "--usage", folder / "stats")
+    words = (FIXTURES / "docker.json", "--cpus", "8", "--used", folder / "stats")
     assert demands_of(ctl, *words)[0] == {"web:latest": "1253700000n", "db:latest": "500000n"}
     (folder / "stats").write_text("ID  NAME  CPU %\nx  web  1%  2\n")
     assert "stats:2: 4 columns and not 3" in ctl.run("explain", *words, status=1)[1]
@@ -95,13 +95,13 @@ def test_usage_of_podman(ctl, folder):
     """`podman stats --no-stream --format json` is one list, with other keys."""
     (folder / "stats").write_text(json.dumps([
         {"id": "05" * 32, "name": "pod-web", "cpu_time": "9s", "cpu_percent": "25.00%"}]))
-    found, _ = demands_of(ctl, FIXTURES / "podman.json", "--cpus", "8", "--usage", folder / "stats")
+    found, _ = demands_of(ctl, FIXTURES / "podman.json", "--cpus", "8", "--used", folder / "stats")
     assert list(found.values()) == ["250m"]
 
 
 def test_explain_has_use_and_what_is_short(ctl):
     """On 3 CPUs what was used does not fit: 308 slices, each amount rounded up."""
-    out, _ = ctl.run("explain", PODS, NODE, "--usage", FIXTURES / "top.txt", "--cpus", "3")
+    out, _ = ctl.run("explain", PODS, NODE, "--used", FIXTURES / "top.txt", "--cpus", "3")
     assert "3.00 of 3.00 CPUs served, 3.08 wanted" in out
 
 
@@ -110,7 +110,7 @@ def test_explain_has_use_and_what_is_short(ctl):
     (b"[]", "it names no container"), (b"[1]", ":1: no container as"),
     (b"{", "no JSON"), (b'{"CPUPerc"', ":1: no JSON that can be read"),
     (b"NAME CPU(cores)\nx\n", ":2: 1 words and not 2"),
-    (b"POD MEMORY(bytes)\n", "no usage as `kubectl top pods"),
+    (b"POD MEMORY(bytes)\n", "no number"),
     (b"NAMESPACE POD NAME CPU(cores)\nprod web-7c9f nginx lots\n", ":2: 'lots' is no quantity"),
     (b"NAMESPACE POD NAME CPU(cores)\nprod web-7c9f nginx -5m\n", "is no quantity"),
     (b"NAMESPACE POD NAME CPU(cores)\nprod web-7c9f nginx 9999999\n", "is no usage of a host"),
@@ -125,17 +125,18 @@ def test_explain_has_use_and_what_is_short(ctl):
 def test_bad_usage(ctl, folder, text, words):
     """One line names the file and its fault, and nothing is planned."""
     (folder / "use").write_bytes(text)
-    out, err = ctl.run("explain", PODS, NODE, "--usage", folder / "use", status=1)
+    out, err = ctl.run("explain", PODS, NODE, "--used", folder / "use", status=1)
     assert out == "" and err.count("\n") <= 2 and f"{folder}/use" in err
     assert words in err and "\x1b" not in err
 
 
 @pytest.mark.parametrize("words, told", [
-    (("--usage", "x", "--cgroup", "y"), "one of both"), (("--usage", "x", "--want", "busy"),
-                                                         "--usage belongs to --want usage"),
-    (("--usage", "x", "--want", "p95"), "--usage belongs to --want usage"),
-    (("--cgroup", "x", "--want", "request"), "--cgroup belongs to --want usage, peak, p95, psi"),
-    (("--want", "usage"), "what these pods used is not told (--usage, --cgroup)"),
+    (("--used", "x", "--used", "/"), "a tree of cgroups is there alone"),
+    (("--used", "x", "--want", "busy"), "--used belongs to --want usage, peak, p95, psi"),
+    (("--used", FIXTURES / "top.txt", "--want", "p95"), "tells of one time alone"),
+    (("--used", FIXTURES / "top.txt", "--want", "psi"), "and not to psi"),
+    (("--used", "/", "--want", "request"), "--used belongs to --want usage, peak, p95, psi"),
+    (("--want", "usage"), "what these pods used is not told (--used)"),
 ])
 def test_words_that_do_not_go_together(ctl, words, told):
     assert told in ctl.run("explain", PODS, NODE, *words, status=2)[1]
@@ -143,30 +144,48 @@ def test_words_that_do_not_go_together(ctl, words, told):
 
 def test_usage_belongs_to_pods_and_containers(ctl, folder):
     (folder / "s").write_text("mkdir a\n")
+    words = ("--used", FIXTURES / "top.txt")
     for source, kind in ((folder / "s", "script"), (FIXTURES / "units.show", "systemd")):
-        _, err = ctl.run("explain", source, "--usage", FIXTURES / "top.txt", status=2)
-        assert f"--usage belongs to pods and containers, and not to {kind}" in err
-    words = ("--usage", FIXTURES / "top.txt")
-    assert "other hosts have none" in ctl.run("fleet", "plan", folder, *words, status=2)[1]
-    assert "fleet has none" in ctl.run("fleet", "plan", folder, "--cgroup", "x", status=2)[1]
+        _, err = ctl.run("explain", source, *words, status=2)
+        assert f"--used: it has no effect on a source of the kind {kind}" in err
+    assert "other hosts have none" in ctl.run("explain", folder, *words, status=2)[1]
 
 
 def test_standard_input_is_one_thing(ctl):
     """It is the source or what was used, and not both."""
-    for words in (("explain", "-", "--cpus", "4"), ("fleet", "plan", "-")):
-        _, err = ctl.run(*words, "--usage", "-", given=PODS.read_bytes(), status=2)
-        assert "--usage -: standard input is the source already" in err
+    for words in (("--cpus", "4"), ()):
+        _, err = ctl.run("explain", "-", *words, "--used", "-", given=PODS.read_bytes(), status=2)
+        assert "--used -: standard input is the source already" in err
+
+
+def test_a_history_is_what_was_used(ctl, folder):
+    """Two samples: their mean, the greatest, and the 95th percentile. An empty cell is none."""
+    (folder / "h.csv").write_text("time,prod/web-7c9f/nginx,db-0\n1,100m,1\n2,300m,\n")
+    for want, wanted in (("usage", "200m"), ("peak", "300m"), ("p95", "300m")):
+        found, _ = demands_of(ctl, PODS, NODE, "--used", folder / "h.csv", "--want", want)
+        assert found == {"prod/web-7c9f/nginx": wanted, "prod/db-0/postgres": "1cpu"}
+
+
+def test_one_container_has_one_number(ctl, folder):
+    """Two names of one container are refused, and not the last one taken."""
+    head = "NAMESPACE POD NAME CPU(cores)\n"
+    (folder / "top").write_text(head + "prod db-0 postgres 1m\nprod db-0 postgres 9m\n")
+    _, err = ctl.run("explain", PODS, NODE, "--used", folder / "top", status=1)
+    assert "prod/db-0/postgres: two numbers for what one container used" in err
+    (folder / "h.csv").write_text("time,prod/db-0,db-0/postgres\n1,1,2\n")
+    _, err = ctl.run("explain", PODS, NODE, "--used", folder / "h.csv", status=1)
+    assert "two numbers for what one container used" in err
 
 
 def test_a_file_that_is_not_there_and_a_pipe(ctl, folder):
     """A missing file is named; a pipe is read as each input file is."""
-    _, err = ctl.run("explain", PODS, NODE, "--usage", folder / "none", status=1)
+    _, err = ctl.run("explain", PODS, NODE, "--used", folder / "none", status=1)
     assert f"{folder}/none: No such file or directory" in err
     os.mkfifo(folder / "pipe")
     data = (FIXTURES / "top.txt").read_bytes()
     beside = threading.Thread(target=lambda: (folder / "pipe").write_bytes(data))
     beside.start()
-    assert demands_of(ctl, PODS, NODE, "--usage", folder / "pipe")[0] == TOLD
+    assert demands_of(ctl, PODS, NODE, "--used", folder / "pipe")[0] == TOLD
     beside.join()
 
 
@@ -186,12 +205,12 @@ def test_any_bytes_are_read_or_refused(data):
         except HostFault as fault:
             assert fault.message.startswith("F")
         else:
-            assert found and all(each.amount >= 0 for each in found)
+            assert found and all(each.amounts[0] >= 0 for each in found)
 
 
 # measured
 
-def node_tree(folder, used, driver="systemd"):
+def node_tree(folder, used):
     """Copies of a node's files ten seconds apart, in which containers used so many seconds."""
     for copy, factor in (("a", 0), ("b", 1)):
         trees.root2(folder / copy)
@@ -200,8 +219,7 @@ def node_tree(folder, used, driver="systemd"):
             for at in range(1, len(parts) + 1):
                 trees.group2(folder / copy / "/".join(parts[:at]),
                              usage=int(seconds * factor * 10**6), threads=2)
-    return ["--cgroup", folder / "a", "--later", folder / "b", "--interval", "10s",
-            "--driver", driver]
+    return ["--used", folder / "a", "--used", folder / "b", "--read", "x10s"]
 
 
 POD = "kubepods.slice/kubepods-burstable.slice/kubepods-burstable-pod00000001_0b1c_4d2e_8f3a_" \
@@ -222,19 +240,17 @@ def test_pods_are_measured(ctl, folder):
     assert "nginx: nothing" not in err
 
 
-@pytest.mark.parametrize("driver", ["systemd", "cgroupfs"])
-def test_either_driver_is_found(ctl, folder, driver):
+def test_either_driver_is_found(ctl, folder):
     """Folders as the other driver names them are found too."""
-    words = node_tree(folder, {PLAIN: 2}, driver)
-    assert demands_of(ctl, PODS, NODE, *words)[0] == {"prod/web-7c9f/nginx": "200m"}
+    assert demands_of(ctl, PODS, NODE, *node_tree(folder, {PLAIN: 2}))[0] == {
+        "prod/web-7c9f/nginx": "200m"}
 
 
 def test_peaks_are_measured(ctl, folder):
     """Three copies: 1 and then 4 seconds of 10 are a peak of 400m and a mean of 250m."""
     node_tree(folder, {NGINX: 1})
     trees.group2(folder / "c" / NGINX, usage=5 * 10**6)
-    words = ["--cgroup", folder / "a", "--later", folder / "b", "--later", folder / "c",
-             "--interval", "10s"]
+    words = [*(word for name in "abc" for word in ("--used", folder / name)), "--read", "x10s"]
     for want, wanted in (("peak", "400m"), ("p95", "400m"), ("usage", "250m")):
         found, _ = demands_of(ctl, PODS, NODE, *words, "--want", want)
         assert found["prod/web-7c9f/nginx"] == wanted
@@ -248,11 +264,11 @@ def test_docker_is_measured(ctl, folder):
 
 def test_a_tree_without_these_pods(ctl, folder):
     trees.root2(folder / "t")
-    _, err = ctl.run("explain", PODS, NODE, "--cgroup", folder / "t", status=1)
+    _, err = ctl.run("explain", PODS, NODE, "--used", folder / "t", status=1)
     assert f"{folder}/t: no group of these containers is below it, such as kubepods.slice/" in err
-    _, err = ctl.run("explain", PODS, NODE, "--cgroup", folder / "none", status=1)
+    _, err = ctl.run("explain", PODS, NODE, "--used", folder / "none", status=1)
     assert "No such file" in err
-    _, err = ctl.run("explain", PODS, NODE, "--cgroup", folder, status=1)
+    _, err = ctl.run("explain", PODS, NODE, "--used", folder, status=1)
     assert "so no cgroup tree" in err
 
 
@@ -283,5 +299,5 @@ def test_a_group_that_is_gone_at_a_later_reading(ctl, folder):
 def test_fractions_are_exact():
     """Nanoseconds are kept: 2900001n are 2.900001m."""
     found = usage.read((FIXTURES / "metrics.json").read_bytes(), "F")
-    assert [each.amount for each in found if each.container == "coredns"] == [
-        Fraction(2900001, 10**6)]
+    assert [each.amounts for each in found if each.container == "coredns"] == [
+        (Fraction(2900001, 10**6),)]

@@ -1,4 +1,4 @@
-"""Hosts, pictures and series whose answers were worked by hand."""
+"""Hosts and pictures whose answers were worked by hand."""
 import json
 import os
 import shutil
@@ -255,90 +255,6 @@ def test_picture_of_odd_trees(ctl):
     script = HEAD + "mkdir a\nmkdir a/b\ndemand a/b 1\n"
     _, texts, _ = drawn(ctl.run(*SLICES, "--depth", "1", given=script.encode())[0])
     assert ("a" in texts, "b" in texts) == (True, False)
-
-
-# series
-
-SAVING = HEAD + ("mkdir a\nmkdir b\nwrite a cpu.max 50000\nwrite a cpu.max.burst 25000\n"
-                 "write b cpu.weight 1\n")
-# a: 4 of at most 10; 15 of at most min(6 + 10, 15); 10 of 10, b having the rest; then c, 10000
-# times as heavy, takes all or half.
-PERIODS = [["sample", "a", "b"], ["1", "4/4", "16/30"], ["2", "15/20TB", "5/30"],
-           ["3", "10/20T", "10/30"], ["4", "0/0", "0/30S"], ["5", "10/10", "0/30S"]]
-
-
-def cells_of(out):
-    """The rows of a table, without how it is aligned."""
-    return [line.split() for line in out.split("\n\n")[0].split("\n") if line]
-
-
-def test_series_by_hand(ctl, folder):
-    """Five periods of a group that saves up: as pairs, and as CSV in three units."""
-    (folder / "s").write_text(SAVING + "mkdir c\nwrite c cpu.weight 10000\n")
-    (folder / "list").write_text("# a comment\na 4 b 30\na 20\n\na 0 c 20\na 10 c 10\n")
-    shown = ["--groups", "a,b"]
-    outs = [ctl.run("series", folder / "s", folder / "list", *shown, "--unit", "slices")[0]]
-    rows = [("4", "30", "0"), ("20", "", ""), ("", "null", ""), ("0", "", "20"), ("10", "", "10")]
-    for unit, factor in (("slices", 1), ("m", 50), ("us", 5000)):
-        cells = [[str(int(cell) * factor) if cell.isdigit() else cell for cell in row]
-                 for row in rows]
-        text = "a,b,c\n" + "".join(",".join(row) + "\n" for row in cells)
-        # A row of empty cells is a sample all the same.
-        (folder / f"{unit}.csv").write_text(text)
-        words = [folder / "s", folder / f"{unit}.csv", *shown, "--unit", unit, "--holes", "keep"]
-        out, _ = ctl.run("series", *words)
-        table = cells_of(out)
-        assert [[each.lstrip("0123456789/") for each in row[1:]] for row in table[1:]] == [
-            [each.lstrip("0123456789/") for each in row[1:]] for row in PERIODS[1:]]
-        outs += [out] if unit == "slices" else []
-    for out in outs:
-        assert cells_of(out) == PERIODS
-    sums = {line.split()[0]: line.split()[1:] for line in outs[0].split("\n\n")[1].split("\n")
-            if line}
-    assert sums["a"] == ["10.8", "7.8", "72%", "2", "0", "75000", "1", "0", "0"]
-    assert sums["b"] == ["30", "6.2", "21%", "0", "0", "0", "0", "2", "2"]
-    only, _ = ctl.run("series", folder / "s", folder / "list", *shown, "--unit", "slices",
-                      "--summary")
-    assert only == outs[0].split("\n\n")[1]
-    out, _ = ctl.run("series", folder / "s", folder / "list", "--groups", ".", "--unit", "slices")
-    assert [row[1] for row in cells_of(out)] == [".", "20/34", "20/45", "20/40", "20/50", "20/50"]
-
-
-def test_series_picture(ctl, folder):
-    """The boxes of a picture stand under the samples that they are of."""
-    (folder / "s").write_text(SAVING)
-    (folder / "d.csv").write_text("time,a\n00:00,4\n01:00,20\n02:00,20\n03:00,0\n")
-    words = ["series", folder / "s", folder / "d.csv", "--unit", "slices", "--to", "svg"]
-    boxes, texts, root = drawn(ctl.run(*words)[0])
-    assert [(box["x"], box["width"]) for box in boxes[RED][1:]] == [(64 + 190, 380)]
-    for text in ("a", "00:00", "03:00", "throttled"):
-        assert text in texts
-    # gets: 4, 15, 10, 0 of 20, 84 pixels tall, 190 wide each
-    gets = next(each.get("d") for each in root.iter(f"{SVG}path") if each.get("fill") == GETS)
-    assert gets == ("M64 170 L64 153.2 L254 153.2 L254 107 L444 107 L444 128 L634 128 L634 170"
-                    " L824 170 L824 170")
-    assert "No such file" in ctl.run(*words, "-o", folder / "no/day.svg", status=1)[1]
-
-
-@pytest.mark.parametrize("name, text, words", [
-    ("list", "a 4\nzz 3\n", "no group zz"), ("list", "a\n", ":1: not pairs"),
-    ("list", "a x\n", ":1: 'x' is no number"), ("list", "a -1\n", ":1: '-1' is no number"),
-    ("list", "a nan\n", "'nan' is no number"), ("one.csv", "a,b\n1\n", ":2: 1 cells and not 2"),
-    ("one.csv", "a\n", "no sample"), ("list", "# none\n", "no sample"), ("list", ". 5\n", "groups"),
-])
-def test_series_refuses(ctl, folder, name, text, words):
-    """What is wrong is told with its line, and no table is printed."""
-    (folder / "s").write_text(SAVING)
-    (folder / name).write_text(text)
-    out, err = ctl.run("series", folder / "s", folder / name, "--unit", "slices", status=1)
-    assert out == "" and words in err
-
-
-def test_series_shows_no_group_that_is_not_there(ctl, folder, engine):
-    (folder / "s").write_text(SAVING)
-    (folder / "good").write_text("a 4\n")
-    words = ["series", folder / "s", folder / "good", "--groups", "zz"]
-    assert "no group zz" in ctl.run(*words, status=1)[1]
 
 
 # the engine

@@ -8,12 +8,14 @@ from dataclasses import dataclass, field, replace
 from fractions import Fraction
 from typing import Any
 
-from arbiter_host import samples, units
+from arbiter_host import units
 from arbiter_host.audit.looks import Counted, Look, added
 from arbiter_host.demands import Reading
 from arbiter_host.faults import HostFault, UsageFault
 from arbiter_host.model import Group, Model
 from arbiter_host.names import cut, shown
+from arbiter_host.sources import prometheus
+from arbiter_host.sources.samples import time_name
 from arbiter_host.sources.usage import some
 
 USAGE = "container_cpu_usage_seconds_total"
@@ -53,7 +55,8 @@ class Asked:
 
     def check(self) -> None:
         """A fault where words of it are refused."""
-        samples.check_server(self.url)
+        if not prometheus.is_address(self.url):
+            raise UsageFault(f"{shown(self.url)}: not http:// or https://")
         if self.selector and not SELECTOR.fullmatch(self.selector):
             raise UsageFault("--query: a selector of series, such as '{node=\"n1\"}'")
 
@@ -61,15 +64,16 @@ class Asked:
         """The values of each series of a metric in the range."""
         query = metric.replace(USAGE, USAGE + self.selector)
         query = query if USAGE in metric else metric + self.selector
-        words = {"query": query, "start": self.start, "end": self.end, "step": self.step}
-        return samples.of_range(self.url, words, lambda answer: dict(self.parsed(answer)))
+        step = float(self.step) if self.step.isdigit() else units.parse_time(self.step) / 10**6
+        return prometheus.of_range(self.url, query, prometheus.Range(self.start, self.end, step),
+                                   lambda answer: dict(self.parsed(answer)))
 
     def parsed(self, answer: Any) -> Iterator[tuple[Labels, Values]]:
         """The series of an answer. A value that is no number is left out."""
         for each in answer["data"]["result"]:
             labels = frozenset((str(key), str(value)) for key, value in each["metric"].items()
                                if key != "__name__")
-            times = [round(samples.instant(at) * 1000) for at, _ in each["values"]]
+            times = [round(prometheus.instant(at) * 1000) for at, _ in each["values"]]
             if any(two <= one for one, two in zip(times, times[1:])):
                 raise HostFault(f"{shown(self.url)}: the times of a series go back: ask for a range"
                                 " after the clock was set")
@@ -224,7 +228,7 @@ def looks(asked: Asked, model: Model) -> tuple[list[Look], list[str]]:
         limits = found.limits(at)
         key = tuple(sorted(limits.items()))
         models.setdefault(key, with_limits(model, limits))
-        added(made, Look(samples.time_name(str(at // 1000)), Fraction(at, 1000), models[key],
+        added(made, Look(time_name(str(at // 1000)), Fraction(at, 1000), models[key],
                          counted, tasks))
     return made, notes
 

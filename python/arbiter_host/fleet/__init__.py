@@ -1,6 +1,6 @@
-"""Plans for many hosts at once, on the processors of this machine or on a Dask scheduler's workers.
+"""Many hosts at once, on the processors of this machine or on the workers of a Dask scheduler.
 
-The modules in the order of the data: `hosts` finds the files, `job` says what is asked, `pool` and
-`cluster` run `work` on workers, `gather` takes their answers into the one file of `store`, and
-`figures`, `report` and `page` show it.
+The modules in the order of the data: `hosts` finds the files, `job` says what is asked, `pool` has
+`work` plan each host, `evidence` and `answers` check the plans here and say what they come to, and
+`figures`, `report` and `pending` show it. `questions` puts them together.
 """

@@ -1,126 +1,73 @@
-"""The answers of one host to the questions of a fleet, as plain data. Amounts are slices."""
+"""The answers of one host to the questions of a fleet, as plain data. Amounts are slices.
+
+Each is worked out from what a worker sent, after the proved check accepted its plans here. So a
+worker that is wrong costs its host the answer, and shows no other amount.
+"""
 from __future__ import annotations
 
+import json
+import zlib
 from collections import Counter
-from collections.abc import Sequence
-from dataclasses import replace
+from collections.abc import Iterator, Sequence
 from typing import Any
 
-from arbiter_host import change, demands, load, names
+from arbiter_host import series
 from arbiter_host.faults import HostFault
+from arbiter_host.fleet.evidence import Accepted, accepted, told_host
 from arbiter_host.fleet.job import Job
-from arbiter_host.model import Model
-from arbiter_host.plan import Engine, Plan, Planned, plan
+from arbiter_host.plan import Engine
+from arbiter_host.series import Cell
 
 # Most groups that an answer names for one reason.
 MOST_NAMED = 5
+# What a reply of another form than that of `work` may raise.
+BROKEN = (ValueError, KeyError, TypeError, IndexError, AttributeError, OverflowError,
+          RecursionError, zlib.error)
 
 
-def leaves(found: Plan) -> list[Planned]:
-    """The groups without children, in which demands are."""
-    return [group for group in found.groups[1:] if not group.children]
+def explained(_: Job, plans: Iterator[Accepted], told: dict[str, Any]) -> dict[str, Any]:
+    """What a host serves, which groups are worst off, and what limits the total."""
+    found = next(plans)
+    worst = sorted((found.gets[row] - found.wants[row], found.paths[row], row)
+                   for row in found.leaves if found.gets[row] < found.wants[row])[:MOST_NAMED]
+    limiting = [[found.paths[row], found.limit(row)] for row in found.answer.limiting]
+    return {**found.sums, "limits": len(limiting), "limiting": limiting[:MOST_NAMED],
+            "worst": [[path, found.gets[row], found.wants[row]] for _, path, row in worst],
+            "notes": int(told["notes"]), "refused": int(told["refused"])}
 
 
-def shape(model: Model) -> dict[str, Any]:
-    """The host itself."""
-    host = model.host
-    return {"cpus": host.processors, "period_usec": host.period_us, "slice_usec": host.slice_us,
-            "capacity": host.capacity, "groups": len(model.groups)}
-
-
-def sums(found: Plan) -> dict[str, Any]:
-    """What a plan serves, and how many groups it leaves short."""
-    ends = leaves(found)
-    return {"served": found.root.gets, "wanted": found.root.want,
-            "lacking": sum(group.gets < group.want for group in ends),
-            "starved": sum(group.is_starved for group in ends),
-            "throttled": sum(group.is_throttled for group in found.groups)}
-
-
-def planned(model: Model, engine: Engine) -> dict[str, Any]:
-    """The answer to `plan`."""
-    found = plan(engine, model)
-    worst = sorted((group.gets - group.want, group.path, group) for group in leaves(found)
-                   if group.gets < group.want)[:MOST_NAMED]
-    limiting = [[group.path, group.limit] for group in found.limiting]
-    return {**shape(model), **sums(found), "limits": len(limiting),
-            "limiting": limiting[:MOST_NAMED],
-            "worst": [[path, group.gets, group.want] for _, path, group in worst],
-            "notes": len(model.notes), "refused": len(model.refused)}
-
-
-def matched(model: Model, words: Sequence[str]) -> tuple[list[str], set[str]]:
-    """The changes for which a host has a group, and the paths of these groups."""
-    found, paths = [], set()
-    for word in words:
-        try:
-            groups = demands.matching(model, change.split(word)[0])
-        except HostFault:
-            continue
-        found.append(word)
-        paths |= {group.path for group in groups}
-    return found, paths
-
-
-def rows_after(before: Plan, after: Plan) -> list[int]:
+def rows_after(before: Accepted, after: Accepted) -> Sequence[int]:
     """The row that each group has after a change: its path's, or its own where paths change.
 
     A pod whose class changes has another path, and its row stays.
     """
-    if len(before.groups) == len(after.groups):
-        return list(range(len(before.groups)))
-    then = after.by_path()
-    return [then[group.path].row for group in before.groups]
+    if len(before.paths) == len(after.paths):
+        return range(len(before.paths))
+    then = {path: row for row, path in enumerate(after.paths)}
+    return [then[path] for path in before.paths]
 
 
-def moved(before: Plan, after: Plan) -> list[tuple[int, str]]:
+def moved(before: Accepted, after: Accepted) -> list[tuple[int, str]]:
     """By how much the amount of each group without children rises, and its path."""
     rows = rows_after(before, after)
-    return [(after.groups[rows[group.row]].gets - group.gets, group.path)
-            for group in leaves(before)]
+    return [(after.gets[rows[row]] - before.gets[row], before.paths[row])
+            for row in before.leaves]
 
 
-def changed(job: Job, model: Model, engine: Engine) -> dict[str, Any]:
-    """The answer to `what-if`."""
-    words, paths = matched(model, job.sets)
-    before = plan(engine, model)
-    after = plan(engine, change.changed(model, words))
+def compared(_: Job, plans: Iterator[Accepted], told: dict[str, Any]) -> dict[str, Any]:
+    """Who gains by a change and who loses."""
+    before, after, paths = next(plans), next(plans), told["matched"]
     rises = moved(before, after)
     gains = sorted((-rise, path) for rise, path in rises if rise > 0)[:MOST_NAMED]
     losses = sorted((rise, path) for rise, path in rises if rise < 0)[:MOST_NAMED]
     of_set = [rise for rise, path in rises
               if any(path == each or path.startswith(each + "/") for each in paths)]
-    return {**shape(model), "matched": len(paths), "before": sums(before), "after": sums(after),
+    return {"matched": len(paths), "before": before.sums, "after": after.sums,
             # How many groups have each change.
             "changes": sorted(Counter(rise for rise, _ in rises).items()),
             "changed_groups": sum(of_set), "others": sum(rise for rise, _ in rises) - sum(of_set),
             "gains": [[path, -rise] for rise, path in gains],
             "losses": [[path, rise] for rise, path in losses]}
-
-
-def with_pod(model: Model, pod: Model) -> tuple[Model, list[str]]:
-    """A model with the groups of a pod, and the paths of those that ask for something.
-
-    Groups that both have stay as the host has them. Pods of Kubernetes become pods of the node:
-    so the weights of their class follow.
-    """
-    whole = model.owned.joined(pod.owned) if model.owned and pod.owned else None
-    if whole is not None:
-        after = whole.model()
-        return after, [path for path in after.groups if path not in model.groups]
-    after, asking = model.copy(), []
-    for path, group in pod.groups.items():
-        if path not in model.groups:
-            after.add(replace(group))
-            asking += [path] if group.demand else []
-        elif group.demand:
-            raise HostFault(f"{names.shown(path)}: the host has this group already")
-    for path, below in after.children().items():
-        if path != "." and below and after.groups[path].demand:
-            raise HostFault(f"{names.shown(path)}: asks for CPUs itself, so it can have no child")
-    if not asking:
-        raise HostFault("no group of the pod asks for anything: --want busy or limit")
-    return after, asking
 
 
 def loss(rises: Sequence[tuple[int, str]]) -> dict[str, Any]:
@@ -130,40 +77,69 @@ def loss(rises: Sequence[tuple[int, str]]) -> dict[str, Any]:
             "losers": [[path, -rise] for rise, path in lost[:MOST_NAMED]]}
 
 
-def pod_of(job: Job, place: int, model: Model, engine: Engine) -> Model:
-    """The groups of a pod, as its file has them for this host's CPUs. It has used nothing yet."""
-    name = job.pods[place][0]
-    want = None if job.options["want"] in demands.OF_USE else job.options["want"]
-    options = job.namespace(cpus=model.host.processors, period=None, slice=None, kind=None,
-                            want=want)
-    return load.of_bytes(options, name, job.pod_bytes(place), engine)
-
-
-def placed(job: Job, model: Model, engine: Engine) -> dict[str, Any]:
-    """The answer to `place`: each pod by itself beside what is there."""
-    before = plan(engine, model)
-    found: list[dict[str, Any]] = []
-    for place, (name, _) in enumerate(job.pods):
-        try:
-            after_model, asking = with_pod(model, pod_of(job, place, model, engine))
-        except HostFault as fault:
-            found.append({"pod": name, "why": fault.message})
+def placed(job: Job, plans: Iterator[Accepted], told: dict[str, Any]) -> dict[str, Any]:
+    """What each pod gets by itself beside what is there, and who loses."""
+    before, found = next(plans), list[dict[str, Any]]()
+    for (name, _), pod in zip(job.pods, told["pods"], strict=True):
+        if "why" in pod:
+            found.append({"pod": name, "why": str(pod["why"])})
             continue
-        after = plan(engine, after_model)
-        pods = [group for group in leaves(after) if group.path in set(asking)]
-        found.append({"pod": name, "gets": sum(group.gets for group in pods),
-                      "wants": sum(group.want for group in pods),
-                      "left": after.capacity - after.root.gets,
+        after, asking = next(plans), set(pod["asking"])
+        rows = [row for row in after.leaves if after.paths[row] in asking]
+        found.append({"pod": name, "gets": sum(after.gets[row] for row in rows),
+                      "wants": sum(after.wants[row] for row in rows),
+                      "left": after.host.capacity - after.gets[0],
                       **loss(moved(before, after))})
-    return {**shape(model), "before": sums(before), "pods": found}
+    return {"before": before.sums, "pods": found}
 
 
-def of_host(job: Job, name: str, data: bytes, engine: Engine) -> dict[str, Any]:
-    """The answer of one host. A series is answered in pieces, by `pieces`."""
-    model = load.of_bytes(job.namespace(), name, data, engine)
-    if model.refused and not model.groups:
-        raise HostFault(f"no host: {len(model.refused)} lines are none of a script, the first:"
-                        f" {model.refused[0]}")
-    if job.action == "what-if":
-        return changed(job, model, engine)
-    return placed(job, model, engine) if job.action == "place" else planned(model, engine)
+def counted(plan: Accepted, row: int, cell: Cell, quota: int | None, times: int) -> None:
+    """Adds the periods of one plan to the cell of a group."""
+    figures = plan.answer.figures
+    cell.count(plan.gets[row], plan.wants[row], plan.limit(row), row > 0 and bool(
+        figures.tights[row]), figures.withheld[row] * plan.host.slice_us, quota, times)
+
+
+def replayed(_: Job, plans: Iterator[Accepted], told: dict[str, Any]) -> dict[str, Any]:
+    """The sums of each group over all samples."""
+    sums = {path: series.Sums() for path in told["columns"]}
+    for counts in told["times"]:
+        cells = {path: Cell() for path in sums}
+        for times in counts:
+            plan = next(plans)
+            for (path, cell), quota in zip(cells.items(), told["quotas"], strict=True):
+                counted(plan, plan.paths.index(path), cell, quota, times)
+        for path, cell in cells.items():
+            sums[path].add(cell)
+    return {"samples": len(told["times"]), "unknown": list(map(str, told["unknown"])),
+            "groups_of_columns": [{"group": path, **each.data()} for path, each in sums.items()]}
+
+
+ACTIONS = {"explain": explained, "diff": compared, "place": placed, "replay": replayed}
+
+
+def plans_of(engine: Engine, told: dict[str, Any]) -> Iterator[Accepted]:
+    """The plans of a reply one by one, each accepted here. All have the last paths told."""
+    host = told_host(told["host"])
+    for at, text in enumerate(told["plans"]):
+        paths = told["paths"][min(at, len(told["paths"]) - 1)]
+        if not all(isinstance(each, str) for each in paths):
+            raise TypeError(paths)
+        yield accepted(engine, host, paths, text)
+
+
+def of_reply(job: Job, data: bytes, engine: Engine) -> dict[str, Any]:
+    """The answer of a host by what its worker sent. A fault where there is none."""
+    try:
+        told = json.loads(data)
+        if "why" in told:
+            raise HostFault(str(told["why"]))
+        host, groups = told_host(told["host"]), len(told["paths"][0]) - 1
+        found = ACTIONS[job.action](job, plans_of(engine, told), told)
+    except BROKEN as error:
+        raise HostFault(f"what its worker answers cannot be read: {type(error).__name__}"
+                        ) from error
+    except StopIteration as error:
+        raise HostFault("its worker answers fewer plans than were asked") from error
+    return {"cpus": host.processors, "period_usec": host.period_us, "slice_usec": host.slice_us,
+            "capacity": host.capacity, "groups": groups, **found}

@@ -1,18 +1,28 @@
 """The hosts of a fleet: files of a folder or of a list, or the nodes of a cluster."""
 from __future__ import annotations
 
+import argparse
 import json
 import math
 import os
-from collections.abc import Iterator, Mapping, Sequence
+import re
+from collections.abc import Callable, Mapping, Sequence
 from dataclasses import dataclass, replace
+from fractions import Fraction
 from typing import Any
 
-from arbiter_host import load, names
+from arbiter_host import demands, load, names
 from arbiter_host.faults import HostFault, UsageFault, strerror
 from arbiter_host.sources import kubernetes, pods
-from arbiter_host.sources.data import MAX_BYTES, table, text
+from arbiter_host.sources.data import loads, table, tables, text
 from arbiter_host.sources.usage import Used, some
+
+# A line of a script, by which it is no list.
+MADE = re.compile(rb"^[ \t]*mkdir[ \t]", re.M)
+NODE = re.compile(rb'"kind"\s*:\s*"Node"')
+# Files that a tree of cgroups has, and the folder of a fleet does not.
+TREE_FILES = frozenset({"cgroup.controllers", "cgroup.procs", "cpu.stat"})
+MOST_FILES = 100000
 
 
 @dataclass(frozen=True)
@@ -21,8 +31,9 @@ class HostFile:
 
     name: str
     path: str
-    # What the host is read from, where it is a part of a file.
+    # What the host is read from, where it is a part of a file, and the pods that it then has.
     data: bytes | None = None
+    pods: frozenset[str] = frozenset()
 
 
 @dataclass(frozen=True)
@@ -58,42 +69,35 @@ class Fleet:
         return {each.shape: each for each in reversed(self.pending)}
 
 
-def below(folder: str) -> Iterator[str]:
-    """The paths of all files below a folder, without hidden ones."""
+def below(folder: str) -> list[str] | None:
+    """The paths of all files below a folder, without hidden ones; None for a tree of cgroups."""
     def refuse(error: OSError) -> None:
         raise HostFault(f"{names.shown(str(error.filename))}: {strerror(error)}") from error
 
+    found: list[str] = []
     for top, folders, files in os.walk(folder, onerror=refuse):
+        if not TREE_FILES.isdisjoint(files):
+            return None
         folders[:] = [each for each in folders if not each.startswith(".")]
-        yield from (os.path.join(top, each) for each in files if not each.startswith("."))
-
-
-def document(word: str, data: bytes) -> Any:
-    """The data of a JSON document; None where the bytes are none, and may be a list of files."""
-    if data[:64].lstrip(b"\xef\xbb\xbf \t\r\n")[:1] not in (b"{", b"["):
-        return None
-    if len(data) > MAX_BYTES:
-        raise HostFault(f"{names.shown(word)}: more than {MAX_BYTES >> 20} MiB")
-    try:
-        return json.loads(data.decode("utf-8-sig"))
-    except (ValueError, RecursionError):
-        return None
-
-
-def listed(path: str, data: bytes) -> list[str]:
-    """The paths that a list names, one a line, relative to its folder."""
-    try:
-        words = data.decode("utf-8")
-    except UnicodeDecodeError as error:
-        raise HostFault(f"{names.shown(path)}: no list of files: not UTF-8") from error
-    folder = "" if path == "-" else os.path.dirname(path)
-    lines = [line.strip() for line in words.split("\n")]
-    lines = [line for line in lines if line and not line.startswith("#")]
-    found = [os.path.join(folder, line) for line in lines]
-    if found and not any(map(is_there, found)):
-        raise HostFault(f"{names.shown(path)}: no list of hosts: no line of it names a file that is"
-                        f" there, such as '{names.shown(names.cut(lines[0], 60))}'")
+        found += [os.path.join(top, each) for each in files if not each.startswith(".")]
+        if len(found) > MOST_FILES:
+            raise HostFault(f"{names.shown(folder)}: more than {MOST_FILES} files")
     return found
+
+
+def items_of(path: str, data: bytes) -> list[dict[str, Any]]:
+    """The objects of JSON with several nodes; none of any other file."""
+    if data[:64].lstrip(b"\xef\xbb\xbf \t\r\n")[:1] != b"{" or len(NODE.findall(data)) < 2:
+        return []
+    found = tables(loads(data, names.shown(path)), "items")
+    return found if sum(each.get("kind") == "Node" for each in found) > 1 else []
+
+
+def paths_of(path: str, data: bytes) -> list[str]:
+    """The paths that a list names, one a line, relative to its folder."""
+    folder = "" if path == "-" else os.path.dirname(path)
+    lines = [line.strip() for line in data.decode("utf-8", "surrogateescape").split("\n")]
+    return [os.path.join(folder, line) for line in lines if line and not line.startswith("#")]
 
 
 def is_there(path: str) -> bool:
@@ -121,47 +125,51 @@ def named(paths: Sequence[str], folder: str) -> list[HostFile]:
     return [found[name] for name in sorted(found)]
 
 
-def of_word(word: str) -> list[HostFile]:
-    """The hosts of a word of the command line."""
-    return fleet_of(word).hosts
+def fleet_in(options: argparse.Namespace, files: Sequence[load.Opened],
+             used: Callable[[], Sequence[Used]] = tuple) -> Fleet | None:
+    """The fleet that the files of the command line are; None where they are one host.
 
-
-def fleet_of(word: str, used: Sequence[Used] = ()) -> Fleet:
-    """The fleet of a word of the command line: a folder, a list of files, or a cluster.
-
-    What pods used is of a cluster alone.
+    What pods used is asked for a cluster alone.
     """
-    if os.path.isdir(word):
-        fleet = Fleet(named(list(below(word)), word))
-    else:
-        data = load.file_bytes(word)
-        whole = document(word, data)
-        fleet = of_list(word, data) if whole is None else of_cluster(word, whole, used)
-    if used and not fleet.is_cluster:
-        raise UsageFault("--usage is of the pods of a cluster: other hosts have none")
-    if not fleet.hosts:
-        raise HostFault(f"{names.shown(word)}: no host")
-    return fleet
+    (path, data), *more = files
+    if more or options.kind == "cgroup":
+        return None
+    if data is None:
+        paths = below(path)
+        return Fleet(named(paths, path)) if paths else None
+    if options.kind in (None, "kubernetes") and not options.node:
+        items = items_of(path, data)
+        if items:
+            return of_cluster(path, items, used(), options.want)
+    return of_list(path, data) if options.kind is None else None
 
 
-def of_list(word: str, data: bytes) -> Fleet:
-    """The hosts of a list of files."""
-    paths = listed(word, data)
-    folders = [os.path.abspath(os.path.dirname(path)) for path in paths]
-    return Fleet(named(paths, os.path.commonpath(folders)) if paths else [])
+def of_one(files: Sequence[load.Opened]) -> Fleet:
+    """The fleet of one host, which is one file."""
+    (path, data), *more = files
+    if more or data is None:
+        raise UsageFault("many hosts are a folder of their files, a list of these, or a cluster's"
+                         " JSON; one host is one file")
+    return Fleet([HostFile(names.shown(stem(os.path.basename(path))), path, data)])
 
 
-def of_cluster(word: str, whole: Any, used: Sequence[Used] = ()) -> Fleet:
+def of_list(path: str, data: bytes) -> Fleet | None:
+    """The hosts of a list of files: what is no other source, and has a line that names a file."""
+    if load.kind_of(path, data) != "script" or path.endswith(".script") or MADE.search(data):
+        return None
+    paths = paths_of(path, data)
+    if not any(map(is_there, paths)):
+        return None
+    return Fleet(named(paths, os.path.commonpath([os.path.abspath(os.path.dirname(each))
+                                                  for each in paths])))
+
+
+def of_cluster(word: str, items: Sequence[dict[str, Any]], used: Sequence[Used] = (),
+               want: str | None = None) -> Fleet:
     """A host for each node of `kubectl get nodes,pods -A -o json`, with the pods that it has and
     what these used."""
-    items = whole.get("items") if isinstance(whole, dict) else None
-    items = [each for each in items if isinstance(each, dict)] if isinstance(items, list) else []
     nodes = {text(table(each, "metadata"), "name"): each for each in items
              if each.get("kind") == "Node"}
-    if not nodes:
-        raise HostFault(f"{names.shown(word)}: one JSON document, no list of hosts: name a folder"
-                        " of their files, a list with one file a line, or a cluster, which has"
-                        " nodes and pods (kubectl get nodes,pods -A -o json)")
     if len(nodes) < sum(each.get("kind") == "Node" for each in items):
         raise UsageFault(f"{names.shown(word)}: two nodes of one name")
     of_node: dict[str, list[dict[str, Any]]] = {name: [] for name in nodes}
@@ -173,7 +181,7 @@ def of_cluster(word: str, whole: Any, used: Sequence[Used] = ()) -> Fleet:
             of_node[place].append(pod)
         elif not kubernetes.has_ended(pod):
             (lost if place else pending).append(pod)
-    metrics = metrics_of(used)
+    metrics = metrics_of(used, want or "usage")
     found = [host_of(word, nodes[name], of_node[name], metrics) for name in sorted(nodes)]
     here = {title(pod) for each in of_node.values() for pod in each}
     told = {"pods of nodes that are not in it, left out": list(map(title, lost)),
@@ -184,7 +192,14 @@ def of_cluster(word: str, whole: Any, used: Sequence[Used] = ()) -> Fleet:
                  {host.name: room for host, room in found if room is not None}, tuple(notes))
 
 
-def metrics_of(used: Sequence[Used]) -> dict[str, dict[str, Any]]:
+def value_of(amounts: Sequence[Fraction], want: str) -> Fraction:
+    """One amount of several: their mean, the greatest or the 95th percentile."""
+    if want == "usage":
+        return demands.mean(amounts)
+    return demands.percentile(amounts, 100 if want == "peak" else 95)
+
+
+def metrics_of(used: Sequence[Used], want: str) -> dict[str, dict[str, Any]]:
     """What was used as objects of metrics-server, by the title of the pod."""
     found: dict[str, dict[str, Any]] = {}
     for each in used:
@@ -194,7 +209,7 @@ def metrics_of(used: Sequence[Used]) -> dict[str, dict[str, Any]]:
         metrics = found.setdefault(f"{each.namespace}/{each.pod}", {
             "kind": "PodMetrics", "metadata": {"namespace": each.namespace, "name": each.pod},
             "containers": []})
-        nano = math.ceil(each.amount * 10**6)
+        nano = math.ceil(value_of(each.amounts, want) * 10**6)
         metrics["containers"].append({"name": each.container, "usage": {"cpu": f"{nano}n"}})
     return found
 
@@ -214,7 +229,7 @@ def host_of(word: str, node: dict[str, Any], of_node: Sequence[dict[str, Any]],
     asked = kubernetes.requested_by([pods.pod_of(pod, []) for pod in of_node
                                      if not kubernetes.has_ended(pod)])
     room = None if allocatable is None else allocatable - asked
-    return HostFile(name, f"{word}: {name}", data), room
+    return HostFile(name, f"{word}: {name}", data, frozenset(map(title, of_node))), room
 
 
 def pending_of(pod: dict[str, Any]) -> Pending:

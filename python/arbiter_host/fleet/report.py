@@ -1,4 +1,4 @@
-"""The report of a fleet: what each question's answers come to, as lines, rows and data."""
+"""The report of many hosts: what each question's answers come to, as lines, rows and data."""
 from __future__ import annotations
 
 from collections.abc import Callable, Iterator, Sequence
@@ -6,16 +6,19 @@ from dataclasses import dataclass
 from fractions import Fraction
 from typing import Any
 
-from arbiter_host.fleet import figures, overtime
+from arbiter_host.fleet import figures
 from arbiter_host.fleet.figures import Host, number, total
 from arbiter_host.names import padded, short, shown, width
+from arbiter_host.series import COUNTS
 
-# The rules of `--by`, told in the report.
+# The rules of `--rank`, told in the report.
 RULES = {
     "least-loss": "the least that others lose and the pod lacks, then the most CPU left",
     "most-left": "the most CPU left, then the least that others lose and the pod lacks",
 }
 MOST_MOVED = 10
+# Rows of a table without `--all`.
+MOST_ROWS = 20
 
 
 @dataclass(frozen=True)
@@ -65,7 +68,7 @@ def part(one: Fraction, all_: Fraction) -> str:
 
 
 def plan_lines(hosts: Sequence[Host]) -> Iterator[str]:
-    """What `plan` says of the whole fleet."""
+    """What `explain` says of the whole fleet."""
     served, wanted, capacity = (total(hosts, key) for key in ("served", "wanted", "capacity"))
     groups = sum(host.answer["groups"] for host in hosts)
     yield (f"{cpu(served)} of {cpu(capacity)} CPUs served, {cpu(wanted)} wanted, groups: {groups};"
@@ -85,7 +88,7 @@ def lacks(hosts: Sequence[Host]) -> list[Fraction]:
 
 
 def plan_row(host: Host) -> list[str]:
-    """The row of a host in `plan`."""
+    """The row of a host in `explain`."""
     answer = host.answer
     return [host.name, str(answer["cpus"]), cpu(host.of("served")), cpu(host.of("wanted")),
             cpu(lack(host)), part(host.of("served"), host.of("capacity")),
@@ -94,7 +97,7 @@ def plan_row(host: Host) -> list[str]:
 
 
 def of_plan(hosts: Sequence[Host], _: str) -> tuple[list[str], list[Table], dict[str, Any]]:
-    """The report of `plan`: the hosts that lack most first."""
+    """The report of `explain`: the hosts that lack most first."""
     ordered = sorted(hosts, key=lambda host: (-lack(host), host.name))
     heads = ["host", "cpus", "served", "wanted", "lack", "use", "groups", "lacking", "starved",
              "throttled", "what limits the total"]
@@ -127,7 +130,7 @@ def lost(host: Host) -> Fraction:
 
 
 def change_row(host: Host) -> list[str]:
-    """The row of a host in `what-if`."""
+    """The row of a host in `diff`."""
     answer = host.answer
     before, after = host.of("before", "served"), host.of("after", "served")
     starved = f"{answer['before']['starved']} to {answer['after']['starved']}"
@@ -137,7 +140,7 @@ def change_row(host: Host) -> list[str]:
 
 
 def of_changes(hosts: Sequence[Host], _: str) -> tuple[list[str], list[Table], dict[str, Any]]:
-    """The report of `what-if`: the hosts whose groups lose most first."""
+    """The report of `diff`: the hosts whose groups lose most first."""
     before, after = (total(hosts, key, "served") for key in ("before", "after"))
     found = list(changes(hosts))
     gain, lose = (sum(count for rise, count in found if sign * rise > 0) for sign in (1, -1))
@@ -205,22 +208,36 @@ def of_places(hosts: Sequence[Host], rule: str) -> tuple[list[str], list[Table],
     return lines, tables, {"by": rule, "rule": RULES[rule], "best": best}
 
 
+def mean(host: Host, key: str) -> Fraction:
+    """CPUs that the groups of a host got or wanted, as a mean over all periods."""
+    groups = host.answer["groups_of_columns"]
+    periods = max((group["periods"] for group in groups), default=1)
+    return host.cpus(sum(group[key] for group in groups)) / max(periods, 1)
+
+
+def count(host: Host, key: str) -> int:
+    """A count over all groups of a host."""
+    return sum(group[key] for group in host.answer["groups_of_columns"])
+
+
 def series_row(host: Host) -> list[str]:
-    """The row of a host in `series`."""
-    wanted, got = overtime.mean(host, "wanted"), overtime.mean(host, "got")
+    """The row of a host in `replay`."""
+    wanted, got = mean(host, "wanted"), mean(host, "got")
     row = max((group["samples_starved_in_a_row"] for group in host.answer["groups_of_columns"]),
               default=0)
     return [host.name, str(host.answer["samples"]), cpu(wanted), cpu(got), part(got, wanted),
-            *(str(overtime.count(host, key)) for key in ("throttled", "bursts", "starved")),
-            str(row)]
+            *(str(count(host, key)) for key in ("throttled", "bursts", "starved")), str(row)]
 
 
 def of_series(hosts: Sequence[Host], _: str) -> tuple[list[str], list[Table], dict[str, Any]]:
-    """The report of `series`: the hosts that lack most as a mean first."""
+    """The report of `replay`: the hosts that lack most as a mean first."""
     def key(host: Host) -> tuple[Fraction, str]:
-        return overtime.mean(host, "got") - overtime.mean(host, "wanted"), host.name
+        return mean(host, "got") - mean(host, "wanted"), host.name
 
-    sums = overtime.data(hosts)
+    sums: dict[str, Any] = {f"mean_{each}_cpus": number(sum((mean(host, each) for host in hosts),
+                                                             Fraction(0)))
+                            for each in ("wanted", "got")}
+    sums |= {name: sum(count(host, name) for host in hosts) for name in list(COUNTS.values())[3:]}
     lines = [f"{sums['mean_got_cpus']:.2f} CPUs got of {sums['mean_wanted_cpus']:.2f} wanted, as"
              " means; the proved check accepted each plan",
              f"periods of groups: throttled {sums['throttled']}, with a burst {sums['bursts']},"
@@ -233,9 +250,7 @@ def of_series(hosts: Sequence[Host], _: str) -> tuple[list[str], list[Table], di
 
 ACTIONS: dict[str, Callable[[Sequence[Host], str],
                             tuple[list[str], list[Table], dict[str, Any]]]] = {
-    "plan": of_plan, "what-if": of_changes, "place": of_places,
-    "series": of_series,
-}
+    "explain": of_plan, "diff": of_changes, "place": of_places, "replay": of_series}
 
 
 def built(action: str, hosts: Sequence[Host], missing: Sequence[tuple[str, str]],
@@ -256,9 +271,9 @@ def is_number(cell: str) -> bool:
     return cell == "-" or cell.lstrip("+-")[:1].isdigit()
 
 
-def table_lines(table: Table, most: int) -> Iterator[str]:
-    """A table as text, of at most so many rows; 0 for all."""
-    rows = table.rows[:most] if most else table.rows
+def table_lines(table: Table, has_all: bool) -> Iterator[str]:
+    """A table as text, of at most MOST_ROWS rows unless all are asked for."""
+    rows = table.rows if has_all else table.rows[:MOST_ROWS]
     widths = [max(map(width, column)) for column in zip(table.heads, *rows)]
     left = [at == 0 or not all(map(is_number, column)) for at, column in enumerate(zip(*rows))]
     for row in [table.heads, *rows]:
@@ -266,15 +281,26 @@ def table_lines(table: Table, most: int) -> Iterator[str]:
                         " " * (widths[at] - width(each)) + each
                         for at, each in enumerate(row)).rstrip()
     if len(rows) < len(table.rows):
-        yield f"and {len(table.rows) - len(rows)} more (--rows {len(table.rows)})"
+        yield f"and {len(table.rows) - len(rows)} more (--all)"
 
 
-def text(report: Report, most: int) -> str:
+def text(report: Report, has_all: bool) -> str:
     """The report as text. Each host without an answer is named."""
     lines = list(report.lines)
     for table in report.tables:
         if table.rows:
-            lines += ["", f"{table.title}:", *table_lines(table, most)]
+            lines += ["", f"{table.title}:", *table_lines(table, has_all)]
     if report.missing:
         lines += ["", "Not answered:", *(f"{name}: {shown(why)}" for name, why in report.missing)]
     return "".join(f"{line}\n" for line in lines)
+
+
+def page(report: Report) -> str:
+    """The report as one HTML page, whose tables sort and can be searched."""
+    from arbiter_host.html import rendered  # (no other form needs jinja2)
+    tables = [{"title": table.title, "heads": list(table.heads),
+               "rows": [[shown(each) for each in row] for row in table.rows]}
+              for table in report.tables if table.rows]
+    missing = [(shown(name), shown(why)) for name, why in report.missing]
+    return rendered("fleet.html", f"Fleet: {report.action}", report.lines, tables=tables,
+                    missing=missing)

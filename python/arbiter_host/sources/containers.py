@@ -16,7 +16,7 @@ from arbiter_host.names import last_name
 from arbiter_host.owned import NONE, Owned, Range, Setting
 from arbiter_host.sources import systemd
 from arbiter_host.sources.data import loads, number, table, text
-from arbiter_host.sources.usage import Used, some
+from arbiter_host.sources.usage import Used, some, told_twice
 from arbiter_host.sources.wish import File, Wish
 
 NANO = 10**9
@@ -184,7 +184,7 @@ class Source(Owned):
         model.notes += told_bound([path for path, place in places.items() if text(
             table(self.running[place], "HostConfig"), "CpusetCpus")])
         if self.wish.want == "request" or self.wish.want in demands.OF_USE and not self.known:
-            raise HostFault(f"--want {self.wish.want} needs --usage or --cgroup: containers have"
+            raise HostFault(f"--want {self.wish.want} needs --used: containers have"
                             " limit and busy", 2)
         measured = {path: Measured() for path in model.groups}
         measured |= {path: self.known.get((place, 0), Measured()) for path, place in places.items()}
@@ -222,14 +222,15 @@ class Source(Owned):
         """The same with what others measured. What it has no container of is told."""
         by_name = {text(each, "Name").strip("/"): place for place, each in enumerate(self.running)}
         by_id = {text(each, "Id")[:SHORT_ID]: place for place, each in enumerate(self.running)}
-        known, missing = {}, []
+        known, missing = dict[Place, Measured](), []
         for entry in entries:
             place = by_id.get(entry.identifier[:SHORT_ID]) if entry.identifier else None
             place = by_name.get(entry.container) if place is None else place
             if place is None:
                 missing.append(entry.title)
-            else:
-                known[place, 0] = Measured(told=entry.amount)
+                continue
+            told_twice(known, (place, 0), f"{name}: {entry.title}")
+            known[place, 0] = Measured(told=entry.amounts)
         told = f"{name}: used by containers that are not here, {some(missing)}"
         if not known:
             raise HostFault(told)

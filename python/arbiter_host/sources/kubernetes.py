@@ -24,7 +24,7 @@ from arbiter_host.sources.data import loads, table, tables, text
 from arbiter_host.sources.pods import (CLASSES, TOP, Container, Pod, folder_of, pod_of, requested,
                                        scope_of, thousandths)
 from arbiter_host.sources.scheduling import NodeFacts, node_facts
-from arbiter_host.sources.usage import Used, of_metrics, some
+from arbiter_host.sources.usage import Used, of_metrics, some, told_twice
 from arbiter_host.sources.wish import File, Wish
 
 ENDED = ("Succeeded", "Failed")
@@ -195,11 +195,11 @@ class Builder:
 def tell_limits(model: Model, wish: Wish, builder: Builder, seconds: Fraction) -> None:
     """Sets the demands. Pause containers and classes without a pod ask for nothing."""
     if wish.want in demands.OF_USE and not builder.known and builder.places:
-        raise HostFault(f"--want {wish.want}: what these pods used is not told (--usage, --cgroup);"
+        raise HostFault(f"--want {wish.want}: what these pods used is not told (--used);"
                         " they have request, limit and busy", 2)
     idle = builder.measured.keys() - builder.places.keys()
     for path in idle if wish.want in demands.OF_USE else ():
-        builder.measured[path].told = Fraction(0)
+        builder.measured[path].told = (Fraction(0),)
     demands.set_demands(model, builder.measured, wish.want, seconds)
     for path in idle:
         model.groups[path].demand = Fraction(0)
@@ -295,20 +295,20 @@ class Source(Owned):
 
     def with_usage(self, entries: Sequence[Used], name: str) -> Source:
         """The same with what others measured. What it has no container of is told."""
-        by_name: dict[tuple[str, str], list[Place]] = {}
+        by_name: dict[str, list[Place]] = {}
         for place, number in self.folders_of(self.wish.driver):
-            pod = self.pods[place]
-            for word in (pod.name, pod.title):
-                for name_ in ("", pod.parts[number].name):
-                    by_name.setdefault((word, name_), []).append((place, number))
-        known, missing = {}, []
+            pod, container = self.pods[place], self.pods[place].parts[number].name
+            for word in {pod.name, pod.title, f"{pod.name}/{container}",
+                         f"{pod.title}/{container}"}:
+                by_name.setdefault(word, []).append((place, number))
+        known, missing = dict[Place, Measured](), []
         for entry in entries:
-            word = f"{entry.namespace}/{entry.pod}" if entry.namespace else entry.pod
-            places = by_name.get((word, entry.container), [])
-            if len(places) == 1:
-                known[places[0]] = Measured(told=entry.amount)
-            else:
+            places = by_name.get(entry.word, [])
+            if len(places) != 1:
                 missing.append(entry.title + (f" ({len(places)} containers)" if places else ""))
+                continue
+            told_twice(known, places[0], f"{name}: {entry.title}")
+            known[places[0]] = Measured(told=entry.amounts)
         told = f"{name}: used by containers that are not here, {some(missing)}"
         if not known:
             raise HostFault(told)
@@ -460,7 +460,7 @@ class Source(Owned):
         if self.wish.want in demands.OF_USE:
             # What is new has used nothing yet: it asks for its requests.
             known |= {(len(self.pods) + place, number): Measured(
-                told=Fraction(other.pods[place].parts[number].amounts.request or 0))
+                told=(Fraction(other.pods[place].parts[number].amounts.request or 0),))
                 for place, number in other.folders_of(other.wish.driver)}
         return replace(self, pods=(*self.pods, *other.pods), known=known)
 

@@ -11,7 +11,7 @@ from __future__ import annotations
 
 import json
 import re
-from collections.abc import Iterator, Sequence
+from collections.abc import Container, Iterator, Sequence
 from fractions import Fraction
 from typing import Any, NamedTuple
 
@@ -24,7 +24,8 @@ from arbiter_host.sources.pods import quantity
 # Containers that a file may name.
 MOST_ENTRIES = 200000
 # Columns of `kubectl top pods`, and the names that entries have for them.
-COLUMNS = {"NAMESPACE": "namespace", "POD": "pod", "NAME": "name", "CPU(cores)": "cpu"}
+CPU_COLUMN = "CPU(cores)"
+COLUMNS = {"NAMESPACE": "namespace", "POD": "pod", "NAME": "name", CPU_COLUMN: "cpu"}
 # Columns of `docker stats`: one that tells its table, and the number of processes, which is 0 of a
 # container that does not run. GAP separates columns.
 PIDS_PART = "PIDS"
@@ -33,24 +34,37 @@ PERCENT = re.compile(r"([0-9]{1,12}(?:\.[0-9]{1,12})?)%")
 
 
 class Used(NamedTuple):
-    """What one container used, in thousandths of a CPU. Names that a file lacks are empty."""
+    """What one container used, in thousandths of a CPU, at one time or at several. Names that a
+    file lacks are empty."""
 
-    amount: Fraction
+    amounts: tuple[Fraction, ...]
     namespace: str = ""
     pod: str = ""
     container: str = ""
     identifier: str = ""
 
     @property
-    def title(self) -> str:
-        """The names, as people write them."""
+    def word(self) -> str:
+        """The names in one word."""
         found = [each for each in (self.namespace, self.pod, self.container) if each]
-        return shown("/".join(found) or self.identifier)
+        return "/".join(found) or self.identifier
+
+    @property
+    def title(self) -> str:
+        """The names, as people can read them."""
+        return shown(self.word)
 
 
 def is_text(data: bytes) -> bool:
     """Whether a file is no JSON."""
     return data.lstrip(b"\xef\xbb\xbf \t\r\n")[:1] not in (b"{", b"[")
+
+
+def is_usage(data: bytes) -> bool:
+    """Whether a file tells what was used at one time, and has no samples."""
+    head = next((line for line in data[:65536].decode("utf-8-sig", "replace").split("\n")
+                 if line.strip()), "")
+    return not is_text(data) or CPU_COLUMN in head.split() or CPU_PART in GAP.split(head.strip())
 
 
 def amount_of(word: str, where: str) -> Fraction:
@@ -87,7 +101,7 @@ def of_table(lines: Sequence[str], begin: int, name: str) -> Iterator[Used]:
             raise HostFault(f"{name}:{number}: {len(cells)} columns and not {len(heads)}")
         row = {head: cell[:MAX_TEXT] for head, cell in zip(heads, cells)}
         if row.get(CPU_PART, "--") != "--" and row.get(PIDS_PART) != "0":
-            yield Used(amount_of(row[CPU_PART], f"{name}:{number}"), "", "", row.get("NAME", ""),
+            yield Used((amount_of(row[CPU_PART], f"{name}:{number}"),), "", "", row.get("NAME", ""),
                        row.get("CONTAINER ID", row.get("ID", "")))
 
 
@@ -110,7 +124,7 @@ def of_text(data: bytes, name: str) -> Iterator[Used]:
         if len(words) != len(columns):
             raise HostFault(f"{name}:{number}: {len(words)} words and not {len(columns)}")
         cells = {column: word[:MAX_TEXT] for column, word in zip(columns, words)}
-        yield Used(amount_of(cells["cpu"], f"{name}:{number}"), cells.get("namespace", ""),
+        yield Used((amount_of(cells["cpu"], f"{name}:{number}"),), cells.get("namespace", ""),
                    cells.get("pod", ""), cells.get("name", ""))
 
 
@@ -123,7 +137,7 @@ def of_metrics(items: Sequence[dict[str, Any]], name: str) -> Iterator[Used]:
             container = text(each, "name")
             where = f"{name}: {shown(f'{namespace}/{pod}/{container}')}"
             amount = amount_of(str(table(each, "usage").get("cpu"))[:60], where)
-            yield Used(amount, namespace, pod, container)
+            yield Used((amount,), namespace, pod, container)
 
 
 def of_stats(entries: Sequence[Any], name: str) -> Iterator[Used]:
@@ -137,7 +151,7 @@ def of_stats(entries: Sequence[Any], name: str) -> Iterator[Used]:
                             " json` prints it")
         word = text(each, keys[2])
         if word not in ("--", "") and text(each, keys[3]) != "0":
-            yield Used(amount_of(word, f"{name}:{number}"), "", "",
+            yield Used((amount_of(word, f"{name}:{number}"),), "", "",
                        text(each, keys[1]).lstrip("/"), text(each, keys[0]))
 
 
@@ -176,8 +190,9 @@ def read(data: bytes, name: str) -> list[Used]:
     for each in of_text(data, name) if is_text(data) else of_json(data, name):
         if len(found) >= MOST_ENTRIES:
             raise HostFault(f"{name}: more than {MOST_ENTRIES} containers")
-        if each.amount > units.MAX_CPUS:
-            raise HostFault(f"{name}: {each.title}: {float(each.amount):g}m is no usage of a host")
+        if each.amounts[0] > units.MAX_CPUS:
+            raise HostFault(f"{name}: {each.title}: {float(each.amounts[0]):g}m is no usage of a"
+                            " host")
         found.append(each)
     if not found:
         raise HostFault(f"{name}: it names no container")
@@ -187,3 +202,9 @@ def read(data: bytes, name: str) -> list[Used]:
 def some(titles: Sequence[str]) -> str:
     """The number of some names, with the first of them."""
     return f"{len(titles)}: {few(titles)}"
+
+
+def told_twice(known: Container[tuple[int, int]], place: tuple[int, int], what: str) -> None:
+    """A fault where the use of a container is known already."""
+    if place in known:
+        raise HostFault(f"{what}: two numbers for what one container used")

@@ -20,7 +20,6 @@ from arbiter_host.names import shown
 from arbiter_host.output import emit_json, emit_styled
 from arbiter_host.subcommands.base import (Subcommand, add_reading_options, found_engine,
                                            source_name)
-from arbiter_host.subcommands.series import add_prometheus_options
 
 LIVE_INTERVAL, STEP = "5s", "1m"
 # Options of sources that say nothing of what was used over time, with their defaults.
@@ -148,6 +147,16 @@ def add_words(parser: argparse.ArgumentParser) -> None:
     add_prometheus_options(parser)
     add_reading_options(parser)
     parser.set_defaults(interval=None)
+
+
+def add_prometheus_options(parser: argparse.ArgumentParser) -> None:
+    """The options that name a query of Prometheus."""
+    group = parser.add_argument_group("prometheus")
+    group.add_argument("--prometheus", metavar="URL", help="ask this server for the demands")
+    for name, words in (("query", "the query"), ("start", "its start: epoch or RFC 3339"),
+                        ("end", "its end"), ("step", "its step, such as 5m")):
+        group.add_argument(f"--{name}", metavar=name.upper(), help=words)
+    group.add_argument("--label", default="pod", help="the label that names groups (default pod)")
 
 
 DETAILS = (

@@ -8,6 +8,7 @@ from arbiter import Host
 from arbiter_host import change, choosing, diff, load, options as table
 from arbiter_host.explain import View
 from arbiter_host.faults import NoHost, NothingFound, UsageFault
+from arbiter_host.fleet import questions
 from arbiter_host.model import Model
 from arbiter_host.names import shown
 from arbiter_host.output import json_text, write_forms
@@ -81,6 +82,8 @@ def page(options: argparse.Namespace, one: Plan, two: Plan, view: View) -> str:
 def run(options: argparse.Namespace) -> None:
     """Writes what differs between two plans."""
     outputs, by = table.outputs(options), found_engine(options)
+    if questions.answered(options):
+        return
     before, after = compared(options, by)
     view = view_of(options, chosen(options, [before, after]))
     one, two = plan(by, before), plan(by, after)

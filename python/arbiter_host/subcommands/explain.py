@@ -5,6 +5,7 @@ import argparse
 
 from arbiter_host import choosing, explain, options as table, placement
 from arbiter_host.explain import View
+from arbiter_host.fleet import questions
 from arbiter_host.output import Styled, json_text, write_forms
 from arbiter_host.plan import Plan, guarantees
 from arbiter_host.subcommands.base import Subcommand, loaded_plan, source_name, view_of
@@ -48,6 +49,8 @@ def drawing(plan: Plan, view: View) -> str:
 def run(options: argparse.Namespace) -> None:
     """Writes a plan with its reasons."""
     outputs = table.outputs(options)
+    if questions.answered(options):
+        return
     plan = loaded_plan(options, options.source)
     view = shown_view(options, plan)
     write_forms(outputs, {"text": lambda: lines(plan, view), "json": lambda: data(plan, view),

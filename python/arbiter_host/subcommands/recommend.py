@@ -3,55 +3,50 @@ from __future__ import annotations
 
 import argparse
 
-from arbiter_host import change, load, recommend, samples, text
+from arbiter_host import change, load, options as table, output, recommend, text
 from arbiter_host.demands import Use
 from arbiter_host.model import Model
 from arbiter_host.names import cut, few, short, shown
-from arbiter_host.output import emit_json, emit_styled
+from arbiter_host.plan import Engine
 from arbiter_host.recommend import Proposal, Recommendation
-from arbiter_host.subcommands.base import (Subcommand, add_reading_options, found_engine,
-                                           source_name)
-from arbiter_host.subcommands.series import (add_prometheus_options, file_samples, mapped,
-                                             range_words)
+from arbiter_host.sources import used
+from arbiter_host.sources.register import READERS
+from arbiter_host.subcommands.base import Subcommand, found_engine, source_name
 
 
-
-def history_of(options: argparse.Namespace, model: Model) -> list[samples.Sample]:
-    """The samples of the files and of Prometheus. An empty cell is no sample."""
-    found: list[samples.Sample] = []
-    for path in options.history:
-        found += file_samples(options, path, model.host, len(found), True)[0]
-    if options.prometheus:
-        found += samples.read_prometheus(options.prometheus, range_words(options), options.label,
-                                         options.unit, model.host, True)
-    return found
+def loaded(options: argparse.Namespace, by: Engine) -> Model:
+    """The source. What was used of pods and containers is part of it."""
+    files = load.opened(options, options.source)
+    kind = options.kind or load.kind_of(*files[0])
+    if not READERS[kind].is_measured:
+        return load.model_of(used.without(options, kind), files, by)
+    return load.model_of(options, files, by)
 
 
-def uses_of(options: argparse.Namespace, model: Model) -> tuple[dict[str, Use], int]:
-    """What was seen of each container, and the greatest number of samples."""
-    found = recommend.owned_of(model).seen()
-    history = history_of(options, model)
-    if history:
-        uses, told = recommend.of_history(model, history, mapped(options.map))
+def uses_of(options: argparse.Namespace, model: Model) -> dict[str, Use]:
+    """What was seen of each group: with the source, or of units in samples beside it."""
+    owned = recommend.owned_of(model)
+    found = owned.seen()
+    if options.used and owned.noun == "unit":
+        uses, told = recommend.of_history(model, used.history(options), options.unit,
+                                          used.mapped(options.map))
         model.notes += told
-        found |= {path: Use(use.values, found[path].wanted if path in found else use.wanted)
-                  for path, use in uses.items()}
-    return found, max((len(use.values) for use in found.values()), default=0)
+        return found | uses
+    return found
 
 
 def run(options: argparse.Namespace) -> None:
     """Prints what is proposed."""
     rule = recommend.rule_of(options.target, options.headroom)
-    by = found_engine(options)
-    model = load.load(options, options.source, by)
-    uses, count = uses_of(options, model)
+    by, outputs = found_engine(options), table.outputs(options)
+    model = loaded(options, by)
+    uses = uses_of(options, model)
     load.warn(model, source_name(options.source))
     found = recommend.recommended(by, model, uses, rule)
     change.told(model, found.after.model)
-    if options.json:
-        emit_json(recommend.as_data(found))
-    else:
-        emit_styled(lines_of(found, count))
+    count = max((len(use.values) for use in uses.values()), default=0)
+    output.write_forms(outputs, {"text": lambda: lines_of(found, count),
+                                 "json": lambda: output.json_text(recommend.as_data(found))})
 
 
 def cells(each: Proposal, keys: tuple[str, str]) -> list[str]:
@@ -104,30 +99,15 @@ def add_words(parser: argparse.ArgumentParser) -> None:
     """The words of `recommend`."""
     parser.add_argument("source", nargs="+", metavar="SOURCE", help="pods and their node,"
                         " containers of docker, units, or a tree of cgroup v2, as of explain")
-    parser.add_argument("--target", default="p95", metavar="pN", help="the percentile of the use"
-                        " that is requested, p1 to p100 or max (default p95)")
-    parser.add_argument("--headroom", default="15", metavar="PERCENT", help="what is put on top of"
-                        " it, in percent of it (default 15)")
-    parser.add_argument("--history", action="append", default=[], metavar="FILE", help="what"
-                        " containers used over time, as the demands of series")
-    parser.add_argument("--csv", action="store_true", help="the history is CSV")
-    parser.add_argument("--unit", choices=text.UNITS, default="cpu", help="unit of the history"
-                        " (default cpu)")
-    parser.add_argument("--map", action="append", default=[], metavar="COLUMN=GROUP",
-                        help="the container of a column whose name is not the container's")
-    parser.add_argument("--json", action="store_true", help="print the same as JSON, with the words"
-                        " of --set")
-    add_prometheus_options(parser)
-    add_reading_options(parser)
+    table.add(parser, "recommend")
 
 
 DETAILS = (
     "The request is the percentile of --target with --headroom on top, at least 10m. The limit is"
     " the greatest use, or what a throttled container wanted at least, with the same on top. A"
     " container without a limit gets none. In a guaranteed pod the request is the limit.",
-    "What was used is said by --history, --prometheus, --usage or --cgroup; the last tells of"
-    " throttling too. Of units it is the demand, where that is taken from usage. A container of"
-    " which nothing is said stays as it is.",
+    "What was used is said by --used; a tree of cgroups tells of throttling too. Of units it is the"
+    " demand, where that is taken from usage. A container of which nothing is said stays as it is.",
     "For containers of docker the request is 1024 cpu-shares for each CPU and the limit cpus, for"
     " units 100 of CPUWeight for each CPU and CPUQuota.",
     "In the plan each container asks for what it used at the percentile, with the proposed weights"
@@ -135,9 +115,11 @@ DETAILS = (
 )
 EXAMPLES = (
     ("from what was used at one time",
-     "kubectl top pods -A --containers | arbiterctl recommend pods.json node.json --usage -"),
+     "kubectl top pods -A --containers | arbiterctl recommend pods.json node.json --used -"),
     ("from a history, as JSON",
-     "arbiterctl recommend pods.json node.json --history pods.csv --target p90 --json"),
+     "arbiterctl recommend pods.json node.json --used pods.csv --target p90 -o json"),
+    ("from a week of Prometheus",
+     "arbiterctl recommend pods.json node.json --used http://127.0.0.1:9090 --range 7d --step 5m"),
 )
 RECOMMEND = Subcommand("recommend",
                        "Proposes a request and a limit for each container or unit from what it"

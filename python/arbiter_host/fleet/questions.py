@@ -1,0 +1,203 @@
+"""The questions to many hosts: `explain`, `diff`, `replay` and `place` of a fleet."""
+from __future__ import annotations
+
+import argparse
+import base64
+import os
+import time
+from collections.abc import Callable, Iterator, Sequence
+from contextlib import closing
+from dataclasses import replace
+from typing import Any
+
+from arbiter_host import change, load, names, options as table, progress
+from arbiter_host.faults import HostFault, NothingFound, UsageFault
+from arbiter_host.fleet import answers, hosts, pending, pool, report
+from arbiter_host.fleet.figures import Host
+from arbiter_host.fleet.hosts import Fleet, HostFile
+from arbiter_host.fleet.job import Job
+from arbiter_host.fleet.work import Item
+from arbiter_host.model import Group, Model
+from arbiter_host.output import json_text, say, warn, write_forms
+from arbiter_host.plan import Engine, engine_of
+from arbiter_host.sources import used
+from arbiter_host.sources.samples import History
+
+# What a worker reads of the options. What was used goes to each host with its pods.
+READING = ("kind", "want", "scale", "node", "node_weights", "strict", "cpus", "period", "slice",
+           "interval", "samples", "later", "own", "depth_read", "conversion", "kubelet", "runtime",
+           "driver")
+OF_NO_HOST: dict[str, Any] = {"used": [], "usage": None, "cgroup": None}
+Samples = Callable[[HostFile], History]
+Missing = list[tuple[str, str]]
+
+
+def fleet_in(options: argparse.Namespace) -> Fleet | None:
+    """The fleet that the words of the command line are; None where they are one host.
+
+    An option that has no effect on a fleet is refused. Files are read once: `load` has them then.
+    """
+    files = load.opened(options, options.source)
+    options.kept = dict(files)
+    words = used.words_of(options) if options.asked != "replay" else []
+    found = hosts.fleet_in(options, files, lambda: used.entries(options) if words else [])
+    if found is None:
+        return None
+    table.check(options, table.HOSTS)
+    if words and not found.is_cluster:
+        raise UsageFault("--used is of the pods of a cluster: other hosts have none")
+    for note in found.notes:
+        warn(f"{names.shown(files[0][0])}: {note}")
+    return found
+
+
+def check_sets(words: Sequence[str]) -> None:
+    """A fault where a change is none on any host."""
+    for word in words:
+        _, key, value = change.split(word)
+        try:
+            if change.is_owned(word):
+                change.check_value(word)
+            else:
+                change.apply(Model(), Group("any"), key, value, False)
+        except HostFault as fault:
+            raise UsageFault(f"--set {names.shown(word)}: {fault.message}") from fault
+
+
+def job_of(options: argparse.Namespace, fleet: Fleet) -> Job:
+    """What is asked of each host."""
+    check_sets(options.set)
+    reading = {**{key: getattr(options, key, None) for key in READING}, **OF_NO_HOST}
+    if fleet.is_cluster:
+        reading["kind"] = "kubernetes"
+        if used.words_of(options) and options.asked != "replay":
+            used.check_want(options)
+            reading["want"] = "usage"
+    library = options.library
+    if library and "/" in library:
+        library = os.path.abspath(library)
+    pods = [[names.shown(path), base64.b64encode(load.file_bytes(path)).decode()]
+            for path in options.pod]
+    sample = load.time_option(options.step, "--step") if options.step else 0
+    return Job(options.asked, reading, list(options.set), pods, options.unit, sample,
+               used.mapped(options.map), used.is_served(options), library)
+
+
+def samples_of(options: argparse.Namespace, fleet: Fleet) -> Samples:
+    """The samples of each host."""
+    if not fleet.is_cluster:
+        by_host = used.by_host(options)
+        return lambda host: by_host(host.name)
+    whole = used.history(options)
+    return lambda host: whole.of_columns(lambda column: is_of(column, host.pods))
+
+
+def is_of(column: str, pods: frozenset[str]) -> bool:
+    """Whether a column names one of some pods, or a container of one."""
+    return column in pods or column.rpartition("/")[0] in pods
+
+
+def items_of(found: Sequence[HostFile], samples: Samples | None,
+             missing: Missing) -> Iterator[Item]:
+    """What is sent of each host. One that cannot be read is missing."""
+    for host in found:
+        try:
+            data = load.file_bytes(host.path, True) if host.data is None else host.data
+            yield Item(host.name, host.path, data, samples(host) if samples else None)
+        except HostFault as fault:
+            missing.append((host.name, fault.message))
+
+
+def workers_of(options: argparse.Namespace, fleet: Fleet) -> int:
+    """The processes that plan; 0 is this one."""
+    if options.workers is not None and not 0 <= options.workers <= pool.MOST_WORKERS:
+        raise UsageFault(f"--workers: 0 to {pool.MOST_WORKERS}")
+    if options.workers is not None and options.scheduler is not None:
+        raise UsageFault("--scheduler has its own workers: no --workers")
+    most: int = (os.cpu_count() or 1) if options.workers is None else options.workers
+    return 0 if len(fleet.hosts) == 1 else min(most, len(fleet.hosts))
+
+
+def asked(options: argparse.Namespace, job: Job, fleet: Fleet,
+          samples: Samples | None = None) -> tuple[list[Host], Missing]:
+    """The answers of all hosts, and the hosts that have none with the reasons, by name."""
+    engine, began = engine_of(options.library), time.monotonic()
+    workers, found = workers_of(options, fleet), dict[str, Host]()
+    missing: Missing = []
+    items = items_of(fleet.hosts, samples, missing)
+    replies = pool.replies(workers, options.scheduler, job.text(), items)
+    with progress.bar("hosts", len(fleet.hosts)) as tick, closing(replies):
+        for reply in replies:
+            try:
+                found[reply.host] = Host(reply.host, answer_of(job, reply, engine))
+            except HostFault as fault:
+                missing.append((reply.host, fault.message))
+            tick()
+    if options.verbose:
+        say(f"{time.monotonic() - began:.1f} seconds, processes: {workers or 1}")
+    known = {*found, *(name for name, _ in missing)}
+    missing += [(host.name, pool.GONE) for host in fleet.hosts if host.name not in known]
+    return [found[name] for name in sorted(found)], sorted(missing)
+
+
+def answer_of(job: Job, reply: pool.Reply, engine: Engine) -> dict[str, Any]:
+    """The answer of a host. A fault where there is none."""
+    if reply.why:
+        raise HostFault(reply.why)
+    return answers.of_reply(job, reply.data, engine)
+
+
+def with_pending(options: argparse.Namespace, job: Job, fleet: Fleet,
+                 found: report.Report) -> report.Report:
+    """The report of a cluster's plan, with where its pods go that no node has yet."""
+    if options.asked != "explain" or not fleet.pending:
+        return found
+    pods = [[f"{each.title}.json", base64.b64encode(each.data).decode()]
+            for each in fleet.shapes().values()]
+    quiet = argparse.Namespace(**{**vars(options), "verbose": False})
+    placing, _ = asked(quiet, replace(job, action="place", pods=pods), fleet)
+    return pending.added(found, pending.placed(fleet, placing, options.rank), options.rank)
+
+
+FORMS = ("text", "json", "html")
+
+
+def outputs_of(options: argparse.Namespace) -> list[table.Output]:
+    """The forms and files that are asked for. A fault for a form that many hosts have not."""
+    found = table.outputs(options)
+    for form, _ in found:
+        if form not in FORMS:
+            raise UsageFault(f"-o {form}: of many hosts there is {', '.join(FORMS)}")
+    return found
+
+
+def answered(options: argparse.Namespace) -> bool:
+    """Whether the words are of many hosts: then these are asked, and all is told."""
+    fleet = fleet_in(options)
+    if fleet is not None:
+        answer(options, fleet)
+    return fleet is not None
+
+
+def answer(options: argparse.Namespace, fleet: Fleet) -> None:
+    """Asks each host of a fleet, and reports."""
+    outputs, job = outputs_of(options), job_of(options, fleet)
+    samples = samples_of(options, fleet) if options.asked == "replay" else None
+    found, missing = asked(options, job, fleet, samples)
+    made = report.built(options.asked, found, missing, options.rank)
+    told = with_pending(options, job, fleet, made)
+    write_forms(outputs, {"text": lambda: report.text(told, options.everything),
+                          "json": lambda: json_text(told.data), "html": lambda: report.page(told)})
+    check_answered(fleet, found, missing)
+
+
+def check_answered(fleet: Fleet, found: Sequence[Host], missing: Missing) -> None:
+    """A fault where a host is not answered, or where a pod fits on none."""
+    if missing:
+        raise HostFault(f"hosts that are not answered: {len(missing)} of {len(fleet.hosts)}, the"
+                        f" first {missing[0][0]}: {missing[0][1]}")
+    pods = [host.answer.get("pods", []) for host in found]
+    for each in zip(*pods):
+        if all("why" in pod for pod in each):
+            raise NothingFound(f"{names.shown(each[0]['pod'])}: no host of {len(found)} takes it,"
+                               f" as {found[0].name}: {each[0]['why']}")

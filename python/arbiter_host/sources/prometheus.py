@@ -1,0 +1,250 @@
+"""What groups used over time, from a server of Prometheus."""
+from __future__ import annotations
+
+import http.client
+import json
+import math
+import time
+import urllib.error
+import urllib.parse
+import urllib.request
+from collections.abc import Callable, Mapping, Sequence
+from datetime import datetime
+from fractions import Fraction
+from typing import Any, NamedTuple, TypeVar
+
+from arbiter_host import units
+from arbiter_host.faults import HostFault, UsageFault
+from arbiter_host.names import cut, shown
+from arbiter_host.sources.samples import EMPTY, TABLE, History, Sample, time_name
+
+Found = TypeVar("Found")
+
+SCHEMES = ("http://", "https://")
+# Seconds of one answer from the server, and of all of them; bytes of all, and of one.
+SECONDS, MOST_SECONDS = 60, 600
+MAX_ANSWER, PIECE = 1 << 28, 1 << 20
+# What a container uses as cAdvisor counts it. Pause containers are left out.
+QUERY = 'rate(container_cpu_usage_seconds_total{container!="POD"}[%s])'
+# Seconds of the rate at least: the time of some readings of cAdvisor.
+LEAST_RATE = 120
+# Labels that tell the parts of one container's use apart.
+PARTS = frozenset({"cpu", "image", "name", "uid", "container_id"})
+# Labels that change where a container is made anew, maybe on another node.
+ANEW = frozenset({"id", "instance", "node", "host"})
+
+
+class Redirects(urllib.request.HTTPRedirectHandler):
+    """Follows a server to other addresses of HTTP alone."""
+
+    def redirect_request(self, req: Any, fp: Any, code: int, msg: str, headers: Any,
+                         newurl: str) -> urllib.request.Request | None:
+        """The request of the other address."""
+        if not newurl.lower().startswith(SCHEMES):
+            raise HostFault(f"{shown(req.full_url)}: it names {shown(cut(newurl, 100))} instead,"
+                            " which is not http:// or https://")
+        return super().redirect_request(req, fp, code, msg, headers, newurl)
+
+
+def body_of(answer: Any, until: float) -> bytes:
+    """The bytes of an answer. A fault where it is too long, or not whole at a time."""
+    data = bytearray()
+    while piece := answer.read1(PIECE):
+        data += piece
+        if len(data) > MAX_ANSWER:
+            raise HostFault(f"{shown(answer.url)}: an answer of more than {MAX_ANSWER >> 20} MiB")
+        if time.monotonic() > until:
+            raise HostFault(f"{shown(answer.url)}: its answer takes more than {MOST_SECONDS}"
+                            " seconds")
+    if answer.length:
+        raise HostFault(f"{shown(answer.url)}: its answer ends in the middle")
+    return bytes(data)
+
+
+def fetched(url: str) -> Any:
+    """The JSON of an address."""
+    until = time.monotonic() + MOST_SECONDS
+    try:
+        with urllib.request.build_opener(Redirects).open(url, timeout=SECONDS) as answer:
+            return json.loads(body_of(answer, until))
+    except urllib.error.HTTPError as error:
+        told = error.read(400).decode(errors="replace") or str(error.reason)[:400]
+        raise HostFault(f"{shown(url)}: {error.code}: {shown(told)}") from error
+    except urllib.error.URLError as error:
+        raise HostFault(f"{shown(url)}: {error.reason}") from error
+    except (OSError, http.client.HTTPException, ValueError, RecursionError) as error:
+        raise HostFault(f"{shown(url)}: {shown(str(error)[:400]) or type(error).__name__}"
+                        ) from error
+
+
+def is_address(word: str) -> bool:
+    """Whether a word of the command line is the address of a server."""
+    return word.startswith(SCHEMES)
+
+
+def instant(at: Any) -> float:
+    """The time of a value, in seconds. A ValueError for one that is none."""
+    try:
+        found = float(at)
+    except OverflowError as error:
+        raise ValueError(at) from error
+    if not math.isfinite(found):
+        raise ValueError(at)
+    return found
+
+
+class Range(NamedTuple):
+    """A time that is asked of a server: epochs or RFC 3339, and a step in seconds."""
+
+    start: str
+    end: str
+    step: float
+
+
+def moment(text: str) -> str:
+    """A time as a server takes it. A fault for one that is none."""
+    try:
+        if not text.replace(".", "", 1).isdigit():
+            datetime.fromisoformat(text.replace("Z", "+00:00"))
+    except ValueError as error:
+        raise UsageFault(f"--range {shown(cut(text, 60))}: neither an epoch nor RFC 3339"
+                         ) from error
+    return text
+
+
+def range_of(word: str | None, step: str | None) -> Range:
+    """The range of `--range` and `--step`: a time up to now (default 1d), or START/END."""
+    try:
+        seconds = units.parse_time(step or "1m") / 10**6
+        start, mark, end = (word or "1d").partition("/")
+        if mark:
+            return Range(moment(start), moment(end), seconds)
+        back = units.parse_time(start) / 10**6
+    except UsageFault:
+        raise
+    except HostFault as fault:
+        raise UsageFault(f"--range, --step: {fault.message}") from fault
+    if not seconds or not back:
+        raise UsageFault("--range, --step: above 0")
+    now = math.floor(time.time())
+    return Range(f"{now - back:.3f}", str(now), seconds)
+
+
+def of_range(url: str, query: str, asked: Range, parsed: Callable[[Any], Found]) -> Found:
+    """What is parsed of the answer to a range query."""
+    if not is_address(url):
+        raise UsageFault(f"{shown(url)}: not http:// or https://")
+    words = urllib.parse.urlencode({"query": query, "start": asked.start, "end": asked.end,
+                                    "step": f"{asked.step:g}s"})
+    try:
+        return parsed(fetched(f"{url.rstrip('/')}/api/v1/query_range?{words}"))
+    except (KeyError, TypeError, ValueError, AttributeError, OverflowError) as error:
+        raise HostFault(f"{shown(url)}: no answer to a range query") from error
+
+
+def column_of(labels: Mapping[str, str], url: str) -> str:
+    """What a series is of: a container by namespace, pod and name, a pod, a unit or a group."""
+    whole = [labels[key] for key in ("namespace", "pod", "container") if labels.get(key)]
+    if whole and (labels.get("pod") or labels.get("container")):
+        return "/".join(whole)
+    for key in ("name", "id", *TABLE["group"]):
+        if labels.get(key):
+            return labels[key].strip("/") or "."
+    rest = [value for key, value in labels.items() if key not in TABLE["host"]]
+    if len(rest) == 1:
+        return rest[0]
+    told = ", ".join(sorted(map(shown, labels))) or "no label"
+    raise HostFault(f"{shown(url)}: a series with {cut(told, 100)}: which of them names a group?"
+                    " --query 'sum by (pod) (..)' leaves one")
+
+
+def told_apart(found: Sequence[Mapping[str, str]]) -> set[str]:
+    """The labels in which series of one name differ so that they may be the same use twice.
+
+    Parts of a use differ in `PARTS`. Where each has an `id` of its own, a container was made anew.
+    """
+    if len({tuple(sorted(each.items())) for each in found}) < len(found):
+        return {"nothing"}
+    keys = {key for each in found for key in each}
+    differ = {key for key in keys if len({each.get(key) for each in found}) > 1}
+    made = {(each["id"], each.get("cpu")) for each in found if each.get("id")}
+    return differ - PARTS - (ANEW if len(made) == len(found) else frozenset())
+
+
+class Series(NamedTuple):
+    """The labels of a series, and its values as they were written, by time."""
+
+    labels: Mapping[str, str]
+    values: Mapping[float, str]
+
+
+def series_of(answer: Any) -> list[Series]:
+    """The series of a range query. A value that is no number is left out: there is no sample."""
+    return [Series({str(key): str(value) for key, value in each["metric"].items()
+                    if key != "__name__"},
+                   {instant(at): str(value) for at, value in each["values"]
+                    if str(value).lower() not in EMPTY})
+            for each in answer["data"]["result"]]
+
+
+def summed(columns: Mapping[str, Sequence[Series]], url: str) -> dict[str, dict[float, str]]:
+    """The values of each column. Series that are parts of one are added up; else a fault."""
+    found = {}
+    for name, parts in columns.items():
+        apart = told_apart([each.labels for each in parts]) if len(parts) > 1 else ()
+        if apart:
+            raise HostFault(f"{shown(url)}: {len(parts)} series of {shown(cut(name, 100))} differ"
+                            f" in {', '.join(sorted(map(shown, apart)))}: choose by --query, as"
+                            " 'sum by (namespace, pod, container) (..)'")
+        times = dict.fromkeys(at for each in parts for at in each.values)
+        found[name] = {at: total([each.values[at] for each in parts if at in each.values])
+                       for at in times}
+    return found
+
+
+def total(words: Sequence[str]) -> str:
+    """The sum of numbers as they are written, exactly."""
+    if len(words) == 1:
+        return words[0]
+    parsed = [units.number_and_unit(each) for each in words]
+    return units.decimal(sum((each[0] for each in parsed if each), Fraction(0)), 12)
+
+
+def without_totals(columns: dict[str, list[Series]]) -> None:
+    """Takes out the series of pods whose containers have series of their own."""
+    above = {name.rpartition("/")[0] for name, parts in columns.items()
+             if parts[0].labels.get("container")}
+    for name in above & columns.keys():
+        if not columns[name][0].labels.get("container"):
+            del columns[name]
+
+
+def history_of(found: Sequence[Series], url: str) -> History:
+    """The samples of series."""
+    columns: dict[str, list[Series]] = {}
+    for each in found:
+        columns.setdefault(column_of(each.labels, url), []).append(each)
+    without_totals(columns)
+    values = summed(columns, url)
+    times = sorted({at for each in values.values() for at in each})
+    return History(list(values), [
+        Sample(time_name(str(int(at))), {name: each[at] for name, each in values.items()
+                                         if at in each}, shown(url)) for at in times])
+
+
+def read(url: str, query: str | None, asked: Range) -> list[Series]:
+    """The series of a query, which is cAdvisor's unless it is said."""
+    rate = f"{max(asked.step, LEAST_RATE):g}s"
+    return of_range(url, query or QUERY % rate, asked, series_of)
+
+
+def by_host(found: Sequence[Series], url: str) -> dict[str, History]:
+    """The samples of each host, by the label of its name."""
+    hosts: dict[str, list[Series]] = {}
+    for each in found:
+        host = next((each.labels[key] for key in TABLE["host"] if each.labels.get(key)), None)
+        if host is None:
+            raise HostFault(f"{shown(url)}: a series without a label of its host:"
+                            f" {', '.join(TABLE['host'])}")
+        hosts.setdefault(host, []).append(each)
+    return {host: history_of(each, url) for host, each in hosts.items()}

@@ -1,0 +1,244 @@
+"""Demands over time, as files have them: CSV as Grafana and others write it, and lines of pairs.
+
+A sample has its numbers as they are written: what they are is known with the period of a host.
+"""
+from __future__ import annotations
+
+import csv
+import io
+import re
+from collections.abc import Callable, Iterable, Iterator, Mapping, Sequence
+from datetime import datetime, timezone
+from fractions import Fraction
+from typing import NamedTuple
+
+from arbiter import Host
+from arbiter_host import units
+from arbiter_host.faults import HostFault
+from arbiter_host.names import cut, shown
+
+TIMES = ("time", "period", "timestamp", "date", "datetime", "_time", "ts")
+EMPTY = ("", "nan", "null", "none", "undefined", "-")
+# The columns of one table of many hosts, each under one of its names.
+TABLE = {"time": TIMES, "host": ("host", "node", "instance"),
+         "group": ("group", "cgroup", "pod"), "demand": ("demand", "value", "_value")}
+# Epochs above this are milliseconds.
+MILLISECONDS = 10**11
+NUMBER = re.compile(r"[+-]?[0-9.]")
+
+
+class Sample(NamedTuple):
+    """The numbers of one sample by the names of its columns, and where they stand."""
+
+    name: str
+    cells: Mapping[str, str]
+    where: str
+    # Whether a column that it does not name asks for nothing. Else it asks for what it did.
+    is_whole: bool = True
+
+    def demands(self, unit: str, host: Host) -> dict[str, Fraction]:
+        """The demands that it names, in thousandths of a CPU. Plain numbers are of the unit."""
+        return {column: demand_of(cell, unit, host, self.where)
+                for column, cell in self.cells.items()}
+
+
+class History(NamedTuple):
+    """Samples one after another."""
+
+    # The columns that a whole sample asks nothing of where it has no number.
+    holes: list[str]
+    samples: list[Sample]
+
+    @property
+    def columns(self) -> list[str]:
+        """The names of all columns, in their order."""
+        return list(dict.fromkeys([*self.holes, *(name for each in self.samples
+                                                  for name in each.cells)]))
+
+    def of_columns(self, is_meant: Callable[[str], bool]) -> History:
+        """The same of some columns alone."""
+        return History([each for each in self.holes if is_meant(each)], [
+            each._replace(cells={name: cell for name, cell in each.cells.items()
+                                 if is_meant(name)}) for each in self.samples])
+
+    def demands(self, unit: str, host: Host) -> Iterator[tuple[str, dict[str, Fraction]]]:
+        """The name of each sample, and the demands that it sets, in thousandths of a CPU."""
+        holes = dict.fromkeys(self.holes, Fraction(0))
+        for each in self.samples:
+            yield each.name, {**(holes if each.is_whole else {}), **each.demands(unit, host)}
+
+
+def joined(found: Iterable[History]) -> History:
+    """Histories one after another."""
+    every = list(found)
+    return History(list(dict.fromkeys(name for each in every for name in each.holes)),
+                   [sample for each in every for sample in each.samples])
+
+
+def demand_of(text: str, unit: str, host: Host, where: str) -> Fraction:
+    """A number of a unit in thousandths of a CPU. A comma may stand for the decimal point."""
+    parsed = units.number_and_unit(text.replace(",", ".", 1))
+    if parsed is None or parsed[1] not in ("", *units.CPU_UNITS):
+        raise HostFault(f"{where}: {shown(cut(text, 40))!r} is no number")
+    value = parsed[0]
+    if parsed[1]:
+        return value * units.CPU_UNITS[parsed[1]]
+    one = {"cpu": Fraction(1000), "m": Fraction(1), "%": Fraction(10),
+           "us": Fraction(1000, host.period_us),
+           "slices": units.thousandths_of_slices(1, host.period_us, host.slice_us)}[unit]
+    if value > 10**15:
+        raise HostFault(f"{where}: {shown(cut(text, 40))!r} is above 10^15")
+    return value * one
+
+
+def time_name(text: str) -> str:
+    """The name of a sample: an epoch as a time, any other text as it is."""
+    if not re.fullmatch(r"[0-9]{9,16}(\.[0-9]+)?", text):
+        return text
+    value = float(text)
+    value = value / 1000 if value > MILLISECONDS else value
+    try:
+        return datetime.fromtimestamp(value, timezone.utc).strftime("%Y-%m-%d %H:%M:%S")
+    except (ValueError, OverflowError, OSError):
+        return text
+
+
+def decoded(data: bytes, name: str) -> str:
+    """The text of a file, without a mark at its beginning."""
+    try:
+        return data.decode("utf-16" if data[:2] in (b"\xff\xfe", b"\xfe\xff") else "utf-8-sig")
+    except UnicodeDecodeError as error:
+        line = data[:error.start].count(b"\n") + 1
+        raise HostFault(f"{name}:{line}: not UTF-8") from error
+
+
+def delimiter_of(head: str) -> str:
+    """What separates the cells: the most frequent of `;`, tab and `,` in the first line."""
+    return max(";\t,", key=lambda each: (head.count(each), each == ","))
+
+
+def rows_of(text: str, name: str) -> list[tuple[int, list[str]]]:
+    """The rows of a CSV with their lines. Empty rows and Grafana's `sep=` line are left out."""
+    lines = text.split("\n", 1)
+    begin = 0
+    if lines[0].strip().lower().startswith("sep="):
+        text, begin = lines[1] if len(lines) > 1 else "", 1
+    reader = csv.reader(io.StringIO(text, newline=""), delimiter=delimiter_of(text.split("\n")[0]))
+    found = []
+    try:
+        for row in reader:
+            if any(cell.strip() for cell in row):
+                found.append((reader.line_num + begin, [cell.strip() for cell in row]))
+    except csv.Error as error:
+        raise HostFault(f"{name}:{reader.line_num + begin}: {error}") from error
+    return found
+
+
+def checked_rows(data: bytes, name: str) -> tuple[list[str], list[tuple[int, list[str]]]]:
+    """The first row of a CSV, and the others with their lines. All have as many cells."""
+    rows = rows_of(decoded(data, name), name)
+    if not rows:
+        return [], []
+    head = rows[0][1]
+    for number, row in rows[1:]:
+        if len(row) != len(head):
+            raise HostFault(f"{name}:{number}: {len(row)} cells and not {len(head)}")
+    return head, rows[1:]
+
+
+def is_csv(path: str, data: bytes) -> bool:
+    """Whether a file is CSV, by its name or its first line, and has no lines of pairs."""
+    if path.lower().endswith((".csv", ".tsv")):
+        return True
+    text = data[:4096].decode("utf-16" if data[:2] in (b"\xff\xfe", b"\xfe\xff") else "utf-8",
+                              "replace")
+    line = text.lstrip("\ufeff").split("\n")[0]
+    words = line.split()
+    are_pairs = len(words) % 2 == 0 and all(map(NUMBER.match, words[1::2]))
+    return any(each in line for each in ",;\t") and not are_pairs and not line.startswith("#")
+
+
+def check_names(groups: Sequence[str], where: str) -> None:
+    """A fault where one group is named twice."""
+    twice = [each for at, each in enumerate(groups) if each in groups[:at]]
+    if twice:
+        raise HostFault(f"{where}: two numbers of {shown(cut(twice[0], 60))}")
+
+
+def read_csv(data: bytes, name: str, first: int = 0) -> History:
+    """The samples of a CSV: groups in the first row, a number for each in every other.
+
+    Samples without a time are numbered from `first + 1` on.
+    """
+    head, rows = checked_rows(data, name)
+    is_timed = bool(head) and (head[0].lower() in ("", *TIMES) or head[0].lower().endswith("time"))
+    groups = head[1:] if is_timed else head
+    check_names(groups, f"{name}:1")
+    found: list[Sample] = []
+    for number, row in rows:
+        cells = {column: cell for column, cell in zip(groups, row[len(head) - len(groups):])
+                 if cell.lower() not in EMPTY}
+        title = time_name(row[0]) if is_timed else str(first + len(found) + 1)
+        found.append(Sample(title, cells, f"{name}:{number}"))
+    return History(groups, found)
+
+
+def read_pairs(data: bytes, name: str, first: int = 0) -> History:
+    """The samples of lines `GROUP NUMBER GROUP NUMBER ..`. A line with `#` first is none.
+
+    They are numbered from `first + 1` on.
+    """
+    found: list[Sample] = []
+    lines = decoded(data, name).split("\n")
+    for number, line in enumerate(lines[:-1] if lines[-1] == "" else lines, 1):
+        words, where = line.split(), f"{name}:{number}"
+        if words and words[0].startswith("#"):
+            continue
+        if len(words) % 2:
+            raise HostFault(f"{where}: not pairs of a group and a number")
+        check_names(words[::2], where)
+        cells = dict(zip(words[::2], words[1::2]))
+        found.append(Sample(str(first + len(found) + 1), cells, where, False))
+    return History([], found)
+
+
+def read(data: bytes, path: str, first: int = 0) -> History:
+    """The samples of a file: CSV, or lines of pairs."""
+    return (read_csv if is_csv(path, data) else read_pairs)(data, shown(path), first)
+
+
+def places(head: Sequence[str], where: str) -> list[int]:
+    """Where the columns of one table of hosts are, in the order time, host, group, demand."""
+    low, found = [each.lower() for each in head], []
+    for key, known in TABLE.items():
+        at = next((low.index(name) for name in known if name in low), None)
+        if at is None:
+            raise HostFault(f"{where}:1: no column {key}: time, host, group, demand")
+        found.append(at)
+    return found
+
+
+def read_table(data: bytes, name: str) -> dict[str, History]:
+    """The samples of each host, from one CSV with the columns time, host, group, demand. Times of
+    a host stand in the order in which they come."""
+    head, rows = checked_rows(data, name)
+    if not head:
+        raise HostFault(f"{name}: no sample")
+    order = places(head, name)
+    found: dict[str, History] = {}
+    by_time: dict[tuple[str, str], dict[str, str]] = {}
+    for number, row in rows:
+        time, host, group, demand = (row[at] for at in order)
+        history = found.setdefault(host, History([], []))
+        if (host, time) not in by_time:
+            by_time[host, time] = {}
+            history.samples.append(Sample(time_name(time), by_time[host, time],
+                                          f"{name}:{number}"))
+        if group in by_time[host, time]:
+            raise HostFault(f"{name}:{number}: two numbers of {shown(cut(group, 60))} on"
+                            f" {shown(cut(host, 60))} at one time")
+        if group not in history.holes:
+            history.holes.append(group)
+        if demand.lower() not in EMPTY:
+            by_time[host, time][group] = demand
+    return found

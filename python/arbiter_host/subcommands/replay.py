@@ -1,0 +1,94 @@
+"""`arbiterctl replay`."""
+from __future__ import annotations
+
+import argparse
+from arbiter_host import choosing, load, options as table, output, progress, series
+from arbiter_host.faults import HostFault, UsageFault
+from arbiter_host.fleet import questions
+from arbiter_host.model import Model
+from arbiter_host.plan import Engine
+from arbiter_host.series import Series
+from arbiter_host.sources import used
+from arbiter_host.sources.usage import some
+from arbiter_host.subcommands.base import Subcommand, found_engine, source_name
+
+def periods_of(options: argparse.Namespace, model: Model) -> int:
+    """The periods of one sample: 1, those of `--step`, or of a server's."""
+    if not options.step and not used.is_served(options):
+        return 1
+    usec = (load.time_option(options.step, "--step") if options.step
+            else round(used.asked_range(options).step * 10**6))
+    return series.sample_periods(usec, model.host.period_us)
+
+
+def shown_groups(options: argparse.Namespace, model: Model) -> list[str]:
+    """The groups that are chosen, in order; `.` is the host itself. Empty for those of columns."""
+    rest = [each for each in options.group if each != "."]
+    host = ["."] if len(rest) < len(options.group) else []
+    found = choosing.chosen(model, argparse.Namespace(**{**vars(options), "group": rest}))
+    return host + [path for path in model.groups if path in (found or ())]
+
+
+def replayed(options: argparse.Namespace, by: Engine) -> Series:
+    """One host over all samples."""
+    files = load.opened(options, options.source)
+    kind = options.kind or load.kind_of(*files[0])
+    model = load.model_of(used.without(options, kind), files, by)
+    load.warn(model, source_name(options.source))
+    history = used.history(options)
+    missing: list[str] = []
+    path_of = series.targets(model, history.columns, used.mapped(options.map),
+                             missing if used.is_served(options) else None)
+    if history.columns and not path_of:
+        raise HostFault(f"{used.name(options)}: series of no group here, {some(missing)}")
+    if missing:
+        output.warn(f"{used.name(options)}: series of no group here, {some(missing)}")
+    chosen = shown_groups(options, model)
+    with progress.bar("samples", len(history.samples)) as tick:
+        return series.run(by, model, history, options.unit, chosen, path_of,
+                          periods_of(options, model), tick)
+
+
+def run(options: argparse.Namespace) -> None:
+    """Plans each sample, and writes the answers."""
+    if not options.used:
+        raise UsageFault("--used: a file of demands over time, or a server's address")
+    outputs = table.outputs(options)
+    if questions.answered(options):
+        return
+    if any(form == "html" for form, _ in outputs):
+        raise UsageFault("-o html: of one host there is text, json, csv and svg")
+    found = replayed(options, found_engine(options))
+    output.write_forms(outputs, {"text": lambda: series.as_text(found, options.unit),
+                                 "csv": lambda: series.as_csv(found, options.unit),
+                                 "json": lambda: series.as_json(found, options.unit),
+                                 "svg": lambda: series.picture(found)})
+
+
+def add_words(parser: argparse.ArgumentParser) -> None:
+    """The words of `replay`."""
+    parser.add_argument("source", nargs="+", metavar="SOURCE", help="a source, as of explain, or"
+                        " many hosts: a folder of their files, a list of these, a cluster's JSON")
+    table.add(parser, "replay")
+
+
+DETAILS = (
+    "The samples of --used are planned one after another, with what was saved up. A sample lasts"
+    " one period, or as long as --step says: then its period is repeated, so that a burst lasts as"
+    " long as it would on a host.",
+    "A file is CSV with groups in the first row and a time in the first column, lines GROUP NUMBER"
+    " GROUP NUMBER .., or what was used at one time as `kubectl top pods` prints it. An empty cell"
+    " of CSV asks for nothing. For many hosts it is a folder with HOST.csv, or one CSV with the"
+    " columns time, host, group and demand.",
+    "The text has sums, and csv and json each sample. `wanted` and `got` are means.",
+)
+EXAMPLES = (
+    ("samples of half an hour each", "arbiterctl replay host.toml --used day.csv --step 30m"),
+    ("two days", "arbiterctl replay host.toml --used monday.csv --used tuesday.csv --step 30m"),
+    ("a picture of some groups",
+     "arbiterctl replay host.toml --used day.csv --step 30m -g web -o svg=day.svg"),
+    ("a day of each host", "arbiterctl replay hosts --used demands --step 30m"),
+)
+REPLAY = Subcommand("replay",
+                    "Plans the groups of SOURCE for each sample of what was used.",
+                    add_words, run, DETAILS, EXAMPLES)
