@@ -86,7 +86,7 @@ def without_waiting(items: Sequence[dict[str, Any]], notes: list[str]) -> list[d
 def several(what: str, nodes: Iterable[str]) -> HostFault:
     """A fault where one node is meant, with the names of some."""
     found = list(map(shown, sorted(nodes)))
-    return HostFault(f"{what} ({names.few(found)}): choose one by --node, or ask all by `fleet`")
+    return HostFault(f"{what} ({names.few(found)}): choose one by --node, or give their nodes too")
 
 
 def pods_on(items: Sequence[dict[str, Any]], node: str, notes: list[str]) -> list[Pod]:
