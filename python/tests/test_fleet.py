@@ -12,6 +12,7 @@ from arbiter_host.fleet import figures, work
 from arbiter_host.fleet.evidence import packed, unpacked
 from arbiter_host.plan import Certified, columns_of
 from arbiter_host.sources import script
+from arbiter_host.sources.wish import Wish
 from places import PACKAGE
 
 HOSTS, GROUPS = 24, 12
@@ -81,7 +82,7 @@ def test_place_is_the_plan_with_the_pod(ctl, fleet, rule):
         with_pod = fleet.parent / "with-pod.script"
         with_pod.write_text((fleet / f"{host['host']}.script").read_text() + "mkdir pod\n"
                             "write pod cpu.max 100000\nmkdir pod/a\ndemand pod/a 200\n")
-        before, after = (json.loads(ctl.run("explain", source, "-o", "json", "--all")[0])
+        before, after = (json.loads(ctl.run("explain", source, "-o", "json")[0])
                          for source in (fleet / f"{host['host']}.script", with_pod))
         then = {group["group"]: group["gets"]["slices"] for group in after["groups"]}
         (placed,) = host["pods"]
@@ -159,7 +160,8 @@ def test_a_table_of_demands_is_a_folder_of_them(ctl, fleet):
 
 def test_certificates_travel(engine):
     """Rows and their certificate are read back as they were; of other rows there are none."""
-    model = script.read(fleets.script(3, GROUPS).encode(), "x", engine)
+    files = [("x", fleets.script(3, GROUPS).encode())]
+    model = script.read(files, engine.library, Wish())
     columns = columns_of(model.rows(engine.library))
     found = engine.certified(model.host, columns)
     text = packed(columns, found)
@@ -211,7 +213,8 @@ def test_a_wrong_answer_is_a_fault_of_its_host(fleet, calls, monkeypatch, lie):
     assert found == {name: each for name, each in right.items() if name not in missing}
 
 
-@pytest.mark.parametrize("data", [b"", b"\xff", b"[" * 100000, b"7", b"null", b"[]", b'{"why": {}}'])
+@pytest.mark.parametrize("data", [b"", b"\xff", b"[" * 100000, b"7", b"null", b"[]", b'{"why": {}}'],
+                         ids=lambda data: repr(data)[:20])
 def test_a_reply_that_is_none(fleet, calls, monkeypatch, data):
     monkeypatch.setattr(work, "answered", lambda job_text, item: data)
     found, missing = fleets.asked(fleet, calls)

@@ -125,6 +125,14 @@ def named(paths: Sequence[str], folder: str) -> list[HostFile]:
     return [found[name] for name in sorted(found)]
 
 
+def check_alone(files: Sequence[load.Opened]) -> None:
+    """A fault where one of several sources is a folder of hosts."""
+    for path, data in files:
+        if data is None and below(path):
+            raise UsageFault(f"{names.shown(path)}: many hosts are one source, with no other beside"
+                             " it")
+
+
 def fleet_in(options: argparse.Namespace, files: Sequence[load.Opened],
              used: Callable[[], Sequence[Used]] = tuple) -> Fleet | None:
     """The fleet that the files of the command line are; None where they are one host.
@@ -132,7 +140,10 @@ def fleet_in(options: argparse.Namespace, files: Sequence[load.Opened],
     What pods used is asked for a cluster alone.
     """
     (path, data), *more = files
-    if more or options.kind == "cgroup":
+    if options.kind == "cgroup":
+        return None
+    if more:
+        check_alone(files)
         return None
     if data is None:
         paths = below(path)

@@ -66,6 +66,8 @@ def check_sets(words: Sequence[str]) -> None:
 
 def job_of(options: argparse.Namespace, fleet: Fleet) -> Job:
     """What is asked of each host."""
+    if options.asked == "diff" and not options.set:
+        raise UsageFault("diff of many hosts takes --set")
     check_sets(options.set)
     reading = {**{key: getattr(options, key, None) for key in READING}, **OF_NO_HOST}
     if fleet.is_cluster:

@@ -7,7 +7,7 @@ from __future__ import annotations
 
 import functools
 import json
-from collections.abc import Sequence
+from collections.abc import Iterable, Sequence
 from dataclasses import dataclass, replace
 from typing import Any
 
@@ -18,7 +18,7 @@ from arbiter_host.fleet import job as jobs
 from arbiter_host.fleet.evidence import Recording
 from arbiter_host.fleet.job import Job
 from arbiter_host.model import Model
-from arbiter_host.plan import engine_of, plan
+from arbiter_host.plan import Plan, engine_of, plan
 from arbiter_host.sources.samples import History
 
 
@@ -129,6 +129,15 @@ def placed(job: Job, model: Model, engine: Recording) -> dict[str, Any]:
     return {"paths": paths, "pods": pods}
 
 
+def counts_of(found: Iterable[tuple[Plan, int]]) -> list[int]:
+    """For how many periods each plan holds, in the order in which they are made."""
+    every = list(found)
+    counts = dict.fromkeys((id(plan_) for plan_, _ in every), 0)
+    for plan_, count in every:
+        counts[id(plan_)] += count
+    return list(counts.values())
+
+
 def replayed(job: Job, model: Model, engine: Recording, history: History) -> dict[str, Any]:
     """The plans of all samples, and how many periods each holds for."""
     missing: list[str] = []
@@ -139,7 +148,7 @@ def replayed(job: Job, model: Model, engine: Recording, history: History) -> dic
     periods, times = series.sample_periods(job.sample_usec, model.host.period_us), []
     for _, asked in history.demands(job.unit, model.host):
         series.set_demands(model, path_of, asked)
-        times.append([count for _, count in series.periods_of(engine, model, periods)])
+        times.append(counts_of(series.periods_of(engine, model, periods)))
     shown = list(path_of.values())
     quotas = [series.quota_slices(model, engine, path) for path in shown]
     return {"paths": [paths_of(model)], "columns": shown, "quotas": quotas, "times": times,

@@ -24,8 +24,10 @@ SCHEMES = ("http://", "https://")
 # Seconds of one answer from the server, and of all of them; bytes of all, and of one.
 SECONDS, MOST_SECONDS = 60, 600
 MAX_ANSWER, PIECE = 1 << 28, 1 << 20
-# What a container uses as cAdvisor counts it. Pause containers are left out.
-QUERY = 'rate(container_cpu_usage_seconds_total{container!="POD"}[%s])'
+# The series of cAdvisor that are no totals: containers of pods without pause containers, containers
+# of docker, and units.
+LEAVES = ('container!="",container!="POD"', 'container="",name!=""',
+          'container="",name="",id=~".*[.](service|scope)"')
 # Seconds of the rate at least: the time of some readings of cAdvisor.
 LEAST_RATE = 120
 # Labels that tell the parts of one container's use apart.
@@ -232,10 +234,16 @@ def history_of(found: Sequence[Series], url: str) -> History:
                                          if at in each}, shown(url)) for at in times])
 
 
+def query_of(step: float) -> str:
+    """What is asked where no query is said: the CPU that cAdvisor counts."""
+    rate = f"{max(step, LEAST_RATE):g}s"
+    return " or ".join(f"rate(container_cpu_usage_seconds_total{{{each}}}[{rate}])"
+                       for each in LEAVES)
+
+
 def read(url: str, query: str | None, asked: Range) -> list[Series]:
     """The series of a query, which is cAdvisor's unless it is said."""
-    rate = f"{max(asked.step, LEAST_RATE):g}s"
-    return of_range(url, query or QUERY % rate, asked, series_of)
+    return of_range(url, query or query_of(asked.step), asked, series_of)
 
 
 def by_host(found: Sequence[Series], url: str) -> dict[str, History]:
