@@ -42,7 +42,7 @@ FORMS: dict[str, tuple[str, ...]] = {
     "diff": ("text", "json", "html"),
     "tune": ("text", "json"),
     "recommend": ("text", "json"),
-    "replay": ("text", "json", "csv", "html", "svg", "openmetrics"),
+    "replay": ("text", "json", "csv", "html", "svg"),
     "top": ("text", "json", "openmetrics"),
     "place": ("text", "json", "html"),
     "export": ("script", "toml", "json"),

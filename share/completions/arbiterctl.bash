@@ -15,7 +15,7 @@ _arbiterctl() {
         given=$before
     fi
     if ((COMP_CWORD == 1)); then
-        mapfile -t COMPREPLY < <(compgen -W "explain diff tune recommend series top watch export audit fleet apply undo hold -h --help -V --version" -- "$word")
+        mapfile -t COMPREPLY < <(compgen -W "explain diff tune recommend replay top watch export audit place apply undo hold -h --help -V --version" -- "$word")
         return
     fi
     case ${COMP_WORDS[1]} in
@@ -136,10 +136,32 @@ _arbiterctl() {
                     ;;
             esac
             ;;
-        series)
+        replay)
             case $given in
+                -g|--group) ;;
+                -n|--namespace) ;;
+                -l|--selector) ;;
+                -o|--output) mapfile -t COMPREPLY < <(compgen -W "text json csv html svg" -- "$word") ;;
+                --unit) mapfile -t COMPREPLY < <(compgen -W "cpu m % slices us" -- "$word") ;;
+                --workers) ;;
+                --scheduler) ;;
+                --from) mapfile -t COMPREPLY < <(compgen -W "script toml json cgroup kubernetes systemd docker slurm" -- "$word") ;;
+                --want) mapfile -t COMPREPLY < <(compgen -W "usage peak p95 psi limit request busy" -- "$word") ;;
+                --scale) ;;
+                --read) ;;
+                --used) ;;
+                --range) ;;
+                --step) ;;
+                --query) ;;
+                --map) ;;
+                --node) ;;
+                --node-weights) mapfile -t COMPREPLY < <(compgen -W "linear log runtime-log" -- "$word") ;;
+                --cpus) ;;
+                --period) ;;
+                --slice) ;;
+                --library) ;;
                 *)
-                    [[ $word == -* ]] && mapfile -t COMPREPLY < <(compgen -W "-h --help" -- "$word")
+                    [[ $word == -* ]] && mapfile -t COMPREPLY < <(compgen -W "-g --group -n --namespace -l --selector -o --output --unit --all -v --verbose --workers --scheduler --from --want --scale --read --used --range --step --query --map --node --node-weights --strict --cpus --period --slice --library -h --help" -- "$word")
                     ;;
             esac
             ;;
@@ -226,10 +248,29 @@ _arbiterctl() {
                     ;;
             esac
             ;;
-        fleet)
+        place)
             case $given in
+                -o|--output) mapfile -t COMPREPLY < <(compgen -W "text json html" -- "$word") ;;
+                --pod) ;;
+                --rank) mapfile -t COMPREPLY < <(compgen -W "least-loss most-left" -- "$word") ;;
+                --workers) ;;
+                --scheduler) ;;
+                --from) mapfile -t COMPREPLY < <(compgen -W "script toml json cgroup kubernetes systemd docker slurm" -- "$word") ;;
+                --want) mapfile -t COMPREPLY < <(compgen -W "usage peak p95 psi limit request busy" -- "$word") ;;
+                --scale) ;;
+                --read) ;;
+                --used) ;;
+                --range) ;;
+                --step) ;;
+                --query) ;;
+                --node) ;;
+                --node-weights) mapfile -t COMPREPLY < <(compgen -W "linear log runtime-log" -- "$word") ;;
+                --cpus) ;;
+                --period) ;;
+                --slice) ;;
+                --library) ;;
                 *)
-                    [[ $word == -* ]] && mapfile -t COMPREPLY < <(compgen -W "-h --help" -- "$word")
+                    [[ $word == -* ]] && mapfile -t COMPREPLY < <(compgen -W "-o --output --all -v --verbose --pod --rank --workers --scheduler --from --want --scale --read --used --range --step --query --node --node-weights --strict --cpus --period --slice --library -h --help" -- "$word")
                     ;;
             esac
             ;;
