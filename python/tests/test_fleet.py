@@ -213,7 +213,8 @@ def test_a_wrong_answer_is_a_fault_of_its_host(fleet, calls, monkeypatch, lie):
     assert found == {name: each for name, each in right.items() if name not in missing}
 
 
-@pytest.mark.parametrize("data", [b"", b"\xff", b"[" * 100000, b"7", b"null", b"[]", b'{"why": {}}'],
+@pytest.mark.parametrize("data", [b"", b"\xff", b"[" * 100000, b"7", b"null", b"[]",
+                                  b'{"why": {}}'],
                          ids=lambda data: repr(data)[:20])
 def test_a_reply_that_is_none(fleet, calls, monkeypatch, data):
     monkeypatch.setattr(work, "answered", lambda job_text, item: data)

@@ -47,7 +47,8 @@ def test_usage_from_standard_input(ctl):
     sums = b"%62s________   ________     \n%62s3070m      1261Mi    \n" % (b"", b"")
     assert demands_of(ctl, PODS, NODE, "--used", "-", given=data + sums)[0] == TOLD
     # A source that is loaded twice has it twice.
-    out, _ = ctl.run("diff", PODS, NODE, "--used", "-", "--set", ".cpus=3", "-o", "json", given=data)
+    words = (PODS, NODE, "--used", "-", "--set", ".cpus=3", "-o", "json")
+    out, _ = ctl.run("diff", *words, given=data)
     assert json.loads(out)["after"]["wanted"]["millicpu"] == 3080
 
 
