@@ -1,15 +1,15 @@
 #!/usr/bin/env python3
-"""Writes the pages that are made of the sources: docs/DEFINITIONS.md and docs/CLAUSES.md.
+"""Prints lists that are made of the sources.
 
-    scripts/indexes.py             writes them
-    scripts/indexes.py --check     writes nothing, and ends with 1 where one is not up to date
-    scripts/indexes.py --lemmas    prints the list of lemma files, with what each proves
+    scripts/indexes.py --clauses        the clauses of each public function
+    scripts/indexes.py --definitions    the definitions that these name, in words
+    scripts/indexes.py --lemmas         the lemma files, with what each proves
 """
 import re
 import sys
 from dataclasses import dataclass
 from pathlib import Path
-from typing import Dict, Iterator, List, Set, Tuple
+from typing import Callable, Dict, Iterator, List, Set, Tuple
 
 ROOT = Path(__file__).resolve().parent.parent
 
@@ -105,8 +105,7 @@ def public_contracts(path: Path) -> List[Contract]:
 FAULTS = ("number", "name")
 CLAUSES_HEAD = """# The clauses of each public function
 
-Made by `scripts/indexes.py` of the contracts in the sources; a test holds it to them. \
-The claims in plain words are in [PROVED.md](PROVED.md).
+The claims in plain words are in docs/PROVED.md.
 Each function has the labels of what it ensures behind it. One without labels has one clause.
 Methods of traits are among them; `number` and `name` of a fault are not.
 What a function asks for (`requires`) is proved at its calls.
@@ -139,20 +138,18 @@ IMPORT = re.compile(r"^(?:ghost )?use Rattle\.(\w+)\.specs\.([\w.]+)\.\{([^}]*)\
 # Crates whose functions are there beside their predicates and records.
 WHOLE = ("bw_model", "bw_machine")
 # Programs and the C library with its columns, whose definitions put those of the crates below into
-# other forms, and the laws, which docs/LAWS.md has in words.
+# other forms, and the laws, which docs/PROVED.md has in words.
 LEFT_OUT_CRATES = ("arbiter", "bw_columns", "bw_answers", "bw_group_columns", "bw_exports",
                    "wake_states", "plan_bench", "bw_change_laws")
 # Functions of a refusal that say no more than their names.
 PLAIN = re.compile(r"_fault_(?:number|name)$")
 DEFINITIONS_HEAD = """# Definitions
 
-Made by `scripts/indexes.py` of the comments in `specs/`; a test holds it to them.
-Below are the predicates and records that a clause of a public function names \
-([CLAUSES.md](CLAUSES.md)). `Plan.IsPlan` is in `specs/Plan.antt` of its crate.
+Below are the predicates and records that a clause of a public function names. `Plan.IsPlan` is in `specs/Plan.antt` of its crate.
 Of bw_model and bw_machine functions are there too, and what other crates name. Those of other \
 crates are in the same files, each with a comment. Programs and the C library are left out: they \
-put the same into other forms. So are the laws of a change: [LAWS.md](LAWS.md).
-Numbers in definitions are whole numbers without bound. Words: [GLOSSARY.md](GLOSSARY.md).
+put the same into other forms. So are the laws of a change, which docs/PROVED.md has in words.
+Numbers in definitions are whole numbers without bound.
 """
 
 
@@ -238,32 +235,15 @@ def lemmas() -> str:
     return text
 
 
-def pages() -> Dict[str, str]:
-    """The text of each page, by its name in docs/."""
-    return {"DEFINITIONS.md": definitions_page(), "CLAUSES.md": clauses_page()}
-
-
-def stale() -> List[str]:
-    """The pages that are not as the sources have them."""
-    return [name for name, text in pages().items()
-            if not (ROOT / "docs" / name).is_file()
-            or (ROOT / "docs" / name).read_text(encoding="utf-8") != text]
+LISTS: Dict[str, Callable[[], str]] = {
+    "--clauses": clauses_page, "--definitions": definitions_page, "--lemmas": lemmas}
 
 
 def main(words: List[str]) -> int:
-    if words not in ([], ["--check"], ["--lemmas"]):
-        print("usage: scripts/indexes.py [--check | --lemmas]", file=sys.stderr)
+    if len(words) != 1 or words[0] not in LISTS:
+        print(f"usage: scripts/indexes.py {' | '.join(LISTS)}", file=sys.stderr)
         return 2
-    if words == ["--lemmas"]:
-        print(lemmas(), end="")
-        return 0
-    if words:
-        late = stale()
-        for name in late:
-            print(f"docs/{name}: not up to date; scripts/indexes.py writes it", file=sys.stderr)
-        return 1 if late else 0
-    for name, text in pages().items():
-        (ROOT / "docs" / name).write_text(text, encoding="utf-8")
+    print(LISTS[words[0]](), end="")
     return 0
 
 
