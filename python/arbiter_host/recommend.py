@@ -8,14 +8,14 @@ from __future__ import annotations
 
 import math
 import re
-from collections.abc import Mapping, Sequence
+from collections.abc import Mapping, Sequence, Set
 from dataclasses import dataclass
 from fractions import Fraction
 from typing import Any
 
 from arbiter_host import demands, names, units
 from arbiter_host.demands import Use
-from arbiter_host.faults import HostFault, UsageFault
+from arbiter_host.faults import HostFault, NothingFound, UsageFault
 from arbiter_host.model import Model
 from arbiter_host.owned import Amounts, Owned, Setting
 from arbiter_host.plan import Engine, Plan, guarantees, plan
@@ -140,19 +140,22 @@ def asking(model: Model, asked: Sequence[Fraction | None]) -> Model:
     return model
 
 
-def recommended(engine: Engine, model: Model, uses: Mapping[str, Use],
-                rule: Rule) -> Recommendation:
-    """The proposals for all groups of which something was seen."""
+def recommended(engine: Engine, model: Model, uses: Mapping[str, Use], rule: Rule,
+                paths: Set[str] | None = None) -> Recommendation:
+    """The proposals for the groups of some paths of which something was seen; None for all."""
     kind = owned_of(model)
     if not uses:
         raise HostFault(f"nothing was seen of any {kind.noun} here: --used says what they used")
-    found = [proposal(kind, path, uses[path], rule) for path in model.groups if path in uses]
+    own = [path for path in model.groups if path in uses and (paths is None or path in paths)]
+    if not own:
+        raise NothingFound(f"nothing was seen of any {kind.noun} that is chosen")
+    found = [proposal(kind, path, uses[path], rule) for path in own]
     changed = kind.changed([each for one in found for each in one.settings]).model()
-    used = {each.path: each.used for each in found}
-    asked = [used.get(path) for path in model.groups]
+    asked = [demands.percentile(uses[path].values, rule.percent) if path in uses else None
+             for path in model.groups]
     before = plan(engine, asking(model.copy(), asked))
     after = plan(engine, asking(changed, asked))
-    chosen = [now for was, now in zip(before.groups, after.groups) if was.path in used]
+    chosen = [now for was, now in zip(before.groups, after.groups) if was.path in set(own)]
     totals, then = kind.totals(), owned_of(changed).totals()
     return Recommendation(rule, tuple(found), before, after,
                           tuple(each.path for each in chosen),

@@ -80,6 +80,17 @@ def test_what_is_proposed_can_be_compared(ctl, folder):
     assert [gets[f"kubepods/burstable/x:{name}/c"] for name in "ab"] == [600, 400]
 
 
+def test_containers_that_are_chosen(ctl, folder):
+    """The others ask for what they used, and keep their settings."""
+    words = (node_of(folder, "1"), "--used", top_of(folder, a="900m", b="600m"))
+    whole, _, _ = recommended(ctl, *words)
+    by, found, _ = recommended(ctl, *words, "-g", "x/a")
+    assert list(by) == ["x/a/c"] and by["x/a/c"]["set"] == whole["x/a/c"]["set"]
+    assert found["recommended_requests_millicpu"] == 1335
+    assert list(recommended(ctl, *words, "-n", "x")[0]) == list(whole)
+    assert "no group zz" in ctl.run("recommend", *words, "-g", "zz", status=6)[1]
+
+
 # Twenty samples of 10m to 200m, of which one cell of b is empty.
 HISTORY = "time,x/a/c,x/b\n" + "".join(
     f"{at},{at * 10}m,{'' if at == 7 else '50m'}\n" for at in range(1, 21))

@@ -3,7 +3,7 @@ from __future__ import annotations
 
 import argparse
 
-from arbiter_host import change, load, options as table, output, recommend, text
+from arbiter_host import change, choosing, load, options as table, output, recommend, text
 from arbiter_host.demands import Use
 from arbiter_host.model import Model
 from arbiter_host.names import cut, few, short, shown
@@ -42,7 +42,7 @@ def run(options: argparse.Namespace) -> None:
     model = loaded(options, by)
     uses = uses_of(options, model)
     load.warn(model, source_name(options.source))
-    found = recommend.recommended(by, model, uses, rule)
+    found = recommend.recommended(by, model, uses, rule, choosing.chosen(model, options))
     change.told(model, found.after.model)
     count = max((len(use.values) for use in uses.values()), default=0)
     output.write_forms(outputs, {"text": lambda: lines_of(found, count),
