@@ -120,15 +120,15 @@ def change_of(one: Group, two: Group, root: Root) -> Change:
 
 def changes(before: Model, after: Model, root: Root) -> tuple[list[Change], list[str]]:
     """The groups whose settings differ, and what is left alone, in words."""
-    found: dict[str, Change] = {}
+    by_folder: dict[str, Change] = {}
     for path, one in before.groups.items():
         two = after.groups.get(path)
         if two is not None and settings_of(one) != settings_of(two):
             change = change_of(one, two, root)
-            if change.folder in found:
+            if change.folder in by_folder:
                 raise HostFault(f"{shown(path)}: another group has the place {change.folder}")
-            found[change.folder] = change
-    return list(found.values()), only_in_one(before, after)
+            by_folder[change.folder] = change
+    return list(by_folder.values()), only_in_one(before, after)
 
 
 def only_in_one(before: Model, after: Model, but: Container[str] = ()) -> list[str]:
@@ -168,20 +168,20 @@ def standing(root: Root, folder: str) -> Settings | None:
 
 def unlike(root: Root, wanted: Sequence[tuple[str, Settings]]) -> list[str]:
     """The groups that do not hold these settings, in words."""
-    found = []
+    words = []
     for folder, settings in wanted:
         now = standing(root, folder)
         if now is None:
-            found.append(f"{shown(folder)}: is gone")
+            words.append(f"{shown(folder)}: is gone")
         elif now != settings:
-            found.append(f"{shown(folder)}: holds {told(now)}, not {told(settings)}")
-    return found
+            words.append(f"{shown(folder)}: holds {told(now)}, not {told(settings)}")
+    return words
 
 
-def keep(root: Root, found: Sequence[Change]) -> list[str]:
+def keep(root: Root, changes_: Sequence[Change]) -> list[str]:
     """Opens the groups that change, to be kept. Returns those that are not there, in words."""
     wrong = []
-    for change in found:
+    for change in changes_:
         try:
             root.keep(change.folder, change.identity)
         except Gone:
@@ -191,10 +191,10 @@ def keep(root: Root, found: Sequence[Change]) -> list[str]:
     return wrong
 
 
-def check_host(root: Root, found: Sequence[Change]) -> None:
+def check_host(root: Root, changes_: Sequence[Change]) -> None:
     """Keeps the groups; a fault that names each whose files do not hold what they held before."""
-    wrong = (keep(root, found)
-             or unlike(root, [(change.folder, change.before) for change in found]))
+    wrong = (keep(root, changes_)
+             or unlike(root, [(change.folder, change.before) for change in changes_]))
     if wrong:
         raise HostFault("\n".join(["the host is not what BEFORE says, so nothing is changed:",
                                    *wrong]))
@@ -284,10 +284,10 @@ def do(step: Step, root: Root) -> None:
     systemctl(command_of(step)[1:])
 
 
-def undo_text(root: Root, found: Sequence[Change], by: By) -> str:
+def undo_text(root: Root, changes_: Sequence[Change], by: By) -> str:
     """The old settings of all groups that change, and the new ones."""
     groups = [{"folder": change.folder, **asdict(change.before), "after": asdict(change.after)}
-              for change in found]
+              for change in changes_]
     return json.dumps({"arbiter_undo": VERSION, "root": root.path,
                        "systemd": by is not By.FILES, "persistent": by is By.PERSISTENT,
                        "groups": groups}, indent=1) + "\n"
@@ -303,16 +303,16 @@ def write_synced(path: str, text: str) -> None:
         os.fsync(place.folder)
 
 
-def check_after(root: Root, found: Sequence[Change]) -> None:
+def check_after(root: Root, changes_: Sequence[Change]) -> None:
     """A fault where a file does not hold what was written."""
-    wrong = unlike(root, [(change.folder, change.after) for change in found])
+    wrong = unlike(root, [(change.folder, change.after) for change in changes_])
     if wrong:
         raise HostFault("\n".join(["read back, the host is not what was written:", *wrong]))
 
 
-def planned_steps(found: Sequence[Change], by: By) -> list[Step]:
+def planned_steps(changes_: Sequence[Change], by: By) -> list[Step]:
     """All steps."""
-    return [step for change in found for step in steps_of(change, change.before, by)]
+    return [step for change in changes_ for step in steps_of(change, change.before, by)]
 
 
 def passing(steps: Sequence[Step]) -> list[str]:
@@ -338,13 +338,13 @@ def systemctl(words: Sequence[str]) -> str:
 
 def false_units(steps: Sequence[Step]) -> dict[str, str]:
     """The folders that are not the group of their unit, and why: a name is no place."""
-    found = {}
+    wrong = {}
     for unit, folder in {step.unit: step.folder for step in steps if step.unit}.items():
         group = systemctl(["show", "--property=ControlGroup", "--value", "--", unit]).strip("\n")
         if group != f"/{folder}":
-            found[folder] = (f"{shown(folder)}: the unit {shown(unit)} has the group"
+            wrong[folder] = (f"{shown(folder)}: the unit {shown(unit)} has the group"
                              f" {shown(group[:200]) or '(none)'}: --by files writes to this one")
-    return found
+    return wrong
 
 
 def check_units(steps: Sequence[Step]) -> None:
@@ -354,15 +354,15 @@ def check_units(steps: Sequence[Step]) -> None:
         raise HostFault("\n".join([*wrong.values(), "so nothing is changed"]))
 
 
-def make(root: Root, found: Sequence[Change], by: By, undo: str, done: list[Step]) -> None:
+def make(root: Root, changes_: Sequence[Change], by: By, undo: str, done: list[Step]) -> None:
     """Makes the changes: the host is looked at, the undo file written, the result read back.
 
     `done` gets the steps that were made.
     """
-    steps = planned_steps(found, by)
-    check_host(root, found)
+    steps = planned_steps(changes_, by)
+    check_host(root, changes_)
     check_units(steps)
-    write_synced(undo, undo_text(root, found, by))
+    write_synced(undo, undo_text(root, changes_, by))
     systemds = of_units(steps)
     try:
         for step in steps:
@@ -370,7 +370,7 @@ def make(root: Root, found: Sequence[Change], by: By, undo: str, done: list[Step
                 check_stands(step, root)
             do(step, root)
             done.append(step)
-        check_after(root, found)
+        check_after(root, changes_)
     except HostFault as fault:
         raise HostFault(f"{fault.message}\nto undo: arbiterctl undo {shlex.quote(undo)} --yes"
                         ) from fault
@@ -460,20 +460,20 @@ def take_back(back: Back, entry: dict[str, Any], is_forced: bool) -> bool:
     return True
 
 
-def by_of(found: dict[str, Any]) -> By:
+def by_of(record: dict[str, Any]) -> By:
     """By what the changes of an undo file were made."""
-    if found.get("systemd") is not True:
+    if record.get("systemd") is not True:
         return By.FILES
-    return By.PERSISTENT if found.get("persistent") is True else By.RUNTIME
+    return By.PERSISTENT if record.get("persistent") is True else By.RUNTIME
 
 
 def read_undo(content: bytes, name: str, is_forced: bool = False) -> Back:
     """The way back of an undo file. `is_forced`: also over what somebody set since."""
-    found = data.loads(content, name)
-    if data.number(found, "arbiter_undo") != VERSION or not data.text(found, "root"):
+    record = data.loads(content, name)
+    if data.number(record, "arbiter_undo") != VERSION or not data.text(record, "root"):
         raise HostFault(f"{name}: no undo file of `arbiterctl apply`")
-    back = Back(Root(found["root"]), by_of(found))
-    entries = data.tables(found, "groups")
+    back = Back(Root(record["root"]), by_of(record))
+    entries = data.tables(record, "groups")
     are_there = [take_back(back, entry, is_forced) for entry in entries]
     # Groups that a loop holds come and go.
     is_loops = all("earlier" in entry for entry in entries) and cgroup2.is_tree(back.root.path)

@@ -43,25 +43,25 @@ def check_way(path: str, descriptor: int) -> None:
 
     In a sticky folder users change names of their own files alone.
     """
-    found = os.fstat(descriptor)
-    if is_of_others(found, 0 if found.st_mode & stat.S_ISVTX else 0o022):
+    status = os.fstat(descriptor)
+    if is_of_others(status, 0 if status.st_mode & stat.S_ISVTX else 0o022):
         raise HostFault(f"{shown(path)}: other users may change this folder{CHANGED}")
 
 
 def check_own(path: str, descriptor: int) -> None:
     """A fault where a folder is not this user's alone to change."""
-    found = os.fstat(descriptor)
-    if found.st_uid != os.geteuid() or found.st_mode & 0o022:
+    status = os.fstat(descriptor)
+    if status.st_uid != os.geteuid() or status.st_mode & 0o022:
         raise HostFault(f"{shown(path)}: other users may change this folder{CHANGED}")
 
 
 def link_text(path: str, descriptor: int) -> str:
     """What a link holds; empty for what is none. Anybody makes links in a sticky folder, so a link
     has to be this user's or root's."""
-    found = os.fstat(descriptor)
-    if not stat.S_ISLNK(found.st_mode):
+    status = os.fstat(descriptor)
+    if not stat.S_ISLNK(status.st_mode):
         return ""
-    if is_of_others(found):
+    if is_of_others(status):
         raise HostFault(f"{shown(path)}: a link of another user{CHANGED}")
     return os.readlink("", dir_fd=descriptor)
 
@@ -70,9 +70,9 @@ def descended(path: str, opened: ExitStack) -> int:
     """Opens a folder, part by part from the root on, as a place. A fault where another user may
     change a folder or a link on the way."""
     def step(name: str, above: int = -1) -> int:
-        found = os.open(name, PLACE, dir_fd=above)
-        opened.callback(os.close, found)
-        return found
+        descriptor = os.open(name, PLACE, dir_fd=above)
+        opened.callback(os.close, descriptor)
+        return descriptor
 
     names, links, here, where = path.split("/")[::-1], 0, step("/"), "/"
     while names:

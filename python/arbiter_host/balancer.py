@@ -191,10 +191,10 @@ class Run:
             self.noise = [self.random.gauss(1, NOISE) for _ in self.cpus]
             self.renews = self.now + self.random.uniform(0.3, 1.5)
         self.work += len(self.shape.tasks) // 4
-        found = [0.0 for _ in self.cpus]
+        parts = [0.0 for _ in self.cpus]
         for task in self.shape.tasks:
-            found[task.cpu] += task.part
-        return [load * noise for load, noise in zip(found, self.noise)]
+            parts[task.cpu] += task.part
+        return [load * noise for load, noise in zip(parts, self.noise)]
 
     def balance(self, cpu: int) -> None:
         """A busy CPU's turn to balance: it pulls, or waits longer."""
@@ -228,9 +228,9 @@ class Run:
                 or len(self.here[cpu]) > 1 and loads[source] <= UNEVEN * loads[cpu]):
             return True
         uneven = min(loads[source] - mean, mean - loads[cpu])
-        found = self.random.sample(self.here[source], len(self.here[source]))
+        tasks = self.random.sample(self.here[source], len(self.here[source]))
         # One of them runs, and stays.
-        for task in found[1:]:
+        for task in tasks[1:]:
             if task.part / 2 ** self.failed[cpu] <= uneven:
                 self.moved(task, cpu)
                 uneven -= task.part

@@ -65,16 +65,16 @@ def settings_of(model: Model, source: Owned, word: str) -> list[Setting]:
         raise HostFault(f"{key} is a setting of {owned.KEYS[key]}; this source has"
                         f" {', '.join(source.keys)}")
     groups = [group.path for group in demands.matching(model, pattern)]
-    found = [path for path in groups if source.has(path)]
-    if not found and len(groups) == 1:
-        found = source.meant(groups[0])
-        if len(found) > 1:
-            some = ", ".join(names.shown(names.last_name(path)) for path in found[:3])
-            raise HostFault(f"{names.shown(pattern)} has {len(found)} containers: name one of"
+    paths = [path for path in groups if source.has(path)]
+    if not paths and len(groups) == 1:
+        paths = source.meant(groups[0])
+        if len(paths) > 1:
+            some = ", ".join(names.shown(names.last_name(path)) for path in paths[:3])
+            raise HostFault(f"{names.shown(pattern)} has {len(paths)} containers: name one of"
                             f" {some}")
-    if not found:
+    if not paths:
         raise HostFault(f"{names.shown(pattern)} has no {key} in this source")
-    return [Setting(path, key, value) for path in found]
+    return [Setting(path, key, value) for path in paths]
 
 
 def made_again(model: Model, words: Sequence[str]) -> Model:

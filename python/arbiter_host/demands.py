@@ -66,8 +66,8 @@ def rise(before: int | None, after: int | None) -> int | None:
 def rises(readings: Sequence[Reading], key: str) -> list[int]:
     """By how much a counter rose from each reading to the next; empty where one is missing."""
     values = [getattr(reading, key) for reading in readings]
-    found = [rise(one, two) for one, two in zip(values, values[1:])]
-    return [] if None in found else [each for each in found if each is not None]
+    steps = [rise(one, two) for one, two in zip(values, values[1:])]
+    return [] if None in steps else [each for each in steps if each is not None]
 
 
 def used(measured: Measured, seconds: Fraction) -> list[Fraction]:
@@ -105,13 +105,13 @@ def pressed(group: Group, measured: Measured, host: Host, seconds: Fraction) -> 
     usage = mean(used(measured, seconds))
     waited = sum(rises(measured.readings, "pressure"))
     span = seconds * 10**6 * max(len(measured.readings) - 1, 1)
-    found = usage / (1 - min(Fraction(waited) / span, MOST_PRESSURE))
+    demand = usage / (1 - min(Fraction(waited) / span, MOST_PRESSURE))
     periods = sum(rises(measured.readings, "periods"))
     throttled = min(sum(rises(measured.readings, "throttled")), periods)
     if throttled and group.quota is not None:
         raised = limit_of(group, host) * Fraction(periods, max(periods - throttled, 1))
-        found = max(found, min(raised, Fraction(1000 * host.processors)))
-    return found
+        demand = max(demand, min(raised, Fraction(1000 * host.processors)))
+    return demand
 
 
 def use_of(group: Group, measured: Measured, host: Host, seconds: Fraction) -> Use | None:
@@ -168,46 +168,46 @@ def set_demands(model: Model, measured: dict[str, Measured], want: str, seconds:
     if want == "busy":
         note_idle(leaves, measured, model)
     for path in leaves:
-        group, found = model.groups[path], measured.get(path, Measured())
-        group.request = found.request
-        demand = wanted(want, group, found, model.host, seconds)
+        group, counters = model.groups[path], measured.get(path, Measured())
+        group.request = counters.request
+        demand = wanted(want, group, counters, model.host, seconds)
         if demand is None:
             model.notes.append(f"{path}: nothing read for --want {want}: no demand")
             continue
         if want in ("usage", "peak", "p95"):
-            note_throttled(group, found, model)
+            note_throttled(group, counters, model)
         group.demand = demand
-        if found.tasks:
-            needed = math.ceil(percentile(used(found, seconds), 100) / 1000)
-            group.tasks = max(found.tasks, needed)
+        if counters.tasks:
+            needed = math.ceil(percentile(used(counters, seconds), 100) / 1000)
+            group.tasks = max(counters.tasks, needed)
 
 
 def matching(model: Model, pattern: str) -> list[Group]:
     """The groups of a path, a path's end, a title, or a pattern with `*` of these; a fault where
     none is. In a pattern of a path's end `*` stands for no slash."""
     shape = names.pattern(pattern)
-    found = [group for group in model.groups.values()
+    groups = [group for group in model.groups.values()
              if pattern in (".", group.path, group.title) or shape.fullmatch(group.path)]
-    if not found:
-        found = [each for each in model.groups.values() if each.path.endswith("/" + pattern)]
-    if not found:
-        found = [each for each in model.groups.values() if shape.fullmatch(each.title)]
-    if not found:
+    if not groups:
+        groups = [each for each in model.groups.values() if each.path.endswith("/" + pattern)]
+    if not groups:
+        groups = [each for each in model.groups.values() if shape.fullmatch(each.title)]
+    if not groups:
         end = names.pattern_of_end(pattern)
-        found = [each for each in model.groups.values() if end.fullmatch(each.path)]
-    if not found:
+        groups = [each for each in model.groups.values() if end.fullmatch(each.path)]
+    if not groups:
         raise absent(model, pattern)
-    return found
+    return groups
 
 
 def below(model: Model, patterns: Sequence[str]) -> set[str]:
     """The groups that patterns match, and those below them."""
     tops = {group.path for pattern in patterns for group in matching(model, pattern)}
-    found = set[str]()
+    paths = set[str]()
     for path in model.groups:
-        if path in tops or names.parent_path(path) in found:
-            found.add(path)
-    return found
+        if path in tops or names.parent_path(path) in paths:
+            paths.add(path)
+    return paths
 
 
 def absent(model: Model, pattern: str) -> NothingFound:

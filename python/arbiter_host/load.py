@@ -136,19 +136,19 @@ def bounded(file: BinaryIO) -> bytes:
     return bytes(data)
 
 
-def check_trusted(path: str, found: os.stat_result) -> None:
+def check_trusted(path: str, status: os.stat_result) -> None:
     """A fault where another user may say what a file holds."""
-    if safe_files.is_of_others(found, 0o002):
+    if safe_files.is_of_others(status, 0o002):
         raise HostFault(f"{names.shown(path)}: other users may change this file, and what it sets;"
                         " nothing is changed (chown it once it is looked at)")
 
 
-def check_file(path: str, found: os.stat_result, is_plain: bool) -> None:
+def check_file(path: str, status: os.stat_result, is_plain: bool) -> None:
     """A fault where a file is no plain one but has to be, or is too long to be read."""
-    is_regular = stat.S_ISREG(found.st_mode)
+    is_regular = stat.S_ISREG(status.st_mode)
     if is_plain and not is_regular:
         raise HostFault(f"{names.shown(path)}: no plain file")
-    if is_regular and found.st_size > MAX_FILE:
+    if is_regular and status.st_size > MAX_FILE:
         raise HostFault(f"{names.shown(path)}: {TOO_LONG}")
 
 
@@ -253,7 +253,7 @@ def opened(options: argparse.Namespace, paths: Sequence[str]) -> list[Opened]:
 def sources(options: argparse.Namespace, paths: Sequence[str]) -> list[list[Opened]]:
     """The sources that some paths are: files of one kind and several parts, side by side, are one.
     """
-    found: list[list[Opened]] = []
+    groups: list[list[Opened]] = []
     before: list[tuple[str, str]] = []
     for file in opened(options, paths):
         path, data = file
@@ -261,12 +261,12 @@ def sources(options: argparse.Namespace, paths: Sequence[str]) -> list[list[Open
         part_of = READERS[kind].part
         part = part_of(data) if part_of and data is not None else ""
         if part and before and before[0][0] == kind and (kind, part) not in before:
-            found[-1].append(file)
+            groups[-1].append(file)
             before.append((kind, part))
         else:
-            found.append([file])
+            groups.append([file])
             before = [(kind, part)] if part else []
-    return found
+    return groups
 
 
 def load(options: argparse.Namespace, paths: Sequence[str], engine: Engine) -> Model:
@@ -278,13 +278,13 @@ def model_of(options: argparse.Namespace, files: Sequence[Opened], engine: Engin
     """The model of one source whose files were read."""
     kind = options.kind or kind_of(*files[0])
     table.check(options, kind)
-    found = [(names.shown(path), data) for path, data in files if data is not None]
+    named = [(names.shown(path), data) for path, data in files if data is not None]
     if kind == "cgroup":
         return finished(options, read_tree(options, [path for path, _ in files]))
-    if len(found) < len(files):
+    if len(named) < len(files):
         raise HostFault(f"{names.shown(files[0][0])}: Is a directory")
-    model = read_files(options, kind, found, engine.library)
-    check_known(options, found[0][0], model)
+    model = read_files(options, kind, named, engine.library)
+    check_known(options, named[0][0], model)
     return model
 
 

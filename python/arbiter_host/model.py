@@ -129,11 +129,11 @@ class Model:
 
     def children(self) -> dict[str, list[str]]:
         """The paths of the children of each group and of the root, in order of creation."""
-        found: dict[str, list[str]] = {".": []}
+        below: dict[str, list[str]] = {".": []}
         for path in self.groups:
-            found[path] = []
-            found[names.parent_path(path)].append(path)
-        return found
+            below[path] = []
+            below[names.parent_path(path)].append(path)
+        return below
 
     def rows(self, library: Library) -> list[Row]:
         """The rows that the planner takes, the root first."""
@@ -163,11 +163,11 @@ class Model:
         return replace(self, groups=groups, notes=list(self.notes), refused=list(self.refused))
 
 
-def told_bound(found: Sequence[str]) -> list[str]:
+def told_bound(paths: Sequence[str]) -> list[str]:
     """What is told of groups that keep to CPUs of their own; nothing of none."""
-    if not found:
+    if not paths:
         return []
-    return [f"bound to CPUs: {names.listed(found)}: each keeps to its own CPUs, so what others"
+    return [f"bound to CPUs: {names.listed(paths)}: each keeps to its own CPUs, so what others"
             " leave idle does not reach it"]
 
 

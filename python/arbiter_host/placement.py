@@ -104,25 +104,25 @@ def grain(shape: Shape) -> float:
 
 def most_of(shape: Shape) -> dict[str, float]:
     """The most that each group can have, in CPUs: its tasks' work, cut at limits."""
-    found = {node.path: sum(task.work for task in node.tasks) / shape.period
+    most = {node.path: sum(task.work for task in node.tasks) / shape.period
              for node in shape.nodes}
     for node in reversed(shape.nodes):
-        found[node.path] = min(found[node.path], shape.processors, *map(limit_of, chain(node)))
+        most[node.path] = min(most[node.path], shape.processors, *map(limit_of, chain(node)))
         if node.above is not None:
-            found[node.above.path] += found[node.path]
-    return found
+            most[node.above.path] += most[node.path]
+    return most
 
 
 def ranges(shape: Shape) -> dict[str, Bounds] | None:
     """The range of each group; None if that is too much work."""
     first = Run(shape, 0, MOST_WORK / LEAST_RUNS)
     try:
-        found = [first.had()]
+        runs = [first.had()]
     except TooMuchWork:
         return None
     count = min(MOST_WORK // max(first.work, 1), MOST_RUNS)
-    found += [Run(shape, seed).had() for seed in range(1, count)]
-    spans = {node.path: (min(had), max(had)) for node, had in zip(shape.nodes, zip(*found))}
+    runs += [Run(shape, seed).had() for seed in range(1, count)]
+    spans = {node.path: (min(had), max(had)) for node, had in zip(shape.nodes, zip(*runs))}
     most = most_of(shape)
     are_alike = max(high - low for low, high in spans.values()) <= FIRM
     return {node.path: range_of(node, spans, most[node.path], are_alike) for node in shape.nodes}

@@ -32,8 +32,8 @@ class Gone(HostFault):
 
 def identity_of(descriptor: int) -> Identity:
     """The identity of what a descriptor is open at."""
-    found = os.fstat(descriptor)
-    return found.st_dev, found.st_ino
+    status = os.fstat(descriptor)
+    return status.st_dev, status.st_ino
 
 
 def open_more_files() -> None:
@@ -83,14 +83,14 @@ class Root:
         """Opens a folder, part by part from the top, which stays open."""
         if self.top is None:
             self.top = os.open(self.path, os.O_PATH | os.O_DIRECTORY | os.O_CLOEXEC)
-        found = os.dup(self.top)
+        folder_ = os.dup(self.top)
         for part in parts_of(folder):
-            above = found
+            above = folder_
             try:
-                found = os.open(part, FOLDER, dir_fd=above)
+                folder_ = os.open(part, FOLDER, dir_fd=above)
             finally:
                 os.close(above)
-        return found
+        return folder_
 
     def keep(self, folder: str, identity: Identity | None = None) -> None:
         """Opens a folder that stays open. A fault where it is another one than was read."""
@@ -100,9 +100,9 @@ class Root:
         if not self.kept:
             open_more_files()
         with self.faults(folder):
-            found = self.descend(folder)
-        self.kept[folder] = found
-        if identity is not None and identity_of(found) != identity:
+            descriptor = self.descend(folder)
+        self.kept[folder] = descriptor
+        if identity is not None and identity_of(descriptor) != identity:
             raise HostFault(f"{shown(folder)}: is another group than the one that was read")
 
     def let_go(self, folder: str) -> None:
@@ -115,11 +115,11 @@ class Root:
         if folder in self.kept:
             yield self.kept[folder]
             return
-        found = self.descend(folder)
+        descriptor = self.descend(folder)
         try:
-            yield found
+            yield descriptor
         finally:
-            os.close(found)
+            os.close(descriptor)
 
     @contextmanager
     def opened(self, folder: str, file: str, flags: int) -> Iterator[int]:
@@ -128,8 +128,8 @@ class Root:
         with self.faults(folder, file), self.at(folder) as above:
             descriptor = os.open(file, FILE | flags, dir_fd=above)
             try:
-                found = os.fstat(descriptor)
-                if not stat.S_ISREG(found.st_mode) or found.st_nlink != 1:
+                status = os.fstat(descriptor)
+                if not stat.S_ISREG(status.st_mode) or status.st_nlink != 1:
                     raise HostFault(f"{shown(self.name(folder, file))}: no plain file")
                 yield descriptor
             finally:
@@ -163,10 +163,10 @@ class Root:
                 os.ftruncate(descriptor, len(line))
 
 
-def is_of_others(found: os.stat_result, bits: int = 0) -> bool:
+def is_of_others(status: os.stat_result, bits: int = 0) -> bool:
     """Whether a file is another user's than root's or this one's, or its mode has bits that let
     others change it."""
-    return found.st_uid not in (0, os.geteuid()) or bool(found.st_mode & bits)
+    return status.st_uid not in (0, os.geteuid()) or bool(status.st_mode & bits)
 
 
 def check_path(path: str) -> None:

@@ -86,46 +86,46 @@ def tune(before: Plan, words: Sequence[str], is_guaranteed: bool = False,
                  tuple(Knobs(asked).each()) if is_alone else ())
 
 
-def losers(found: Tuned, way: Way) -> list[tuple[str, int]]:
+def losers(tuned: Tuned, way: Way) -> list[tuple[str, int]]:
     """The groups without children and without a goal at or above them that get less, and how many
     slices less."""
-    paths = {goal.group.path for goal in found.asked.goals}
+    paths = {goal.group.path for goal in tuned.asked.goals}
     below = tuple(f"{path}/" for path in paths)
-    return [(path, lost) for path, lost in payers(found.before, way.plan)
+    return [(path, lost) for path, lost in payers(tuned.before, way.plan)
             if path not in paths and not path.startswith(below)]
 
 
-def way_data(found: Tuned, way: Way) -> dict[str, Any]:
+def way_data(tuned: Tuned, way: Way) -> dict[str, Any]:
     """Settings as data. Amounts are thousandths of a CPU."""
     return {"changes": [{"group": each.path, "setting": each.key, "now": each.now,
                          "then": each.then} for each in way.changes],
             "set": way.words, "told": way.told,
-            "then_millicpu": [found.before.millicpu(each) for each in way.amounts],
-            "pays": [{"group": path, "millicpu": found.before.millicpu(lost)}
-                     for path, lost in losers(found, way)]}
+            "then_millicpu": [tuned.before.millicpu(each) for each in way.amounts],
+            "pays": [{"group": path, "millicpu": tuned.before.millicpu(lost)}
+                     for path, lost in losers(tuned, way)]}
 
 
-def clash_data(found: Tuned, clash: Unmet) -> dict[str, Any]:
+def clash_data(tuned: Tuned, clash: Unmet) -> dict[str, Any]:
     """Goals that cannot be met together as data. Amounts are thousandths of a CPU."""
-    goals = [found.asked.goals[place] for place in clash.together]
-    return {"goal": found.asked.goals[clash.goal].group.path,
+    goals = [tuned.asked.goals[place] for place in clash.together]
+    return {"goal": tuned.asked.goals[clash.goal].group.path,
             "together": [goal.group.path for goal in goals],
-            "asked_millicpu": found.before.millicpu(sum(goal.amount for goal in goals)),
-            "served_millicpu": found.before.millicpu(found.before.root.gets)}
+            "asked_millicpu": tuned.before.millicpu(sum(goal.amount for goal in goals)),
+            "served_millicpu": tuned.before.millicpu(tuned.before.root.gets)}
 
 
-def as_data(found: Tuned) -> dict[str, Any]:
+def as_data(tuned: Tuned) -> dict[str, Any]:
     """The answer as data. Amounts are thousandths of a CPU."""
-    before, weights, owned = found.before, found.weights, found.owned
+    before, weights, owned = tuned.before, tuned.weights, tuned.owned
     goals = [{"group": goal.group.path, "asked_millicpu": float(goal.asked),
               "goal_millicpu": before.millicpu(goal.amount),
               "now_millicpu": before.millicpu(now), "wants_millicpu": before.millicpu(
-                  goal.group.want)} for goal, now in zip(found.asked.goals, found.amounts)]
-    return {"guaranteed": found.asked.is_guaranteed, "met": found.best is not None,
+                  goal.group.want)} for goal, now in zip(tuned.asked.goals, tuned.amounts)]
+    return {"guaranteed": tuned.asked.is_guaranteed, "met": tuned.best is not None,
             "engine": before.by, "goals": goals,
-            "weights": way_data(found, weights) if isinstance(weights, Way) else None,
-            "conflict": clash_data(found, weights) if isinstance(weights, Unmet) else None,
-            "settings": way_data(found, owned) if isinstance(owned, Way) else None,
-            "limits": None if found.limits is None else way_data(found, found.limits),
+            "weights": way_data(tuned, weights) if isinstance(weights, Way) else None,
+            "conflict": clash_data(tuned, weights) if isinstance(weights, Unmet) else None,
+            "settings": way_data(tuned, owned) if isinstance(owned, Way) else None,
+            "limits": None if tuned.limits is None else way_data(tuned, tuned.limits),
             "no_settings": owned if isinstance(owned, str) else None,
-            "alone": [knobs.as_data(found.asked, each) for each in found.alone]}
+            "alone": [knobs.as_data(tuned.asked, each) for each in tuned.alone]}

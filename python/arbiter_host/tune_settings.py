@@ -126,9 +126,9 @@ def without_needless(known: Raised, after: Plan) -> tuple[Raised, Plan, str]:
     return kept, kept.plan(), RAISED + NEEDED
 
 
-def weights_in(found: Plan) -> list[int]:
+def weights_in(plan: Plan) -> list[int]:
     """The weight of each row of a plan."""
-    return [group.weight for group in found.groups]
+    return [group.weight for group in plan.groups]
 
 
 def by_settings(goals: Goals, weights: Way | Unmet) -> Way | str | None:

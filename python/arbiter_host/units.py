@@ -43,24 +43,24 @@ TIME_UNITS = {
 
 def number_and_unit(text: str) -> tuple[Fraction, str] | None:
     """A decimal number and the word behind it; None where the text is not of that form."""
-    found = NUMBER.match(text.strip())
-    if not found:
+    match = NUMBER.match(text.strip())
+    if not match:
         return None
-    exponent = int(found.group(2) or 0)
+    exponent = int(match.group(2) or 0)
     if abs(exponent) > 30:
         return None
-    whole, _, decimals = found.group(1).partition(".")
+    whole, _, decimals = match.group(1).partition(".")
     moved = exponent - len(decimals)
     value = Fraction(int(whole + decimals) * 10**max(moved, 0), 10**max(-moved, 0))
-    return value, text.strip()[found.end():].strip()
+    return value, text.strip()[match.end():].strip()
 
 
 def parse_cpu(text: str) -> Fraction:
     """Thousandths of a CPU, 0 to 10^12, from `250m`, `1.5`, `1.5cpu`, `40%` or `100n`."""
-    found = number_and_unit(text)
-    if found is None or found[1] not in CPU_UNITS:
+    parsed = number_and_unit(text)
+    if parsed is None or parsed[1] not in CPU_UNITS:
         raise HostFault(f"{text!r} is no amount of CPU: write 250m, 1.5cpu or 40%")
-    value = found[0] * CPU_UNITS[found[1]]
+    value = parsed[0] * CPU_UNITS[parsed[1]]
     # (whole numbers compare in a tenth of a fraction's time)
     if value.numerator > MAX_CPUS * 1000 * value.denominator:
         raise HostFault(f"{text!r} is above {MAX_CPUS} CPUs")
@@ -71,12 +71,12 @@ def parse_time(text: str) -> int:
     """Microseconds from `100ms`, `1s`, `5min`, `1min 30s` or a plain number of microseconds."""
     total, rest = Fraction(0), text.strip()
     while rest:
-        found = re.match(r"([0-9.]{1,40}(?:[eE][0-9]{1,2})?)\s*([a-z]*)\s*", rest)
-        parsed = number_and_unit(found.group(1)) if found else None
-        if not found or parsed is None or found.group(2) not in TIME_UNITS:
+        match = re.match(r"([0-9.]{1,40}(?:[eE][0-9]{1,2})?)\s*([a-z]*)\s*", rest)
+        parsed = number_and_unit(match.group(1)) if match else None
+        if not match or parsed is None or match.group(2) not in TIME_UNITS:
             raise HostFault(f"{text!r} is no time: write 100ms, 1s or 5min")
-        total += parsed[0] * TIME_UNITS[found.group(2)]
-        rest = rest[found.end():]
+        total += parsed[0] * TIME_UNITS[match.group(2)]
+        rest = rest[match.end():]
     if not text.strip() or total > MAX_QUOTA:
         raise HostFault(f"{text!r} is no time: write 100ms, 1s or 5min")
     return int(total)
@@ -99,10 +99,10 @@ class Slices:
 
     def limit(self, usec: int, own_period: int) -> int:
         """Slices that a quota or burst allows, rounded down."""
-        found = self.limits.get((usec, own_period))
-        if found is None:
-            found = self.limits[usec, own_period] = self.asked_limit(usec, own_period)
-        return found
+        slices = self.limits.get((usec, own_period))
+        if slices is None:
+            slices = self.limits[usec, own_period] = self.asked_limit(usec, own_period)
+        return slices
 
     def asked_limit(self, usec: int, own_period: int) -> int:
         """The library's answer to `limit`."""
@@ -114,10 +114,10 @@ class Slices:
     def demand(self, thousandths: Fraction) -> int:
         """Slices that a demand takes, rounded up, at most 1000000."""
         key = thousandths.as_integer_ratio()
-        found = self.demands.get(key)
-        if found is None:
-            found = self.demands[key] = self.asked_demand(*key)
-        return found
+        slices = self.demands.get(key)
+        if slices is None:
+            slices = self.demands[key] = self.asked_demand(*key)
+        return slices
 
     def asked_demand(self, thousandths: int, parts: int) -> int:
         """Slices that so many parts of a thousandth take.

@@ -16,6 +16,6 @@ __all__ = ["Document", "Draft", "documents"]
 def documents(form: str, draft: Draft) -> list[Document]:
     """The files of a change in a form; a fault names all that the form cannot say."""
     module = importlib.import_module(f"{__name__}.{form}")
-    found: list[Document] = module.documents(draft)
+    files: list[Document] = module.documents(draft)
     draft.check(form)
-    return found
+    return files

@@ -110,7 +110,7 @@ def head(form: str, comment: str = "#") -> str:
 
 def of_kubelet(draft: Draft) -> list[str]:
     """The groups that change and that kubelet writes again, in words."""
-    found = [each.path for each in draft.groups()
+    paths = [each.path for each in draft.groups()
              if is_of_kubelet(each.path) or is_of_kubelet(each.before.place)]
     return [f"{shown(path)}: kubelet owns this group, and writes its own settings again"
-            " (-o kubectl changes what it writes)" for path in found]
+            " (-o kubectl changes what it writes)" for path in paths]

@@ -20,14 +20,14 @@ LABELS = "com.docker.compose."
 
 def by_group(draft: Draft) -> dict[str, dict[str, Any]]:
     """The containers of the files, by the names of their groups."""
-    found = {}
+    containers = {}
     for name, data in draft.files:
         entries = loads(data or b"[]", shown(name))
         for each in entries if isinstance(entries, list) else [entries]:
             identifier = text(each, "Id")
             for scope in (identifier, f"docker-{identifier}.scope", f"libpod-{identifier}.scope"):
-                found[scope] = each
-    return found
+                containers[scope] = each
+    return containers
 
 
 def shares_of(library: Library, weight: int, conversion: str) -> int | None:
@@ -62,7 +62,7 @@ def limit_of(group: Differing, config: dict[str, Any]) -> dict[str, Any] | None:
 
 def keys_of(draft: Draft, group: Differing, config: dict[str, Any]) -> dict[str, Any]:
     """The keys of a service. What compose has no key for is refused."""
-    found: dict[str, Any] = {}
+    keys: dict[str, Any] = {}
     if group.has_weight:
         shares = told_shares(draft, group)
         if shares is None:
@@ -70,15 +70,15 @@ def keys_of(draft: Draft, group: Differing, config: dict[str, Any]) -> dict[str,
         if shares is None:
             draft.refuse(group.path, f"no cpu_shares give weight {group.after.weight}")
         else:
-            found["cpu_shares"] = shares
+            keys["cpu_shares"] = shares
     if group.has_limit:
         limit = limit_of(group, config)
         if limit is None:
             draft.refuse(group.path, f"`cpus` has a period of 100000, not {group.after.period}")
-        found |= limit or {}
+        keys |= limit or {}
     if group.has_burst:
         draft.refuse(group.path, "a burst: compose has no key for it")
-    return found
+    return keys
 
 
 def service_of(container: dict[str, Any]) -> tuple[str, str]:
@@ -100,29 +100,29 @@ def services(draft: Draft) -> Iterator[tuple[str, str, Differing, dict[str, Any]
         yield project, service, group, keys_of(draft, group, table(container, "HostConfig"))
 
 
-def check_replicas(draft: Draft, found: dict[tuple[str, str], dict[str, Any]]) -> None:
+def check_replicas(draft: Draft, services_: dict[tuple[str, str], dict[str, Any]]) -> None:
     """Refuses a service some of whose containers keep their settings."""
     changed = {last_name(each.before.place) for each in draft.groups()}
     for scope, container in by_group(draft).items():
         service = service_of(container)
         is_group = any(last_name(each.place) == scope for each in draft.before.groups.values())
-        if is_group and scope not in changed and service in found:
+        if is_group and scope not in changed and service in services_:
             draft.refuse(text(container, "Name").strip("/"),
                          f"is of the service {service[1]} too, and does not change")
 
 
 def documents(draft: Draft) -> list[Document]:
     """An override of each project."""
-    found: dict[tuple[str, str], dict[str, Any]] = {}
+    services_: dict[tuple[str, str], dict[str, Any]] = {}
     words: dict[str, list[str]] = {}
     for project, service, group, keys in services(draft):
-        if found.setdefault((project, service), keys) != keys:
+        if services_.setdefault((project, service), keys) != keys:
             draft.refuse(group.path, f"the service {service} is to have two settings")
         words.setdefault(project, []).append(f"# {group.words}\n")
-    check_replicas(draft, found)
+    check_replicas(draft, services_)
     documents_ = []
     for project, lines in words.items():
-        data = {"services": {name: keys for (each, name), keys in found.items()
+        data = {"services": {name: keys for (each, name), keys in services_.items()
                              if each == project}}
         use = f"# docker compose -p {project} -f COMPOSE.yaml -f {project}.override.yaml up -d\n"
         if any("cpus" in keys for keys in data["services"].values()):

@@ -26,7 +26,7 @@ def settings(group: Differing) -> Iterator[str]:
 def documents(draft: Draft) -> list[Document]:
     """A drop-in of each unit that changes. All else is refused by name."""
     seen: dict[str, str] = {}
-    found = []
+    files = []
     for group in draft.groups():
         folder = draft.folder(group)
         if folder is None:
@@ -50,7 +50,7 @@ def documents(draft: Draft) -> list[Document]:
             if unit.endswith(".scope"):
                 draft.told.append(f"{shown(group.path)}: its unit is a scope, which is gone when"
                                   " its last process ends")
-            found.append(Document(f"{unit}.d/{FILE}", f"{head('dropin')}# {group.words}\n"
+            files.append(Document(f"{unit}.d/{FILE}", f"{head('dropin')}# {group.words}\n"
                                   f"[{section}]\n{lines}"))
     draft.told += of_kubelet(draft)
-    return found
+    return files

@@ -30,8 +30,8 @@ def write(to: str, documents: Sequence[Document]) -> list[str]:
     if to == "-" and len(documents) == 1:
         emit(documents[0].text)
         return []
-    found = placed(to, documents)
+    files = placed(to, documents)
     if to.endswith("/"):
         os.close(own_folder(to.rstrip("/") or "/"))
-    put_all(found, MARK, "`apply -o`")
-    return [each.path for each in found]
+    put_all(files, MARK, "`apply -o`")
+    return [each.path for each in files]

@@ -86,7 +86,7 @@ class Pods:
 
     def __init__(self, files: Sequence[load.Opened]) -> None:
         self.files = [(name, loads(data or b"{}", shown(name))) for name, data in files]
-        self.items = [item for name, found in self.files for item in items_of(found, shown(name))]
+        self.items = [item for name, data in self.files for item in items_of(data, shown(name))]
         self.pods = [each for each in self.items if is_pod(each)]
         self.containers = {f"{namespace_of(pod)}/{text(table(pod, 'metadata'), 'name')}/"
                            f"{text(each, 'name')}": (pod, each)
@@ -99,7 +99,7 @@ class Pods:
 
     def written(self) -> list[load.Opened]:
         """The files as they are after the change."""
-        return [(name, json.dumps(found).encode()) for name, found in self.files]
+        return [(name, json.dumps(data).encode()) for name, data in self.files]
 
 
 def amount(many: int | None) -> str | None:
@@ -130,14 +130,14 @@ def limit_of(draft: Draft, group: Differing) -> int | None:
 def changes(draft: Draft, group: Differing,
             raw: dict[str, Any]) -> dict[str, dict[str, str | None]]:
     """The resources of a container that change. A limit alone must not become the request."""
-    found: dict[str, dict[str, str | None]] = {}
+    resources: dict[str, dict[str, str | None]] = {}
     if group.has_weight or group.has_request:
-        found["requests"] = {"cpu": amount(request_of(draft, group))}
+        resources["requests"] = {"cpu": amount(request_of(draft, group))}
     elif group.has_limit and "cpu" not in table(raw, "resources", "requests"):
-        found["requests"] = {"cpu": amount(int(group.before.request or 0))}
+        resources["requests"] = {"cpu": amount(int(group.before.request or 0))}
     if group.has_limit:
-        found["limits"] = {"cpu": amount(limit_of(draft, group))}
-    return found
+        resources["limits"] = {"cpu": amount(limit_of(draft, group))}
+    return resources
 
 
 def patch_raw(container: dict[str, Any], resources: dict[str, dict[str, str | None]]) -> None:
@@ -176,13 +176,13 @@ def paired(draft: Draft) -> Iterator[Differing]:
 
 def check_again(draft: Draft, pods: Pods) -> None:
     """Refuses each group that kubelet and the runtime would set otherwise than is asked."""
-    found = draft.reread(pods.written()).groups
+    groups = draft.reread(pods.written()).groups
     for path, group in draft.after.groups.items():
         if path not in draft.before.groups and path not in draft.moved:
             continue
         wanted, would = apply.settings_of(group), None
-        if path in found:
-            would = apply.settings_of(found[path])
+        if path in groups:
+            would = apply.settings_of(groups[path])
         if wanted != would:
             told = f"set {apply.told(would)}" if would else "put it into another class"
             draft.refuse(path, f"{apply.told(wanted)} is asked for, and Kubernetes would {told}:"
@@ -206,11 +206,11 @@ def key_of(pod: dict[str, Any], name: str) -> str:
     return "initContainers" if name in inits else "containers"
 
 
-def add(draft: Draft, found: dict[Target, dict[str, Any]], target: Target,
+def add(draft: Draft, patches: dict[Target, dict[str, Any]], target: Target,
         entry: tuple[str, str, dict[str, dict[str, str | None]]]) -> None:
     """Adds a container to the patch of its target."""
     key, name, resources = entry
-    rows = found.setdefault(target, {}).setdefault(key, [])
+    rows = patches.setdefault(target, {}).setdefault(key, [])
     known = next((each for each in rows if each["name"] == name), None)
     if known is None:
         rows.append({"name": name, "resources": resources})
@@ -255,7 +255,7 @@ def documents(draft: Draft) -> list[Document]:
         pods = Pods(copy.deepcopy(list(draft.files)))
     except HostFault as fault:
         raise HostFault(f"-o kubectl is for pods: {fault.message}") from fault
-    found: dict[Target, dict[str, Any]] = {}
+    patches: dict[Target, dict[str, Any]] = {}
     words: dict[Target, list[str]] = {}
     for group in paired(draft):
         if group.before.title not in pods.containers:
@@ -273,10 +273,10 @@ def documents(draft: Draft) -> list[Document]:
             continue
         check_class(draft, group, target)
         resources = changes(draft, group, container)
-        add(draft, found, target, (key_of(pod, name), name, resources))
+        add(draft, patches, target, (key_of(pod, name), name, resources))
         words.setdefault(target, []).append(group.words)
-    for target, rows in found.items():
+    for target, rows in patches.items():
         patch_pods(pods, target, rows)
     check_again(draft, pods)
-    tell(draft, pods, list(found))
-    return [document(target, rows, words[target]) for target, rows in found.items()]
+    tell(draft, pods, list(patches))
+    return [document(target, rows, words[target]) for target, rows in patches.items()]

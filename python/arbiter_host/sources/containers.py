@@ -145,11 +145,11 @@ def nano_of(setting: Setting, host: Host) -> int:
     if setting.value in NONE:
         return 0
     try:
-        found = units.parse_cpu(setting.value)
+        thousandths = units.parse_cpu(setting.value)
     except HostFault as fault:
         raise setting.fault(fault.message) from fault
-    nano = found * (NANO // 1000)
-    if nano and not LEAST_CPUS <= found <= 1000 * host.processors or nano.denominator != 1:
+    nano = thousandths * (NANO // 1000)
+    if nano and not LEAST_CPUS <= thousandths <= 1000 * host.processors or nano.denominator != 1:
         raise setting.fault(f"docker takes 0.01 to {host.processors} CPUs in whole billionths, and"
                             " 0 for no limit")
     return int(nano)
@@ -269,7 +269,7 @@ class Source(Owned):
 
 def source_of(files: Sequence[File], library: Library, wish: Wish) -> Source:
     """The containers of some files."""
-    found: list[dict[str, Any]] = []
+    raw: list[dict[str, Any]] = []
     for name, data in files:
         entries = loads(data, name)
         if isinstance(entries, dict):
@@ -278,9 +278,9 @@ def source_of(files: Sequence[File], library: Library, wish: Wish) -> Source:
                 isinstance(each, dict) and isinstance(each.get("HostConfig"), dict)
                 for each in entries):
             raise HostFault(f"{name}: no containers as `docker inspect` prints them")
-        found += entries
-    running = [each for each in found if is_running(each)]
-    left = len(found) - len(running)
+        raw += entries
+    running = [each for each in raw if is_running(each)]
+    left = len(raw) - len(running)
     notes = (f"containers that do not run, left out: {left}",) if left else ()
     return Source(library, wish, wish.machine(), tuple(running), notes)
 

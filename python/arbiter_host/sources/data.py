@@ -34,19 +34,19 @@ def table(value: Any, *keys: str) -> dict[str, Any]:
 
 def tables(value: Any, key: str) -> list[dict[str, Any]]:
     """The tables of a list below a value."""
-    found = value.get(key) if isinstance(value, dict) else None
-    return [each for each in found if isinstance(each, dict)] if isinstance(found, list) else []
+    rows = value.get(key) if isinstance(value, dict) else None
+    return [each for each in rows if isinstance(each, dict)] if isinstance(rows, list) else []
 
 
 def text(value: Any, key: str) -> str:
     """A text below a value; empty where there is none."""
-    found = value.get(key) if isinstance(value, dict) else None
-    return found[:MAX_TEXT] if isinstance(found, str) else ""
+    word = value.get(key) if isinstance(value, dict) else None
+    return word[:MAX_TEXT] if isinstance(word, str) else ""
 
 
 def number(value: Any, key: str) -> int:
     """A whole number below a value, at most 2^63; 0 where there is none."""
-    found = value.get(key) if isinstance(value, dict) else None
-    if isinstance(found, bool) or not isinstance(found, int):
+    value_ = value.get(key) if isinstance(value, dict) else None
+    if isinstance(value_, bool) or not isinstance(value_, int):
         return 0
-    return min(max(found, -2**63), 2**63)
+    return min(max(value_, -2**63), 2**63)

@@ -63,9 +63,9 @@ class Places:
 
 def names_alone(text: str) -> str:
     """A file with its comments and its texts blank, but for those that are names."""
-    def blank(found: re.Match[str]) -> str:
-        word = found.group()
-        if word[0] != "#" and BEHIND_NAME.match(text, found.end()):
+    def blank(match: re.Match[str]) -> str:
+        word = match.group()
+        if word[0] != "#" and BEHIND_NAME.match(text, match.end()):
             return word
         return re.sub(r"[^\n]", " ", word)
 
@@ -87,8 +87,8 @@ def parsed(text: str, name: str, is_toml: bool) -> Any:
             check_dots(text, name)
         return tomllib.loads(text) if is_toml else json.loads(text)
     except tomllib.TOMLDecodeError as error:
-        found = re.search(r"\(at line (\d+)", str(error))
-        line = found.group(1) if found else str(text.count("\n") + 1)
+        match = re.search(r"\(at line (\d+)", str(error))
+        line = match.group(1) if match else str(text.count("\n") + 1)
         raise HostFault(f"{name}:{line}: {re.sub(r' .at .*', '', str(error))}") from error
     except json.JSONDecodeError as error:
         raise HostFault(f"{name}:{error.lineno}: {error.msg}") from error
@@ -309,22 +309,22 @@ def read(files: Sequence[File], _: Library, wish: Wish) -> Model:
 
 def group_data(group: Group) -> dict[str, Any]:
     """The keys of a group that are not the default."""
-    found: dict[str, Any] = {}
+    keys: dict[str, Any] = {}
     if group.weight != units.DEFAULT_WEIGHT:
-        found["weight"] = group.weight
+        keys["weight"] = group.weight
     if group.quota is not None or group.period != units.DEFAULT_PERIOD:
-        found["max"] = f"{'max' if group.quota is None else group.quota} {group.period}"
+        keys["max"] = f"{'max' if group.quota is None else group.quota} {group.period}"
     if group.burst:
-        found["burst"] = f"{group.burst}us"
+        keys["burst"] = f"{group.burst}us"
     if group.demand:
-        found["demand"] = units.cpu_text(group.demand)
+        keys["demand"] = units.cpu_text(group.demand)
     if group.tasks is not None:
-        found["tasks"] = group.tasks
+        keys["tasks"] = group.tasks
     if group.title:
-        found["title"] = group.title
+        keys["title"] = group.title
     if group.place:
-        found["place"] = names.place_text(group.place)
-    return found
+        keys["place"] = names.place_text(group.place)
+    return keys
 
 
 def data(model: Model) -> dict[str, Any]:
@@ -346,10 +346,10 @@ def toml_value(value: Any) -> str:
 
 def write_toml(model: Model) -> str:
     """A host file in TOML, with the notes as comments."""
-    found = data(model)
+    tables = data(model)
     lines = [*(f"# ! {names.shown(note)}" for note in model.notes), "[host]"]
-    lines += [f"{key} = {toml_value(value)}" for key, value in found["host"].items()]
-    for path, entry in found["groups"].items():
+    lines += [f"{key} = {toml_value(value)}" for key, value in tables["host"].items()]
+    for path, entry in tables["groups"].items():
         lines += ["", f"[groups.{toml_value(path)}]"]
         lines += [f"{key} = {toml_value(value)}" for key, value in entry.items()]
     return "".join(f"{line}\n" for line in lines)

@@ -44,16 +44,16 @@ def made_by(maker: dict[str, Any]) -> dict[str, Any]:
                          "ownerReferences": [owner]}}
 
 
-def items_of(found: Any, name: str) -> list[dict[str, Any]]:
+def items_of(data: Any, name: str) -> list[dict[str, Any]]:
     """The objects of a file: a list's items, or the one object. What makes pods stands for one."""
-    if isinstance(found, list):
-        return [each for each in found if isinstance(each, dict)]
-    if isinstance(found, dict) and isinstance(found.get("items"), list):
-        return tables(found, "items")
-    if isinstance(found, dict) and found.get("kind") in ("Pod", "Node"):
-        return [found]
-    if isinstance(found, dict) and found.get("kind") in MAKERS:
-        return [made_by(found)]
+    if isinstance(data, list):
+        return [each for each in data if isinstance(each, dict)]
+    if isinstance(data, dict) and isinstance(data.get("items"), list):
+        return tables(data, "items")
+    if isinstance(data, dict) and data.get("kind") in ("Pod", "Node"):
+        return [data]
+    if isinstance(data, dict) and data.get("kind") in MAKERS:
+        return [made_by(data)]
     raise HostFault(f"{name}: no pods or node as kubectl prints them with -o json")
 
 
@@ -85,8 +85,8 @@ def without_waiting(items: Sequence[dict[str, Any]], notes: list[str]) -> list[d
 
 def several(what: str, nodes: Iterable[str]) -> HostFault:
     """A fault where one node is meant, with the names of some."""
-    found = list(map(shown, sorted(nodes)))
-    return HostFault(f"{what} ({names.few(found)}): choose one by --node, or give their nodes too")
+    names_ = list(map(shown, sorted(nodes)))
+    return HostFault(f"{what} ({names.few(names_)}): choose one by --node, or give their nodes too")
 
 
 def pods_on(items: Sequence[dict[str, Any]], node: str, notes: list[str]) -> list[Pod]:
@@ -285,9 +285,9 @@ class Source(Owned):
     def folders(self) -> dict[Place, tuple[str, ...]]:
         """Where each container may be below the top of a tree, by the drivers of kubelet."""
         drivers = sorted(("systemd", "cgroupfs"), key=lambda each: each != self.wish.driver)
-        found = [self.folders_of(driver) for driver in drivers]
-        return {place: tuple(each[place] for each in found) for place in found[0]
-                if found[0][place] != NOWHERE}
+        by_driver = [self.folders_of(driver) for driver in drivers]
+        return {place: tuple(each[place] for each in by_driver) for place in by_driver[0]
+                if by_driver[0][place] != NOWHERE}
 
     def with_readings(self, known: Mapping[Place, Measured], seconds: Fraction) -> Source:
         """The same with what was measured in a tree of cgroups."""
@@ -321,12 +321,12 @@ class Source(Owned):
     @functools.cached_property
     def by_name(self) -> dict[str, list[str]]:
         """The containers by what measurements call them: a pod, and maybe the container."""
-        found: dict[str, list[str]] = {}
+        paths: dict[str, list[str]] = {}
         for path, (place, number) in self.built[1].items():
             pod, name = self.pods[place], self.pods[place].parts[number].name
             for word in {pod.name, pod.title, f"{pod.name}/{name}", f"{pod.title}/{name}"}:
-                found.setdefault(word, []).append(path)
-        return found
+                paths.setdefault(word, []).append(path)
+        return paths
 
     def named(self, word: str) -> list[str]:
         """The containers that a column names: itself, or those of a pod."""
@@ -337,8 +337,8 @@ class Source(Owned):
 
     def meant(self, path: str) -> list[str]:
         """The container, or those of a pod."""
-        found = self.built[1]
-        return [path] if path in found else [each for each in found
+        places = self.built[1]
+        return [path] if path in places else [each for each in places
                                              if names.parent_path(each) == path]
 
     def pods_where(self, namespaces: Sequence[str], labels: Mapping[str, str]) -> list[str]:
@@ -400,14 +400,14 @@ class Source(Owned):
 
     def told(self, pods: Sequence[Pod]) -> list[str]:
         """What other pods than those that were read are to be told."""
-        found = [f"{now.title}: {now.quality} and no more {was.quality}: its class is that of a pod"
+        notes = [f"{now.title}: {now.quality} and no more {was.quality}: its class is that of a pod"
                  " that is made anew" for was, now in zip(self.pods, pods)
                  if was.quality != now.quality]
         asked = requested_by(pods)
         if self.allocatable is not None and asked > max(self.allocatable, requested_by(self.pods)):
-            found.append(f"the pods request {asked}m of the {self.allocatable}m that the node has"
+            notes.append(f"the pods request {asked}m of the {self.allocatable}m that the node has"
                          " for them: the scheduler puts no such pods there")
-        return found
+        return notes
 
     def ranges(self, path: str) -> list[Range]:
         """The requests and limits that can be asked for of a container."""

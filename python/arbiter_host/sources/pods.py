@@ -133,12 +133,12 @@ class Pod:
 def quantity(value: Any) -> Fraction:
     """Thousandths of a CPU of a quantity; a fault where Kubernetes takes none of this form."""
     word = json.dumps(value) if isinstance(value, (int, float, bool)) else str(value)[:60]
-    found = QUANTITY.fullmatch(word)
-    if not found:
+    match = QUANTITY.fullmatch(word)
+    if not match:
         raise HostFault(f"{shown(word)!r} is no quantity of CPU")
-    amount = Fraction(found.group(1)) * SUFFIXES[found.group(2) or ""] * 1000
-    if found.group(3):
-        amount *= Fraction(10) ** int(found.group(3))
+    amount = Fraction(match.group(1)) * SUFFIXES[match.group(2) or ""] * 1000
+    if match.group(3):
+        amount *= Fraction(10) ** int(match.group(3))
     if amount > units.MAX_CPUS * 1000:
         raise HostFault(f"{word!r} is above {units.MAX_CPUS} CPUs")
     return amount
@@ -179,7 +179,7 @@ def has_ended(state: dict[str, Any], pod: dict[str, Any], is_sidecar: bool) -> b
 
 def containers_of(pod: dict[str, Any], where: str, notes: list[str]) -> tuple[Container, ...]:
     """All containers of a pod: init containers first, in order."""
-    found = []
+    containers = []
     for key, statuses in (("initContainers", "initContainerStatuses"),
                           ("containers", "containerStatuses")):
         status = {text(each, "name"): each for each in tables(table(pod, "status"), statuses)}
@@ -189,9 +189,9 @@ def containers_of(pod: dict[str, Any], where: str, notes: list[str]) -> tuple[Co
             is_init, state = key == "initContainers", table(known, "state")
             is_sidecar = is_init and text(each, "restartPolicy") == "Always"
             amounts = amounts_of(table(each, "resources"), f"{where}/{name}", notes)
-            found.append(Container(name, amounts, identifier_of(known), is_init, is_sidecar,
+            containers.append(Container(name, amounts, identifier_of(known), is_init, is_sidecar,
                                    "running" in state, has_ended(state, pod, is_sidecar)))
-    return tuple(found)
+    return tuple(containers)
 
 
 def requested(containers: Sequence[Container], key: str) -> int:
@@ -271,11 +271,11 @@ def pairs_of(labels: dict[str, Any]) -> tuple[tuple[str, str], ...]:
     return tuple(sorted((key, text(labels, key)) for key in labels))
 
 
-def toleration_of(found: dict[str, Any]) -> Toleration:
+def toleration_of(raw: dict[str, Any]) -> Toleration:
     """A toleration. Without an operator the value has to be equal."""
-    is_any = text(found, "operator") == "Exists"
-    return Toleration(text(found, "key"), None if is_any else text(found, "value"),
-                      text(found, "effect"))
+    is_any = text(raw, "operator") == "Exists"
+    return Toleration(text(raw, "key"), None if is_any else text(raw, "value"),
+                      text(raw, "effect"))
 
 
 def folder_of(pod: Pod, driver: str) -> str:

@@ -47,9 +47,9 @@ def head_host(lines: list[bytes]) -> Host | None:
         text = line.decode(errors="replace").strip()
         if text and not text.startswith("#"):
             return None
-        found = HEAD.match(text)
-        if found:
-            given = {name: int(value) for name, value in OPTION.findall(found.group(1))}
+        match = HEAD.match(text)
+        if match:
+            given = {name: int(value) for name, value in OPTION.findall(match.group(1))}
             host = Host()
             return Host(given.get("processors", host.processors),
                         given.get("period", host.period_us), given.get("slice", host.slice_us))
@@ -86,11 +86,11 @@ class Noted:
 
     def take_tasks(self, group: Group, before: bytes) -> None:
         """Takes what the comment above a demand says of tasks, unless it is of another demand."""
-        found = TASKS.fullmatch(before.decode(errors="replace"))
-        if not found:
+        match = TASKS.fullmatch(before.decode(errors="replace"))
+        if not match:
             return
-        asks = units.parse_cpu(found.group(2)) if found.group(2) else group.demand
-        told = replace(group, tasks=int(found.group(1)), demand=asks)
+        asks = units.parse_cpu(match.group(2)) if match.group(2) else group.demand
+        told = replace(group, tasks=int(match.group(1)), demand=asks)
         if self.slices.demand(told.usable) == self.slices.demand(group.usable):
             group.tasks, group.demand = told.tasks, told.demand
 
@@ -106,16 +106,16 @@ def take_comments(model: Model, lines: list[bytes], refused: set[int], slices: S
         taken.place, taken.tasks, taken.demand = group.place, group.tasks, group.demand
 
 
-def add_groups(model: Model, found: Script, slices: Slices) -> None:
+def add_groups(model: Model, script: Script, slices: Slices) -> None:
     """Adds the groups of a script, and takes what the library has converted for them."""
-    host, tree, demands = model.host, found.columns, {}
+    host, tree, demands = model.host, script.columns, {}
     for demand in set(tree.demands):
         demands[demand] = units.thousandths_of_slices(demand, host.period_us, host.slice_us)
         slices.demands[demands[demand].as_integer_ratio()] = demand
     paths: list[str] = []
     for (parent, name, weight, limit, demand, quota, period, burst, carry) in zip(
-            tree.parents, found.names, tree.weights, tree.limits, tree.demands, found.quotas,
-            found.periods, found.bursts, found.carries):
+            tree.parents, script.names, tree.weights, tree.limits, tree.demands, script.quotas,
+            script.periods, script.bursts, script.carries):
         paths.append(f"{paths[parent]}/{name}" if paths and parent else name)
         if quota != NO_LIMIT and burst == 0:
             slices.limits[quota, period] = limit
@@ -130,11 +130,12 @@ def asked_of(library: Library, host: Host, data: bytes) -> Script:
     On more than 64 CPUs it is asked for 64: that decides only what a `period` leaves over.
     """
     with asking("the script"):
-        found = library.script(replace(host, processors=min(host.processors, MAX_PROCESSORS)), data)
-    if host.processors > MAX_PROCESSORS and any(map(min, found.bursts, found.carries)):
+        of_host = replace(host, processors=min(host.processors, MAX_PROCESSORS))
+        script = library.script(of_host, data)
+    if host.processors > MAX_PROCESSORS and any(map(min, script.bursts, script.carries)):
         raise HostFault(f"{host.processors} CPUs: a script with bursts and `period` lines is read"
                         f" for at most {MAX_PROCESSORS}")
-    return found
+    return script
 
 
 def script_lines(data: bytes) -> list[bytes]:
@@ -165,15 +166,15 @@ def model_of(data: bytes, name: str, library: Library, host: Host | None = None)
     if lines and all(line.endswith(b"\r") for line in lines):
         model.notes.append("its lines end with carriage returns, which are parts of words here:"
                            " write newlines alone")
-    found = asked_of(library, model.host, data)
-    if len(found.refused) > MAX_REFUSED:
-        raise HostFault(f"{name}:{found.refused[MAX_REFUSED][0]}: more than {MAX_REFUSED} refused"
+    script = asked_of(library, model.host, data)
+    if len(script.refused) > MAX_REFUSED:
+        raise HostFault(f"{name}:{script.refused[MAX_REFUSED][0]}: more than {MAX_REFUSED} refused"
                         " lines: this is no script")
     model.slices = Slices(library, model.host)
-    add_groups(model, found, model.slices)
+    add_groups(model, script, model.slices)
     if b"# tasks" in data or b"# at " in data:
-        take_comments(model, lines, {number for number, _ in found.refused}, model.slices)
-    for number, fault in found.refused:
+        take_comments(model, lines, {number for number, _ in script.refused}, model.slices)
+    for number, fault in script.refused:
         text = names.shown(names.cut(lines[number - 1][:400].decode(errors="replace"), 120))
         within = f" ({RANGES[fault]})" if fault in RANGES else ""
         words = f"error {fault} {library.name(fault)}{within}"
@@ -197,12 +198,12 @@ def settings(group: Group) -> list[str]:
 
 def comments(group: Group) -> list[str]:
     """Lines that say what a script has no command for."""
-    found = []
+    lines = []
     if group.title:
-        found.append(f"# {names.shown(group.path)} is {names.shown(group.title)}")
+        lines.append(f"# {names.shown(group.path)} is {names.shown(group.title)}")
     if not group.place.startswith("/") and group.place not in ("", names.raw_path(group.path)):
-        found.append(f"# at {names.place_text(group.place)}")
-    return found
+        lines.append(f"# at {names.place_text(group.place)}")
+    return lines
 
 
 def demanded(group: Group, slices: int) -> list[str]:

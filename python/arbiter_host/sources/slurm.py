@@ -82,16 +82,16 @@ class Job:
 
 def count(value: Any, key: str) -> int:
     """A number, which newer versions hold in a table: `{"set": true, "number": 8}`."""
-    found = table(value, key)
-    return number(found, "number") if found else number(value, key)
+    wrapped = table(value, key)
+    return number(wrapped, "number") if wrapped else number(value, key)
 
 
 def words_of(value: Any, key: str) -> list[str]:
     """Words: a list in newer versions, one text in older ones."""
-    found = value.get(key) if isinstance(value, dict) else None
-    if isinstance(found, list):
-        return [each for each in found if isinstance(each, str)]
-    return [found] if isinstance(found, str) else []
+    words = value.get(key) if isinstance(value, dict) else None
+    if isinstance(words, list):
+        return [each for each in words if isinstance(each, str)]
+    return [words] if isinstance(words, str) else []
 
 
 def split_outside(hosts: str) -> list[str]:
@@ -101,37 +101,37 @@ def split_outside(hosts: str) -> list[str]:
 
 def ranged(part: str) -> Iterator[str]:
     """The hosts of one part, such as `n[01-04,7]`, which has at most one pair of brackets."""
-    found = re.fullmatch(r"([^\[\]]*)\[([^\[\]]*)\]([^\[\]]*)", part)
-    if not found and "[" not in part and "]" not in part:
+    match = re.fullmatch(r"([^\[\]]*)\[([^\[\]]*)\]([^\[\]]*)", part)
+    if not match and "[" not in part and "]" not in part:
         yield part
         return
-    for each in found.group(2).split(",") if found else [""]:
+    for each in match.group(2).split(",") if match else [""]:
         pair = RANGE.fullmatch(each)
-        if not (found and pair):
+        if not (match and pair):
             raise HostFault(f"{shown(part[:60])!r} is no list of nodes")
         first, last = int(pair.group(1)), int(pair.group(2) or pair.group(1))
         for at in range(first, last + 1):
-            yield f"{found.group(1)}{at:0{len(pair.group(1))}}{found.group(3)}"
+            yield f"{match.group(1)}{at:0{len(pair.group(1))}}{match.group(3)}"
 
 
 @functools.lru_cache(maxsize=1024)
 def hosts_of(text_: str) -> list[str]:
     """The nodes of Slurm's list of hosts."""
     named = itertools.chain.from_iterable(map(ranged, split_outside(text_)))
-    found = list(itertools.islice(named, MOST_NODES + 1))
-    if len(found) > MOST_NODES:
+    hosts = list(itertools.islice(named, MOST_NODES + 1))
+    if len(hosts) > MOST_NODES:
         raise HostFault(f"a job of more than {MOST_NODES} nodes")
-    return found
+    return hosts
 
 
 def time_of(word: str) -> int:
     """Microseconds of `[DAYS-[HOURS:]]MINUTES:SECONDS[.PART]`."""
-    found = TIME.fullmatch(word)
-    if not found:
+    match = TIME.fullmatch(word)
+    if not match:
         raise HostFault(f"{shown(word[:40])!r} is no time of Slurm")
-    days, hours, minutes, seconds = (int(each or 0) for each in found.groups()[:4])
+    days, hours, minutes, seconds = (int(each or 0) for each in match.groups()[:4])
     whole = ((days * 24 + hours) * 60 + minutes) * 60 + seconds
-    return int((whole + Fraction(found.group(5) or 0)) * 10**6)
+    return int((whole + Fraction(match.group(5) or 0)) * 10**6)
 
 
 def cores_of(node: dict[str, Any]) -> int:
@@ -143,7 +143,7 @@ def cores_of(node: dict[str, Any]) -> int:
 
 def allotted(raw: dict[str, Any]) -> list[tuple[str, int, bool]]:
     """The nodes of a job with its CPUs there, and whether cores are told."""
-    found = []
+    cpus_of = []
     older = tables(table(raw, "job_resources"), "allocated_nodes")
     counts, cpus = [cores_of(each) for each in older], count(raw, "cpus")
     if sum(counts):
@@ -153,8 +153,8 @@ def allotted(raw: dict[str, Any]) -> list[tuple[str, int, bool]]:
     for each in tables(table(raw, "job_resources", "nodes"), "allocation"):
         sockets = tables(each, "sockets")
         cores = any(tables(socket, "cores") for socket in sockets)
-        found.append((text(each, "name"), number(table(each, "cpus"), "count"), cores))
-    return found
+        cpus_of.append((text(each, "name"), number(table(each, "cpus"), "count"), cores))
+    return cpus_of
 
 
 def alias_of(raw: dict[str, Any]) -> str:
@@ -181,10 +181,10 @@ def job_of(raw: dict[str, Any], node: str) -> Job:
     return job
 
 
-def take_jobs(found: Any, node: str, jobs: dict[str, Job]) -> int:
+def take_jobs(data: Any, node: str, jobs: dict[str, Job]) -> int:
     """Takes the jobs of one file that run. Returns how many do not."""
     left = 0
-    for raw in tables(found, "jobs"):
+    for raw in tables(data, "jobs"):
         if not set(words_of(raw, "job_state")) & set(RUNNING):
             left += 1
             continue
@@ -228,17 +228,17 @@ def step_of(row: dict[str, str], nodes: Sequence[str]) -> Step:
 def take_row(row: dict[str, str], jobs: dict[str, Job], aliases: Mapping[str, str]) -> bool:
     """Takes a row of sacct. Returns whether it is of something that runs."""
     word = row.get("JobIDRaw") or row.get("JobID") or ""
-    found = IDENTIFIER.fullmatch(word)
-    if not found:
+    match = IDENTIFIER.fullmatch(word)
+    if not match:
         raise HostFault(f"{shown(word[:40])!r} is no JobID")
     if not row.get("State", "RUNNING").split(" ")[0] in RUNNING:
         return False
-    name = aliases.get(found.group(1), found.group(1))
+    name = aliases.get(match.group(1), match.group(1))
     job = jobs.setdefault(name, Job(name, is_raw=name.isdigit()))
     nodes = hosts_of(row.get("NodeList", "").replace("None assigned", "")) or job.nodes
     step = step_of(row, nodes)
-    if found.group(2):
-        job.steps[found.group(2)] = step
+    if match.group(2):
+        job.steps[match.group(2)] = step
         return True
     job.user, job.name = row.get("User") or job.user, row.get("JobName") or job.name
     job.nodes = job.nodes or nodes
@@ -260,9 +260,9 @@ def take_rows(data: bytes, name: str, jobs: dict[str, Job]) -> int:
 def take_used(data: bytes, name: str, jobs: Mapping[str, Job]) -> None:
     """Takes what sstat says that steps which run have used."""
     for at, row in rows_of(data, name):
-        found = IDENTIFIER.fullmatch(row.get("JobID", ""))
-        job = jobs.get(found.group(1)) if found else None
-        step = job.steps.get(found.group(2) or "") if found and job else None
+        match = IDENTIFIER.fullmatch(row.get("JobID", ""))
+        job = jobs.get(match.group(1)) if match else None
+        step = job.steps.get(match.group(2) or "") if match and job else None
         cell = CPU_USED.fullmatch(row[USED])
         try:
             if step is not None and cell:
@@ -323,14 +323,14 @@ def take_allotted(jobs: Sequence[Job], model: Model) -> None:
 
     Slurm accounts for a step when it ends. So the whole job has the use of steps that have ended.
     """
-    found = [job for job in jobs
+    unaccounted = [job for job in jobs
              if all(step.used is None for step in job.steps.values() or [job.whole])]
-    for job in found:
+    for job in unaccounted:
         job.steps.clear()
         job.whole.used, job.whole.passed = job.whole.cpus * 10**6, 10**6
-    if found:
-        model.notes.append(f"jobs whose use is not accounted yet: {len(found)}: the CPUs that they"
-                           " were allotted are taken (`sstat -a --parsable2` has their use)")
+    if unaccounted:
+        model.notes.append(f"jobs whose use is not accounted yet: {len(unaccounted)}: the CPUs that"
+                           " they were allotted are taken (`sstat -a --parsable2` has their use)")
 
 
 def tell(model: Model, jobs: Sequence[Job], left: int) -> None:

@@ -57,16 +57,16 @@ def unit_of(folder: str) -> str:
 
 def blocks(data: bytes) -> Iterator[dict[str, str]]:
     """The properties of each unit. Units are separated by an empty line."""
-    found: dict[str, str] = {}
+    unit: dict[str, str] = {}
     for line in data.decode(errors="replace").split("\n"):
         key, equals, value = line.rstrip("\r").partition("=")
         if equals and re.fullmatch(r"[A-Za-z]{1,60}", key):
-            found[key] = value
-        elif not line.strip() and found:
-            yield found
-            found = {}
-    if found:
-        yield found
+            unit[key] = value
+        elif not line.strip() and unit:
+            yield unit
+            unit = {}
+    if unit:
+        yield unit
 
 
 def whole(value: str) -> int | None:
@@ -150,9 +150,9 @@ def add(model: Model, unit: dict[str, str], path: str) -> None:
         model.notes.append(f"{path}: {shown(fault.message)}: no limit is taken")
 
 
-def ordered(found: dict[str, dict[str, str]]) -> list[str]:
+def ordered(units_: dict[str, dict[str, str]]) -> list[str]:
     """The paths, each after those above it, siblings by name."""
-    return sorted(found, key=lambda path: path.split("/"))
+    return sorted(units_, key=lambda path: path.split("/"))
 
 
 def weight_word(setting: Setting) -> str:
@@ -170,8 +170,8 @@ def quota_word(setting: Setting) -> str:
     """The property of a `CPUQuota=`: microseconds of each second."""
     if setting.value in NONE:
         return "infinity"
-    found = QUOTA.fullmatch(setting.value)
-    hundredths = found and int(found.group(1)) * 100 + int((found.group(2) or "").ljust(2, "0"))
+    match = QUOTA.fullmatch(setting.value)
+    hundredths = match and int(match.group(1)) * 100 + int((match.group(2) or "").ljust(2, "0"))
     if not hundredths or hundredths > MOST_QUOTA:
         raise setting.fault("not a percentage of one CPU as systemd takes it, such as 150%")
     return f"{hundredths * SECOND // 10000}us"
@@ -227,7 +227,7 @@ class Source(Units):
     host: Host
     seconds: Fraction
     # The properties of each unit by its path, and those of each reading.
-    found: dict[str, dict[str, str]]
+    properties: dict[str, dict[str, str]]
     readings: tuple[dict[str, dict[str, str]], ...]
     has_left_out: bool = False
 
@@ -235,15 +235,15 @@ class Source(Units):
     def built(self) -> Model:
         """The model."""
         model, measured = Model(checked(self.host)), {}
-        for path in ordered(self.found):
-            add(model, self.found[path], path)
+        for path in ordered(self.properties):
+            add(model, self.properties[path], path)
             counters = [reading_of(each.get(path, {})) for each in self.readings]
             measured[path] = Measured(counters,
-                                      tasks=whole(self.found[path].get("TasksCurrent", "")))
+                                      tasks=whole(self.properties[path].get("TasksCurrent", "")))
         if self.has_left_out:
             model.notes.append("units without a group are left out")
         model.notes += told_bound([path for path in model.groups
-                                   if self.found.get(path, {}).get("AllowedCPUs")])
+                                   if self.properties.get(path, {}).get("AllowedCPUs")])
         demands.set_demands(model, measured, self.want, self.seconds)
         return model
 
@@ -253,7 +253,7 @@ class Source(Units):
 
     def has(self, path: str) -> bool:
         """Whether a group is a unit that was printed."""
-        return path in self.found
+        return path in self.properties
 
     def on_host(self, host: Host) -> Source:
         """The same on another host."""
@@ -261,14 +261,14 @@ class Source(Units):
 
     def changed(self, settings: Sequence[Setting]) -> Source:
         """The same with other weights and quotas."""
-        found = dict(self.found)
+        units_ = dict(self.properties)
         for setting in settings:
-            found[setting.path] = changed_unit(found[setting.path], setting)
-        return replace(self, found=found)
+            units_[setting.path] = changed_unit(units_[setting.path], setting)
+        return replace(self, units_=units_)
 
     def ranges(self, path: str) -> list[Range]:
         """The weights and the quotas that can be asked for of a unit."""
-        word = self.found[path].get("CPUWeight", "")
+        word = self.properties[path].get("CPUWeight", "")
         weight = "-" if word in NOT_SET else shown(word[:20])
         return ranges_of(weight, self.built.groups[path], self.host)
 
@@ -291,12 +291,12 @@ def percent(hundredths: Fraction) -> str:
 def source_of(files: Sequence[File], host: Host, want: str, seconds: Fraction) -> Source:
     """The units of one file, or of several that were printed some seconds apart."""
     readings = [{path_of(unit): unit for unit in blocks(data)} for _, data in files]
-    found = {path: unit for path, unit in readings[0].items()
+    units_ = {path: unit for path, unit in readings[0].items()
              if path not in ("", ".") and path.count("/") < MAX_DEPTH}
     if not any("Id" in unit for unit in readings[0].values()):
         raise HostFault(f"{files[0][0]}: no units as `systemctl show '*.slice' '*.service'"
                         " '*.scope'` prints them")
-    return Source(host, seconds, found, tuple(readings),
+    return Source(host, seconds, units_, tuple(readings),
                   any(path_of(unit) == "" for unit in readings[0].values()), want=want)
 
 

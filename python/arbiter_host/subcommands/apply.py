@@ -40,9 +40,9 @@ def printing(root: safe_files.Root) -> Iterator[list[apply.Step]]:
     print_steps(root, done)
 
 
-def warn(found: Iterable[str]) -> None:
+def warn(notes: Iterable[str]) -> None:
     """Tells what is left alone."""
-    for words in found:
+    for words in notes:
         output.warn(words)
 
 
@@ -59,11 +59,11 @@ def check_words(options: argparse.Namespace, outputs: Sequence[Output],
 
 def write_form(to: Output, draft: exports.Draft) -> None:
     """Writes the change as files for review."""
-    found = exports.documents(to.form, draft)
+    documents = exports.documents(to.form, draft)
     warn(draft.told)
-    if not found:
+    if not documents:
         output.say("no change: nothing is written")
-    for path in files.write(to.path, found) if found else ():
+    for path in files.write(to.path, documents) if documents else ():
         output.say(f"wrote {path}")
     warn(apply.only_in_one(draft.before, draft.after, draft.moved))
 
@@ -77,13 +77,13 @@ def run_apply(options: argparse.Namespace) -> None:
     if len(sources) > 2 or (len(sources) == 1) != bool(options.set):
         raise UsageFault("apply takes BEFORE and AFTER, or BEFORE and --set")
     by = engine_of(options.library)
-    models = [load.model_of(options, found, by) for found in sources]
+    models = [load.model_of(options, opened, by) for opened in sources]
     after = change.told(models[-1], change.changed(models[-1], options.set))
     root, way = safe_files.Root(options.root), apply.By(options.by)
     for each in forms:
         write_form(each, exports.Draft(models[0], after, sources[0], root, way, by.library,
                                        load.wish_of(options).runtime,
-                                       lambda found: load.model_of(options, found, by)))
+                                       lambda opened: load.model_of(options, opened, by)))
     if len(forms) < len(outputs):
         set_host(options, apply.changes(models[0], after, root), root, way)
 
@@ -102,18 +102,18 @@ def check_no_loop(root: safe_files.Root, folders: Iterable[str]) -> None:
 def set_host(options: argparse.Namespace, asked: tuple[list[apply.Change], list[str]],
              root: safe_files.Root, way: apply.By) -> None:
     """Prints the steps of some changes; with --yes makes them."""
-    found, left = asked
-    check_no_loop(root, [each.folder for each in found] if options.yes else [])
-    steps = apply.planned_steps(found, way)
+    changes, left = asked
+    check_no_loop(root, [each.folder for each in changes] if options.yes else [])
+    steps = apply.planned_steps(changes, way)
     warn([*left, *(apply.passing(steps) if way is apply.By.PERSISTENT else [])])
-    if not options.yes or not found:
+    if not options.yes or not changes:
         print_steps(root, steps)
         return
     undo = options.undo or f"arbiter-undo-{time.strftime('%Y%m%d-%H%M%S')}.json"
     back = f"to undo: arbiterctl undo {shlex.quote(undo)} --yes"
     with printing(root) as done:
         try:
-            apply.make(root, found, way, undo, done)
+            apply.make(root, changes, way, undo, done)
         except KeyboardInterrupt:
             output.say(f"interrupted after {len(done)} of {len(steps)} steps; {back}")
             raise

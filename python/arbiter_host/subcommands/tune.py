@@ -33,12 +33,12 @@ def run(options: argparse.Namespace) -> None:
     model = load.load(options, options.source, by)
     load.warn(model, source_name(options.source))
     before = plan(by, change.told(model, change.changed(model, options.set)))
-    found = tune.tune(before, options.goal, options.guaranteed, options.group)
-    if found.best is not None:
-        change.told(before.model, found.best.plan.model)
-    write_forms(outputs, {"text": lambda: lines_of(found, options.unit),
-                          "json": lambda: json_text(tune.as_data(found))})
-    if found.is_nothing:
+    answer = tune.tune(before, options.goal, options.guaranteed, options.group)
+    if answer.best is not None:
+        change.told(before.model, answer.best.plan.model)
+    write_forms(outputs, {"text": lambda: lines_of(answer, options.unit),
+                          "json": lambda: json_text(tune.as_data(answer))})
+    if answer.is_nothing:
         raise NothingFound("no settings were found that meet the goals")
 
 
@@ -47,25 +47,25 @@ def name(path: str) -> str:
     return short(shown(path))
 
 
-def lines_of(found: Tuned, unit: str) -> Lines:
+def lines_of(answer: Tuned, unit: str) -> Lines:
     """The lines of the answer."""
-    where = f"{MEASURES[found.asked.is_guaranteed]}, in {text.UNIT_WORDS[unit]}"
-    lines: Lines = [(text.host_words(found.before), ""), *rounded(found, unit)]
-    if found.best is not None:
-        lines += way_lines(found, found.best, where, unit)
+    where = f"{MEASURES[answer.asked.is_guaranteed]}, in {text.UNIT_WORDS[unit]}"
+    lines: Lines = [(text.host_words(answer.before), ""), *rounded(answer, unit)]
+    if answer.best is not None:
+        lines += way_lines(answer, answer.best, where, unit)
     else:
-        assert isinstance(found.weights, Unmet)
-        lines += clash_lines(found, found.weights, where, unit)
-    if isinstance(found.owned, str):
-        lines.append((found.owned, "yellow" if found.best else ""))
-    return lines + alone_lines(found, unit)
+        assert isinstance(answer.weights, Unmet)
+        lines += clash_lines(answer, answer.weights, where, unit)
+    if isinstance(answer.owned, str):
+        lines.append((answer.owned, "yellow" if answer.best else ""))
+    return lines + alone_lines(answer, unit)
 
 
-def rounded(found: Tuned, unit: str) -> Lines:
+def rounded(answer: Tuned, unit: str) -> Lines:
     """The goals whose amounts are no whole number of slices."""
     words = {f"{units.decimal(goal.asked)}m is no whole number of slices:"
-             f" {text.amount(found.before, goal.amount, unit)} is asked for": ""
-             for goal in found.asked.goals if found.before.thousandths(goal.amount) != goal.asked}
+             f" {text.amount(answer.before, goal.amount, unit)} is asked for": ""
+             for goal in answer.asked.goals if answer.before.thousandths(goal.amount) != goal.asked}
     return list(words.items())
 
 
@@ -77,71 +77,71 @@ def paid(before: Plan, losses: Sequence[tuple[str, int]], unit: str) -> str:
     return ", ".join(words + ([f"{rest} more"] if rest > 0 else [])) or "nobody"
 
 
-def way_lines(found: Tuned, way: Way, where: str, unit: str) -> Lines:
+def way_lines(answer: Tuned, way: Way, where: str, unit: str) -> Lines:
     """The lines of settings that meet all goals."""
     lines = [(f"all goals are met at once {where}; the proved check accepted the plan", ""),
-             ("", ""), *goal_lines(found, range(len(found.asked.goals)), way.amounts, unit),
+             ("", ""), *goal_lines(answer, range(len(answer.asked.goals)), way.amounts, unit),
              ("", "")]
     if way.changes:
         rows = [("setting", "now", "then", "group"),
                 *((each.key, each.now, each.then, name(each.path)) for each in way.changes)]
-        losses = paid(found.before, tune.losers(found, way), unit)
+        losses = paid(answer.before, tune.losers(answer, way), unit)
         lines += [*zip(text.table(rows, (0, 3)), ("bold", *("" for _ in way.changes))), ("", ""),
                   (f"who else pays: {losses}", "")]
     return lines + [(way.told, "")]
 
 
-def clash_lines(found: Tuned, clash: Unmet, where: str, unit: str) -> Lines:
+def clash_lines(answer: Tuned, clash: Unmet, where: str, unit: str) -> Lines:
     """The lines of goals that cannot be met together."""
-    goals = [found.asked.goals[place] for place in clash.together]
-    asked = text.amount(found.before, sum(goal.amount for goal in goals), unit)
-    served = text.amount(found.before, found.before.root.gets, unit)
+    goals = [answer.asked.goals[place] for place in clash.together]
+    asked = text.amount(answer.before, sum(goal.amount for goal in goals), unit)
+    served = text.amount(answer.before, answer.before.root.gets, unit)
     which = ("weights of their groups cannot meet these goals together" if len(goals) > 1 else
              "the weight of its group cannot meet this goal")
     lines = [(f"{which} {where}", "yellow"), ("", ""),
-             *goal_lines(found, clash.together, None, unit), ("", ""),
+             *goal_lines(answer, clash.together, None, unit), ("", ""),
              (f"asked for in all: {asked}; served in all: {served}", "")]
-    if found.is_climbed:
+    if answer.is_climbed:
         lines.append(("nor were weights of the groups above them found that do", ""))
     lines.append(("nor were limits of other groups found with which they are met", ""))
     lines += [(f"{name(goal.group.path)} asks for less: no setting gives it more than it asks for",
                "yellow") for goal in goals if goal.group.want < goal.amount]
     return lines + [(f"the settings of {name(path)} stay as they are (-g)", "")
-                    for path in found.kept]
+                    for path in answer.kept]
 
 
-def goal_lines(found: Tuned, places: Sequence[int], then: Sequence[int] | None,
+def goal_lines(answer: Tuned, places: Sequence[int], then: Sequence[int] | None,
                unit: str) -> Lines:
     """A line for each goal of some places: what its group gets now, and then where it is known."""
     rows, styles = [("goal", "now", *(["then"] if then else []), "wants", "group")], ["bold"]
     for place in places:
-        goal, now = found.asked.goals[place], found.amounts[place]
+        goal, now = answer.asked.goals[place], answer.amounts[place]
         cells = (goal.amount, now, *([then[place]] if then else []), goal.group.want)
-        rows.append((*(text.amount(found.before, each, unit) for each in cells),
+        rows.append((*(text.amount(answer.before, each, unit) for each in cells),
                      name(goal.group.path)))
         styles.append("" if then or now >= goal.amount else "red")
     return list(zip(text.table(rows, (len(rows[0]) - 1,)), styles))
 
 
-def alone_lines(found: Tuned, unit: str) -> Lines:
+def alone_lines(answer: Tuned, unit: str) -> Lines:
     """The lines of each setting of the group of one goal alone."""
-    if not found.alone:
+    if not answer.alone:
         return []
     rows = [("alone", "now", "least", "who pays"),
-            *(knob_row(found, knob, unit) for knob in found.alone)]
-    styles = ["bold", *("" if knob.plan else "yellow" for knob in found.alone)]
+            *(knob_row(answer, knob, unit) for knob in answer.alone)]
+    styles = ["bold", *("" if knob.plan else "yellow" for knob in answer.alone)]
     return [("", ""), *zip(text.table(rows, (0, 3)), styles)]
 
 
-def knob_row(found: Tuned, knob: Knob, unit: str) -> tuple[str, str, str, str]:
+def knob_row(answer: Tuned, knob: Knob, unit: str) -> tuple[str, str, str, str]:
     """The row of a setting: a limit in the unit, others as they are."""
     def value(number: int | str | None) -> str:
         is_amount = knob.name == "limit" and isinstance(number, int)
-        return text.amount(found.before, int(number or 0), unit) if is_amount else str(
+        return text.amount(answer.before, int(number or 0), unit) if is_amount else str(
             "-" if number is None else number)
 
-    words = (paid(found.before, knobs.losses(found.asked, knob), unit) if knob.plan
-             else unreached(knob.name, found.before.model.host.processors))
+    words = (paid(answer.before, knobs.losses(answer.asked, knob), unit) if knob.plan
+             else unreached(knob.name, answer.before.model.host.processors))
     told = f" ({shown(knob.told)})" if knob.told else ""
     label = LABELS.get(knob.name, knob.name) if knob.is_owned else knob.name
     return label, value(knob.now), value(knob.least), f"{words}{told}"
