@@ -148,7 +148,7 @@ def test_use_of_containers(name):
     """One with a quota of a fifth of a CPU used about that. One that does not run is left out."""
     found = {each.container: each for each in usage.read(*reversed(files(name)[0]))}
     assert sorted(found) == ["job", "pinned", "web"]
-    assert 180 < found["job"].amount < 200
+    assert 180 < found["job"].amounts[0] < 200
     assert found["job"].identifier == json.loads(
         (REAL / "podman-inspect.json").read_text())[1]["Id"][:12]
 

@@ -264,7 +264,7 @@ class Source(Units):
         units_ = dict(self.properties)
         for setting in settings:
             units_[setting.path] = changed_unit(units_[setting.path], setting)
-        return replace(self, units_=units_)
+        return replace(self, properties=units_)
 
     def ranges(self, path: str) -> list[Range]:
         """The weights and the quotas that can be asked for of a unit."""
