@@ -239,16 +239,16 @@ module _ (M C R : Type 0) where
       → is_some (if b
       then Some (record s {
         phases =
-            slice_set (slice_set s.phases i (one_less_in k c)) j (PLooked t);
+            slice_set (slice_set s.phases i (one_less_in k c)) j (PWaiting t);
       }) else None) ≡ true
       → slice_get (or_same s
       (if b then Some (record s {
         phases =
-            slice_set (slice_set s.phases i (one_less_in k c)) j (PLooked t);
+            slice_set (slice_set s.phases i (one_less_in k c)) j (PWaiting t);
       }) else None)).phases i
       ≡ Some (one_less_in k c)
   some_one s i k c j t true ne at e =
-      get_other (slice_set s.phases i (one_less_in k c)) j i (PLooked t) (λ h. ne (sym h))
+      get_other (slice_set s.phases i (one_less_in k c)) j i (PWaiting t) (λ h. ne (sym h))
       ∙ get_same s.phases i (PWakes k c) (one_less_in k c) at
   some_one s i k c j t false ne at e = absurd (cc e)
 

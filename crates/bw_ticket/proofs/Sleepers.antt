@@ -1,5 +1,5 @@
 -- What the table's rule holds of is a state that the waiting protocol's invariant holds of.
-use Rattle.std.proofs.Common.{◌≡◌, ◌≢◌, ℕ, suc, ◌+◌, ◌%◌, ◌==◌, Bool, true, false, if◌then◌else◌}
+use Rattle.std.proofs.Common.{◌≡◌, ◌≢◌, ℕ, suc, ◌+◌, ◌%◌, ◌≤◌, ◌==◌, Bool, true, false, if◌then◌else◌}
 use Rattle.std.proofs.Common.{List, [], ◌∷◌, ◌++◌, map, drop}
 use Rattle.std.proofs.Common.{length, slice_index, refl, sym, ap, ◌∙◌, subst, inl, inr, ⊎_elim}
 use Rattle.std.proofs.Common.{arith, ne_eqb, length-append}
@@ -35,18 +35,39 @@ use Rattle.bw_ticket.specs.UnderWay.{NoWakeIsLostInLock}
 use Rattle.bw_ticket.proofs.Followed.{index_past}
 
 -- a seat that may sleep counts as one that sleeps, for what does not tell them apart
-there_same : (g : WaitPhase → ℕ) → ((t : ℕ) → g (PLooked t) ≡ g (PAsleep t)) → (p q : WaitPhase)
-    → IsThere p q → g p ≡ g q
-there_same g h p q w = ⊎_elim (λ (e : p ≡ q). ap g e)
-    (λ (a : (t : ℕ) × (p ≡ PLooked t) × (q ≡ PAsleep t)). ap g a.1 ∙ (h a.0 ∙ sym (ap g a.2))) w
+there_same : (g : WaitPhase → ℕ) → ((t : ℕ) → g (PLooked t) ≡ g (PAsleep t))
+    → ((t : ℕ) → g (PLooked t) ≡ g (PWaiting t)) → (p q : WaitPhase) → IsThere p q → g p ≡ g q
+there_same g h k p q w = ⊎_elim (λ (e : p ≡ q). ap g e)
+    (λ z. ⊎_elim
+    (λ (a : (t : ℕ) × (p ≡ PLooked t) × (q ≡ PAsleep t)). ap g a.1 ∙ (h a.0 ∙ sym (ap g a.2)))
+    (λ (a : (t : ℕ) × (p ≡ PLooked t) × (q ≡ PWaiting t)). ap g a.1 ∙ (k a.0 ∙ sym (ap g a.2)))
+    z) w
 
 count_there : (g : WaitPhase → ℕ) → ((t : ℕ) → g (PLooked t) ≡ g (PAsleep t))
+    → ((t : ℕ) → g (PLooked t) ≡ g (PWaiting t))
     → (ps qs : List WaitPhase) → AreThere ps qs → count g ps ≡ count g qs
-count_there g h [] [] w = refl
-count_there g h [] (q ∷ qs) w = absurd w
-count_there g h (p ∷ ps) [] w = absurd w
-count_there g h (p ∷ ps) (q ∷ qs) w =
-    let a = there_same g h p q w.0 in let b = count_there g h ps qs w.1 in omega arith
+count_there g h k [] [] w = refl
+count_there g h k [] (q ∷ qs) w = absurd w
+count_there g h k (p ∷ ps) [] w = absurd w
+count_there g h k (p ∷ ps) (q ∷ qs) w =
+    let a = there_same g h k p q w.0 in let b = count_there g h k ps qs w.1 in omega arith
+
+-- a seat that has slept counts no more as one that may sleep
+there_less : (x : ℕ) (p q : WaitPhase) → IsThere p q → may_sleep_there x q ≤ may_sleep_there x p
+there_less x p q w = ⊎_elim (λ (e : p ≡ q). let a = ap (may_sleep_there x) e in omega arith)
+    (λ z. ⊎_elim
+    (λ (a : (t : ℕ) × (p ≡ PLooked t) × (q ≡ PAsleep t)).
+    let b = ap (may_sleep_there x) a.1 in let c = ap (may_sleep_there x) a.2 in omega arith)
+    (λ (a : (t : ℕ) × (p ≡ PLooked t) × (q ≡ PWaiting t)).
+    let c = ap (may_sleep_there x) a.2 in omega arith) z) w
+
+count_less : (x : ℕ) (ps qs : List WaitPhase) → AreThere ps qs
+    → count (may_sleep_there x) qs ≤ count (may_sleep_there x) ps
+count_less x [] [] w = omega arith
+count_less x [] (q ∷ qs) w = absurd w
+count_less x (p ∷ ps) [] w = absurd w
+count_less x (p ∷ ps) (q ∷ qs) w =
+    let a = there_less x p q w.0 in let b = count_less x ps qs w.1 in omega arith
 
 length_there : (ps qs : List WaitPhase) → AreThere ps qs → length ps ≡ length qs
 length_there [] [] w = refl
@@ -66,7 +87,7 @@ count-map g f (p ∷ ps) = let h = count-map g f ps in omega arith
 
 -- the seats that have their mark standing may all sleep
 asleep_or_not : (t : ℕ) (b : Bool) → IsThere (PLooked t) (if b then PAsleep t else PLooked t)
-asleep_or_not t true = inr (t, refl, refl)
+asleep_or_not t true = inr (inl (t, refl, refl))
 asleep_or_not t false = inl refl
 
 marked_there : (ws : List ℕ) (p : WaitPhase) → IsThere p (asleep_if_marked ws p)
@@ -246,12 +267,12 @@ module _ {M C R : Type 0} (after : M → ℕ → C → M) (answer : M → ℕ �
       → Sound record { next = r.next; serving = r.serving; words = r.wake_words; phases = phases }
   sound s phases r there seen =
       let waits_are =
-      λ (x : ℕ). sym (count_there (waits_there x) (λ t. refl) (phases_in s.views) phases there)
+      λ (x : ℕ). sym (count_there (waits_there x) (λ t. refl) (λ t. refl) (phases_in s.views) phases there)
       ∙ count_in (waits_there x) (waits x) (waits_in x) s.views in
-      let busy_are = sym (count_there busy (λ t. refl) (phases_in s.views) phases there)
+      let busy_are = sym (count_there busy (λ t. refl) (λ t. refl) (phases_in s.views) phases there)
       ∙ (count_in busy (λ f. is_inside f + is_done f) busy_in s.views
       ∙ weigh_all-add (λ p. is_inside p.phase) (λ p. is_done p.phase) s.views) in
-      let holds_are = sym (count_there holds_there (λ t. refl) (phases_in s.views) phases there)
+      let holds_are = sym (count_there holds_there (λ t. refl) (λ t. refl) (phases_in s.views) phases there)
       ∙ count_in holds_there holds holds_in s.views in
       let in_one = r.inside_is in let done_one = r.done_is in
       record {
@@ -266,11 +287,10 @@ module _ {M C R : Type 0} (after : M → ℕ → C → M) (answer : M → ℕ �
             let b = length_in s.views in omega (arith, r.seats_are, r.few, r.one_each);
         mark_or_wake = seen;
         peek_owed = λ some_may stands.
-            let a = sym (count_there (may_sleep_there r.serving) (λ t. refl) (phases_in s.views)
-            phases there)
-            ∙ count_in (may_sleep_there r.serving) (may_sleep r.serving) (may_sleep_in r.serving)
-            s.views in
-            let b = sym (count_there (will_peek_there r.serving) (λ t. refl) (phases_in s.views)
+            let less = count_less r.serving (phases_in s.views) phases there in
+            let a = count_in (may_sleep_there r.serving) (may_sleep r.serving)
+            (may_sleep_in r.serving) s.views in
+            let b = sym (count_there (will_peek_there r.serving) (λ t. refl) (λ t. refl) (phases_in s.views)
             phases there)
             ∙ count_in (will_peek_there r.serving) (will_peek r.serving) (will_peek_in r.serving)
             s.views in

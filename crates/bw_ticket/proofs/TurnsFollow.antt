@@ -2,14 +2,14 @@
 use Rattle.std.proofs.Common.{◌≡◌, ◌≢◌, ℕ, zero, suc, ◌+◌, ◌-◌, ◌^◌, ◌%◌, ◌<◌, ◌≤◌, ◌==◌}
 use Rattle.std.proofs.Common.{Bool, true, false, List, [], ◌∷◌, map, length, refl, sym, ap}
 use Rattle.std.proofs.Common.{◌∙◌, subst, arith, slice_get, slice_set, slice_index, Some, None}
-use Rattle.std.proofs.Common.{Option, if◌then◌else◌, eq-eqb, ne_eqb, ◌||◌}
+use Rattle.std.proofs.Common.{Option, if◌then◌else◌, eq-eqb, ne_eqb, ◌||◌, inl, inr, is_some}
 use Rattle.std.specs.List.{list_any}
 use Rattle.std.proofs.lemmas.List.{length-set}
 use mathlib.Core.Logic.{dite}
 use native.Mathlib.Decide.{ℕ_discrete}
 use prog.Atomic.{either}
 use Rattle.bw_machine.proofs.CallerLemmas.{get_other, set_map, set_mapped}
-use Rattle.bw_wake.specs.declared.seats.Phase.TheVariants.{Looked as PLooked}
+use Rattle.bw_wake.specs.declared.seats.Phase.TheVariants.{Waiting as PWaiting, Looked as PLooked}
 use Rattle.bw_wake.specs.declared.seats.Phase.TheVariants.{Asleep as PAsleep, Wakes as PWakes}
 use Rattle.bw_wake.specs.declared.seats.Event.{Event}
 use Rattle.bw_wake.specs.declared.seats.Event.TheVariants.{Take, Look, Mark, Park, SpuriousWake}
@@ -18,7 +18,8 @@ use Rattle.bw_wake.specs.declared.seats.Event.TheVariants.{TakeMark, Wake}
 use Rattle.bw_wake.specs.Protocol.{WaitState, after, happens, run, or_same, moved, word_of, mark_at}
 use Rattle.bw_wake.specs.Protocol.{park_by, spurious_wake_by, wake_by, sleeps_on}
 use Rattle.bw_wake.specs.Protocol.{one_less as one_less_in}
-use Rattle.bw_wake.specs.Progress.{one_if}
+use Rattle.bw_wake.specs.Progress.{one_if, seat_of}
+use Rattle.bw_wake.specs.Rounds.{MakesOne}
 use Rattle.bw_wake.proofs.CallerLemmas.{Sound, waits as waits_there, happens_sound, to_next}
 use Rattle.bw_wake.proofs.CallerLemmas.{count_at, index_here, index_else, get_map}
 use Rattle.bw_ticket.specs.declared.limits.TheConstants.{MAX_SEATS}
@@ -31,11 +32,11 @@ use Rattle.bw_ticket.specs.Plays.{waiting, entered, recorded, recorded_by, misse
 use Rattle.bw_ticket.specs.Plays.{saw_word, took, woke, one_less, MayMark, goes, has_served, seeing}
 use Rattle.bw_ticket.specs.Follows.{words_of, IsLike, in_protocol, IsEvent, StepsAreEvents}
 use Rattle.bw_ticket.specs.Turns.{Doing, Turn, Sitter, Hall, seated, phase_while, where_is}
-use Rattle.bw_ticket.specs.Turns.{NobodySleepsOn, IsTurn}
+use Rattle.bw_ticket.specs.Turns.{NobodySleepsOn, IsTurn, slept, maker, brings_on}
 use Rattle.bw_ticket.specs.Turns.Turn.{Draws, Looks, Marks, Records, Serves, PeeksNext, PeeksWord}
 use Rattle.bw_ticket.specs.Turns.Turn.{TakesMark, Fronts, Sleeps, Returns, Rings, RingsNobody}
-use Rattle.bw_ticket.specs.Turns.Turn.{NotesWake}
-use Rattle.bw_ticket.specs.Turns.Doing.{IsUp, Sleeping, HasRung}
+use Rattle.bw_ticket.specs.Turns.Turn.{NotesWake, LooksAgain, MarksAgain, SleepsInVain}
+use Rattle.bw_ticket.specs.Turns.Doing.{IsUp, Sleeping, HasSlept, HasRung}
 use Rattle.bw_ticket.proofs.OwedCounts.{same_words}
 use Rattle.bw_ticket.proofs.Followed.{steps_are_events, index_past, small}
 
@@ -93,8 +94,12 @@ pub record Meets {M C R : Type 0} (total : ℕ) (h : Hall M C R) (s : WaitState)
   pub bound : total < 2 ^ 32
 
 -- some events lead the protocol where the turn leads the lock
-abbrev pub Goes : {M C R : Type 0} → ℕ → Hall M C R → WaitState → Type 0
-Goes total k s = (events : List Event) × Meets total k (run s events)
+abbrev pub Follows : {M C R : Type 0} → ℕ → Hall M C R → WaitState → Type 0
+Follows total k s = (events : List Event) × Meets total k (run s events)
+
+-- and the seat i makes one of them
+abbrev pub Goes : {M C R : Type 0} → ℕ → ℕ → Hall M C R → WaitState → Type 0
+Goes total i k s = (events : List Event) × Meets total k (run s events) × MakesOne i s events
 
 module _ {M C R : Type 0} (total : ℕ) (h : Hall M C R) (s : WaitState) (m : Meets total h s) where
   next_is : s.next ≡ slice_index h.words 0
@@ -111,42 +116,43 @@ module _ {M C R : Type 0} (total : ℕ) (h : Hall M C R) (s : WaitState) (m : Me
       → slice_get s.phases i ≡ Some (where_is x)
   at_place i x at = ap (λ ps. slice_get ps i) m.phases ∙ get_map where_is h.seats i x at
 
-  -- a step of a seat that is up is the event of its name
-  by_event : (i : ℕ) (p q : SeatView M C R) (e : ℕ → Event) (w : ℕ) (g : ℕ → ℕ) (P : ℕ → Type 0)
-      (f : Phase M C R) (then_f : ℕ → Phase M C R) → IsEvent e w g P f then_f
-      → slice_get h.seats i ≡ Some (seated IsUp p) → p.phase ≡ f → P (slice_index h.words w)
-      → q.phase ≡ then_f (slice_index h.words w)
+  -- a step of a seat is the event of its name
+  by_event_of : (a b : Doing) (i : ℕ) (p q : SeatView M C R) (e : ℕ → Event) (w : ℕ) (g : ℕ → ℕ)
+      (P : ℕ → Type 0) (f : Phase M C R) (then_f : ℕ → Phase M C R) → IsEvent e w g P f then_f
+      → seat_of (e i) ≡ i → slice_get h.seats i ≡ Some (seated a p)
+      → where_is (seated a p) ≡ in_protocol f → P (slice_index h.words w)
+      → where_is (seated b q) ≡ in_protocol (then_f (slice_index h.words w))
       → g (slice_index h.words w) < 2 ^ 32
       → q.left + slice_index (slice_set h.words w (g (slice_index h.words w))) 0
       ≡ p.left + slice_index h.words 0
-      → Goes total (record {
+      → Goes total i (record {
         words = slice_set h.words w (g (slice_index h.words w));
-        seats = slice_set h.seats i (seated IsUp q);
+        seats = slice_set h.seats i (seated b q);
       }) s
-  by_event i p q e w g P f then_f is at f_is found q_is few calls =
+  by_event_of a b i p q e w g P f then_f is own at f_is found q_is few calls =
       let n : ℕ = slice_index h.words w in
       let here : slice_get s.phases i ≡ Some (in_protocol f) =
-      at_place i (seated IsUp p) at ∙ ap (λ z. Some (in_protocol z)) f_is in
+      at_place i (seated a p) at ∙ ap (λ z. Some z) f_is in
       let got = is s i like here
       (subst (λ ws. P (slice_index ws w)) (sym m.words) found) in
       let t : WaitState = got.0 in
       let t_is : happens s (e i) ≡ t = ap (or_same s) got.1 in
       let k : Hall M C R = record {
         words = slice_set h.words w (g n);
-        seats = slice_set h.seats i (seated IsUp q);
+        seats = slice_set h.seats i (seated b q);
       } in
       let ws_are : words_of t ≡ k.words =
       got.2 ∙ ap (λ ws. slice_set ws w (g (slice_index ws w))) m.words in
       let ps_are : t.phases ≡ map where_is k.seats =
       got.3 ∙ (ap (λ ws. slice_set s.phases i (in_protocol (then_f (slice_index ws w)))) m.words
-      ∙ (ap (λ z. slice_set s.phases i (in_protocol z)) (sym q_is)
-      ∙ (ap (λ ps. slice_set ps i (in_protocol q.phase)) m.phases
-      ∙ set_map where_is h.seats i (seated IsUp q)))) in
+      ∙ (ap (λ z. slice_set s.phases i z) (sym q_is)
+      ∙ (ap (λ ps. slice_set ps i (where_is (seated b q))) m.phases
+      ∙ set_map where_is h.seats i (seated b q)))) in
       let size : length (words_of t) ≡ length (words_of s) =
       ap length got.2 ∙ length-set (words_of s) w (g (slice_index (words_of s) w)) in
       let new_next : t.next ≡ slice_index k.words 0 = ap (λ ws. slice_index ws 0) ws_are in
       let old_next = next_is in
-      let lefts = left_set h.seats i (seated IsUp p) (seated IsUp q) at in
+      let lefts = left_set h.seats i (seated a p) (seated b q) at in
       let all = m.left in
       let long_was = m.long in
       let there : Meets total k t = record {
@@ -158,12 +164,28 @@ module _ {M C R : Type 0} (total : ℕ) (h : Hall M C R) (s : WaitState) (m : Me
         fits = below_set h.words (2 ^ 32) w (g n) m.fits few;
         bound = m.bound;
       } in
-      (e i ∷ [], subst (Meets total k) (sym t_is) there)
+      (e i ∷ [], subst (Meets total k) (sym t_is) there, inl (own, ap is_some got.1))
+
+  -- where it is up before and after
+  by_event : (i : ℕ) (p q : SeatView M C R) (e : ℕ → Event) (w : ℕ) (g : ℕ → ℕ) (P : ℕ → Type 0)
+      (f : Phase M C R) (then_f : ℕ → Phase M C R) → IsEvent e w g P f then_f → seat_of (e i) ≡ i
+      → slice_get h.seats i ≡ Some (seated IsUp p) → p.phase ≡ f → P (slice_index h.words w)
+      → q.phase ≡ then_f (slice_index h.words w)
+      → g (slice_index h.words w) < 2 ^ 32
+      → q.left + slice_index (slice_set h.words w (g (slice_index h.words w))) 0
+      ≡ p.left + slice_index h.words 0
+      → Goes total i (record {
+        words = slice_set h.words w (g (slice_index h.words w));
+        seats = slice_set h.seats i (seated IsUp q);
+      }) s
+  by_event i p q e w g P f then_f is own at f_is found q_is few calls =
+      by_event_of IsUp IsUp i p q e w g P f then_f is own at (ap (λ z. in_protocol z) f_is) found
+      (ap (λ z. in_protocol z) q_is) few calls
 
   -- a step that the protocol does not have
   no_event : (i : ℕ) (x y : Sitter M C R) (w : ℕ) → slice_get h.seats i ≡ Some x
       → where_is y ≡ where_is x → y.view.left ≡ x.view.left
-      → Goes total (record {
+      → Follows total (record {
         words = slice_set h.words w (slice_index h.words w);
         seats = slice_set h.seats i y;
       }) s
@@ -182,10 +204,11 @@ module _ {M C R : Type 0} (total : ℕ) (h : Hall M C R) (s : WaitState) (m : Me
       )
 
   -- the words stay, and so do the calls left
-  by_sleep : (t : WaitState) (e : Event) (xs : List (Sitter M C R)) → after s e ≡ Some t
+  by_sleep : (i : ℕ) (t : WaitState) (e : Event) (xs : List (Sitter M C R)) → after s e ≡ Some t
+      → seat_of e ≡ i
       → words_of t ≡ words_of s → t.phases ≡ map where_is xs → left_in xs ≡ left_in h.seats
-      → Goes total (record { words = h.words; seats = xs }) s
-  by_sleep t e xs is ws ps lefts =
+      → Goes total i (record { words = h.words; seats = xs }) s
+  by_sleep i t e xs is own ws ps lefts =
       let t_is : happens s e ≡ t = ap (or_same s) is in
       let k : Hall M C R = record { words = h.words; seats = xs } in
       let size : length (words_of t) ≡ length (words_of s) = ap length ws in
@@ -200,7 +223,7 @@ module _ {M C R : Type 0} (total : ℕ) (h : Hall M C R) (s : WaitState) (m : Me
         fits = m.fits;
         bound = m.bound;
       } in
-      (e ∷ [], subst (Meets total k) (sym t_is) there)
+      (e ∷ [], subst (Meets total k) (sym t_is) there, inl (own, ap is_some is))
 
 -- no seat that is up sleeps on a word, and none that sleeps on another word
 module _ {M C R : Type 0} (n b : ℕ) where
@@ -230,6 +253,7 @@ module _ {M C R : Type 0} (n b : ℕ) where
   not_there Sleeping (Owes t c) h = refl
   not_there Sleeping (Found t c) h = refl
   not_there Sleeping (Wakes t c) h = refl
+  not_there HasSlept f h = up_awake (slept f)
   not_there HasRung f h = up_awake (woke f)
 
   none_sleeps : (xs : List (Sitter M C R))
@@ -277,7 +301,7 @@ module _ {M C R : Type 0} (total : ℕ) (h k : Hall M C R) (s : WaitState) (m : 
   steps : StepsAreEvents M C R
   steps = steps_are_events M C R
 
-  draws : (i : ℕ) → IsTurn (Draws i) h k → Goes total k s
+  draws : (i : ℕ) → IsTurn (Draws i) h k → Goes total i k s
   draws i turn =
       let p = turn.0 in let q = turn.1 in let c = turn.2 in let d = turn.3 in
       let at = turn.4 in let told = turn.5 in
@@ -295,12 +319,12 @@ module _ {M C R : Type 0} (total : ℕ) (h k : Hall M C R) (s : WaitState) (m : 
       let long : suc (suc (length s.words)) ≡ length h.words = ap length m.words in
       let here : slice_index (slice_set h.words 0 ((n + 1) % 2 ^ 64)) 0 ≡ (n + 1) % 2 ^ 64 =
       index_here h.words 0 ((n + 1) % 2 ^ 64) (omega arith) in
-      subst (λ (x : Hall M C R). Goes total x s) (sym turn.6)
+      subst (λ (x : Hall M C R). Goes total i x s) (sym turn.6)
       (by_event total h s m i p q Take 0 (λ x. (x + 1) % 2 ^ 64) (λ x. Unit {0}) Idle
-      (λ x. Waiting x) steps.ticket at idle tt (ap (λ (v : SeatView M C R). v.phase) q_is)
+      (λ x. Waiting x) steps.ticket refl at idle tt (ap (λ (v : SeatView M C R). v.phase) q_is)
       few (omega arith))
 
-  looks : (i : ℕ) → IsTurn (Looks i) h k → Goes total k s
+  looks : (i : ℕ) → IsTurn (Looks i) h k → Goes total i k s
   looks i turn =
       let p = turn.0 in let q = turn.1 in let c = turn.2 in let d = turn.3 in
       let at = turn.4 in let told = turn.5 in
@@ -311,19 +335,87 @@ module _ {M C R : Type 0} (total : ℕ) (h k : Hall M C R) (s : WaitState) (m : 
       (λ (e : n ≡ t). let got = told.0 e in let y = got.0 in
       let q_is : q ≡ entered n y p = first_is q (entered n y p) d ((0, y) ∷ c) got.1 in
       let q_left : q.left ≡ p.left = ap (λ (v : SeatView M C R). v.left) q_is in
-      subst (λ (x : Hall M C R). Goes total x s) (sym turn.6)
+      subst (λ (x : Hall M C R). Goes total i x s) (sym turn.6)
       (by_event total h s m i p q Look 1 (λ x. x) (λ x. x ≡ t) p.phase (λ x. Inside x y)
-      (steps.enter p.phase t y waits_so) at refl e (ap (λ (v : SeatView M C R). v.phase) q_is)
+      (steps.enter p.phase t y waits_so) refl at refl e (ap (λ (v : SeatView M C R). v.phase) q_is)
       (m.fits 1) (omega arith)))
       (λ (ne : n ≢ t). let got = told.1 ne in
       let q_is : q ≡ goes missed p = first_is q (goes missed p) d c got.0 in
       let q_left : q.left ≡ p.left = ap (λ (v : SeatView M C R). v.left) q_is in
-      subst (λ (x : Hall M C R). Goes total x s) (sym turn.6)
+      subst (λ (x : Hall M C R). Goes total i x s) (sym turn.6)
       (by_event total h s m i p q Look 1 (λ x. x) (λ x. x ≢ t) p.phase (λ x. missed p.phase)
-      (steps.look p.phase t waits_so) at refl ne (ap (λ (v : SeatView M C R). v.phase) q_is)
+      (steps.look p.phase t waits_so) refl at refl ne (ap (λ (v : SeatView M C R). v.phase) q_is)
       (m.fits 1) (omega arith)))
 
-  marks : (i : ℕ) → IsTurn (Marks i) h k → Goes total k s
+  -- a seat that has slept waits as before its first look
+  slept_waits : (t : ℕ) (f : Phase M C R) → waits t f ≡ 1 → waits t (slept f) ≡ 1
+  slept_waits t Idle e = e
+  slept_waits t (Waiting u) e = e
+  slept_waits t (Marked u) e = e
+  slept_waits t (Looked u) e = e
+  slept_waits t (Inside u y) e = e
+  slept_waits t (Done u) e = e
+  slept_waits t (Served u) e = e
+  slept_waits t (Owes u n) e = e
+  slept_waits t (Found u n) e = e
+  slept_waits t (Wakes u n) e = e
+
+  slept_may : (t : ℕ) (f : Phase M C R) → MayMark t f → MayMark t (slept f)
+  slept_may t Idle e = e
+  slept_may t (Waiting u) e = e
+  slept_may t (Marked u) e = e
+  slept_may t (Looked u) e = e
+  slept_may t (Inside u y) e = e
+  slept_may t (Done u) e = e
+  slept_may t (Served u) e = e
+  slept_may t (Owes u n) e = e
+  slept_may t (Found u n) e = e
+  slept_may t (Wakes u n) e = e
+
+  slept_mark : (t : ℕ) (f : Phase M C R) → MayMark t f → marked f ≡ marked (slept f)
+  slept_mark t Idle e = absurd e
+  slept_mark t (Waiting u) e = refl
+  slept_mark t (Marked u) e = absurd e
+  slept_mark t (Looked u) e = refl
+  slept_mark t (Inside u y) e = absurd e
+  slept_mark t (Done u) e = absurd e
+  slept_mark t (Served u) e = absurd e
+  slept_mark t (Owes u n) e = absurd e
+  slept_mark t (Found u n) e = absurd e
+  slept_mark t (Wakes u n) e = absurd e
+
+  looks_again : (i : ℕ) → IsTurn (LooksAgain i) h k → Goes total i k s
+  looks_again i (inl turn) =
+      let p = turn.0 in let q = turn.1 in let c = turn.2 in let d = turn.3 in
+      let at = turn.4 in let told = turn.5.0 in let ne = turn.5.1 in
+      let n : ℕ = slice_index h.words 1 in let t : ℕ = ticket_of p.phase in
+      let is : p.phase ≡ Looked t = turn.5.2.0 in
+      let first : Phase M C R = Waiting t in
+      let waits_so : waits t first ≡ 1 = ap one_if (eq-eqb t t refl) in
+      let same = first_read h.words 1 in
+      let q_is : q ≡ goes missed p = first_is q (goes missed p) d c (told.1 ne).0 in
+      let q_left : q.left ≡ p.left = ap (λ (v : SeatView M C R). v.left) q_is in
+      let q_phase : q.phase ≡ Looked t = ap (λ (v : SeatView M C R). v.phase) q_is ∙ ap missed is in
+      subst (λ (x : Hall M C R). Goes total i x s) (sym turn.6)
+      (by_event_of total h s m HasSlept HasSlept i p q Look 1 (λ x. x) (λ x. x ≢ t) first
+      (λ x. first) (steps.look first t waits_so) refl at
+      (ap (λ f. in_protocol (slept f)) is) ne (ap (λ f. in_protocol (slept f)) q_phase)
+      (m.fits 1) (omega arith))
+  looks_again i (inr turn) =
+      let p = turn.0 in let q = turn.1 in let c = turn.2 in let d = turn.3 in
+      let at = turn.4 in let told = turn.5.0 in let e = turn.5.1 in
+      let n : ℕ = slice_index h.words 1 in let t : ℕ = ticket_of p.phase in
+      let waits_so : waits t p.phase ≡ 1 = told.2.0 in
+      let same = first_read h.words 1 in
+      let got = told.0 e in let y = got.0 in
+      let q_is : q ≡ entered n y p = first_is q (entered n y p) d ((0, y) ∷ c) got.1 in
+      let q_left : q.left ≡ p.left = ap (λ (v : SeatView M C R). v.left) q_is in
+      subst (λ (x : Hall M C R). Goes total i x s) (sym turn.6)
+      (by_event_of total h s m HasSlept IsUp i p q Look 1 (λ x. x) (λ x. x ≡ t) (slept p.phase)
+      (λ x. Inside x y) (steps.enter (slept p.phase) t y (slept_waits t p.phase waits_so)) refl at
+      refl e (ap (λ (v : SeatView M C R). in_protocol v.phase) q_is) (m.fits 1) (omega arith))
+
+  marks : (i : ℕ) → IsTurn (Marks i) h k → Goes total i k s
   marks i turn =
       let w = turn.0 in let v = turn.1 in let st = turn.2 in
       let p = st.0 in let q = st.1 in let c = st.2 in let d = st.3 in
@@ -345,12 +437,40 @@ module _ {M C R : Type 0} (total : ℕ) (h k : Hall M C R) (s : WaitState) (m : 
         words = slice_set h.words (told.0 j) (told.1 j);
         seats = slice_set h.seats i (seated IsUp q);
       }) in
-      subst (λ (x : Hall M C R). Goes total x s) (sym k_is)
+      subst (λ (x : Hall M C R). Goes total i x s) (sym k_is)
       (by_event total h s m i p q Mark (wake_word t) (λ x. t + 1) (λ x. Unit {0}) p.phase
-      (λ x. marked p.phase) (steps.mark p.phase t may) at refl tt
+      (λ x. marked p.phase) (steps.mark p.phase t may) refl at refl tt
       (ap (λ (x : SeatView M C R). x.phase) q_is) (omega arith) (omega arith))
 
-  records : (i : ℕ) → IsTurn (Records i) h k → Goes total k s
+  marks_again : (i : ℕ) → IsTurn (MarksAgain i) h k → Goes total i k s
+  marks_again i turn =
+      let w = turn.0 in let v = turn.1 in let st = turn.2 in
+      let p = st.0 in let q = st.1 in let c = st.2 in let d = st.3 in
+      let at = st.4 in let told = st.5 in
+      let t : ℕ = ticket_of p.phase in
+      let may : MayMark t (slept p.phase) = slept_may t p.phase told.3.0 in
+      let q_is : q ≡ goes marked p = first_is q (goes marked p) d c told.2 in
+      let q_left : q.left ≡ p.left = ap (λ (x : SeatView M C R). x.left) q_is in
+      let here = count_at (waits_there t) s.phases i (in_protocol (slept p.phase))
+      (at_place total h s m i (seated HasSlept p) at) in
+      let one = may_waits t (slept p.phase) may in
+      let drawn = to_next s m.sound t (omega arith) in
+      let fit = m.fits 0 in let next = next_is total h s m in
+      let same = first_else h.words (wake_word t) (t + 1) (past_first t) in
+      let k_is : k ≡ record {
+        words = slice_set h.words (wake_word t) (t + 1);
+        seats = slice_set h.seats i (seated IsUp q);
+      } = st.6 ∙ (λ j. record {
+        words = slice_set h.words (told.0 j) (told.1 j);
+        seats = slice_set h.seats i (seated IsUp q);
+      }) in
+      subst (λ (x : Hall M C R). Goes total i x s) (sym k_is)
+      (by_event_of total h s m HasSlept IsUp i p q Mark (wake_word t) (λ x. t + 1) (λ x. Unit {0})
+      (slept p.phase) (λ x. marked (slept p.phase)) (steps.mark (slept p.phase) t may) refl at refl
+      tt (ap (λ (x : SeatView M C R). in_protocol x.phase) q_is
+      ∙ ap (λ f. in_protocol f) (slept_mark t p.phase told.3.0)) (omega arith) (omega arith))
+
+  records : (i : ℕ) → IsTurn (Records i) h k → Goes total i k s
   records i turn =
       let p = turn.0 in let q = turn.1 in let c = turn.2 in let d = turn.3 in
       let at = turn.4 in let told = turn.5 in
@@ -361,12 +481,12 @@ module _ {M C R : Type 0} (total : ℕ) (h k : Hall M C R) (s : WaitState) (m : 
       let q_is : q ≡ recorded z p = q_by ∙ ap (λ l. recorded_by l p) told.0.1 in
       let q_left : q.left ≡ p.left = ap (λ (x : SeatView M C R). x.left) q_is in
       let same = first_read h.words 1 in
-      subst (λ (x : Hall M C R). Goes total x s) (sym turn.6)
+      subst (λ (x : Hall M C R). Goes total i x s) (sym turn.6)
       (by_event total h s m i p q Apply 1 (λ x. x) (λ x. Unit {0}) (Inside t y) (λ x. Done t)
-      (steps.record_call t y) at by.1 tt (ap (λ (x : SeatView M C R). x.phase) q_is)
+      (steps.record_call t y) refl at by.1 tt (ap (λ (x : SeatView M C R). x.phase) q_is)
       (m.fits 1) (omega arith))
 
-  serves : (i : ℕ) → IsTurn (Serves i) h k → Goes total k s
+  serves : (i : ℕ) → IsTurn (Serves i) h k → Goes total i k s
   serves i turn =
       let p = turn.0 in let q = turn.1 in let c = turn.2 in let d = turn.3 in
       let at = turn.4 in let told = turn.5 in
@@ -379,12 +499,12 @@ module _ {M C R : Type 0} (total : ℕ) (h k : Hall M C R) (s : WaitState) (m : 
       let up : (n + 1) % 2 ^ 64 ≡ n + 1 = small n fit in
       let few : (n + 1) % 2 ^ 64 < 2 ^ 32 = omega arith in
       let same = first_else h.words 1 ((n + 1) % 2 ^ 64) (not_first 1 refl) in
-      subst (λ (x : Hall M C R). Goes total x s) (sym turn.6)
+      subst (λ (x : Hall M C R). Goes total i x s) (sym turn.6)
       (by_event total h s m i p q Leave 1 (λ x. (x + 1) % 2 ^ 64) (λ x. x ≡ t) (Done t)
-      (λ x. Served t) (steps.serve t) at told.3.0 told.0
+      (λ x. Served t) (steps.serve t) refl at told.3.0 told.0
       (ap (λ (x : SeatView M C R). x.phase) q_is) few (omega arith))
 
-  peeks_next : (i : ℕ) → IsTurn (PeeksNext i) h k → Goes total k s
+  peeks_next : (i : ℕ) → IsTurn (PeeksNext i) h k → Goes total i k s
   peeks_next i turn =
       let w = turn.0 in let st = turn.1 in
       let p = st.0 in let q = st.1 in let c = st.2 in let d = st.3 in
@@ -405,11 +525,11 @@ module _ {M C R : Type 0} (total : ℕ) (h k : Hall M C R) (s : WaitState) (m : 
         words = slice_set h.words (told.0 j) (slice_index h.words (told.0 j));
         seats = slice_set h.seats i (seated IsUp q);
       }) in
-      subst (λ (x : Hall M C R). Goes total x s) (sym k_is)
+      subst (λ (x : Hall M C R). Goes total i x s) (sym k_is)
       (by_event total h s m i p q PeekNext 0 (λ x. x) (λ x. Unit {0}) (Served t)
-      (λ x. saw_next x (Served t)) (steps.peek_next t) at is tt q_phase (m.fits 0) (omega arith))
+      (λ x. saw_next x (Served t)) (steps.peek_next t) refl at is tt q_phase (m.fits 0) (omega arith))
 
-  peeks_word : (i : ℕ) → IsTurn (PeeksWord i) h k → Goes total k s
+  peeks_word : (i : ℕ) → IsTurn (PeeksWord i) h k → Goes total i k s
   peeks_word i turn =
       let w = turn.0 in let st = turn.1 in
       let p = st.0 in let q = st.1 in let c = st.2 in let d = st.3 in
@@ -431,12 +551,12 @@ module _ {M C R : Type 0} (total : ℕ) (h k : Hall M C R) (s : WaitState) (m : 
         words = slice_set h.words (told.0 j) (slice_index h.words (told.0 j));
         seats = slice_set h.seats i (seated IsUp q);
       }) in
-      subst (λ (x : Hall M C R). Goes total x s) (sym k_is)
+      subst (λ (x : Hall M C R). Goes total i x s) (sym k_is)
       (by_event total h s m i p q PeekWord (wake_word t) (λ x. x) (λ x. Unit {0}) (Owes t n)
-      (λ x. saw_word x (Owes t n)) (steps.peek_word t n) at is tt q_phase
+      (λ x. saw_word x (Owes t n)) (steps.peek_word t n) refl at is tt q_phase
       (m.fits (wake_word t)) (omega arith))
 
-  takes_mark : (i : ℕ) → IsTurn (TakesMark i) h k → Goes total k s
+  takes_mark : (i : ℕ) → IsTurn (TakesMark i) h k → Goes total i k s
   takes_mark i turn =
       let w = turn.0 in let v = turn.1 in let u = turn.2 in let st = turn.3 in
       let p = st.0 in let q = st.1 in let c = st.2 in let d = st.3 in
@@ -459,29 +579,29 @@ module _ {M C R : Type 0} (total : ℕ) (h k : Hall M C R) (s : WaitState) (m : 
             (slice_index h.words (told.0 j)));
         seats = slice_set h.seats i (seated IsUp q);
       }) in
-      subst (λ (y : Hall M C R). Goes total y s) (sym k_is)
+      subst (λ (y : Hall M C R). Goes total i y s) (sym k_is)
       (by_event total h s m i p q TakeMark (wake_word t) (λ y. either (y == t + 1) 0 y)
-      (λ y. Unit {0}) (Found t n) (λ y. took (Found t n)) (steps.take_mark t n) at is tt q_phase
+      (λ y. Unit {0}) (Found t n) (λ y. took (Found t n)) (steps.take_mark t n) refl at is tt q_phase
       (either_below (x == t + 1) x (2 ^ 32) (m.fits (wake_word t))) (omega arith))
 
-  fronts : (i : ℕ) → IsTurn (Fronts i) h k → Goes total k s
+  fronts : (i : ℕ) → IsTurn (Fronts i) h k → Follows total k s
   fronts i turn =
       let a = turn.0 in let st = turn.1 in
       let p = st.0 in let q = st.1 in let c = st.2 in let d = st.3 in
       let at = st.4 in let told = st.5 in
       let q_is : q ≡ seeing (slice_index h.words 1) p =
       first_is q (seeing (slice_index h.words 1) p) d c told.0 in
-      subst (λ (x : Hall M C R). Goes total x s) (sym st.6)
+      subst (λ (x : Hall M C R). Follows total x s) (sym st.6)
       (no_event total h s m i (seated a p) (seated a q) 1 at
       (ap (λ (x : SeatView M C R). phase_while a x.phase) q_is)
       (ap (λ (x : SeatView M C R). x.left) q_is))
 
-  notes_wake : (i : ℕ) → IsTurn (NotesWake i) h k → Goes total k s
+  notes_wake : (i : ℕ) → IsTurn (NotesWake i) h k → Follows total k s
   notes_wake i turn =
       let p = turn.0 in let q = turn.1 in let c = turn.2 in let d = turn.3 in
       let at = turn.4 in let told = turn.5 in
       let q_is : q ≡ goes woke p = first_is q (goes woke p) d c told.0 in
-      subst (λ (x : Hall M C R). Goes total x s) (sym turn.6)
+      subst (λ (x : Hall M C R). Follows total x s) (sym turn.6)
       (no_event total h s m i (seated HasRung p) (seated IsUp q) 1 at
       (ap (λ (x : SeatView M C R). in_protocol x.phase) q_is)
       (ap (λ (x : SeatView M C R). x.left) q_is))
@@ -501,7 +621,7 @@ module _ {M C R : Type 0} (total : ℕ) (h k : Hall M C R) (s : WaitState) (m : 
       → slice_set s.phases i (where_is x) ≡ map where_is (slice_set h.seats i x)
   there i x = ap (λ ps. slice_set ps i (where_is x)) m.phases ∙ set_map where_is h.seats i x
 
-  sleeps : (i : ℕ) → IsTurn (Sleeps i) h k → Goes total k s
+  sleeps : (i : ℕ) → IsTurn (Sleeps i) h k → Goes total i k s
   sleeps i turn =
       let p = turn.0 in let t = turn.1 in let at = turn.2 in
       let is : p.phase ≡ Looked t = turn.3 in
@@ -512,59 +632,81 @@ module _ {M C R : Type 0} (total : ℕ) (h k : Hall M C R) (s : WaitState) (m : 
       at_place total h s m i (seated IsUp p) at ∙ ap (λ f. Some (in_protocol f)) is in
       let after_is : after s (Park i) ≡ Some (moved s i (PAsleep t)) =
       ap (park_by s i) here
-      ∙ ap (λ b. Some (if b then moved s i (PAsleep t) else s)) (eq-eqb (mark_at s t) (t + 1) mark)
-      in
+      ∙ ap (λ b. Some (moved s i (if b then PAsleep t else PWaiting t)))
+      (eq-eqb (mark_at s t) (t + 1) mark) in
       let asleep : PAsleep t ≡ where_is (seated Sleeping p) =
       ap (λ f. phase_while Sleeping f) (sym is) in
-      subst (λ (x : Hall M C R). Goes total x s) (sym turn.5)
-      (by_sleep total h s m (moved s i (PAsleep t)) (Park i)
-      (slice_set h.seats i (seated Sleeping p)) after_is refl
+      subst (λ (x : Hall M C R). Goes total i x s) (sym turn.5)
+      (by_sleep total h s m i (moved s i (PAsleep t)) (Park i)
+      (slice_set h.seats i (seated Sleeping p)) after_is refl refl
       (ap (slice_set s.phases i) asleep ∙ there i (seated Sleeping p))
       (resting i p IsUp Sleeping at))
+
+  sleeps_in_vain : (i : ℕ) → IsTurn (SleepsInVain i) h k → Goes total i k s
+  sleeps_in_vain i turn =
+      let p = turn.0 in let t = turn.1 in let at = turn.2 in
+      let is : p.phase ≡ Looked t = turn.3 in
+      let whole = whole_word (slice_index h.words (wake_word t)) (m.fits (wake_word t)) in
+      let gone : mark_at s t ≢ t + 1 = λ mark. turn.4 (whole ∙ (sym (found t) ∙ mark)) in
+      let here : slice_get s.phases i ≡ Some (PLooked t) =
+      at_place total h s m i (seated IsUp p) at ∙ ap (λ f. Some (in_protocol f)) is in
+      let after_is : after s (Park i) ≡ Some (moved s i (PWaiting t)) =
+      ap (park_by s i) here
+      ∙ ap (λ b. Some (moved s i (if b then PAsleep t else PWaiting t)))
+      (ne_eqb (mark_at s t) (t + 1) gone) in
+      let up : PWaiting t ≡ where_is (seated HasSlept p) =
+      ap (λ f. phase_while HasSlept f) (sym is) in
+      subst (λ (x : Hall M C R). Goes total i x s) (sym turn.5)
+      (by_sleep total h s m i (moved s i (PWaiting t)) (Park i)
+      (slice_set h.seats i (seated HasSlept p)) after_is refl refl
+      (ap (slice_set s.phases i) up ∙ there i (seated HasSlept p))
+      (resting i p IsUp HasSlept at))
 
   -- what a seat does changes, and its phase in the protocol does not
   quiet : (i : ℕ) (x y : Sitter M C R) → slice_get h.seats i ≡ Some x → where_is y ≡ where_is x
       → y.view.left ≡ x.view.left
-      → Goes total (record { words = h.words; seats = slice_set h.seats i y }) s
+      → Follows total (record { words = h.words; seats = slice_set h.seats i y }) s
   quiet i x y at same left_same =
-      subst (λ ws. Goes total (record { words = ws; seats = slice_set h.seats i y }) s)
+      subst (λ ws. Follows total (record { words = ws; seats = slice_set h.seats i y }) s)
       (same_words h.words 0) (no_event total h s m i x y 0 at same left_same)
 
   returned : (i : ℕ) (p : SeatView M C R) (f : Phase M C R) → p.phase ≡ f
       → slice_get h.seats i ≡ Some (seated Sleeping p)
-      → Goes total (record {
+      → Follows total (record {
         words = h.words;
-        seats = slice_set h.seats i (seated IsUp p);
+        seats = slice_set h.seats i (seated HasSlept p);
       }) s
   returned i p (Looked t) is at =
       let here : slice_get s.phases i ≡ Some (PAsleep t) =
       at_place total h s m i (seated Sleeping p) at ∙ ap (λ f. Some (phase_while Sleeping f)) is in
-      let up : PLooked t ≡ where_is (seated IsUp p) = ap (λ f. in_protocol f) (sym is) in
-      by_sleep total h s m (moved s i (PLooked t)) (SpuriousWake i)
-      (slice_set h.seats i (seated IsUp p)) (ap (spurious_wake_by s i) here) refl
-      (ap (slice_set s.phases i) up ∙ there i (seated IsUp p)) (resting i p Sleeping IsUp at)
-  returned i p Idle is at = quiet i (seated Sleeping p) (seated IsUp p) at
-      (ap (λ f. in_protocol f) is ∙ sym (ap (λ f. phase_while Sleeping f) is)) refl
-  returned i p (Waiting t) is at = quiet i (seated Sleeping p) (seated IsUp p) at
-      (ap (λ f. in_protocol f) is ∙ sym (ap (λ f. phase_while Sleeping f) is)) refl
-  returned i p (Marked t) is at = quiet i (seated Sleeping p) (seated IsUp p) at
-      (ap (λ f. in_protocol f) is ∙ sym (ap (λ f. phase_while Sleeping f) is)) refl
-  returned i p (Inside t y) is at = quiet i (seated Sleeping p) (seated IsUp p) at
-      (ap (λ f. in_protocol f) is ∙ sym (ap (λ f. phase_while Sleeping f) is)) refl
-  returned i p (Done t) is at = quiet i (seated Sleeping p) (seated IsUp p) at
-      (ap (λ f. in_protocol f) is ∙ sym (ap (λ f. phase_while Sleeping f) is)) refl
-  returned i p (Served t) is at = quiet i (seated Sleeping p) (seated IsUp p) at
-      (ap (λ f. in_protocol f) is ∙ sym (ap (λ f. phase_while Sleeping f) is)) refl
-  returned i p (Owes t n) is at = quiet i (seated Sleeping p) (seated IsUp p) at
-      (ap (λ f. in_protocol f) is ∙ sym (ap (λ f. phase_while Sleeping f) is)) refl
-  returned i p (Found t n) is at = quiet i (seated Sleeping p) (seated IsUp p) at
-      (ap (λ f. in_protocol f) is ∙ sym (ap (λ f. phase_while Sleeping f) is)) refl
-  returned i p (Wakes t n) is at = quiet i (seated Sleeping p) (seated IsUp p) at
-      (ap (λ f. in_protocol f) is ∙ sym (ap (λ f. phase_while Sleeping f) is)) refl
+      let up : PWaiting t ≡ where_is (seated HasSlept p) =
+      ap (λ f. phase_while HasSlept f) (sym is) in
+      let woke_up = by_sleep total h s m i (moved s i (PWaiting t)) (SpuriousWake i)
+      (slice_set h.seats i (seated HasSlept p)) (ap (spurious_wake_by s i) here) refl refl
+      (ap (slice_set s.phases i) up ∙ there i (seated HasSlept p))
+      (resting i p Sleeping HasSlept at) in (woke_up.0, woke_up.1)
+  returned i p Idle is at = quiet i (seated Sleeping p) (seated HasSlept p) at
+      (ap (λ f. in_protocol (slept f)) is ∙ sym (ap (λ f. phase_while Sleeping f) is)) refl
+  returned i p (Waiting t) is at = quiet i (seated Sleeping p) (seated HasSlept p) at
+      (ap (λ f. in_protocol (slept f)) is ∙ sym (ap (λ f. phase_while Sleeping f) is)) refl
+  returned i p (Marked t) is at = quiet i (seated Sleeping p) (seated HasSlept p) at
+      (ap (λ f. in_protocol (slept f)) is ∙ sym (ap (λ f. phase_while Sleeping f) is)) refl
+  returned i p (Inside t y) is at = quiet i (seated Sleeping p) (seated HasSlept p) at
+      (ap (λ f. in_protocol (slept f)) is ∙ sym (ap (λ f. phase_while Sleeping f) is)) refl
+  returned i p (Done t) is at = quiet i (seated Sleeping p) (seated HasSlept p) at
+      (ap (λ f. in_protocol (slept f)) is ∙ sym (ap (λ f. phase_while Sleeping f) is)) refl
+  returned i p (Served t) is at = quiet i (seated Sleeping p) (seated HasSlept p) at
+      (ap (λ f. in_protocol (slept f)) is ∙ sym (ap (λ f. phase_while Sleeping f) is)) refl
+  returned i p (Owes t n) is at = quiet i (seated Sleeping p) (seated HasSlept p) at
+      (ap (λ f. in_protocol (slept f)) is ∙ sym (ap (λ f. phase_while Sleeping f) is)) refl
+  returned i p (Found t n) is at = quiet i (seated Sleeping p) (seated HasSlept p) at
+      (ap (λ f. in_protocol (slept f)) is ∙ sym (ap (λ f. phase_while Sleeping f) is)) refl
+  returned i p (Wakes t n) is at = quiet i (seated Sleeping p) (seated HasSlept p) at
+      (ap (λ f. in_protocol (slept f)) is ∙ sym (ap (λ f. phase_while Sleeping f) is)) refl
 
-  returns : (i : ℕ) → IsTurn (Returns i) h k → Goes total k s
+  returns : (i : ℕ) → IsTurn (Returns i) h k → Follows total k s
   returns i turn = let p = turn.0 in
-      subst (λ (x : Hall M C R). Goes total x s) (sym turn.2) (returned i p p.phase refl turn.1)
+      subst (λ (x : Hall M C R). Follows total x s) (sym turn.2) (returned i p p.phase refl turn.1)
 
   less_there : (a n : ℕ) → one_less_in a n ≡ in_protocol (one_less {M = M} {C = C} {R = R} a n)
   less_there a zero = refl
@@ -580,7 +722,7 @@ module _ {M C R : Type 0} (total : ℕ) (h k : Hall M C R) (s : WaitState) (m : 
   doing_of (Some x) = x.doing
   doing_of None = IsUp
 
-  rings : (i j : ℕ) → IsTurn (Rings i j) h k → Goes total k s
+  rings : (i j : ℕ) → IsTurn (Rings i j) h k → Goes total i k s
   rings i j turn =
       let p = turn.0 in let a = turn.1 in let n = turn.2 in let q = turn.3 in let t = turn.4 in
       let at : slice_get h.seats i ≡ Some (seated IsUp p) = turn.5 in
@@ -597,28 +739,29 @@ module _ {M C R : Type 0} (total : ℕ) (h k : Hall M C R) (s : WaitState) (m : 
       let same : word_of s t ≡ word_of s a = ap (λ (l : ℕ). t % l) m.long
       ∙ (rest ∙ sym (ap (λ (l : ℕ). a % l) m.long)) in
       let next : WaitState = record s {
-        phases = slice_set (slice_set s.phases i (one_less_in a n)) j (PLooked t);
+        phases = slice_set (slice_set s.phases i (one_less_in a n)) j (PWaiting t);
       } in
       let after_is : after s (Wake i j) ≡ Some next =
       ap (λ o. wake_by s i o j (slice_get s.phases j)) here
       ∙ (ap (wake_by s i (Some (PWakes a n)) j) here_j
       ∙ ap (λ b. if b then Some next else None) (eq-eqb (word_of s t) (word_of s a) same)) in
       let less = rung p a n p_is in
-      let up : PLooked t ≡ where_is (seated IsUp q) = ap (λ f. in_protocol f) (sym q_is) in
+      let up : PWaiting t ≡ where_is (seated HasSlept q) =
+      ap (λ f. phase_while HasSlept f) (sym q_is) in
       let mid : List (Sitter M C R) = slice_set h.seats i (seated HasRung p) in
       let ne : j ≢ i = λ e. absurd (cc (ap doing_of
       (sym at ∙ (ap (slice_get h.seats) (sym e) ∙ at_j)))) in
       let at_mid : slice_get mid j ≡ Some (seated Sleeping q) =
       get_other h.seats i j (seated HasRung p) ne ∙ at_j in
       let first = resting i p IsUp HasRung at in
-      let second = left_set mid j (seated Sleeping q) (seated IsUp q) at_mid in
-      subst (λ (x : Hall M C R). Goes total x s) (sym turn.10)
-      (by_sleep total h s m next (Wake i j) (slice_set mid j (seated IsUp q)) after_is refl
+      let second = left_set mid j (seated Sleeping q) (seated HasSlept q) at_mid in
+      subst (λ (x : Hall M C R). Goes total i x s) (sym turn.10)
+      (by_sleep total h s m i next (Wake i j) (slice_set mid j (seated HasSlept q)) after_is refl refl
       ((λ z. slice_set (slice_set s.phases i (less z)) j (up z))
-      ∙ (ap (λ ps. slice_set ps j (where_is (seated IsUp q))) (there i (seated HasRung p))
-      ∙ set_map where_is mid j (seated IsUp q))) (omega arith))
+      ∙ (ap (λ ps. slice_set ps j (where_is (seated HasSlept q))) (there i (seated HasRung p))
+      ∙ set_map where_is mid j (seated HasSlept q))) (omega arith))
 
-  rings_nobody : (i : ℕ) → IsTurn (RingsNobody i) h k → Goes total k s
+  rings_nobody : (i : ℕ) → IsTurn (RingsNobody i) h k → Goes total i k s
   rings_nobody i turn =
       let p = turn.0 in let a = turn.1 in let n = turn.2 in
       let at : slice_get h.seats i ≡ Some (seated IsUp p) = turn.3 in
@@ -633,23 +776,41 @@ module _ {M C R : Type 0} (total : ℕ) (h k : Hall M C R) (s : WaitState) (m : 
       let next : WaitState = moved s i (one_less_in a n) in
       let after_is : after s (Wake i i) ≡ Some next =
       (λ z. wake_by s i (here z) i (here z)) ∙ ap (λ b. if b then None else Some next) none in
-      subst (λ (x : Hall M C R). Goes total x s) (sym turn.6)
-      (by_sleep total h s m next (Wake i i) (slice_set h.seats i (seated HasRung p)) after_is refl
+      subst (λ (x : Hall M C R). Goes total i x s) (sym turn.6)
+      (by_sleep total h s m i next (Wake i i) (slice_set h.seats i (seated HasRung p)) after_is refl
+      refl
       (ap (slice_set s.phases i) (rung p a n p_is) ∙ there i (seated HasRung p))
       (resting i p IsUp HasRung at))
 
-  pub one_turn : (t : Turn) → IsTurn t h k → Goes total k s
-  one_turn (Draws i) turn = draws i turn
-  one_turn (Looks i) turn = looks i turn
-  one_turn (Marks i) turn = marks i turn
-  one_turn (Records i) turn = records i turn
-  one_turn (Serves i) turn = serves i turn
-  one_turn (PeeksNext i) turn = peeks_next i turn
-  one_turn (PeeksWord i) turn = peeks_word i turn
-  one_turn (TakesMark i) turn = takes_mark i turn
-  one_turn (Fronts i) turn = fronts i turn
-  one_turn (Sleeps i) turn = sleeps i turn
-  one_turn (Returns i) turn = returns i turn
-  one_turn (Rings i j) turn = rings i j turn
-  one_turn (RingsNobody i) turn = rings_nobody i turn
-  one_turn (NotesWake i) turn = notes_wake i turn
+  -- the seat of a turn that brings it on makes an event
+  abbrev pub Turned : Turn → Type 0
+  Turned t = (events : List Event) × Meets total k (run s events)
+      × (brings_on t ≡ true → MakesOne (maker t) s events)
+
+  made : (i : ℕ) (b : Bool) → Goes total i k s
+      → (events : List Event) × Meets total k (run s events) × (b ≡ true → MakesOne i s events)
+  made i b g = (g.0, g.1, λ e. g.2)
+
+  not_made : (i : ℕ) → Follows total k s
+      → (events : List Event) × Meets total k (run s events)
+      × (false ≡ true → MakesOne i s events)
+  not_made i g = (g.0, g.1, λ e. absurd (cc e))
+
+  pub one_turn : (t : Turn) → IsTurn t h k → Turned t
+  one_turn (Draws i) turn = made i true (draws i turn)
+  one_turn (Looks i) turn = made i true (looks i turn)
+  one_turn (LooksAgain i) turn = made i true (looks_again i turn)
+  one_turn (Marks i) turn = made i true (marks i turn)
+  one_turn (MarksAgain i) turn = made i true (marks_again i turn)
+  one_turn (Records i) turn = made i true (records i turn)
+  one_turn (Serves i) turn = made i true (serves i turn)
+  one_turn (PeeksNext i) turn = made i true (peeks_next i turn)
+  one_turn (PeeksWord i) turn = made i true (peeks_word i turn)
+  one_turn (TakesMark i) turn = made i true (takes_mark i turn)
+  one_turn (Fronts i) turn = not_made i (fronts i turn)
+  one_turn (Sleeps i) turn = made i true (sleeps i turn)
+  one_turn (SleepsInVain i) turn = made i true (sleeps_in_vain i turn)
+  one_turn (Returns i) turn = not_made i (returns i turn)
+  one_turn (Rings i j) turn = made i true (rings i j turn)
+  one_turn (RingsNobody i) turn = made i true (rings_nobody i turn)
+  one_turn (NotesWake i) turn = not_made i (notes_wake i turn)

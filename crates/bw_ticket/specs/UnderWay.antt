@@ -7,6 +7,7 @@ use Rattle.std.specs.Prelude.{◌≡◌, ℕ, ◌+◌, ◌%◌, ◌≤◌, ◌==
 use Rattle.std.specs.Prelude.{◌++◌, map, drop, length, slice_index}
 use Rattle.atomic_table.specs.Table.{State}
 use Rattle.bw_wake.specs.declared.seats.Phase.{Phase as WaitPhase}
+use Rattle.bw_wake.specs.declared.seats.Phase.TheVariants.{Waiting as PWaiting}
 use Rattle.bw_wake.specs.declared.seats.Phase.TheVariants.{Looked as PLooked, Asleep as PAsleep}
 use Rattle.bw_wake.specs.declared.seats.Event.{Event}
 use Rattle.bw_wake.specs.Protocol.{WaitState, mark_at, happens}
@@ -37,11 +38,12 @@ state_with words phases =
       phases = phases;
     }
 
--- a seat is where its view says, or its view says that it may sleep, and it sleeps
+-- a seat is where its view says, or its view says that it may sleep, and it sleeps, or has slept
 abbrev pub IsThere : WaitPhase → WaitPhase → Type 0
-IsThere p q = (p ≡ q) ⊎ ((t : ℕ) × (p ≡ PLooked t) × (q ≡ PAsleep t))
+IsThere p q = (p ≡ q) ⊎ (((t : ℕ) × (p ≡ PLooked t) × (q ≡ PAsleep t))
+    ⊎ ((t : ℕ) × (p ≡ PLooked t) × (q ≡ PWaiting t)))
 
--- each seat of a list is where its view says, or sleeps where its view says that it may
+-- each seat of a list is where its view says, or sleeps or has slept where its view says that it may
 abbrev pub AreThere : List WaitPhase → List WaitPhase → Type 0
 AreThere [] [] = Unit {0}
 AreThere [] (q ∷ qs) = ⊥

@@ -25,37 +25,54 @@ use std::rt::Clock;
 use std::sync::Wait;
 use std::thread::yield_now;
 
-/// Ghost state: the number of looks, spins and yields of a waiting seat since it last slept. It has
+/// Ghost state: the numbers of looks, spins and yields of a waiting seat since it last slept. It has
 /// no data at run time.
 #[derive(Drop)]
 pub(crate) struct Awake {
     count: Count,
+    // the looks that may find its own ticket served
+    looks: Count,
 }
 
 impl Model for Awake {
-    ghost use Rattle.std.specs.Prelude.{ℕ};
+    ghost use Rattle.bw_ticket.specs.Watch.{Watch};
 
-    ghost Value = { ℕ };
+    ghost Value = { Watch };
 
-    ghost view = { λ awake. awake.count.steps };
+    ghost view = { λ awake. record {
+      steps = awake.count.steps;
+      looks = awake.looks.steps;
+    } };
 }
 
 impl Awake {
     // A count of nothing. Only `enter` begins one, and `park_on` begins it anew.
     fn none() -> Awake
-        ensures { result ≡ 0 }
+        ensures steps { result.steps ≡ 0 }
+        ensures looks { result.looks ≡ 0 }
     {
         Awake {
             count: Count::none(),
+            looks: Count::none(),
         }
     }
 
     /// Counts one more, of which there may be [`MOST_AWAKE`].
     pub(crate) fn add(&mut self)
-        requires { self.old < MOST_AWAKE }
-        ensures { self.new ≡ self.old + 1 }
+        requires { self.old.steps < MOST_AWAKE }
+        ensures { self.new.steps ≡ self.old.steps + 1 }
     {
         self.count = self.count.one_more();
+    }
+
+    // Counts a look that may find the own ticket served.
+    fn add_look(&mut self)
+        requires { self.old.steps < MOST_AWAKE }
+        ensures steps { self.new.steps ≡ self.old.steps + 1 }
+        ensures looks { 0 < self.new.looks }
+    {
+        self.add();
+        self.looks = self.looks.one_more();
     }
 }
 
@@ -79,13 +96,14 @@ pub(crate) fn look<M: Machine>(
     requires table { (seat.old.table_id ≡ board.now.shared.table_id) ×
         IsBoard board.now.shared.table_id }
     requires waits { IsWaiting seat.old ticket }
-    requires few { awake.old < MOST_AWAKE }
+    requires few { awake.old.steps < MOST_AWAKE }
     ensures table { seat.new.table_id ≡ seat.old.table_id }
-    ensures counted { awake.new ≡ awake.old + 1 }
+    ensures counted { awake.new.steps ≡ awake.old.steps + 1 }
+    ensures seen { 0 < awake.new.looks }
     ensures looked { MatchBool result (Enters ticket seat.old seat.new)
         ((seat.new.me ≡ (map (goes missed) seat.old.me.0, [])) × (ticket + 1 < 2 ^ 32)) }
 {
-    awake.add();
+    awake.add_look();
     let found = board.shared.load::<Looking>(seat, SERVING);
     if found == ticket {
         return true;
@@ -96,8 +114,8 @@ pub(crate) fn look<M: Machine>(
 /// The ticket that is served, by one load that is no step of the table. It is counted.
 pub(crate) fn glance<M: Machine>(board: &Board<M>, awake: &mut Awake) -> u64
     requires table { IsBoard board.now.shared.table_id }
-    requires few { awake.old < MOST_AWAKE }
-    ensures { awake.new ≡ awake.old + 1 }
+    requires few { awake.old.steps < MOST_AWAKE }
+    ensures { awake.new.steps ≡ awake.old.steps + 1 }
 {
     awake.add();
     board.shared.peek(SERVING)
@@ -105,8 +123,8 @@ pub(crate) fn glance<M: Machine>(board: &Board<M>, awake: &mut Awake) -> u64
 
 /// Spins once, and counts it.
 pub(crate) fn spin(awake: &mut Awake)
-    requires { awake.old < MOST_AWAKE }
-    ensures { awake.new ≡ awake.old + 1 }
+    requires { awake.old.steps < MOST_AWAKE }
+    ensures { awake.new.steps ≡ awake.old.steps + 1 }
 {
     awake.add();
     spin_loop();
@@ -114,8 +132,8 @@ pub(crate) fn spin(awake: &mut Awake)
 
 /// Yields the processor once, and counts it.
 pub(crate) fn give_way(awake: &mut Awake)
-    requires { awake.old < MOST_AWAKE }
-    ensures { awake.new ≡ awake.old + 1 }
+    requires { awake.old.steps < MOST_AWAKE }
+    ensures { awake.new.steps ≡ awake.old.steps + 1 }
 {
     awake.add();
     yield_now();
@@ -158,8 +176,9 @@ pub(crate) struct Rung {
 
 /// Sleeps on a word while its lower half is the expected one, until a wake or for no reason.
 ///
-/// The seat must have looked in vain since it stored its mark. The word must be the wake word of
-/// its ticket, and the expected value its mark. Afterwards the count begins anew. Premise: the
+/// The seat must have looked in vain since it stored its mark, and since it last slept. The word
+/// must be the wake word of its ticket, and the expected value its mark. Afterwards the counts
+/// begin anew. Premise: the
 /// system compares the word and goes to sleep in one atomic step.
 pub(crate) fn park_on<M: Machine, R: Wait>(
     rt: &R,
@@ -173,7 +192,9 @@ pub(crate) fn park_on<M: Machine, R: Wait>(
     requires range { word < 66 }
     requires asked { (t : ℕ) × IsSeat seat.now (Looked t) [] ×
         (word ≡ wake_word t) × (expected ≡ t + 1) }
-    ensures awake { awake.new ≡ 0 }
+    requires seen { 0 < awake.old.looks }
+    ensures awake { awake.new.steps ≡ 0 }
+    ensures slept { awake.new.looks ≡ 0 }
 {
     board.shared.park(rt, word, expected);
     *awake = Awake::none();

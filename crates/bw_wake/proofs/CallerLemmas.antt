@@ -6,6 +6,7 @@ pub use Rattle.bw_wake.proofs.WakeSound.{start_sound}
 pub use Rattle.bw_wake.proofs.WordsApart.{to_next}
 pub use Rattle.bw_wake.proofs.Counts.{count_at}
 pub use Rattle.bw_wake.proofs.Raising.{seven_events_raise_serving}
+pub use Rattle.bw_wake.proofs.RoundsRaise.{drawn_tickets_are_served}
 pub use Rattle.bw_wake.proofs.OneSeatSound.{among_none, among_in, among_rest, one_less-will_peek}
 pub use Rattle.bw_wake.proofs.WakeWords.{index_here, index_else}
 pub use Rattle.bw_wake.proofs.CoreRefined.{get_map}

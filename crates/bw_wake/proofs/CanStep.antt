@@ -44,7 +44,7 @@ wakes_one s i k n j (Marked t) e = absurd (cc e)
 wakes_one s i k n j (Looked t) e = absurd (cc e)
 wakes_one s i k n j (Asleep t) e =
     taken (word_of s t == word_of s k)
-    (record s { phases = slice_set (slice_set s.phases i (one_less k n)) j (Looked t) }) e
+    (record s { phases = slice_set (slice_set s.phases i (one_less k n)) j (Waiting t) }) e
 wakes_one s i k n j Inside e = absurd (cc e)
 wakes_one s i k n j Done e = absurd (cc e)
 wakes_one s i k n j (Served t) e = absurd (cc e)

@@ -69,11 +69,6 @@ module _ {M C R : Type 0} (after : M → ℕ → C → M) (answer : M → ℕ �
   silent_if true p q r at h g = silent p q s.words at h
   silent_if false p q r at h g = silent p r s.words at g
 
-  if_matches : (b : Bool) (x y : WaitState) → Matches call x k → Matches call y k
-      → Matches call (if b then x else y) k
-  if_matches true x y h g = h
-  if_matches false x y h g = g
-
   less_idle : (a n : ℕ) → phase_in_core call (one_less a n) ≡ CoreIdle
   less_idle a zero = refl
   less_idle a (suc zero) = refl
@@ -178,18 +173,23 @@ module _ {M C R : Type 0} (after : M → ℕ → C → M) (answer : M → ℕ �
       silent (Looked t) (Marked t) (slice_set s.words (word_of s t) (t + 1)) at refl
   mark_refines _ at = m
 
+  parked : (b : Bool) (t : ℕ)
+      → phase_in_core call (if b then Asleep t else Waiting t) ≡ CoreWaiting t call
+  parked true t = refl
+  parked false t = refl
+
   park_refines : (o : Option Phase) → slice_get s.phases i ≡ o
       → Matches call (or_same s (park_by s i o))
       (core_after after answer k (if is_some (park_by s i o) then None else None))
   park_refines (Some (Looked t)) at =
-      if_matches (mark_at s t == t + 1) (moved s i (Asleep t)) s
-      (silent (Looked t) (Asleep t) s.words at refl) m
+      silent (Looked t) (if mark_at s t == t + 1 then Asleep t else Waiting t) s.words at
+      (parked (mark_at s t == t + 1) t)
   park_refines _ at = m
 
   spurious_wake_refines : (o : Option Phase) → slice_get s.phases i ≡ o
       → Matches call (or_same s (spurious_wake_by s i o))
       (core_after after answer k (if is_some (spurious_wake_by s i o) then None else None))
-  spurious_wake_refines (Some (Asleep t)) at = silent (Asleep t) (Looked t) s.words at refl
+  spurious_wake_refines (Some (Asleep t)) at = silent (Asleep t) (Waiting t) s.words at refl
   spurious_wake_refines _ at = m
 
   apply_refines : (o : Option Phase) → slice_get s.phases i ≡ o
@@ -251,7 +251,7 @@ module _ {M C R : Type 0} (after : M → ℕ → C → M) (answer : M → ℕ �
       (or_same s (if b
       then Some (record s {
         phases =
-            slice_set (slice_set s.phases i (one_less a n)) j (Looked t);
+            slice_set (slice_set s.phases i (one_less a n)) j (Waiting t);
       }) else None)) k
   one a n j t at at_j false = m
   one a n j t at at_j true =
@@ -263,7 +263,7 @@ module _ {M C R : Type 0} (after : M → ℕ → C → M) (answer : M → ℕ �
         serving = m.serving;
         phases = first.phases
             ∙ sym (set_mapped (phase_in_core call) (slice_set s.phases i (one_less a n)) j z.0
-            (Looked t) z.1 (sym z.2));
+            (Waiting t) z.1 (sym z.2));
       }
 
   same_core : (b : Bool) (x : WaitState) → Matches call x k

@@ -3,6 +3,7 @@ pub mod CallerLemmas
 mod CanStep
 mod CoreRefined
 mod Counts
+mod Effects
 mod LeaveSound
 mod MarkSound
 mod NotStuck
@@ -10,6 +11,7 @@ mod OneSeatSound
 mod OneTurn
 mod PeekFirst
 mod Raising
+mod RoundsRaise
 mod RunSound
 mod Invariant
 mod WakeSound

@@ -11,7 +11,7 @@ use Rattle.std.proofs.lemmas.Bool.Decides.{leb_tells}
 use Rattle.std.proofs.lemmas.List.{length-set}
 use Rattle.std.proofs.lemmas.Nat.{mod_below}
 use Rattle.bw_wake.specs.declared.seats.Phase.{Phase}
-use Rattle.bw_wake.specs.declared.seats.Phase.TheVariants.{Idle, Marked, Looked, Asleep, Inside}
+use Rattle.bw_wake.specs.declared.seats.Phase.TheVariants.{Idle, Waiting, Marked, Looked, Asleep, Inside}
 use Rattle.bw_wake.specs.declared.seats.Phase.TheVariants.{Done, Served, Owes, Found, Wakes}
 use Rattle.bw_wake.specs.Protocol.{WaitState, one_less, word_of, mark_at}
 use Rattle.bw_wake.specs.Progress.{one_if, among, busy, sleeps, will_peek, wakes, count}
@@ -153,6 +153,15 @@ park_sound s i t at st r = still s i (Looked t) (Asleep t) s.words at refl (λ x
     (λ some k. let a = count_set (may_sleep s.serving) s.phases i (Looked t) (Asleep t) at in
     let b = count_set (will_peek s.serving) s.phases i (Looked t) (Asleep t) at in
     let h = r.peek_owed (omega arith) k in omega arith) r
+
+-- the event Park, where the mark is gone
+pub vain_park_sound : (s : WaitState) (i t : ℕ) → slice_get s.phases i ≡ Some (Looked t) → Sound s
+    → Sound record s { phases = slice_set s.phases i (Waiting t) }
+vain_park_sound s i t at r =
+    plain s i (Looked t) (Waiting t) at (λ x. refl) refl refl (λ x. refl) (λ x. refl)
+    (λ some st. let a = count_set (may_sleep s.serving) s.phases i (Looked t) (Waiting t) at in
+    let b = count_set (will_peek s.serving) s.phases i (Looked t) (Waiting t) at in
+    let h = r.peek_owed (omega arith) st in omega arith) r
 
 -- the event PeekNext
 pub owes_sound : (s : WaitState) (i t : ℕ) → slice_get s.phases i ≡ Some (Served t) → Sound s

@@ -156,14 +156,15 @@ mark_first s i _ at r f = f
 park_first : (s : WaitState) (i : ℕ) (o : Option Phase) → slice_get s.phases i ≡ o → PeekIsFirst s
     → PeekIsFirst (or_same s (park_by s i o))
 park_first s i (Some (Looked t)) at f =
-    ifs (moved s i (Asleep t)) s (mark_at s t == t + 1)
-    (λ e. plain s i (Looked t) (Asleep t) at (omega arith) (omega arith) f) (λ e. f)
+    if_moved s i (Asleep t) (Waiting t) (mark_at s t == t + 1)
+    (λ e. plain s i (Looked t) (Asleep t) at (omega arith) (omega arith) f)
+    (λ e. plain s i (Looked t) (Waiting t) at (omega arith) (omega arith) f)
 park_first s i _ at f = f
 
 spurious_wake_first : (s : WaitState) (i : ℕ) (o : Option Phase) → slice_get s.phases i ≡ o
     → PeekIsFirst s → PeekIsFirst (or_same s (spurious_wake_by s i o))
 spurious_wake_first s i (Some (Asleep t)) at f =
-    plain s i (Asleep t) (Looked t) at (omega arith) (omega arith) f
+    plain s i (Asleep t) (Waiting t) at (omega arith) (omega arith) f
 spurious_wake_first s i _ at f = f
 
 apply_first : (s : WaitState) (i : ℕ) (o : Option Phase) → slice_get s.phases i ≡ o → PeekIsFirst s
@@ -270,10 +271,10 @@ apart s i j k n t a b h = absurd (cc (sym a ∙ (ap (slice_get s.phases) (sym h)
 woken_first : (s : WaitState) (i j k n t : ℕ) → slice_get s.phases i ≡ Some (Wakes k n)
     → slice_get s.phases j ≡ Some (Asleep t) → PeekIsFirst s
     → PeekIsFirst record s {
-      phases = slice_set (slice_set s.phases i (one_less k n)) j (Looked t);
+      phases = slice_set (slice_set s.phases i (one_less k n)) j (Waiting t);
     }
 woken_first s i j k n t at at_j f =
-    plain (moved s i (one_less k n)) j (Asleep t) (Looked t)
+    plain (moved s i (one_less k n)) j (Asleep t) (Waiting t)
     (get_other s.phases i j (one_less k n) (apart s i j k n t at at_j) ∙ at_j) (omega arith)
     (omega arith) (paid_first s i k n at f)
 
@@ -282,7 +283,7 @@ wake_first : (s : WaitState) (i : ℕ) (o : Option Phase) (j : ℕ) (q : Option 
     → PeekIsFirst (or_same s (wake_by s i o j q))
 wake_first s i (Some (Wakes k n)) j (Some (Asleep t)) at at_j f =
     if_possible s record s {
-      phases = slice_set (slice_set s.phases i (one_less k n)) j (Looked t);
+      phases = slice_set (slice_set s.phases i (one_less k n)) j (Waiting t);
     } (word_of s t == word_of s k) (woken_first s i j k n t at at_j f) f
 wake_first s i (Some (Wakes k n)) j _ at at_j f =
     if_nobody s (moved s i (one_less k n))

@@ -44,13 +44,13 @@ more : (m n : ℕ) (s : WaitState) → m ≤ n → CanRaise m s → CanRaise n s
 more m n s le c = (c.0, (let few = c.1 in omega arith), c.2, c.3)
 
 -- some seat is as g says
-some_seat : (g : Phase → ℕ) (ps : List Phase) → 1 ≤ count g ps
+pub some_seat : (g : Phase → ℕ) (ps : List Phase) → 1 ≤ count g ps
     → (i : ℕ) × (p : Phase) × (slice_get ps i ≡ Some p) × (1 ≤ g p)
 some_seat g [] h = absurd (omega arith)
 some_seat g (p ∷ ps) h = dite (dec_le 1 (g p)) (λ (le : 1 ≤ g p). (zero, p, refl, le))
     (λ n. let r = some_seat g ps (omega arith) in (suc r.0, r.1, r.2, r.3))
 
-one_is : (t x : ℕ) → 1 ≤ one_if (t == x) → t ≡ x
+pub one_is : (t x : ℕ) → 1 ≤ one_if (t == x) → t ≡ x
 one_is t x h = ⊎_elim (λ (e : (t ≡ x) × (one_if (t == x) ≡ 1)). e.0)
     (λ (n : (t ≢ x) × (one_if (t == x) ≡ 0)). let z = n.1 in absurd (omega arith))
     (equal_or_not one_if t x)
@@ -108,14 +108,14 @@ from_wakes s i j k n t at asleep k_is t_is =
     let ne = apart s i j t (Wakes k n) at refl asleep in
     let at_mid : slice_get mid j ≡ Some (Asleep t) = get_other s.phases i j (one_less k n) ne
     ∙ asleep in
-    let next : WaitState = record s { phases = slice_set mid j (Looked t) } in
+    let next : WaitState = record s { phases = slice_set mid j (Waiting t) } in
     let same : word_of s t ≡ word_of s k = ap (word_of s) (t_is ∙ sym k_is) in
     let is : after s (Wake i j) ≡ Some next =
     ap (λ o. wake_by s i o j (slice_get s.phases j)) at
     ∙ (ap (wake_by s i (Some (Wakes k n)) j) asleep
     ∙ ap (λ b. if b then Some next else None) (eq-eqb (word_of s t) (word_of s k) same)) in
     step 3 s next (Wake i j) (Wakes k n) at refl is refl
-    (from_looked next j t (get_same mid j (Asleep t) (Looked t) at_mid) t_is)
+    (from_waiting next j t (get_same mid j (Asleep t) (Waiting t) at_mid) t_is)
 
 -- a seat that has seen the mark takes it
 from_found : (s : WaitState) (i j k n t : ℕ) → slice_get s.phases i ≡ Some (Found k n)
@@ -263,7 +263,7 @@ run_raises s (e ∷ es) r f =
     run_raises (happens s e) es (happens_sound s e r) (happens_first s e r f)
 
 -- at the start no seat has looked
-none_looked : (x n : ℕ) → count (may_sleep x) (replicate n Idle) ≡ 0
+pub none_looked : (x n : ℕ) → count (may_sleep x) (replicate n Idle) ≡ 0
 none_looked x zero = refl
 none_looked x (suc n) = let h = none_looked x n in omega arith
 

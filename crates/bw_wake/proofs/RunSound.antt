@@ -24,7 +24,7 @@ use Rattle.bw_wake.proofs.LeaveSound.{leave_sound}
 use Rattle.bw_wake.proofs.MarkSound.{mark_waiting, mark_looked}
 use Rattle.bw_wake.proofs.OneSeatSound.{apply_sound, miss_sound, park_sound, owes_sound}
 use Rattle.bw_wake.proofs.OneSeatSound.{none_next_sound, found_sound, not_found_sound, taken_sound}
-use Rattle.bw_wake.proofs.OneSeatSound.{untaken_sound}
+use Rattle.bw_wake.proofs.OneSeatSound.{untaken_sound, vain_park_sound}
 use Rattle.bw_wake.proofs.WakeSound.{spurious_wake_sound, take_sound, enter_sound, wake_sound}
 use Rattle.bw_wake.proofs.WakeSound.{wake_none_sound, start_sound}
 use Rattle.std.proofs.lemmas.Bool.{ltb-false}
@@ -91,8 +91,9 @@ mark_keeps s i _ at r = r
 park_keeps : (s : WaitState) (i : ℕ) (o : Option Phase) → slice_get s.phases i ≡ o → Sound s
     → Sound (or_same s (park_by s i o))
 park_keeps s i (Some (Looked t)) at r =
-    ifs (mark_at s t == t + 1) (λ e. park_sound s i t at (eqb-true (mark_at s t) (t + 1) e) r)
-    (λ e. r)
+    if_moved s i (Asleep t) (Waiting t) (mark_at s t == t + 1)
+    (λ e. park_sound s i t at (eqb-true (mark_at s t) (t + 1) e) r)
+    (λ e. vain_park_sound s i t at r)
 park_keeps s i _ at r = r
 
 spurious_wake_keeps : (s : WaitState) (i : ℕ) (o : Option Phase) → slice_get s.phases i ≡ o

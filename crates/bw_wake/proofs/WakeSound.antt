@@ -25,9 +25,9 @@ lower ne le = omega arith
 -- the event SpuriousWake
 pub spurious_wake_sound : (s : WaitState) (i t : ℕ) → slice_get s.phases i ≡ Some (Asleep t)
     → Sound s
-    → Sound record s { phases = slice_set s.phases i (Looked t) }
+    → Sound record s { phases = slice_set s.phases i (Waiting t) }
 spurious_wake_sound s i t at r =
-    let M = λ (g : Phase → ℕ). count_set g s.phases i (Asleep t) (Looked t) at in record {
+    let M = λ (g : Phase → ℕ). count_set g s.phases i (Asleep t) (Waiting t) at in record {
       drawn = let a = M holds in omega (arith, r.drawn);
       turn = λ lt.
           let a = M (waits s.serving) in let b = M busy in let d = r.turn lt in omega arith;
@@ -35,7 +35,7 @@ spurious_wake_sound s i t at r =
       past = λ x lt. let a = M (waits x) in let d = r.past x lt in omega arith;
       future = λ x le. let a = M (waits x) in let d = r.future x le in omega arith;
       quiet = λ e. let b = M busy in let d = r.quiet e in omega arith;
-      words = omega (arith, r.words, length-set s.phases i (Looked t));
+      words = omega (arith, r.words, length-set s.phases i (Waiting t));
       mark_or_wake = λ x some. let a = M (sleeps x) in let c = M (wakes x) in
           ⊎_elim (λ (h : Stands s x). inl h)
           (λ (h : 1 ≤ count (wakes x) s.phases). inr (omega arith))
@@ -114,7 +114,7 @@ enter_sound s i p at is_w is_b is_h is_s is_p is_k r =
     }
 
 -- no two seats wait with one ticket
-waits_once : (s : WaitState) → Sound s → (x : ℕ) → count (waits x) s.phases ≤ 1
+pub waits_once : (s : WaitState) → Sound s → (x : ℕ) → count (waits x) s.phases ≤ 1
 waits_once s r x = dite (dec_le 1 (count (waits x) s.phases))
     (λ (le : 1 ≤ count (waits x) s.phases). let a =
     from_serving s r x le in let b = to_next s r x le in
@@ -127,14 +127,14 @@ waits_once s r x = dite (dec_le 1 (count (waits x) s.phases))
 pub wake_sound : (s : WaitState) (i j k n t : ℕ) → slice_get s.phases i ≡ Some (Wakes k n)
     → slice_get s.phases j ≡ Some (Asleep t)
     → word_of s t ≡ word_of s k → Sound s
-    → Sound record s { phases = slice_set (slice_set s.phases i (one_less k n)) j (Looked t) }
+    → Sound record s { phases = slice_set (slice_set s.phases i (one_less k n)) j (Waiting t) }
 wake_sound s i j k n t at at_j same_word r =
     let ne : j ≢ i = λ e. apart (sym at_j ∙ (ap (slice_get s.phases) e ∙ at)) in
     let mid : List Phase = slice_set s.phases i (one_less k n) in
     let at_mid : slice_get mid j ≡ Some (Asleep t) =
     get_other s.phases i j (one_less k n) ne ∙ at_j in
     let A = λ (g : Phase → ℕ). count_set g s.phases i (Wakes k n) (one_less k n) at in
-    let B = λ (g : Phase → ℕ). count_set g mid j (Asleep t) (Looked t) at_mid in
+    let B = λ (g : Phase → ℕ). count_set g mid j (Asleep t) (Waiting t) at_mid in
     let zero_waits = λ (x : ℕ). one_less_none (waits x) refl (λ a b. refl) k n in
     let zero_busy = one_less_none busy refl (λ a b. refl) k n in
     let zero_holds = one_less_none holds refl (λ a b. refl) k n in record {
@@ -150,7 +150,7 @@ wake_sound s i j k n t at at_j same_word r =
           let f = r.future x le in omega arith;
       quiet = λ e. let a = A busy in let b = B busy in let f = r.quiet e in omega arith;
       words = omega
-          (arith, r.words, length-set s.phases i (one_less k n), length-set mid j (Looked t));
+          (arith, r.words, length-set s.phases i (one_less k n), length-set mid j (Waiting t));
       mark_or_wake = λ x some. let a = A (sleeps x) in let b = B (sleeps x) in
           let c = one_less_none (sleeps x) refl (λ a b. refl) k n in
           let d = A (wakes x) in let e = B (wakes x) in
@@ -195,7 +195,7 @@ sleeps-on s x (Owes k n) = omega arith
 sleeps-on s x (Found k n) = omega arith
 sleeps-on s x (Wakes k n) = omega arith
 
-none_any : (f : Phase → Bool) (ps : List Phase) → list_any f ps ≡ false
+pub none_any : (f : Phase → Bool) (ps : List Phase) → list_any f ps ≡ false
     → count (λ p. one_if (f p)) ps ≡ 0
 none_any f [] e = refl
 none_any f (p ∷ ps) e = first (f p) refl (none_any f ps)

@@ -4,3 +4,4 @@ pub mod Progress
 pub mod Raises
 pub mod Cores
 pub mod Refines
+pub mod Rounds

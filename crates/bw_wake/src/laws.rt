@@ -2,6 +2,7 @@
 ghost use Rattle.bw_wake.specs.Progress.{NoWakeIsLost, ServedTicketGoesOn, NoneIsStuck};
 ghost use Rattle.bw_wake.specs.Progress.{AwakeSeatsCanStep};
 ghost use Rattle.bw_wake.specs.Raises.{SevenEventsRaiseServing};
+ghost use Rattle.bw_wake.specs.Rounds.{EightRoundsRaiseServing, DrawnTicketsAreServed};
 ghost use Rattle.bw_wake.specs.Refines.{RefinesTheCore};
 
 use bw_machine::Machine;
@@ -35,6 +36,24 @@ pub fn none_is_stuck()
 /// that such events exist, and not that a thread makes them.
 pub fn seven_events_raise_serving()
     ensures { SevenEventsRaiseServing }
+{}
+
+/// Eight rounds raise the ticket that is served, in each state where it is drawn.
+///
+/// A round is a list of events in which each seat that is neither idle nor asleep at its beginning
+/// makes one. Tickets may be drawn in it, and seats may wake without a wake. The law assumes a wake
+/// word for each seat.
+pub fn eight_rounds_raise_serving()
+    ensures { EightRoundsRaiseServing }
+{}
+
+/// Each drawn ticket is served and left within eight rounds for itself and for each ticket before
+/// it that is not yet left.
+///
+/// The law assumes a wake word for each seat. It leaves to the system that rounds are made: that
+/// each thread runs which can run.
+pub fn drawn_tickets_are_served()
+    ensures { DrawnTicketsAreServed }
 {}
 
 /// In every state, a seat that is neither idle nor asleep can make an event.

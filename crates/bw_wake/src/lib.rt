@@ -7,8 +7,8 @@ mod seats;
 mod wait_core;
 
 pub use laws::{
-    awake_seats_can_step, no_wake_is_lost, none_is_stuck, refines_the_core, served_ticket_goes_on,
-    seven_events_raise_serving,
+    awake_seats_can_step, drawn_tickets_are_served, eight_rounds_raise_serving, no_wake_is_lost,
+    none_is_stuck, refines_the_core, served_ticket_goes_on, seven_events_raise_serving,
 };
 pub use seats::{Event, Phase};
 pub use wait_core::WaitCore;

@@ -5,7 +5,8 @@
 pub enum Phase {
     /// It has no ticket and owes no wake.
     Idle,
-    /// It has drawn this ticket, and has stored no mark for it yet.
+    /// It has drawn this ticket, and has stored no mark for it since then, or since it last slept or
+    /// tried to.
     Waiting(u64),
     /// It has stored the mark of its ticket in the wake word, and has not looked since.
     Marked(u64),
@@ -36,9 +37,10 @@ pub enum Event {
     Look(u32),
     /// A waiting seat stores the mark of its ticket.
     Mark(u32),
-    /// A seat that has looked since its mark goes to sleep, if its wake word still has the mark.
+    /// A seat that has looked since its mark goes to sleep, if its wake word still has the mark. Else
+    /// it waits as before its first look.
     Park(u32),
-    /// A sleeping seat wakes for no reason.
+    /// A sleeping seat wakes for no reason, and waits as before its first look.
     SpuriousWake(u32),
     /// The seat inside makes its call.
     Apply(u32),
@@ -52,7 +54,7 @@ pub enum Event {
     PeekWord(u32),
     /// A seat that has seen the mark removes it, if it is still stored.
     TakeMark(u32),
-    /// A seat wakes the other seat, which sleeps on the wake word. If none sleeps there, it wakes
-    /// none.
+    /// A seat wakes the other seat, which sleeps on the wake word. That one waits as before its first
+    /// look. If none sleeps there, it wakes none.
     Wake(u32, u32),
 }

@@ -3,4 +3,4 @@ use Rattle.std.proofs.Common.{◌+◌, ◌*◌, ◌≤◌}
 use Rattle.bw_ticket.proofs.steps.spin_while_near.Given as goal
 
 abbrev pub invariant-loop-look : goal.invariant-loop-look
-invariant-loop-look g l = l.awake ≤ l.fn.awake + 2 * l._look
+invariant-loop-look g l = l.awake.steps ≤ l.fn.awake.steps + 2 * l._look

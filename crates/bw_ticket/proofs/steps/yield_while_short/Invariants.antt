@@ -4,4 +4,4 @@ use Rattle.bw_ticket.specs.declared.limits.TheConstants.{MOST_SPUN}
 use Rattle.bw_ticket.proofs.steps.yield_while_short.Given as goal
 
 abbrev pub invariant-loop-yield : goal.invariant-loop-yield
-invariant-loop-yield g l = l.awake ≤ l.fn.awake + 1 + (2 + MOST_SPUN) * l._yield
+invariant-loop-yield g l = l.awake.steps ≤ l.fn.awake.steps + 1 + (2 + MOST_SPUN) * l._yield
